@@ -1,0 +1,19 @@
+//! Small values that every layer above speaks of.
+//!
+//! Texts, names, words, decimals, and the enumerations of the standard's messages. Nothing here
+//! knows of messages, machines or lines.
+#![tactic(auto)]
+
+mod decimal;
+mod memory;
+mod name;
+mod states;
+mod text;
+mod word;
+
+pub use decimal::Decimal;
+pub use memory::Memory;
+pub use name::{Name, NameError};
+pub use states::{Code, Flip, Quality, Role, Seen, SensorEvent, Severity, Side, Transfer};
+pub use text::{Text, TextError};
+pub use word::{Word, Words};

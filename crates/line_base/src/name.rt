@@ -1,0 +1,103 @@
+ghost use Rattle.std.specs.Str.{bytes_eq};
+ghost use Rattle.std.specs.Prelude.{◌≡◌, List, ℕ};
+ghost use Rattle.std.specs.List.{list_all};
+ghost use Rattle.line_base.specs.Name.{IsName, ReadsName, is_name, is_name_start, is_name_byte};
+
+use std::alloc::Global;
+use std::marker::Model;
+use thiserror::Error;
+
+/// The name of an element or attribute: an ASCII letter or `_`, and then ASCII letters, digits,
+/// `_`, `-`, `.` and `:`.
+#[derive(Debug, Drop)]
+pub struct Name {
+    bytes: Vec<u8>,
+}
+
+impl Model for Name {
+    ghost Value = { List ℕ };
+
+    ghost view = { λ name. name.bytes.items };
+
+    ghost invariant = { λ name. IsName name.bytes.items };
+}
+
+/// Why bytes are no name.
+#[derive(Clone, Copy, Debug, PartialEq, Eq, Error)]
+pub enum NameError {
+    /// They are not spelled as a name is.
+    #[error("bad name")]
+    BadName,
+    #[error("out of memory")]
+    Memory,
+}
+
+impl PartialEq for Name {
+    ghost use Rattle.std.proofs.Common.{rules};
+
+    ghost eq = { bytes_eq };
+
+    ghost laws = { Prim.search rules };
+
+    fn eq(&self, other: &Name) -> bool {
+        self.bytes.as_slice() == other.bytes.as_slice()
+    }
+}
+
+impl Eq for Name {
+    ghost use Rattle.std.proofs.Common.{rules};
+
+    ghost laws = { Prim.search rules };
+}
+
+impl Name {
+    /// Reads bytes as a name. Refuses them as no name, or where memory is wanting.
+    pub fn read(alloc: Global, bytes: &[u8]) -> Result<Name, NameError>
+        ensures { ReadsName bytes.now result }
+    {
+        if !is_name(bytes) {
+            return Err(NameError::BadName);
+        }
+        match Vec::from_slice(alloc, bytes) {
+            Ok(bytes) => Ok(Name { bytes }),
+            Err(_) => Err(NameError::Memory),
+        }
+    }
+
+    /// Its bytes.
+    pub fn bytes(&self) -> &[u8]
+        ensures bytes { result.now ≡ self.now }
+        ensures name { IsName self.now }
+    {
+        self.bytes.as_slice()
+    }
+}
+
+/// Whether a name may start with this byte.
+pub fn is_name_start(byte: u8) -> bool
+    ensures { result ≡ is_name_start byte }
+{
+    byte.is_ascii_alphabetic() || byte == b'_'
+}
+
+/// Whether a name may go on with this byte.
+pub fn is_name_byte(byte: u8) -> bool
+    ensures { result ≡ is_name_byte byte }
+{
+    is_name_start(byte) || byte.is_ascii_digit() || matches!(byte, b'-' | b'.' | b':')
+}
+
+fn is_name(bytes: &[u8]) -> bool
+    ensures { result ≡ is_name bytes.now }
+{
+    match bytes.split_first() {
+        Some((first, rest)) => is_name_start(*first) && are_name_bytes(rest),
+        None => false,
+    }
+}
+
+fn are_name_bytes(bytes: &[u8]) -> bool
+    ensures { result ≡ list_all is_name_byte bytes.now }
+{
+    bytes.iter().all(|byte| is_name_byte(*byte))
+}

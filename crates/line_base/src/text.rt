@@ -1,0 +1,117 @@
+ghost use Rattle.std.specs.Prelude.{◌≡◌, ◌↔◌, List, ℕ, IfOk, IsTrue};
+ghost use Rattle.std.specs.List.{list_all};
+ghost use Rattle.std.specs.Str.{bytes_eq, chars};
+ghost use Rattle.line_base.specs.Text.{IsAllowed, IsText, ReadsText, is_allowed_char};
+
+use crate::memory::Memory;
+use std::alloc::Global;
+use std::marker::Model;
+use std::str;
+use thiserror::Error;
+
+/// The most bytes that a text may have.
+pub const MOST_TEXT_BYTES: usize = 1024;
+
+/// Text of allowed characters, in UTF-8, of at most 1,024 bytes.
+#[derive(Debug, Drop)]
+pub struct Text {
+    bytes: Vec<u8>,
+}
+
+impl Model for Text {
+    ghost Value = { List ℕ };
+
+    ghost view = { λ text. text.bytes.items };
+
+    ghost invariant = { λ text. IsText text.bytes.items };
+}
+
+/// Why bytes are no text.
+#[derive(Clone, Copy, Debug, PartialEq, Eq, Error)]
+pub enum TextError {
+    /// There are more than 1,024 bytes.
+    #[error("too long")]
+    TooLong,
+    /// They are not UTF-8 of allowed characters.
+    #[error("bad character")]
+    BadChar,
+    #[error("out of memory")]
+    Memory,
+}
+
+impl PartialEq for Text {
+    ghost use Rattle.std.proofs.Common.{rules};
+
+    ghost eq = { bytes_eq };
+
+    ghost laws = { Prim.search rules };
+
+    fn eq(&self, other: &Text) -> bool {
+        self.bytes.as_slice() == other.bytes.as_slice()
+    }
+}
+
+impl Eq for Text {
+    ghost use Rattle.std.proofs.Common.{rules};
+
+    ghost laws = { Prim.search rules };
+}
+
+impl Text {
+    /// Reads bytes as a text. Refuses them, in this order, as too long, as no text, and where
+    /// memory is wanting.
+    pub fn read(alloc: Global, bytes: &[u8]) -> Result<Text, TextError>
+        ensures { ReadsText bytes.now result }
+    {
+        if bytes.len() > MOST_TEXT_BYTES {
+            return Err(TextError::TooLong);
+        }
+        if !is_allowed_text(bytes) {
+            return Err(TextError::BadChar);
+        }
+        match Vec::from_slice(alloc, bytes) {
+            Ok(bytes) => Ok(Text { bytes }),
+            Err(_) => Err(TextError::Memory),
+        }
+    }
+
+    /// An equal text of its own.
+    pub fn copy(&self, alloc: Global) -> Result<Text, Memory>
+        ensures { IfOk result (λ text. text ≡ self.now) }
+    {
+        match Vec::from_slice(alloc, self.bytes.as_slice()) {
+            Ok(bytes) => Ok(Text { bytes }),
+            Err(_) => Err(Memory),
+        }
+    }
+
+    /// Its bytes.
+    pub fn bytes(&self) -> &[u8]
+        ensures bytes { result.now ≡ self.now }
+        ensures text { IsText self.now }
+    {
+        self.bytes.as_slice()
+    }
+}
+
+/// Whether a character may stand in a text.
+pub fn is_allowed_char(c: char) -> bool
+    ensures { result ≡ is_allowed_char c }
+{
+    matches!(c, '\t' | '\n' | '\r' | ' '..='\u{D7FF}' | '\u{E000}'..='\u{FFFD}' | '\u{10000}'..='\u{10FFFF}')
+}
+
+fn is_allowed_text(bytes: &[u8]) -> bool
+    ensures { IsTrue result ↔ IsAllowed bytes.now }
+{
+    match str::from_utf8(bytes) {
+        Ok(text) => has_allowed_chars(text),
+        Err(_) => false,
+    }
+}
+
+fn has_allowed_chars(text: &str) -> bool
+    ensures { result ≡ list_all is_allowed_char (chars text.now) }
+{
+    text.chars().all(|c| is_allowed_char(c))
+}
