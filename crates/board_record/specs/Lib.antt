@@ -1,0 +1,4 @@
+pub mod BoardId
+pub mod Record
+pub mod Kept
+pub mod Maker
