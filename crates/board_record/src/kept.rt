@@ -1,10 +1,11 @@
-ghost use Rattle.std.specs.Prelude.{◌≡◌, ◌+◌, ◌-◌, ◌<◌, ◌≤◌, [], ◌∷◌, ◌++◌, OnOk, OnErr, vec_capacity, vec_len};
-ghost use Rattle.board_record.specs.Kept.{Shelf};
+ghost use Rattle.std.specs.Prelude.{◌≡◌, ◌+◌, ◌-◌, ◌<◌, ◌≤◌, [], ◌∷◌, ◌++◌, Some, OnOk, OnErr, drop, length, remove, slice_get, slice_set, vec_capacity, vec_len};
+ghost use Rattle.board_record.specs.Kept.{Shelf, with_quality};
 
 use crate::record::Record;
-use line_base::Memory;
+use line_base::{Memory, Quality};
 use std::alloc::Global;
 use std::marker::Model;
+use std::mem;
 
 /// The records with which a machine stands, the front first.
 ///
@@ -49,6 +50,56 @@ impl Kept {
         ensures spare { self.old.spare ≤ self.new.spare + 1 }
     {
         self.boards.push(board).unwrap()
+    }
+
+    /// Puts a record at the front.
+    pub fn push_front(&mut self, board: Record)
+        requires { 0 < self.old.spare }
+        ensures boards { self.new.boards ≡ board ∷ self.old.boards }
+        ensures spare { self.old.spare ≤ self.new.spare + 1 }
+    {
+        self.boards.insert(0, board).unwrap()
+    }
+
+    /// Takes the front record out; `None` exactly where there is none.
+    pub fn pop_front(&mut self) -> Option<Record>
+        ensures front { result ≡ slice_get self.old.boards 0 }
+        ensures boards { self.new.boards ≡ drop 1 self.old.boards }
+        ensures spare { self.old.spare ≤ self.new.spare }
+    {
+        if self.boards.is_empty() {
+            return None;
+        }
+        Some(self.boards.remove(0))
+    }
+
+    /// Takes out the record at a place.
+    pub fn take(&mut self, place: usize) -> Record
+        requires { place < length self.old.boards }
+        ensures taken { slice_get self.old.boards place ≡ Some result }
+        ensures boards { self.new.boards ≡ remove self.old.boards place }
+        ensures spare { self.old.spare ≤ self.new.spare }
+    {
+        self.boards.remove(place)
+    }
+
+    /// Puts a record in the place of another, which it answers.
+    pub fn replace(&mut self, place: usize, board: Record) -> Record
+        requires { place < length self.old.boards }
+        ensures replaced { slice_get self.old.boards place ≡ Some result }
+        ensures boards { self.new.boards ≡ slice_set self.old.boards place board }
+        ensures spare { self.new.spare ≡ self.old.spare }
+    {
+        mem::replace(&mut self.boards[place], board)
+    }
+
+    /// Changes the quality of the record at a place, and nothing else.
+    pub fn set_quality(&mut self, place: usize, quality: Quality)
+        requires { place < length self.old.boards }
+        ensures boards { self.new.boards ≡ with_quality self.old.boards place quality }
+        ensures spare { self.new.spare ≡ self.old.spare }
+    {
+        self.boards[place].quality = quality;
     }
 
     /// The records, the front first.
