@@ -1,0 +1,9 @@
+use Rattle.std.specs.Prelude.{ℕ, ◌-◌, ◌^◌, ◌<◌}
+
+-- the last value of a count of faults, at which it stands still
+abbrev pub last_count : ℕ
+last_count = 2 ^ 64 - 1
+
+-- a count rose, or stood at its last value
+abbrev pub Rose : ℕ → ℕ → Type 0
+Rose before now = before < last_count → before < now
