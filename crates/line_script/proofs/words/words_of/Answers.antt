@@ -1,0 +1,13 @@
+use Rattle.std.proofs.Common.{rules, tests, ◌∙◌, ap}
+use Rattle.std.proofs.lemmas.Iterator.Consumers.{map_from_collect, YieldsList-from_filter}
+use Rattle.std.proofs.lemmas.Iterator.Splits.{YieldsList-from_slice_split}
+use Rattle.std.specs.Slice.Iter.{split_rest, split_done, split_callee}
+use Rattle.line_script.specs.Words.{is_blank}
+use Rattle.line_script.proofs.words.words_of.Goals as goal
+
+pub returns : goal.returns
+returns c =
+    let source = c.filter.ensures.source in
+    map_from_collect _ c.collect.ensures.ran (YieldsList-from_filter {s = c.filter.result} _ _
+    (YieldsList-from_slice_split _ is_blank c.args.bytes.now (ap split_rest source ∙ c.split.ensures.rest) (ap split_done source ∙ c.split.ensures.done) (ap split_callee source ∙ c.split.ensures.closure) (λ x b q k. search (rules, tests)))
+    c.filter.ensures.closure (λ x r q k. search (rules, tests)))

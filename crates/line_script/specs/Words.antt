@@ -1,0 +1,73 @@
+use Rattle.std.specs.Prelude.{◌≡◌, ◌==◌, ◌||◌, ◌&&◌, ◌+◌, ◌-◌, ◌*◌, ℕ, Option, Some, None, Bool, List, [], ◌∷◌, Result, Ok, Err, codes, filter, length, nat_le, nat_lt, if◌then◌else◌}
+use Rattle.std.specs.List.{list_all, slice_split}
+use Rattle.std.specs.Char.{is_ascii_digit}
+use Rattle.std.specs.Str.{bytes_eq}
+use Rattle.board_record.specs.BoardId.{read_id}
+use Rattle.board_record.specs.declared.id.BadId.{BadId}
+use Rattle.line_script.specs.declared.line.LineWhy.{LineWhy}
+use Rattle.line_script.specs.declared.line.LineWhy.TheVariants as whys
+use Rattle.line_script.specs.declared.line.LineError.{LineError}
+use Rattle.line_script.specs.declared.line.LineError.TheVariants as errors
+
+-- words are parted by spaces and tabs
+abbrev pub is_blank : ℕ → Bool
+is_blank b = b == 32 || b == 9
+
+-- a byte of a line: printable ASCII, or a tab
+abbrev pub is_text_byte : ℕ → Bool
+is_text_byte b = (nat_le 32 b && nat_le b 126) || b == 9
+
+-- the words of a line: what stands between blanks
+abbrev pub words_of : List ℕ → List (List ℕ)
+words_of bytes = filter (λ word. nat_lt 0 (length word)) (slice_split is_blank bytes)
+
+-- the number that digits spell behind those of `value`, or none where a byte is no digit
+abbrev pub value_from : ℕ → List ℕ → Option ℕ
+value_from value [] = Some value
+value_from value (b ∷ bs) = if is_ascii_digit b then value_from (value * 10 + (b - 48)) bs else None
+
+abbrev pub number_between : ℕ → ℕ → Option ℕ → Result ℕ LineWhy
+number_between low high None = Err whys.BadNumber
+number_between low high (Some value) = if nat_le low value && nat_le value high then Ok value else Err whys.BadNumber
+
+-- a number is 1 to 15 digits whose value stands between two bounds
+abbrev pub number_in : ℕ → ℕ → List ℕ → Result ℕ LineWhy
+number_in low high word = if nat_lt 0 (length word) && nat_le (length word) 15 then number_between low high (value_from 0 word) else Err whys.BadNumber
+
+-- this word and no other
+abbrev pub literal_of : List ℕ → List ℕ → Result (Unit {0}) LineWhy
+literal_of wanted word = if bytes_eq word wanted then Ok tt else Err whys.BadWord
+
+abbrev pub identity_from : Result ℕ BadId → Result ℕ LineWhy
+identity_from (Ok id) = Ok id
+identity_from (Err bad) = Err whys.BadId
+
+-- the id that a word spells
+abbrev pub identity_of : List ℕ → Result ℕ LineWhy
+identity_of word = identity_from (read_id word)
+
+-- a text word has at most 64 bytes
+abbrev pub token_of : List ℕ → Result (List ℕ) LineWhy
+token_of word = if nat_le (length word) 64 && list_all is_text_byte word then Ok word else Err whys.BadWord
+
+-- what reading answers, unless memory ran out
+abbrev pub Reads : {A : Type 0} → Result A LineWhy → Result A LineError → Type 0
+Reads wanted (Ok value) = wanted ≡ Ok value
+Reads wanted (Err (errors.Refused why)) = wanted ≡ Err why
+Reads wanted (Err errors.Memory) = Unit {0}
+
+abbrev pub ReadsToken : List ℕ → Result (List ℕ) LineError → Type 0
+ReadsToken word answer = Reads (token_of word) answer
+
+-- the text of a refusal
+abbrev pub why_text : LineWhy → List ℕ
+why_text whys.LongLine = codes "long line"
+why_text whys.TooManyLines = codes "too many lines"
+why_text whys.NotText = codes "not text"
+why_text whys.UnknownWord = codes "unknown word"
+why_text whys.NotYet = codes "not yet"
+why_text whys.WrongCount = codes "wrong count"
+why_text whys.BadNumber = codes "bad number"
+why_text whys.BadSide = codes "bad side"
+why_text whys.BadId = codes "bad id"
+why_text whys.BadWord = codes "bad word"

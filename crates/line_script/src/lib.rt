@@ -1,0 +1,10 @@
+//! The lines of a script: what each asks for, and why a line is refused.
+#![tactic(auto)]
+
+mod forms;
+mod line;
+mod read;
+mod words;
+
+pub use line::{LineError, LineWhy, ScriptLine};
+pub use read::{MOST_LINE_BYTES, read_line};

@@ -1,0 +1,73 @@
+use board_record::BoardId;
+use line_base::Text;
+use std::fmt;
+use thiserror::Error;
+
+/// What one line of a script asks for. Machines are numbered from 1 in downstream direction.
+#[derive(Debug, PartialEq, Eq, Drop)]
+pub enum ScriptLine {
+    /// Nothing: an empty line, or a comment.
+    Blank,
+    /// Another machine at the line's end, with room for so many boards, that has made `used` ids.
+    Machine { capacity: u32, used: u64 },
+    /// A new board at the back of a machine, maybe with a top barcode.
+    Insert { machine: u32, barcode: Option<Text> },
+    /// A board taken out of a machine.
+    Remove { machine: u32, id: BoardId },
+    /// A new board in the place of another.
+    Replace { machine: u32, id: BoardId },
+    /// What every machine keeps, in the report.
+    Show,
+}
+
+/// Why a line is refused, in the order in which the reasons are tested.
+#[derive(Clone, Copy, Debug, PartialEq, Eq, Error)]
+pub enum LineWhy {
+    /// It has more than 4,096 bytes.
+    LongLine,
+    /// It is the 1,000,001st line of its script.
+    TooManyLines,
+    /// A byte of it is neither a tab nor printable ASCII.
+    NotText,
+    /// Its first word is no form's.
+    UnknownWord,
+    /// Its first word is that of a form that isn't built yet.
+    NotYet,
+    /// It has too few or too many words.
+    WrongCount,
+    BadNumber,
+    BadSide,
+    BadId,
+    BadWord,
+}
+
+impl fmt::Display for LineWhy {
+    ghost use Rattle.std.specs.Prelude.{Some};
+    ghost use Rattle.line_script.specs.Words.{why_text};
+
+    ghost output = { λ why. Some (why_text why) };
+
+    fn fmt<W: fmt::Write>(&self, f: &mut fmt::Formatter<W>) -> fmt::Result {
+        match self {
+            LineWhy::LongLine => f.write_str("long line"),
+            LineWhy::TooManyLines => f.write_str("too many lines"),
+            LineWhy::NotText => f.write_str("not text"),
+            LineWhy::UnknownWord => f.write_str("unknown word"),
+            LineWhy::NotYet => f.write_str("not yet"),
+            LineWhy::WrongCount => f.write_str("wrong count"),
+            LineWhy::BadNumber => f.write_str("bad number"),
+            LineWhy::BadSide => f.write_str("bad side"),
+            LineWhy::BadId => f.write_str("bad id"),
+            LineWhy::BadWord => f.write_str("bad word"),
+        }
+    }
+}
+
+/// Why a line could not be read.
+#[derive(Clone, Copy, Debug, PartialEq, Eq, Error)]
+pub enum LineError {
+    #[error("{0}")]
+    Refused(LineWhy),
+    #[error("out of memory")]
+    Memory,
+}

@@ -1,0 +1,40 @@
+ghost use Rattle.line_script.specs.Words.{Reads};
+ghost use Rattle.line_script.specs.Grammar.{read_of};
+
+use crate::forms::line_of;
+use crate::line::{LineError, LineWhy, ScriptLine};
+use crate::words::{is_text, words_of};
+use std::alloc::Global;
+
+/// The most bytes of a line, without its line end.
+pub const MOST_LINE_BYTES: usize = 4096;
+
+/// Reads one line, given without its line end.
+///
+/// Refuses it for the first reason that holds: more than 4,096 bytes, a byte that is no text, an
+/// unknown first word, a form that isn't built yet, a wrong count of words, and then, for the
+/// words from the left, a bad number, side, id or word. That a script has too many lines is for
+/// its caller to see.
+pub fn read_line(alloc: Global, bytes: &[u8]) -> Result<ScriptLine, LineError>
+    ensures { Reads (read_of bytes.now) result }
+{
+    if bytes.len() > MOST_LINE_BYTES {
+        return Err(LineError::Refused(LineWhy::LongLine));
+    }
+    if !is_text(bytes) {
+        return Err(LineError::Refused(LineWhy::NotText));
+    }
+    let words = match words_of(alloc, bytes) {
+        Ok(words) => words,
+        Err(_) => return Err(LineError::Memory),
+    };
+    match words.split_first() {
+        None => Ok(ScriptLine::Blank),
+        Some((first, others)) => {
+            if first.starts_with(b"#") {
+                return Ok(ScriptLine::Blank);
+            }
+            line_of(alloc, first, others)
+        }
+    }
+}

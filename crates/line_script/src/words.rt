@@ -1,0 +1,105 @@
+//! The words of a line, and the values that they spell.
+
+ghost use Rattle.std.specs.Prelude.{◌≡◌, ◌≤◌, IfOk, length, map};
+ghost use Rattle.std.specs.List.{list_all};
+ghost use Rattle.line_script.specs.Words.{is_blank, is_text_byte, number_in, value_from, words_of, ReadsToken, identity_of, literal_of};
+
+use crate::line::{LineError, LineWhy};
+use board_record::BoardId;
+use line_base::{Text, TextError};
+use std::alloc::{AllocError, Global};
+
+/// The most bytes of a text word.
+const MOST_TOKEN_BYTES: usize = 64;
+
+/// The most digits of a number.
+const MOST_DIGITS: usize = 15;
+
+/// Whether a byte parts words.
+pub fn is_blank(byte: u8) -> bool
+    ensures { result ≡ is_blank byte }
+{
+    matches!(byte, b' ' | b'\t')
+}
+
+/// Whether each byte is a tab or printable ASCII.
+pub fn is_text(bytes: &[u8]) -> bool
+    ensures { result ≡ list_all is_text_byte bytes.now }
+{
+    bytes
+        .iter()
+        .all(|byte| matches!(*byte, b' '..=b'~' | b'\t'))
+}
+
+/// The words of a line.
+pub fn words_of(alloc: Global, bytes: &[u8]) -> Result<Vec<&[u8]>, AllocError>
+    ensures { IfOk result (λ words. map (λ word. word.now) words.items ≡ words_of bytes.now) }
+{
+    bytes
+        .split(|byte| is_blank(*byte))
+        .filter(|word| !word.is_empty())
+        .collect(alloc)
+}
+
+/// A number of 1 to 15 digits between two bounds. `BadNumber` where the word is none.
+pub fn number(word: &[u8], low: u64, high: u64) -> Result<u64, LineWhy>
+    ensures value { result ≡ number_in low high word.now }
+    ensures within { IfOk result (λ number. number ≤ high) }
+{
+    if word.is_empty() || word.len() > MOST_DIGITS {
+        return Err(LineWhy::BadNumber);
+    }
+    match value_of(word) {
+        Some(value) if low <= value && value <= high => Ok(value),
+        _ => Err(LineWhy::BadNumber),
+    }
+}
+
+fn value_of(word: &[u8]) -> Option<u64>
+    requires { length word.now ≤ 15 }
+    ensures { result ≡ value_from 0 word.now }
+{
+    let mut value = 0u64;
+    for byte in word {
+        if !byte.is_ascii_digit() {
+            return None;
+        }
+        value = value * 10 + u64::from(*byte - b'0');
+    }
+    Some(value)
+}
+
+/// This word and no other. `BadWord` else.
+pub fn literal(word: &[u8], wanted: &[u8]) -> Result<(), LineWhy>
+    ensures { result ≡ literal_of wanted.now word.now }
+{
+    if word == wanted {
+        return Ok(());
+    }
+    Err(LineWhy::BadWord)
+}
+
+/// A board's id. `BadId` where the word is none.
+pub fn identity(word: &[u8]) -> Result<BoardId, LineWhy>
+    ensures { result ≡ identity_of word.now }
+{
+    match BoardId::read(word) {
+        Ok(id) => Ok(id),
+        Err(_) => Err(LineWhy::BadId),
+    }
+}
+
+/// A text of at most 64 bytes. `BadWord` where the word is longer.
+pub fn token(alloc: Global, word: &[u8]) -> Result<Text, LineError>
+    ensures { ReadsToken word.now result }
+{
+    if word.len() > MOST_TOKEN_BYTES || !is_text(word) {
+        return Err(LineError::Refused(LineWhy::BadWord));
+    }
+    match Text::read(alloc, word) {
+        Ok(text) => Ok(text),
+        Err(TextError::Memory) => Err(LineError::Memory),
+        Err(TextError::TooLong) => unreachable!(),
+        Err(TextError::BadChar) => unreachable!(),
+    }
+}
