@@ -13,5 +13,5 @@ abbrev pub read_id : List ℕ → Result ℕ BadId
 read_id bytes = id_of_bytes (parsed bytes)
 
 -- an id's 36 characters: hyphenated, in lower case
-abbrev pub id_text : ℕ → List ℕ
+unfoldable pub id_text : ℕ → List ℕ
 id_text number = hyphenated_text lower (to_be_bytes w128 number)

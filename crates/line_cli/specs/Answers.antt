@@ -1,0 +1,15 @@
+use Rattle.std.specs.Prelude.{◌≡◌, ℕ, Result, Ok, Err}
+use Rattle.line_cli.specs.declared.happening.Reason.{Reason}
+use Rattle.line_cli.specs.declared.machine.MachineError.{MachineError}
+use Rattle.line_cli.specs.declared.machine.MachineError.TheVariants as errors
+
+-- the answer, unless memory ran out
+abbrev pub Answers : Result ℕ Reason → Result ℕ MachineError → Type 0
+Answers wanted (Ok id) = wanted ≡ Ok id
+Answers wanted (Err (errors.No reason)) = wanted ≡ Err reason
+Answers wanted (Err errors.Memory) = Unit {0}
+
+-- whether a board was found
+abbrev pub Removes : Result ℕ Reason → Result (Unit {0}) Reason → Type 0
+Removes (Ok place) result = result ≡ Ok tt
+Removes (Err reason) result = result ≡ Err reason

@@ -1,0 +1,64 @@
+use Rattle.std.specs.Prelude.{◌≡◌, ◌++◌, ℕ, List, [], ◌∷◌, Bool, true, false, Option, None, Some, codes, if◌then◌else◌}
+use Rattle.std.specs.Str.{bytes_eq}
+use Rattle.line_outside.specs.Faults.{Rose}
+use Rattle.line_outside.specs.Sink.{Grows, GrowsInPart}
+use Rattle.line_cli.specs.Script.{Refusal, script_of}
+use Rattle.line_cli.specs.Report.{report_of}
+use Rattle.line_cli.specs.declared.status.Status.{Status}
+use Rattle.line_cli.specs.declared.status.Status.TheVariants as statuses
+use Rattle.line_cli.specs.declared.status.InputWhy.TheVariants as inputs
+
+-- the number with which the program ends
+abbrev pub exit_number : Status → ℕ
+exit_number statuses.Done = 0
+exit_number statuses.Usage = 2
+exit_number (statuses.ScriptRefused line why) = 3
+exit_number statuses.ReadFault = 4
+exit_number statuses.WriteFault = 5
+exit_number statuses.Memory = 6
+
+abbrev pub usage_text : List ℕ
+usage_text = codes "usage: line run | line read | line make <number>\n"
+
+-- whether the words are `run`
+abbrev pub is_run : List (List ℕ) → Bool
+is_run [] = false
+is_run (word ∷ []) = bytes_eq word (codes "run")
+is_run (word ∷ other ∷ others) = false
+
+-- the status that a script's first refusal gives
+abbrev pub status_of : Option Refusal → Status
+status_of None = statuses.Done
+status_of (Some refusal) = statuses.ScriptRefused refusal.line (inputs.Line refusal.why)
+
+-- what `run` did with a script: what is left of it, and how the sink's contents grew
+abbrev pub RunsScript : List ℕ → Option (List ℕ) → Option (List ℕ) → Option (List ℕ) → Status → Type 0
+RunsScript script left old new statuses.Done = (status_of (script_of script).refusal ≡ statuses.Done) × Grows old new (report_of script) × (left ≡ Some [])
+RunsScript script left old new statuses.Usage = ⊥
+RunsScript script left old new (statuses.ScriptRefused line why) = (status_of (script_of script).refusal ≡ statuses.ScriptRefused line why) × Grows old new (report_of script)
+RunsScript script left old new statuses.ReadFault = GrowsInPart old new (report_of script)
+RunsScript script left old new statuses.WriteFault = GrowsInPart old new (report_of script)
+RunsScript script left old new statuses.Memory = GrowsInPart old new (report_of script)
+
+-- the same, where the source tells its bytes
+abbrev pub Runs : Option (List ℕ) → Option (List ℕ) → Option (List ℕ) → Option (List ℕ) → Status → Type 0
+Runs None left old new status = Unit {0}
+Runs (Some script) left old new status = RunsScript script left old new status
+
+-- what other words do: nothing is read, and the usage text is written
+pub record Refers (left_old left_new old new : Option (List ℕ)) (status : Status) : Type 0 where
+  pub usage : status ≡ statuses.Usage
+  pub unread : left_new ≡ left_old
+  pub text : GrowsInPart old new usage_text
+
+-- WHAT THE PROGRAM DOES with its words
+abbrev pub DoesAs : Bool → Option (List ℕ) → Option (List ℕ) → Option (List ℕ) → Option (List ℕ) → Status → Type 0
+DoesAs true left_old left_new old new status = Runs left_old left_new old new status
+DoesAs false left_old left_new old new status = Refers left_old left_new old new status
+
+-- a fault comes only where the count of that object rose
+abbrev pub ReadCause : Status → ℕ → ℕ → Type 0
+ReadCause status before now = status ≡ statuses.ReadFault → Rose before now
+
+abbrev pub WriteCause : Status → ℕ → ℕ → Type 0
+WriteCause status before now = status ≡ statuses.WriteFault → Rose before now

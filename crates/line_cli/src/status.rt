@@ -1,0 +1,44 @@
+ghost use Rattle.std.specs.Prelude.{◌≡◌};
+ghost use Rattle.line_cli.specs.Command.{exit_number};
+
+use line_script::LineWhy;
+
+/// Why an input is refused.
+#[derive(Clone, Copy, Debug, PartialEq, Eq)]
+pub enum InputWhy {
+    /// A line of a script is refused.
+    Line(LineWhy),
+}
+
+/// How a call of the program ended.
+#[derive(Clone, Copy, Debug, PartialEq, Eq)]
+pub enum Status {
+    /// All was read and all was written.
+    Done,
+    /// The words are none of the program's forms.
+    Usage,
+    /// The script is refused at this line, counted from 1, for this reason.
+    ScriptRefused { line: u64, why: InputWhy },
+    /// The source failed.
+    ReadFault,
+    /// The sink failed.
+    WriteFault,
+    /// Memory was wanting.
+    Memory,
+}
+
+impl Status {
+    /// The number with which the program ends.
+    pub fn exit_number(&self) -> u8
+        ensures { result ≡ exit_number self.now }
+    {
+        match self {
+            Status::Done => 0,
+            Status::Usage => 2,
+            Status::ScriptRefused { .. } => 3,
+            Status::ReadFault => 4,
+            Status::WriteFault => 5,
+            Status::Memory => 6,
+        }
+    }
+}
