@@ -9,7 +9,13 @@ Answers wanted (Ok id) = wanted ≡ Ok id
 Answers wanted (Err (errors.No reason)) = wanted ≡ Err reason
 Answers wanted (Err errors.Memory) = Unit {0}
 
+-- a fact that holds unless memory ran out
+abbrev pub Settles : Result ℕ MachineError → Type 0 → Type 0
+Settles (Ok id) fact = fact
+Settles (Err (errors.No reason)) fact = fact
+Settles (Err errors.Memory) fact = Unit {0}
+
 -- whether a board was found
 abbrev pub Removes : Result ℕ Reason → Result (Unit {0}) Reason → Type 0
-Removes (Ok place) result = result ≡ Ok tt
-Removes (Err reason) result = result ≡ Err reason
+Removes wanted (Ok found) = (place : ℕ) × (wanted ≡ Ok place)
+Removes wanted (Err reason) = wanted ≡ Err reason

@@ -1,4 +1,4 @@
-use Rattle.std.specs.Prelude.{◌≡◌, ◌++◌, ℕ, List, [], ◌∷◌, Bool, true, false, Option, None, Some, codes, if◌then◌else◌}
+use Rattle.std.specs.Prelude.{◌≡◌, ◌≤◌, ℕ, List, [], ◌∷◌, Bool, true, false, Option, None, Some, codes}
 use Rattle.std.specs.Str.{bytes_eq}
 use Rattle.line_outside.specs.Faults.{Rose}
 use Rattle.line_outside.specs.Sink.{Grows, GrowsInPart}
@@ -56,9 +56,9 @@ abbrev pub DoesAs : Bool → Option (List ℕ) → Option (List ℕ) → Option 
 DoesAs true left_old left_new old new status = Runs left_old left_new old new status
 DoesAs false left_old left_new old new status = Refers left_old left_new old new status
 
--- a fault comes only where the count of that object rose
-abbrev pub ReadCause : Status → ℕ → ℕ → Type 0
-ReadCause status before now = status ≡ statuses.ReadFault → Rose before now
-
-abbrev pub WriteCause : Status → ℕ → ℕ → Type 0
-WriteCause status before now = status ≡ statuses.WriteFault → Rose before now
+-- no count of faults falls, and a fault comes only where the count of that object rose
+pub record HasCauses (status : Status) (reads_before reads_now writes_before writes_now : ℕ) : Type 0 where
+  pub reads : reads_before ≤ reads_now
+  pub writes : writes_before ≤ writes_now
+  pub read_fault : status ≡ statuses.ReadFault → Rose reads_before reads_now
+  pub write_fault : status ≡ statuses.WriteFault → Rose writes_before writes_now

@@ -3,5 +3,8 @@ pub mod Step
 pub mod Texts
 pub mod Script
 pub mod Report
+pub mod LineEnds
+pub mod Reader
 pub mod Command
+pub mod Ending
 pub mod Answers

@@ -1,4 +1,4 @@
-use Rattle.std.specs.Prelude.{ℕ, ◌++◌, List, [], ◌∷◌, codes}
+use Rattle.std.specs.Prelude.{ℕ, ◌++◌, List, codes}
 use Rattle.std.specs.List.{flat_map}
 use Rattle.std.specs.Fmt.{decimal}
 use Rattle.board_record.specs.BoardId.{id_text}
@@ -22,7 +22,6 @@ abbrev pub quality_text : Quality → List ℕ
 quality_text qualities.Unknown = codes "unknown"
 quality_text qualities.Good = codes "good"
 quality_text qualities.Failed = codes "failed"
-
 
 -- the text of a happening
 abbrev pub happening_text : Happening → List ℕ

@@ -35,11 +35,20 @@ impl fmt::Display for Reason {
 #[derive(Clone, Copy, Debug, PartialEq, Eq)]
 pub enum Happening {
     /// A machine was added at the line's end.
-    Machine { number: u32, capacity: u32 },
+    Machine {
+        number: u32,
+        capacity: u32,
+    },
     /// A board came to a machine.
-    Inserts { machine: u32, id: BoardId },
+    Inserts {
+        machine: u32,
+        id: BoardId,
+    },
     /// A board was taken out of a machine.
-    Removes { machine: u32, id: BoardId },
+    Removes {
+        machine: u32,
+        id: BoardId,
+    },
     /// Another board came in the place of an old one.
     Replaces {
         machine: u32,
@@ -47,9 +56,14 @@ pub enum Happening {
         new: BoardId,
     },
     /// A board's record stands with a machine from now on.
-    With { machine: u32, id: BoardId },
+    With {
+        machine: u32,
+        id: BoardId,
+    },
     /// A board's record stands nowhere from now on.
-    Gone { id: BoardId },
+    Gone {
+        id: BoardId,
+    },
     /// A machine keeps this board.
     Shown {
         machine: u32,

@@ -1,8 +1,14 @@
 //! The program `line`: what its words ask for, and what it answers.
 #![tactic(auto)]
 
+mod command;
 mod happening;
 mod machine;
+mod running;
+mod script_reader;
+mod script_run;
 mod status;
+mod step;
 
+pub use command::line_main;
 pub use status::{InputWhy, Status};

@@ -1,14 +1,14 @@
-ghost use Rattle.std.specs.Prelude.{◌≡◌, ◌^◌, ◌<◌, ◌≤◌, [], IfOk, IfSome, OnOk, OnErr, length};
+ghost use Rattle.std.specs.Prelude.{◌≡◌, ◌^◌, ◌<◌, ◌≤◌, [], IfOk, IfSome, OnErr, length};
 ghost use Rattle.line_cli.specs.Stand.{Stand, machine_text, place_of, place_from};
 ghost use Rattle.line_cli.specs.Step.{insert_of, remove_of, replace_of, inserted, removed, replaced};
-ghost use Rattle.line_cli.specs.Answers.{Answers, Removes};
+ghost use Rattle.line_cli.specs.Answers.{Answers, Removes, Settles};
 
 use crate::happening::Reason;
 use board_record::{BoardId, IdMaker, Kept, Record};
 use line_base::{Memory, Text, TextError};
 use std::alloc::Global;
-use std::marker::Model;
 use std::io::Write;
+use std::marker::Model;
 
 /// Why a machine can't do what it was asked for.
 #[derive(Clone, Copy, Debug, PartialEq, Eq)]
@@ -32,7 +32,7 @@ impl Model for Machine {
 
     ghost view = { λ machine. record { capacity = machine.capacity; boards = machine.kept.boards; maker = machine.maker } };
 
-    ghost invariant = { λ machine. machine.name ≡ machine_text machine.maker.machine };
+    ghost invariant = { λ machine. (machine.name ≡ machine_text machine.maker.machine) × (length machine.kept.boards ≤ machine.capacity) };
 }
 
 impl Machine {
@@ -53,15 +53,17 @@ impl Machine {
 
     /// The records that it keeps, the front first.
     pub fn kept(&self) -> &[Record]
-        ensures { result.now ≡ self.now.boards }
+        ensures boards { result.now ≡ self.now.boards }
+        ensures few { length self.now.boards < 2 ^ 32 }
     {
+        let _capacity = self.capacity;
         self.kept.list()
     }
 
     /// Takes in a new board at the back, and answers its id.
     pub fn insert(&mut self, barcode: Option<Text>) -> Result<BoardId, MachineError>
         ensures answer { Answers (insert_of self.old) result }
-        ensures ok { OnOk result (self.new ≡ inserted barcode self.old) }
+        ensures after { Settles result (self.new ≡ inserted barcode self.old) }
         ensures unchanged { OnErr result (self.new ≡ self.old) }
     {
         if self.kept.list().len() >= self.capacity as usize {
@@ -85,7 +87,7 @@ impl Machine {
 
     /// Lets go of a board.
     pub fn remove(&mut self, id: BoardId) -> Result<(), Reason>
-        ensures answer { Removes (remove_of self.old id) result }
+        ensures answer { Removes (remove_of id self.old) result }
         ensures after { self.new ≡ removed id self.old }
     {
         match place_of(self.kept.list(), id) {
@@ -99,8 +101,8 @@ impl Machine {
 
     /// Puts a new board in the place of another, and answers the new one's id.
     pub fn replace(&mut self, id: BoardId) -> Result<BoardId, MachineError>
-        ensures answer { Answers (replace_of self.old id) result }
-        ensures ok { OnOk result (self.new ≡ replaced id self.old) }
+        ensures answer { Answers (replace_of id self.old) result }
+        ensures after { Settles result (self.new ≡ replaced id self.old) }
         ensures unchanged { OnErr result (self.new ≡ self.old) }
     {
         let place = match place_of(self.kept.list(), id) {

@@ -1,8 +1,9 @@
 //! One reader for each form of line.
 
-ghost use Rattle.std.specs.Prelude.{◌≡◌, [], ◌∷◌, map};
+ghost use Rattle.std.specs.Prelude.{◌≡◌, IfOk, [], ◌∷◌, map};
 ghost use Rattle.std.specs.List.{list_any};
 ghost use Rattle.std.specs.Str.{bytes_eq};
+ghost use Rattle.line_script.specs.Ranges.{IsWithin};
 ghost use Rattle.line_script.specs.Words.{Reads};
 ghost use Rattle.line_script.specs.Grammar.{line_as, line_among, forms, is_later, later_machine_words, later_floor_words, later_other_words, machine_form, insert_form, remove_form, replace_form, show_form};
 
@@ -21,7 +22,8 @@ const MOST_USED: u64 = 281_474_976_710_655;
 
 /// The line that a first word and its arguments ask for.
 pub fn line_of(alloc: Global, first: &[u8], words: &[&[u8]]) -> Result<ScriptLine, LineError>
-    ensures { Reads (line_among forms first.now (map (λ word. word.now) words.now)) result }
+    ensures answer { Reads (line_among forms first.now (map (λ word. word.now) words.now)) result }
+    ensures within { IfOk result IsWithin }
 {
     if first == &b"machine"[..] {
         return refused(machine(words));
@@ -45,7 +47,8 @@ pub fn line_of(alloc: Global, first: &[u8], words: &[&[u8]]) -> Result<ScriptLin
 }
 
 fn refused(line: Result<ScriptLine, LineWhy>) -> Result<ScriptLine, LineError>
-    ensures { Reads line result }
+    ensures answer { Reads line result }
+    ensures within { IfOk line IsWithin → IfOk result IsWithin }
 {
     match line {
         Ok(line) => Ok(line),
@@ -102,7 +105,8 @@ fn is_later_other_word(first: &[u8]) -> bool
 }
 
 fn machine(words: &[&[u8]]) -> Result<ScriptLine, LineWhy>
-    ensures { result ≡ line_as machine_form (map (λ word. word.now) words.now) }
+    ensures answer { result ≡ line_as machine_form (map (λ word. word.now) words.now) }
+    ensures within { IfOk result IsWithin }
 {
     match words {
         [capacity] => Ok(ScriptLine::Machine {
@@ -120,7 +124,8 @@ fn machine(words: &[&[u8]]) -> Result<ScriptLine, LineWhy>
 }
 
 fn insert(alloc: Global, words: &[&[u8]]) -> Result<ScriptLine, LineError>
-    ensures { Reads (line_as insert_form (map (λ word. word.now) words.now)) result }
+    ensures answer { Reads (line_as insert_form (map (λ word. word.now) words.now)) result }
+    ensures within { IfOk result IsWithin }
 {
     match words {
         [machine] => refused(insert_plain(machine)),
@@ -130,7 +135,8 @@ fn insert(alloc: Global, words: &[&[u8]]) -> Result<ScriptLine, LineError>
 }
 
 fn insert_plain(machine: &[u8]) -> Result<ScriptLine, LineWhy>
-    ensures { result ≡ line_as insert_form (machine.now ∷ []) }
+    ensures answer { result ≡ line_as insert_form (machine.now ∷ []) }
+    ensures within { IfOk result IsWithin }
 {
     let machine = number(machine, 1, MOST_MACHINES)? as u32;
     Ok(ScriptLine::Insert {
@@ -140,7 +146,8 @@ fn insert_plain(machine: &[u8]) -> Result<ScriptLine, LineWhy>
 }
 
 fn insert_barcode(alloc: Global, machine: &[u8], barcode: &[u8]) -> Result<ScriptLine, LineError>
-    ensures { Reads (line_as insert_form (machine.now ∷ barcode.now ∷ [])) result }
+    ensures answer { Reads (line_as insert_form (machine.now ∷ barcode.now ∷ [])) result }
+    ensures within { IfOk result IsWithin }
 {
     let machine = match number(machine, 1, MOST_MACHINES) {
         Ok(machine) => machine as u32,
@@ -156,7 +163,8 @@ fn insert_barcode(alloc: Global, machine: &[u8], barcode: &[u8]) -> Result<Scrip
 }
 
 fn remove(words: &[&[u8]]) -> Result<ScriptLine, LineWhy>
-    ensures { result ≡ line_as remove_form (map (λ word. word.now) words.now) }
+    ensures answer { result ≡ line_as remove_form (map (λ word. word.now) words.now) }
+    ensures within { IfOk result IsWithin }
 {
     match words {
         [machine, id] => {
@@ -169,7 +177,8 @@ fn remove(words: &[&[u8]]) -> Result<ScriptLine, LineWhy>
 }
 
 fn replace(words: &[&[u8]]) -> Result<ScriptLine, LineWhy>
-    ensures { result ≡ line_as replace_form (map (λ word. word.now) words.now) }
+    ensures answer { result ≡ line_as replace_form (map (λ word. word.now) words.now) }
+    ensures within { IfOk result IsWithin }
 {
     match words {
         [machine, id] => {
@@ -182,7 +191,8 @@ fn replace(words: &[&[u8]]) -> Result<ScriptLine, LineWhy>
 }
 
 fn show(words: &[&[u8]]) -> Result<ScriptLine, LineWhy>
-    ensures { result ≡ line_as show_form (map (λ word. word.now) words.now) }
+    ensures answer { result ≡ line_as show_form (map (λ word. word.now) words.now) }
+    ensures within { IfOk result IsWithin }
 {
     match words {
         [] => Ok(ScriptLine::Show),

@@ -1,3 +1,5 @@
+ghost use Rattle.std.specs.Prelude.{IfOk};
+ghost use Rattle.line_script.specs.Ranges.{IsWithin};
 ghost use Rattle.line_script.specs.Words.{Reads};
 ghost use Rattle.line_script.specs.Grammar.{read_of};
 
@@ -16,7 +18,8 @@ pub const MOST_LINE_BYTES: usize = 4096;
 /// words from the left, a bad number, side, id or word. That a script has too many lines is for
 /// its caller to see.
 pub fn read_line(alloc: Global, bytes: &[u8]) -> Result<ScriptLine, LineError>
-    ensures { Reads (read_of bytes.now) result }
+    ensures answer { Reads (read_of bytes.now) result }
+    ensures within { IfOk result IsWithin }
 {
     if bytes.len() > MOST_LINE_BYTES {
         return Err(LineError::Refused(LineWhy::LongLine));

@@ -2,6 +2,7 @@
 
 ghost use Rattle.std.specs.Prelude.{◌≡◌, ◌≤◌, IfOk, length, map};
 ghost use Rattle.std.specs.List.{list_all};
+ghost use Rattle.line_script.specs.Ranges.{IsBetween};
 ghost use Rattle.line_script.specs.Words.{is_blank, is_text_byte, number_in, value_from, words_of, ReadsToken, identity_of, literal_of};
 
 use crate::line::{LineError, LineWhy};
@@ -44,7 +45,7 @@ pub fn words_of(alloc: Global, bytes: &[u8]) -> Result<Vec<&[u8]>, AllocError>
 /// A number of 1 to 15 digits between two bounds. `BadNumber` where the word is none.
 pub fn number(word: &[u8], low: u64, high: u64) -> Result<u64, LineWhy>
     ensures value { result ≡ number_in low high word.now }
-    ensures within { IfOk result (λ number. number ≤ high) }
+    ensures within { IfOk result (IsBetween low high) }
 {
     if word.is_empty() || word.len() > MOST_DIGITS {
         return Err(LineWhy::BadNumber);

@@ -1,0 +1,30 @@
+use Rattle.std.proofs.Common.{◌≡◌, ◌++◌, ◌∷◌, ◌∙◌, [], Ok, Err, sym, ap, append_assoc}
+use Rattle.line_cli.proofs.Steps.{takes-more, takes-front}
+use Rattle.line_cli.proofs.script_reader.ScriptReader.take_piece.Goals as goal
+
+pub returns-in-Err-clause-takes : goal.returns-in-Err-clause-takes
+returns-in-Err-clause-takes c =
+    let old = c.args.self.now in
+    let new = c.end_line.new.self in
+    let line = c.in-Some.line.now in
+    let others = c.in-Some.others.now in
+    let taking = c.loop-line.invariant in
+    let before = c.args.to.now.items in
+    let now = c.end_line.new.to.items in
+    let regroup : (taking.taken ++ (line ++ 10 ∷ [])) ++ others ≡ taking.taken ++ (line ++ 10 ∷ others) = simp append_assoc in
+    let whole = regroup ∙ ap (λ t. taking.taken ++ t) (sym c.in-Some.ensures.cut.parts) ∙ taking.parts in
+    let front = takes-more (Err c.in-Err.error) old c.loop-line.self new taking.taken (line ++ 10 ∷ []) before c.loop-line.to.items now taking.takes c.in-Err.ensures in
+    let all = takes-front c.in-Err.error old new new (taking.taken ++ (line ++ 10 ∷ [])) others before now front in
+    rw whole at all
+
+pub loop-line-preserved : goal.loop-line-preserved
+loop-line-preserved c =
+    let line = c.in-Some.line.now in
+    let others = c.in-Some.others.now in
+    let taking = c.loop-line.invariant in
+    let regroup : (taking.taken ++ (line ++ 10 ∷ [])) ++ others ≡ taking.taken ++ (line ++ 10 ∷ others) = simp append_assoc in
+    record {
+      taken = taking.taken ++ (line ++ 10 ∷ []);
+      parts = regroup ∙ ap (λ t. taking.taken ++ t) (sym c.in-Some.ensures.cut.parts) ∙ taking.parts;
+      takes = takes-more (Ok tt) c.args.self.now c.loop-line.self c.end_line.new.self taking.taken (line ++ 10 ∷ []) c.args.to.now.items c.loop-line.to.items c.end_line.new.to.items taking.takes c.in_default-end_line.ensures;
+    }

@@ -1,0 +1,50 @@
+use Rattle.std.specs.Prelude.{◌≡◌, ◌≤◌, ◌++◌, ℕ, List, Option, None, Some}
+use Rattle.line_outside.specs.Faults.{Rose}
+use Rattle.line_outside.specs.Sink.{Grows, GrowsInPart}
+use Rattle.line_outside.specs.declared.pushing.Pushed.{Pushed}
+use Rattle.line_outside.specs.declared.pushing.Pushed.TheVariants as pushes
+use Rattle.line_cli.specs.Script.{script_of}
+use Rattle.line_cli.specs.Report.{report_of}
+use Rattle.line_cli.specs.Reader.{Place, report_from, refusal_from}
+use Rattle.line_cli.specs.declared.script_run.RunError.{RunError}
+use Rattle.line_cli.specs.declared.script_run.RunError.TheVariants as errors
+use Rattle.line_cli.specs.declared.status.Status.{Status}
+use Rattle.line_cli.specs.declared.status.Status.TheVariants as statuses
+use Rattle.line_cli.specs.declared.status.InputWhy.TheVariants as inputs
+
+-- WHILE THE RUN GOES ON: what was pushed, what waits to be written, and what is still to come make
+-- up the report
+pub record IsGoing (script rest : List ℕ) (old now : Option (List ℕ)) (place : Place) (text : List ℕ) : Type 0 where
+  pub shown : List ℕ
+  pub grows : Grows old now shown
+  pub report : (shown ++ text) ++ report_from place rest ≡ report_of script
+  pub refusal : refusal_from place rest ≡ (script_of script).refusal
+
+-- the same, where the source tells its bytes; it tells them now exactly where it told them first
+abbrev pub GoesOn : Option (List ℕ) → Option (List ℕ) → Option (List ℕ) → Option (List ℕ) → Place → List ℕ → Type 0
+GoesOn None left old now place text = Unit {0}
+GoesOn (Some script) None old now place text = ⊥
+GoesOn (Some script) (Some rest) old now place text = IsGoing script rest old now place text
+
+-- some of what waits was pushed, and the rest still waits
+pub record HasPushed (old now : Option (List ℕ)) (text_old text_new : List ℕ) : Type 0 where
+  pub pushed : List ℕ
+  pub parts : pushed ++ text_new ≡ text_old
+  pub grows : Grows old now pushed
+
+abbrev pub PushesFull : Pushed → Option (List ℕ) → Option (List ℕ) → ℕ → ℕ → List ℕ → List ℕ → Type 0
+PushesFull pushes.Whole old new before now text_old text_new = (before ≤ now) × HasPushed old new text_old text_new
+PushesFull pushes.Failed old new before now text_old text_new = (before ≤ now) × Rose before now × GrowsInPart old new text_old
+
+-- how a run ends behind its script
+abbrev pub EndsWhole : Option (List ℕ) → Option (List ℕ) → ℕ → ℕ → List ℕ → Status → Type 0
+EndsWhole old new before now text statuses.Done = (before ≤ now) × Grows old new text
+EndsWhole old new before now text statuses.WriteFault = (before ≤ now) × Rose before now × GrowsInPart old new text
+EndsWhole old new before now text _ = ⊥
+
+-- how a run ends inside its script
+abbrev pub EndsRefused : RunError → Option (List ℕ) → Option (List ℕ) → ℕ → ℕ → List ℕ → Status → Type 0
+EndsRefused (errors.Refused line why) old new before now text (statuses.ScriptRefused refused reason) = (refused ≡ line) × (reason ≡ inputs.Line why) × (before ≤ now) × Grows old new text
+EndsRefused (errors.Refused line why) old new before now text statuses.WriteFault = (before ≤ now) × Rose before now × GrowsInPart old new text
+EndsRefused errors.Memory old new before now text statuses.Memory = (before ≤ now) × (new ≡ old)
+EndsRefused _ old new before now text _ = ⊥

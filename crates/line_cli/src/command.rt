@@ -1,0 +1,41 @@
+ghost use Rattle.std.specs.Prelude.{◌≡◌};
+ghost use Rattle.line_cli.specs.Command.{DoesAs, HasCauses, is_run, usage_text};
+
+use crate::running::run_script;
+use crate::status::Status;
+use line_base::{Word, Words};
+use line_outside::{Sink, Source, push_all};
+use std::alloc::Global;
+
+/// What is written where the words are none of the program's forms.
+const USAGE: &str = "usage: line run | line read | line make <number>\n";
+
+/// The program `line`: does what the words behind its name ask for.
+///
+/// With `run` it reads a script from `script` and writes its report to `report`. Other words are
+/// answered by `Usage` and the usage text, and nothing is read.
+pub fn line_main<S: Source, K: Sink>(
+    alloc: Global,
+    words: &Words,
+    script: &mut S,
+    report: &mut K,
+) -> Status
+    ensures does { DoesAs (is_run words.now) (S.left script.old) (S.left script.new) (K.contents report.old) (K.contents report.new) result }
+    ensures causes { HasCauses result (S.faults script.old) (S.faults script.new) (K.faults report.old) (K.faults report.new) }
+{
+    if is_run(words.list()) {
+        return run_script(alloc, script, report);
+    }
+    let _pushed = push_all(report, USAGE.as_bytes());
+    Status::Usage
+}
+
+/// Whether the words are `run`.
+fn is_run(words: &[Word]) -> bool
+    ensures { result ≡ is_run words.now }
+{
+    match words {
+        [word] => word.bytes() == &b"run"[..],
+        _ => false,
+    }
+}

@@ -1,0 +1,94 @@
+ghost use Rattle.std.specs.Prelude.{◌≡◌, ◌≤◌, length, take};
+ghost use Rattle.line_cli.specs.Command.{Runs, HasCauses};
+ghost use Rattle.line_cli.specs.Ending.{PushesFull, EndsWhole, EndsRefused};
+
+use crate::script_reader::ScriptReader;
+use crate::script_run::RunError;
+use crate::status::{InputWhy, Status};
+use line_outside::{Pull, Pushed, Sink, Source, push_all};
+use std::alloc::Global;
+
+/// How many bytes of the script are pulled at a time, and of how many the report is pushed.
+const PIECE_BYTES: usize = 65_536;
+
+/// Runs the script that the source has, and writes its report.
+pub fn run_script<S: Source, K: Sink>(alloc: Global, script: &mut S, report: &mut K) -> Status
+    ensures runs { Runs (S.left script.old) (S.left script.new) (K.contents report.old) (K.contents report.new) result }
+    ensures causes { HasCauses result (S.faults script.old) (S.faults script.new) (K.faults report.old) (K.faults report.new) }
+{
+    let mut room = match vec![in alloc; 0u8; PIECE_BYTES] {
+        Ok(room) => room,
+        Err(_) => return Status::Memory,
+    };
+    let mut text = Vec::new(alloc);
+    let mut reader = ScriptReader::new(alloc);
+    loop {
+        match script.pull(room.as_mut_slice()) {
+            Pull::Bytes(count) => {
+                if let Err(error) = reader.take_piece(front(room.as_slice(), count), &mut text) {
+                    return end_refused(error, text.as_slice(), report);
+                }
+                if let Pushed::Failed = push_full(&mut text, report) {
+                    return Status::WriteFault;
+                }
+            }
+            Pull::End => {
+                if let Err(error) = reader.finish(&mut text) {
+                    return end_refused(error, text.as_slice(), report);
+                }
+                return end_whole(text.as_slice(), report);
+            }
+            Pull::Failed => {
+                let _pushed = push_all(report, text.as_slice());
+                return Status::ReadFault;
+            }
+        }
+    }
+}
+
+/// The first bytes of a room.
+fn front(room: &[u8], count: usize) -> &[u8]
+    requires { count ≤ length room.now }
+    ensures { result.now ≡ take count room.now }
+{
+    &room[..count]
+}
+
+/// Pushes what waits to be written, if there is a big piece of it.
+fn push_full<K: Sink>(text: &mut Vec<u8>, report: &mut K) -> Pushed
+    ensures { PushesFull result (K.contents report.old) (K.contents report.new) (K.faults report.old) (K.faults report.new) text.old.items text.new.items }
+{
+    if text.len() < PIECE_BYTES {
+        return Pushed::Whole;
+    }
+    let pushed = push_all(report, text.as_slice());
+    text.clear();
+    pushed
+}
+
+/// Ends a run whose whole script is done.
+fn end_whole<K: Sink>(text: &[u8], report: &mut K) -> Status
+    ensures { EndsWhole (K.contents report.old) (K.contents report.new) (K.faults report.old) (K.faults report.new) text.now result }
+{
+    match push_all(report, text) {
+        Pushed::Whole => Status::Done,
+        Pushed::Failed => Status::WriteFault,
+    }
+}
+
+/// Ends a run inside its script: the report up to the refused line is written. Where memory was
+/// wanting, what waits to be written may be cut off inside a line, and is not written.
+fn end_refused<K: Sink>(error: RunError, text: &[u8], report: &mut K) -> Status
+    ensures { EndsRefused error (K.contents report.old) (K.contents report.new) (K.faults report.old) (K.faults report.new) text.now result }
+{
+    match error {
+        RunError::Refused { line, why } => match push_all(report, text) {
+            Pushed::Whole => Status::ScriptRefused {
+                line,
+                why: InputWhy::Line(why),
+            },
+            Pushed::Failed => Status::WriteFault,
+        },
+        RunError::Memory => Status::Memory,
+    }
+}

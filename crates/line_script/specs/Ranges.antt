@@ -1,0 +1,17 @@
+use Rattle.std.specs.Prelude.{ℕ, ◌≤◌, ◌<◌, ◌^◌}
+use Rattle.line_script.specs.declared.line.ScriptLine.{ScriptLine}
+use Rattle.line_script.specs.declared.line.ScriptLine.TheVariants as lines
+
+-- a number stands between two bounds
+pub record IsBetween (low high number : ℕ) : Type 0 where
+  pub least : low ≤ number
+  pub most : number ≤ high
+
+-- a line's numbers stand within the ranges of the grammar
+abbrev pub IsWithin : ScriptLine → Type 0
+IsWithin lines.Blank = Unit {0}
+IsWithin (lines.Machine capacity used) = IsBetween 1 1024 capacity × IsBetween 0 281474976710655 used
+IsWithin (lines.Insert machine barcode) = IsBetween 1 64 machine
+IsWithin (lines.Remove machine id) = IsBetween 1 64 machine
+IsWithin (lines.Replace machine id) = IsBetween 1 64 machine
+IsWithin lines.Show = Unit {0}
