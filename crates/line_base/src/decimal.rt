@@ -1,6 +1,7 @@
 ghost use Rattle.std.specs.Prelude.{◌≡◌, ◌<◌, ℕ};
 
 use std::marker::Model;
+use thiserror::Error;
 
 /// A decimal number, counted in millionths, below 10^12 of them.
 #[derive(Clone, Copy, Debug, PartialEq, Eq, Hash)]
@@ -17,6 +18,11 @@ impl Model for Decimal {
 
     ghost inverse = { λ millionths. record { millionths = millionths } };
 }
+
+/// The bytes are no text of a decimal below a million.
+#[derive(Clone, Copy, Debug, PartialEq, Eq, Error)]
+#[error("bad decimal")]
+pub struct BadDecimal;
 
 impl Decimal {
     /// How many millionths it has.

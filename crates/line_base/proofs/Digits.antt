@@ -1,0 +1,112 @@
+-- Digits at the front of a text, and their value.
+use Rattle.std.proofs.Common.{◌≡◌, ℕ, zero, suc, ◌+◌, ◌-◌, ◌*◌, ◌^◌, ◌<◌, ◌≤◌, Bool, true, false, cond, ◌&&◌, List, [], ◌∷◌, ◌++◌, length, get_or, take, drop, refl, sym, ap, ◌∙◌, subst, arith, rules, IsTrue, append-nil, length-append}
+use Rattle.std.proofs.Math.Nat.{pow-le-pow_right, pow-suc, mul-le-mul_left, mul-le-mul_right, one-le-pow}
+use Rattle.std.proofs.lemmas.List.{drop_more, take_more, take_all, length-take-le, length_push, drop_all}
+use Rattle.std.proofs.lemmas.Nat.{pow-add}
+use Rattle.std.proofs.lemmas.Bool.{and_parts, and_from, leb-true, le-leb, cases_Bool, false≢true}
+use Rattle.std.specs.Char.{is_ascii_digit}
+use Rattle.line_base.specs.Number.{are_digits, value_of, front_digits, behind_digits}
+
+-- a digit's byte
+pub digit_range : (c : ℕ) → is_ascii_digit c ≡ true → (48 ≤ c) × (c ≤ 57)
+digit_range c h = let both = and_parts _ _ h in (leb-true 48 c both.0, leb-true c 57 both.1)
+
+pub digit_from_range : (c : ℕ) → 48 ≤ c → c ≤ 57 → is_ascii_digit c ≡ true
+digit_from_range c low high = and_from _ _ (le-leb 48 c low) (le-leb c 57 high)
+
+pub are_digits-append : (xs ys : List ℕ) → are_digits (xs ++ ys) ≡ (are_digits xs && are_digits ys)
+are_digits-append [] ys = refl
+are_digits-append (x ∷ xs) ys =
+    elim (is_ascii_digit x) as (λ b. (b && are_digits (xs ++ ys)) ≡ ((b && are_digits xs) && are_digits ys)) [
+      true ↦ are_digits-append xs ys
+    | false ↦ refl ]
+
+pub are_digits-both : (xs ys : List ℕ) → are_digits xs ≡ true → are_digits ys ≡ true → are_digits (xs ++ ys) ≡ true
+are_digits-both xs ys p q = are_digits-append xs ys ∙ and_from _ _ p q
+
+-- the value of digits one after another
+pub value_of-append : (xs ys : List ℕ) → value_of (xs ++ ys) ≡ value_of xs * 10 ^ length ys + value_of ys
+value_of-append [] ys = omega arith
+value_of-append (x ∷ xs) ys =
+    let more = value_of-append xs ys in
+    rw (length-append xs ys, pow-add 10 (length xs) (length ys)) omega (arith, more)
+
+pub value_of_push : (xs : List ℕ) (c : ℕ) → value_of (xs ++ c ∷ []) ≡ value_of xs * 10 + (c - 48)
+value_of_push xs c = omega (arith, value_of-append xs (c ∷ []))
+
+pub value_of_more : (xs : List ℕ) (i : ℕ) → i < length xs → value_of (take (i + 1) xs) ≡ value_of (take i xs) * 10 + (get_or xs i 0 - 48)
+value_of_more xs i h = ap value_of (take_more xs i 0 h) ∙ value_of_push (take i xs) (get_or xs i 0)
+
+pub value_of-lt : (xs : List ℕ) → are_digits xs ≡ true → value_of xs < 10 ^ length xs
+value_of-lt [] h = omega arith
+value_of-lt (x ∷ xs) h =
+    let both = and_parts _ _ h in
+    let range = digit_range x both.0 in
+    let rest = value_of-lt xs both.1 in
+    let nine : x - 48 ≤ 9 = omega arith in
+    omega (arith, mul-le-mul_right (10 ^ length xs) nine, pow-suc 10 (length xs))
+
+pub are_digits-take : (i : ℕ) (xs : List ℕ) → are_digits xs ≡ true → are_digits (take i xs) ≡ true
+are_digits-take zero xs h = refl
+are_digits-take (suc i) [] h = refl
+are_digits-take (suc i) (x ∷ xs) h =
+    let both = and_parts _ _ h in and_from _ _ both.0 (are_digits-take i xs both.1)
+
+pub are_digits-drop : (i : ℕ) (xs : List ℕ) → are_digits xs ≡ true → are_digits (drop i xs) ≡ true
+are_digits-drop zero xs h = h
+are_digits-drop (suc i) [] h = refl
+are_digits-drop (suc i) (x ∷ xs) h = let both = and_parts _ _ h in are_digits-drop i xs both.1
+
+-- so few digits stay below that power of ten
+pub value_of-few : (xs : List ℕ) (k : ℕ) → are_digits xs ≡ true → length xs ≤ k → value_of xs < 10 ^ k
+value_of-few xs k h few =
+    let below = value_of-lt xs h in
+    let larger : 10 ^ length xs ≤ 10 ^ k = pow-le-pow_right {n = 10} (omega arith) {i = length xs} {j = k} few in
+    omega arith
+
+pub value_of-take-few : (xs : List ℕ) (i k : ℕ) → are_digits xs ≡ true → i ≤ length xs → i ≤ k → value_of (take i xs) < 10 ^ k
+value_of-take-few xs i k h within few =
+    let size : length (take i xs) ≡ i = length-take-le i xs within in
+    value_of-few (take i xs) k (are_digits-take i xs h) (omega arith)
+
+-- the front of a text and what follows it
+pub front-append-behind : (xs : List ℕ) → front_digits xs ++ behind_digits xs ≡ xs
+front-append-behind [] = refl
+front-append-behind (c ∷ cs) =
+    elim (is_ascii_digit c) as (λ b. cond b (c ∷ front_digits cs) [] ++ cond b (behind_digits cs) (c ∷ cs) ≡ c ∷ cs) [
+      true ↦ ap (λ (xs : List ℕ). c ∷ xs) (front-append-behind cs)
+    | false ↦ refl ]
+
+pub are_digits-front : (xs : List ℕ) → are_digits (front_digits xs) ≡ true
+are_digits-front [] = refl
+are_digits-front (c ∷ cs) =
+    let test : (b : Bool) → is_ascii_digit c ≡ b → are_digits (cond b (c ∷ front_digits cs) []) ≡ true = λ b e. elim b as (λ b. is_ascii_digit c ≡ b → are_digits (cond b (c ∷ front_digits cs) []) ≡ true) [
+      true ↦ λ e. and_from _ _ e (are_digits-front cs)
+    | false ↦ λ e. refl ] e in
+    test (is_ascii_digit c) refl
+
+-- digits before what begins with none are the front
+pub front_digits_at : (xs ys : List ℕ) → are_digits xs ≡ true → front_digits ys ≡ [] → front_digits (xs ++ ys) ≡ xs
+front_digits_at [] ys h none = none
+front_digits_at (x ∷ xs) ys h none =
+    let both = and_parts (is_ascii_digit x) (are_digits xs) h in
+    rw both.0 (ap (λ (zs : List ℕ). x ∷ zs) (front_digits_at xs ys both.1 none))
+
+pub behind_digits_at : (xs ys : List ℕ) → are_digits xs ≡ true → behind_digits ys ≡ ys → behind_digits (xs ++ ys) ≡ ys
+behind_digits_at [] ys h none = none
+behind_digits_at (x ∷ xs) ys h none =
+    let both = and_parts (is_ascii_digit x) (are_digits xs) h in rw both.0 (behind_digits_at xs ys both.1 none)
+
+-- one digit further
+pub front_digits_more : (xs : List ℕ) (i : ℕ) → i < length xs → is_ascii_digit (get_or xs i 0) ≡ true → front_digits (drop i xs) ≡ get_or xs i 0 ∷ front_digits (drop (i + 1) xs)
+front_digits_more xs i h digit = rw (drop_more xs i 0 h, digit) refl
+
+pub behind_digits_more : (xs : List ℕ) (i : ℕ) → i < length xs → is_ascii_digit (get_or xs i 0) ≡ true → behind_digits (drop i xs) ≡ behind_digits (drop (i + 1) xs)
+behind_digits_more xs i h digit = rw (drop_more xs i 0 h, digit) refl
+
+-- and where no digit stands
+pub front_digits_none : (xs : List ℕ) (i : ℕ) → i < length xs → is_ascii_digit (get_or xs i 0) ≡ false → front_digits (drop i xs) ≡ []
+front_digits_none xs i h other = rw (drop_more xs i 0 h, other) refl
+
+pub behind_digits_none : (xs : List ℕ) (i : ℕ) → i < length xs → is_ascii_digit (get_or xs i 0) ≡ false → behind_digits (drop i xs) ≡ drop i xs
+behind_digits_none xs i h other = rw (drop_more xs i 0 h, other) refl
