@@ -1,20 +1,13 @@
-use Rattle.std.specs.Prelude.{◌≡◌, ℕ, zero, suc, ◌+◌, ◌-◌, ◌*◌, ◌/◌, ◌%◌, ◌<◌, ◌≤◌, Bool, true, false, ◌&&◌, ◌||◌, ◌==◌, IsTrue, nat_le, nat_lt, int_le, if◌then◌else◌, List, [], ◌∷◌, ◌++◌, length, take, drop, Option, Some, None, Result, Ok, Err, codes, bytes_eq, ℤ, pos, neg_ℤ, ◌+ℤ◌, ◌-ℤ◌, ◌*ℤ◌, unsigned_abs}
+use Rattle.std.specs.Prelude.{◌≡◌, ℕ, zero, suc, ◌+◌, ◌-◌, ◌*◌, ◌/◌, ◌%◌, ◌<◌, ◌≤◌, Bool, true, false, ◌&&◌, ◌||◌, ◌==◌, IsTrue, nat_le, nat_lt, int_le, if◌then◌else◌, List, [], ◌∷◌, ◌++◌, length, take, drop, Option, Some, None, Result, Ok, Err, codes, bytes_eq, zip, ok_or, ℤ, pos, neg_ℤ, ◌+ℤ◌, ◌-ℤ◌, ◌*ℤ◌, unsigned_abs}
 use Rattle.std.specs.Int.{IsInRange, is_in_range, int_div_euclid, int_rem_euclid}
 use Rattle.std.specs.Char.{is_ascii_digit}
+use Rattle.std.specs.List.{list_all}
 use Rattle.jiff_core.specs.Calendar.{days_from_civil, days_in_month, IsBetween}
 use Rattle.line_base.specs.Number.{IsDigits, value_of, fraction_text, fraction_of}
+use Rattle.line_base.specs.declared.civil.Fields.{Fields}
 use Rattle.line_base.specs.declared.moment.BadMoment.{BadMoment}
 
--- ---- moments, as the fields of a civil clock
-
-pub record Fields : Type 0 where
-  pub year : ℕ
-  pub month : ℕ
-  pub day : ℕ
-  pub hour : ℕ
-  pub minute : ℕ
-  pub second : ℕ
-  pub milli : ℕ
+-- ---- moments, as the fields of a civil clock: year, month, day, hour, minute, second, milli
 
 -- a date of the years 1 to 9999, and a time of day
 pub record IsCivil (fields : Fields) : Type 0 where
@@ -25,6 +18,16 @@ pub record IsCivil (fields : Fields) : Type 0 where
   pub minute : fields.minute < 60
   pub second : fields.second < 60
   pub milli : fields.milli < 1000
+
+-- numbers that four, three and two digits show
+pub record IsShown (fields : Fields) : Type 0 where
+  pub year : fields.year < 10_000
+  pub month : fields.month < 100
+  pub day : fields.day < 100
+  pub hour : fields.hour < 100
+  pub minute : fields.minute < 100
+  pub second : fields.second < 100
+  pub milli : fields.milli < 1_000
 
 -- the milliseconds of a time of day
 abbrev pub time_millis : Fields → ℕ
@@ -45,12 +48,9 @@ IsMomentMillis millis = IsBetween (neg_ℤ (pos 62_135_596_800_000)) (pos 253_40
 abbrev pub fits : ℕ → ℕ → Bool
 fits form c = if form == 100 then is_ascii_digit c else form == c
 
--- the bytes have the form, byte for byte
+-- the bytes have the form: they are as many, and each fits
 abbrev pub has_form : List ℕ → List ℕ → Bool
-has_form [] [] = true
-has_form [] (c ∷ cs) = false
-has_form (form ∷ forms) [] = false
-has_form (form ∷ forms) (c ∷ cs) = fits form c && has_form forms cs
+has_form form bytes = length form == length bytes && list_all (λ pair. fits pair.0 pair.1) (zip form bytes)
 
 -- the number that stands at a place of a text
 abbrev pub number_at : ℕ → ℕ → List ℕ → ℕ
@@ -103,19 +103,23 @@ is_civil fields =
     && (is_in_range 1 (days_in_month (pos fields.year) fields.month) fields.day
     && (nat_lt fields.hour 24 && (nat_lt fields.minute 60 && nat_lt fields.second 60))))
 
-abbrev pub counted : Fields → Result ℤ BadMoment
-counted fields = if is_civil fields then Ok (millis_at fields) else Err (record { })
+-- the milliseconds of fields that a calendar and a clock have
+abbrev pub counted : Fields → Option ℤ
+counted fields = if is_civil fields then Some (millis_at fields) else None
 
-abbrev pub behind_seconds : List ℕ → Option (List ℕ × List ℕ) → Result ℤ BadMoment
-behind_seconds seconds None = Err (record { })
+abbrev pub behind_seconds : List ℕ → Option (List ℕ × List ℕ) → Option ℤ
+behind_seconds seconds None = None
 behind_seconds seconds (Some parts) =
-    if is_offset parts.1 then counted (fields_of_text seconds parts.0) else Err (record { })
+    if is_offset parts.1 then counted (fields_of_text seconds parts.0) else None
+
+abbrev pub millis_of : List ℕ → Option ℤ
+millis_of bytes =
+    if has_form seconds_form (take 19 bytes) then behind_seconds (take 19 bytes) (fraction_of 9 (drop 19 bytes))
+    else None
 
 -- what reading bytes as a moment answers
 abbrev pub moment_of : List ℕ → Result ℤ BadMoment
-moment_of bytes =
-    if has_form seconds_form (take 19 bytes) then behind_seconds (take 19 bytes) (fraction_of 9 (drop 19 bytes))
-    else Err (record { })
+moment_of bytes = ok_or (millis_of bytes) (record { })
 
 -- ---- how moments are written
 
@@ -155,15 +159,18 @@ abbrev pub fields_of : ℤ → Fields
 fields_of millis =
     fields_on (int_div_euclid millis (pos 86_400_000)) (unsigned_abs (int_rem_euclid millis (pos 86_400_000)))
 
--- a number in two, three and four digits
+-- the last digits of a number
+abbrev pub digit : ℕ → ℕ
+digit n = 48 + n % 10
+
 abbrev pub two_digits : ℕ → List ℕ
-two_digits n = (48 + n / 10) ∷ (48 + n % 10) ∷ []
+two_digits n = digit (n / 10) ∷ digit n ∷ []
 
 abbrev pub three_digits : ℕ → List ℕ
-three_digits n = (48 + n / 100) ∷ two_digits (n % 100)
+three_digits n = digit (n / 100) ∷ two_digits n
 
 abbrev pub four_digits : ℕ → List ℕ
-four_digits n = (48 + n / 1_000) ∷ three_digits (n % 1_000)
+four_digits n = digit (n / 1_000) ∷ three_digits n
 
 -- the fields as `YYYY-MM-DDThh:mm:ss.mmm`
 abbrev pub fields_text : Fields → List ℕ

@@ -4,6 +4,7 @@
 //! knows of messages, machines or lines.
 #![tactic(auto)]
 
+mod civil;
 mod decimal;
 mod memory;
 mod moment;
