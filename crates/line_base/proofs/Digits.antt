@@ -1,11 +1,11 @@
 -- Digits at the front of a text, and their value.
-use Rattle.std.proofs.Common.{◌≡◌, ℕ, zero, suc, ◌+◌, ◌-◌, ◌*◌, ◌^◌, ◌<◌, ◌≤◌, Bool, true, false, cond, ◌&&◌, List, [], ◌∷◌, ◌++◌, length, get_or, take, drop, refl, sym, ap, ◌∙◌, subst, arith, rules, IsTrue, append-nil, length-append}
+use Rattle.std.proofs.Common.{◌≡◌, ℕ, zero, suc, ◌+◌, ◌-◌, ◌*◌, ◌^◌, ◌<◌, ◌≤◌, Bool, true, false, cond, ◌&&◌, List, [], ◌∷◌, ◌++◌, length, get_or, take, drop, refl, sym, ap, ◌∙◌, subst, arith, rules, IsTrue, length-append, ◌==◌, nat_le, Option, Some, None, IfSome}
 use Rattle.std.proofs.Math.Nat.{pow-le-pow_right, pow-suc, mul-le-mul_left, mul-le-mul_right, one-le-pow}
 use Rattle.std.proofs.lemmas.List.{drop_more, take_more, take_all, length-take-le, length_push, drop_all}
 use Rattle.std.proofs.lemmas.Nat.{pow-add}
-use Rattle.std.proofs.lemmas.Bool.{and_parts, and_from, leb-true, le-leb, cases_Bool, false≢true}
+use Rattle.std.proofs.lemmas.Bool.{and_parts, and_from, leb-true, le-leb, eqb-true}
 use Rattle.std.specs.Char.{is_ascii_digit}
-use Rattle.line_base.specs.Number.{are_digits, value_of, front_digits, behind_digits}
+use Rattle.line_base.specs.Number.{IsDigits, are_digits, is_digits, value_of, front_digits, behind_digits, fraction_text, fraction_of}
 
 -- a digit's byte
 pub digit_range : (c : ℕ) → is_ascii_digit c ≡ true → (48 ≤ c) × (c ≤ 57)
@@ -110,3 +110,62 @@ front_digits_none xs i h other = rw (drop_more xs i 0 h, other) refl
 
 pub behind_digits_none : (xs : List ℕ) (i : ℕ) → i < length xs → is_ascii_digit (get_or xs i 0) ≡ false → behind_digits (drop i xs) ≡ drop i xs
 behind_digits_none xs i h other = rw (drop_more xs i 0 h, other) refl
+
+-- ---- fractions
+
+-- a fraction was read: its digits, and what follows
+pub record IsFraction (most : ℕ) (text digits behind : List ℕ) : Type 0 where
+  pub form : IsDigits 0 most digits
+  pub spelling : text ≡ fraction_text digits ++ behind
+
+pub is_digits-IsDigits : (low high : ℕ) (bytes : List ℕ) → is_digits low high bytes ≡ true → IsDigits low high bytes
+is_digits-IsDigits low high bytes h =
+    let parts = and_parts (are_digits bytes) _ h in
+    let sizes = and_parts (nat_le low (length bytes)) (nat_le (length bytes) high) parts.1 in
+    record { digits = parts.0; enough = leb-true _ _ sizes.0; few = leb-true _ _ sizes.1 }
+
+pub is_digits-true : (low high : ℕ) (bytes : List ℕ) → IsDigits low high bytes → is_digits low high bytes ≡ true
+is_digits-true low high bytes h =
+    and_from _ _ h.digits (and_from _ _ (le-leb _ _ h.enough) (le-leb _ _ h.few))
+
+point_text : (xs : List ℕ) → 1 ≤ length xs → fraction_text xs ≡ 46 ∷ xs
+point_text [] h = absurd (omega arith)
+point_text (x ∷ xs) h = refl
+
+pub fraction_found : (most : ℕ) (text : List ℕ) → IfSome (fraction_of most text) (λ parts. IsFraction most text parts.0 parts.1)
+fraction_found most [] = record { form = record { digits = refl; enough = omega arith; few = omega arith }; spelling = refl }
+fraction_found most (c ∷ cs) =
+    let step : (point digits : Bool) → (c == 46) ≡ point → is_digits 1 most (front_digits cs) ≡ digits → IfSome (cond {A = Option (List ℕ × List ℕ)} point (cond {A = Option (List ℕ × List ℕ)} digits (Some (front_digits cs, behind_digits cs)) None) (Some ([], c ∷ cs))) (λ parts. IsFraction most (c ∷ cs) parts.0 parts.1) =
+      λ point digits. elim point as (λ point. (c == 46) ≡ point → is_digits 1 most (front_digits cs) ≡ digits → IfSome (cond {A = Option (List ℕ × List ℕ)} point (cond {A = Option (List ℕ × List ℕ)} digits (Some (front_digits cs, behind_digits cs)) None) (Some ([], c ∷ cs))) (λ parts. IsFraction most (c ∷ cs) parts.0 parts.1)) [
+        true ↦ elim digits as (λ digits. (c == 46) ≡ true → is_digits 1 most (front_digits cs) ≡ digits → IfSome (cond {A = Option (List ℕ × List ℕ)} digits (Some (front_digits cs, behind_digits cs)) None) (λ parts. IsFraction most (c ∷ cs) parts.0 parts.1)) [
+            true ↦ λ e h.
+              let form = is_digits-IsDigits 1 most (front_digits cs) h in
+              record {
+                form = record { digits = form.digits; enough = omega arith; few = form.few };
+                spelling = rw (point_text (front_digits cs) form.enough, eqb-true c 46 e) (ap (λ (xs : List ℕ). 46 ∷ xs) (sym (front-append-behind cs))) }
+          | false ↦ λ e h. tt ]
+      | false ↦ λ e h. record { form = record { digits = refl; enough = omega arith; few = omega arith }; spelling = refl } ] in
+    step (c == 46) (is_digits 1 most (front_digits cs)) refl refl
+
+-- a text that begins with neither a digit nor a point
+pub record IsStop (text : List ℕ) : Type 0 where
+  pub front : front_digits text ≡ []
+  pub behind : behind_digits text ≡ text
+  pub whole : (most : ℕ) → fraction_of most text ≡ Some ([], text)
+
+pub IsStop-none : IsStop []
+IsStop-none = record { front = refl; behind = refl; whole = λ most. refl }
+
+pub IsStop-at : (c : ℕ) (cs : List ℕ) → is_ascii_digit c ≡ false → (c == 46) ≡ false → IsStop (c ∷ cs)
+IsStop-at c cs digit point =
+    record { front = rw digit refl; behind = rw digit refl; whole = λ most. rw point refl }
+
+-- a fraction before such a text is read
+pub fraction_of_text : (most : ℕ) (digits behind : List ℕ) → IsDigits 0 most digits → IsStop behind → fraction_of most (fraction_text digits ++ behind) ≡ Some (digits, behind)
+fraction_of_text most [] behind form stop = stop.whole most
+fraction_of_text most (d ∷ ds) behind form stop =
+    let whole : is_digits 1 most (d ∷ ds) ≡ true = is_digits-true 1 most (d ∷ ds) (record { digits = form.digits; enough = omega arith; few = form.few }) in
+    let front : front_digits ((d ∷ ds) ++ behind) ≡ d ∷ ds = front_digits_at (d ∷ ds) behind form.digits stop.front in
+    let rest : behind_digits ((d ∷ ds) ++ behind) ≡ behind = behind_digits_at (d ∷ ds) behind form.digits stop.behind in
+    let read : (xs ys : List ℕ) → xs ≡ d ∷ ds → ys ≡ behind → cond {A = Option (List ℕ × List ℕ)} (is_digits 1 most xs) (Some (xs, ys)) None ≡ Some (d ∷ ds, behind) = λ xs ys p q. rw (p, q, whole) refl in
+    read _ _ front rest

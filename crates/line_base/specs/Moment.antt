@@ -149,8 +149,8 @@ fields_on day time = record {
   year = year_of day;
   month = month_of day;
   day = day_of day;
-  hour = time / 3_600_000;
-  minute = time / 60_000 % 60;
+  hour = time / 1_000 / 60 / 60;
+  minute = time / 1_000 / 60 % 60;
   second = time / 1_000 % 60;
   milli = time % 1_000 }
 

@@ -1,4 +1,4 @@
-use Rattle.std.specs.Prelude.{ℕ, ◌+◌, ◌-◌, ◌*◌, ◌^◌, ◌≤◌, Bool, ◌&&◌, IsTrue, nat_le, if◌then◌else◌, List, [], ◌∷◌, ◌++◌, length, take, drop, Option, Some, None}
+use Rattle.std.specs.Prelude.{ℕ, ◌+◌, ◌-◌, ◌*◌, ◌^◌, ◌≤◌, Bool, ◌&&◌, ◌==◌, IsTrue, nat_le, if◌then◌else◌, List, [], ◌∷◌, ◌++◌, length, take, drop, Option, Some, None}
 use Rattle.std.specs.List.{list_all}
 use Rattle.std.specs.Char.{is_ascii_digit}
 
@@ -44,6 +44,6 @@ fraction_text (c ∷ cs) = 46 ∷ (c ∷ cs)
 abbrev pub fraction_of : ℕ → List ℕ → Option (List ℕ × List ℕ)
 fraction_of most [] = Some ([], [])
 fraction_of most (c ∷ cs) =
-    if nat_le c 46 && nat_le 46 c then
+    if c == 46 then
         (if is_digits 1 most (front_digits cs) then Some (front_digits cs, behind_digits cs) else None)
     else Some ([], c ∷ cs)

@@ -52,14 +52,16 @@ impl Fields {
         ensures shown { IsShown result }
     {
         let time = millis.rem_euclid(DAY_MILLIS) as u32;
+        let seconds = time / 1_000;
+        let minutes = seconds / 60;
         match Date::from_unix_epoch_day(millis.div_euclid(DAY_MILLIS)) {
             Ok(date) => Fields {
                 year: date.year as u32,
                 month: date.month as u32,
                 day: date.day as u32,
-                hour: time / 3_600_000,
-                minute: time / 60_000 % 60,
-                second: time / 1_000 % 60,
+                hour: minutes / 60,
+                minute: minutes % 60,
+                second: seconds % 60,
                 milli: time % 1_000,
             },
             Err(_) => unreachable!(),
