@@ -5,12 +5,12 @@ use Rattle.std.proofs.lemmas.Bool.{and_parts, and_from, leb-true, le-leb, ltb-tr
 use Rattle.jiff_core.specs.Calendar.{days_in_month, day_count, days_from_civil, IsCivilDate}
 use Rattle.jiff_core.specs.Date.{epoch_day}
 use Rattle.jiff_core.specs.declared.civil.date.Date.{Date}
-use Rattle.jiff_core.proofs.CalendarLemmas.{days_from_civil-day_count, day_count-lt_year, day_count-lt_month, day_count-day_of_year, day_count-day, day_count-end, day_count-next_year, day_count-next_month, day_count-last_of_year}
+use Rattle.jiff_core.proofs.CalendarLemmas.{days_from_civil-day_count, day_count-lt_year, day_count-lt_month, day_count-day_of_year, day_count-day, day_count-end, day_count-next_year, day_count-later_year, day_count_bounds, day_count-next_month, day_count-last_of_year}
 use Rattle.jiff_core.proofs.MarchLemmas.{day_count-early}
 use Rattle.std.proofs.lemmas.Int.{by_lt_z, ints, to_z-of_z}
 use Rattle.jiff_core.proofs.SignedLemmas.{signed_arith, one_part}
 use Rattle.line_base.specs.declared.civil.Fields.{Fields}
-use Rattle.line_base.specs.Moment.{IsMomentMillis, is_civil, year_to, month_to, year_of, month_of, day_of}
+use Rattle.line_base.specs.Moment.{IsCivil, IsMomentMillis, millis_at, is_civil, year_to, month_to, year_of, month_of, day_of}
 
 -- the parts of a date and a time in seconds that a calendar and a clock have
 pub record HasCivil (f : Fields) : Type 0 where
@@ -243,3 +243,25 @@ day_parts millis q date fits range quotient e =
     let low : neg_ℤ (pos 719_162) ≤ℤ int_div_euclid millis (pos 86_400_000) = omega (arith, signed_arith) in
     let day_fits : FitsSigned w64 q = omega (arith, signed_arith) in
     date_parts date.year date.month date.day _ (date.year_in, date.month_in, date.day_in) (e ∙ (to_z-of_z w64 _ day_fits ∙ day)) low
+
+-- the days of the years 1 to 9999
+pub days_range : (y m d : ℕ) → IsCivilDate (pos y) m d → 1 ≤ y → (neg_ℤ (pos 719_162) ≤ℤ days_from_civil (pos y) m d) × (days_from_civil (pos y) m d ≤ℤ pos 2_932_896)
+days_range y m d h low =
+    let count = days_from_civil-day_count (pos y) m d in
+    let bounds = day_count_bounds (pos y) m d h in
+    let within = day_count-day_of_year (pos y) m d h.2.0 in
+    let first = day_count-first_year in
+    let from_first : 3_652_791 ≤ day_count (pos y) 1 1 = elim (cases_eq y 1) [
+        inl same ↦ rw (same, first) (omega arith)
+      | inr other ↦
+          let after : pos 1 <ℤ pos y = omega (arith, signed_arith) in
+          let later = day_count-later_year (pos 1) (pos y) (omega (arith, signed_arith)) after in
+          omega arith ] in
+    (omega (arith, signed_arith), omega (arith, signed_arith))
+
+pub millis_range : (f : Fields) → IsCivil f → IsMomentMillis (millis_at f)
+millis_range f h =
+    let days = days_range f.year f.month f.day ((omega (arith, signed_arith), omega (arith, signed_arith)), h.month, h.day) h.year.0 in
+    let low = days.0 in
+    let high = days.1 in
+    (omega (arith, signed_arith), omega (arith, signed_arith))
