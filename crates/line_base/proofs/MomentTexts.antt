@@ -152,6 +152,7 @@ three_are_digits : (n : ℕ) → IsDigits 0 9 (three_digits n)
 three_are_digits n = record { digits = simp digit_is; enough = omega arith; few = omega arith }
 
 pub moment_text-IsMomentText : (millis : ℤ) → IsMomentMillis millis → IsMomentText (moment_text millis) millis
+unfolding moment_text
 moment_text-IsMomentText millis h =
     let counts = fields_of-IsCivil millis h in
     let same = fields_of_text-shown (fields_of millis) (shown_from (fields_of millis) counts.0) in
@@ -168,5 +169,6 @@ moment_text-IsMomentText millis h =
 
 -- the text of a moment is read as that moment
 pub moment_of-moment_text : (millis : ℤ) → IsMomentMillis millis → moment_of (moment_text millis) ≡ Ok millis
+unfolding moment_of
 moment_of-moment_text millis h =
     ap (λ (read : Option ℤ). ok_or read (record { })) (millis_of_text (moment_text millis) millis (moment_text-IsMomentText millis h))

@@ -118,7 +118,7 @@ millis_of bytes =
     else None
 
 -- what reading bytes as a moment answers
-abbrev pub moment_of : List ℕ → Result ℤ BadMoment
+unfoldable pub moment_of : List ℕ → Result ℤ BadMoment
 moment_of bytes = ok_or (millis_of bytes) (record { })
 
 -- ---- how moments are written
@@ -180,5 +180,5 @@ fields_text fields =
     ++ (46 ∷ three_digits fields.milli)))))))))))
 
 -- the text of a moment
-abbrev pub moment_text : ℤ → List ℕ
+unfoldable pub moment_text : ℤ → List ℕ
 moment_text millis = fields_text (fields_of millis)
