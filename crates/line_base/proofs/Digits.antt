@@ -2,7 +2,7 @@
 use Rattle.std.proofs.Common.{◌≡◌, ℕ, zero, suc, ◌+◌, ◌-◌, ◌*◌, ◌^◌, ◌<◌, ◌≤◌, Bool, true, false, cond, ◌&&◌, List, [], ◌∷◌, ◌++◌, length, get_or, take, drop, refl, sym, ap, ◌∙◌, subst, arith, rules, IsTrue, length-append, ◌==◌, nat_le, Option, Some, None, IfSome}
 use Rattle.std.proofs.Math.Nat.{pow-le-pow_right, pow-suc, mul-le-mul_left, mul-le-mul_right, one-le-pow}
 use Rattle.std.proofs.lemmas.List.{drop_more, take_more, take_all, length-take-le, length_push, drop_all}
-use Rattle.std.proofs.lemmas.Nat.{pow-add}
+use Rattle.std.proofs.lemmas.Nat.{pow-add, mul-add-lt}
 use Rattle.std.proofs.lemmas.Bool.{and_parts, and_from, leb-true, le-leb, eqb-true}
 use Rattle.std.specs.Char.{is_ascii_digit}
 use Rattle.line_base.specs.Number.{IsDigits, are_digits, is_digits, value_of, front_digits, behind_digits, fraction_text, fraction_of}
@@ -169,3 +169,11 @@ fraction_of_text most (d ∷ ds) behind form stop =
     let rest : behind_digits ((d ∷ ds) ++ behind) ≡ behind = behind_digits_at (d ∷ ds) behind form.digits stop.behind in
     let read : (xs ys : List ℕ) → xs ≡ d ∷ ds → ys ≡ behind → cond {A = Option (List ℕ × List ℕ)} (is_digits 1 most xs) (Some (xs, ys)) None ≡ Some (d ∷ ds, behind) = λ xs ys p q. rw (p, q, whole) refl in
     read _ _ front rest
+
+-- at most 18 digits before at most 20 stay below 10^38
+pub joined-lt : (a weight b m n : ℕ) → a < 10 ^ m → weight ≡ 10 ^ n → b < 10 ^ n → m ≤ 18 → n ≤ 20 → a * weight + b < 10 ^ 38
+joined-lt a weight b m n small e below p q =
+    let place = mul-add-lt a weight b (10 ^ m) small (rw e below) in
+    let product : weight * 10 ^ m ≡ 10 ^ (n + m) = rw (e, pow-add 10 n m) refl in
+    let larger : 10 ^ (n + m) ≤ 10 ^ 38 = pow-le-pow_right {n = 10} (omega arith) {i = n + m} {j = 38} (omega arith) in
+    omega arith

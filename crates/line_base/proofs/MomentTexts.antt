@@ -7,8 +7,8 @@ use Rattle.std.proofs.lemmas.List.{take_at, drop_at, take-append-drop}
 use Rattle.jiff_core.proofs.CalendarLemmas.{days_in_month_bounds}
 use Rattle.jiff_core.proofs.SignedLemmas.{signed_arith, one_part}
 use Rattle.line_base.specs.declared.civil.Fields.{Fields}
-use Rattle.line_base.specs.Number.{IsDigits, value_of, fraction_text, fraction_of}
-use Rattle.line_base.specs.Moment.{IsCivil, IsShown, IsMomentMillis, IsMomentText, millis_at, millis_of, moment_of, moment_text, has_form, is_offset, is_civil, counted, behind_seconds, seconds_form, fields_of_text, fields_of, fields_text, milli_of, digit, two_digits, three_digits, four_digits, year_of, month_of, day_of}
+use Rattle.line_base.specs.Number.{IsDigits, value_of, digit, fraction_text, fraction_of}
+use Rattle.line_base.specs.Moment.{IsCivil, IsShown, IsMomentMillis, IsMomentText, millis_at, millis_of, moment_of, moment_text, has_form, is_offset, is_civil, counted, behind_seconds, seconds_form, fields_of_text, fields_of, fields_text, milli_of, two_digits, three_digits, four_digits, year_of, month_of, day_of}
 use Rattle.line_base.proofs.Digits.{IsFraction, fraction_found, fraction_of_text, IsStop, IsStop-none, IsStop-at, value_of-few, are_digits-take, are_digits-both, digit_from_range}
 use Rattle.line_base.proofs.Calendar.{HasCivil, is_civil_from, is_civil_parts, IsDateOf, date_of_day}
 

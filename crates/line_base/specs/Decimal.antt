@@ -1,5 +1,5 @@
-use Rattle.std.specs.Prelude.{◌≡◌, ℕ, ◌+◌, ◌*◌, ◌/◌, ◌%◌, ◌^◌, ◌<◌, ◌≤◌, ◌⊎◌, ◌==◌, ◌||◌, nat_lt, if◌then◌else◌, List, [], ◌∷◌, ◌++◌, length, Option, Some, None, Result, Ok, Err, IfSome, decimal}
-use Rattle.line_base.specs.Number.{IsDigits, is_digits, value_of, front_digits, behind_digits, fraction_text, fraction_of}
+use Rattle.std.specs.Prelude.{◌≡◌, ℕ, ◌+◌, ◌*◌, ◌/◌, ◌%◌, ◌^◌, ◌<◌, ◌≤◌, ◌⊎◌, ◌==◌, ◌||◌, nat_lt, if◌then◌else◌, List, [], ◌∷◌, ◌++◌, length, Option, Some, None, Result, Ok, Err, IfSome, ok_or, decimal}
+use Rattle.line_base.specs.Number.{IsDigits, is_digits, value_of, digit, front_digits, behind_digits, fraction_text, fraction_of}
 use Rattle.line_base.specs.declared.decimal.BadDecimal.{BadDecimal}
 
 -- ---- the texts of decimals, with their value
@@ -116,31 +116,33 @@ abbrev pub nearest : ℕ → ℕ → ℕ
 nearest numerator denominator = (2 * numerator + denominator) / (2 * denominator)
 
 -- below 10^12 millionths
-abbrev pub limited : ℕ → Result ℕ BadDecimal
-limited millionths = if nat_lt millionths 1_000_000_000_000 then Ok millionths else Err (record { })
+abbrev pub limited : ℕ → Option ℕ
+limited millionths = if nat_lt millionths 1_000_000_000_000 then Some millionths else None
 
-abbrev pub scaled : List ℕ → List ℕ → Option (ℕ × ℕ) → Result ℕ BadDecimal
-scaled whole fraction None = Err (record { })
+abbrev pub scaled : List ℕ → List ℕ → Option (ℕ × ℕ) → Option ℕ
+scaled whole fraction None = None
 scaled whole fraction (Some powers) =
     limited (nearest (value_of (whole ++ fraction) * 10 ^ powers.0 * 1_000_000) (10 ^ (length fraction + powers.1)))
 
-abbrev pub behind_whole : List ℕ → Option (List ℕ × List ℕ) → Result ℕ BadDecimal
-behind_whole whole None = Err (record { })
+abbrev pub behind_whole : List ℕ → Option (List ℕ × List ℕ) → Option ℕ
+behind_whole whole None = None
 behind_whole whole (Some parts) = scaled whole parts.0 (exponent_of parts.1)
 
--- what reading bytes as a decimal answers
-abbrev pub decimal_of : List ℕ → Result ℕ BadDecimal
-decimal_of bytes =
+abbrev pub millionths_of : List ℕ → Option ℕ
+millionths_of bytes =
     if is_digits 1 18 (front_digits bytes) then behind_whole (front_digits bytes) (fraction_of 20 (behind_digits bytes))
-    else Err (record { })
+    else None
+
+-- what reading bytes as a decimal answers
+unfoldable pub decimal_of : List ℕ → Result ℕ BadDecimal
+decimal_of bytes = ok_or (millionths_of bytes) (record { })
 
 -- ---- how decimals are written
 
 -- the six digits of a number below a million
 abbrev pub six_digits : ℕ → List ℕ
 six_digits n =
-    (48 + n / 100_000 % 10) ∷ (48 + n / 10_000 % 10) ∷ (48 + n / 1_000 % 10) ∷ (48 + n / 100 % 10)
-    ∷ (48 + n / 10 % 10) ∷ (48 + n % 10) ∷ []
+    digit (n / 100_000) ∷ digit (n / 10_000) ∷ digit (n / 1_000) ∷ digit (n / 100) ∷ digit (n / 10) ∷ digit n ∷ []
 
 -- a digit before others, unless it is a trailing zero
 abbrev pub before : ℕ → List ℕ → List ℕ
@@ -152,7 +154,7 @@ without_trailing_zeros [] = []
 without_trailing_zeros (c ∷ cs) = before c (without_trailing_zeros cs)
 
 -- the text of a decimal: the whole part, and where the rest isn't zero a point and its digits
-abbrev pub decimal_text : ℕ → List ℕ
+unfoldable pub decimal_text : ℕ → List ℕ
 decimal_text millionths =
     decimal (millionths / 1_000_000)
     ++ fraction_text (without_trailing_zeros (six_digits (millionths % 1_000_000)))

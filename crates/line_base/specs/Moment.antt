@@ -3,7 +3,7 @@ use Rattle.std.specs.Int.{IsInRange, is_in_range, int_div_euclid, int_rem_euclid
 use Rattle.std.specs.Char.{is_ascii_digit}
 use Rattle.std.specs.List.{list_all}
 use Rattle.jiff_core.specs.Calendar.{days_from_civil, days_in_month, IsBetween}
-use Rattle.line_base.specs.Number.{IsDigits, value_of, fraction_text, fraction_of}
+use Rattle.line_base.specs.Number.{IsDigits, value_of, digit, fraction_text, fraction_of}
 use Rattle.line_base.specs.declared.civil.Fields.{Fields}
 use Rattle.line_base.specs.declared.moment.BadMoment.{BadMoment}
 
@@ -160,9 +160,6 @@ fields_of millis =
     fields_on (int_div_euclid millis (pos 86_400_000)) (unsigned_abs (int_rem_euclid millis (pos 86_400_000)))
 
 -- the last digits of a number
-abbrev pub digit : ℕ → ℕ
-digit n = 48 + n % 10
-
 abbrev pub two_digits : ℕ → List ℕ
 two_digits n = digit (n / 10) ∷ digit n ∷ []
 

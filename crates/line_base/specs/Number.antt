@@ -1,4 +1,4 @@
-use Rattle.std.specs.Prelude.{ℕ, ◌+◌, ◌-◌, ◌*◌, ◌^◌, ◌≤◌, Bool, ◌&&◌, ◌==◌, IsTrue, nat_le, if◌then◌else◌, List, [], ◌∷◌, ◌++◌, length, take, drop, Option, Some, None}
+use Rattle.std.specs.Prelude.{ℕ, ◌+◌, ◌-◌, ◌*◌, ◌%◌, ◌^◌, ◌≤◌, Bool, ◌&&◌, ◌==◌, IsTrue, nat_le, if◌then◌else◌, List, [], ◌∷◌, ◌++◌, length, take, drop, Option, Some, None}
 use Rattle.std.specs.List.{list_all}
 use Rattle.std.specs.Char.{is_ascii_digit}
 
@@ -47,3 +47,7 @@ fraction_of most (c ∷ cs) =
     if c == 46 then
         (if is_digits 1 most (front_digits cs) then Some (front_digits cs, behind_digits cs) else None)
     else Some ([], c ∷ cs)
+
+-- the last digit of a number, as a byte
+abbrev pub digit : ℕ → ℕ
+digit n = 48 + n % 10

@@ -1,8 +1,9 @@
 //! Dates and times of day on a civil clock, counted by the calendar of `jiff`.
 
-ghost use Rattle.std.specs.Prelude.{◌≡◌, ◌+◌, ◌%◌, ◌<◌};
+ghost use Rattle.std.specs.Prelude.{◌≡◌, ◌<◌};
 ghost use Rattle.line_base.specs.Moment.{IsMomentMillis, IsShown, counted, fields_of, fields_text, two_digits, four_digits};
 
+use crate::number::digit;
 use jiff::civil::DateTime;
 use jiff_core::civil::Date;
 
@@ -104,10 +105,4 @@ fn four_digits(number: u32) -> [u8; 4]
         digit(number / 10),
         digit(number),
     ]
-}
-
-fn digit(number: u32) -> u8
-    ensures { result ≡ 48 + number % 10 }
-{
-    b'0' + (number % 10) as u8
 }

@@ -1,5 +1,5 @@
 ghost use Rattle.std.specs.Prelude.{◌≡◌, ◌^◌, ◌<◌, ◌≤◌, IsTrue, length, option_map};
-ghost use Rattle.line_base.specs.Number.{are_digits, is_digits, value_of, number_of, front_digits, behind_digits, fraction_of};
+ghost use Rattle.line_base.specs.Number.{are_digits, is_digits, value_of, number_of, front_digits, behind_digits, fraction_of, digit};
 
 /// The most digits that `digits_value` counts.
 const MOST_DIGITS: usize = 20;
@@ -70,4 +70,11 @@ pub fn read_fraction(bytes: &[u8], most: usize) -> Option<(&[u8], &[u8])>
         }
         _ => Some((&bytes[..0], bytes)),
     }
+}
+
+/// The last digit of a number.
+pub fn digit(number: u32) -> u8
+    ensures { result ≡ digit number }
+{
+    b'0' + (number % 10) as u8
 }
