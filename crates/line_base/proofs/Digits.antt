@@ -5,7 +5,7 @@ use Rattle.std.proofs.lemmas.List.{drop_more, take_more, take_all, length-take-l
 use Rattle.std.proofs.lemmas.Nat.{pow-add, mul-add-lt}
 use Rattle.std.proofs.lemmas.Bool.{and_parts, and_from, leb-true, le-leb, eqb-true}
 use Rattle.std.specs.Char.{is_ascii_digit}
-use Rattle.line_base.specs.Number.{IsDigits, are_digits, is_digits, value_of, front_digits, behind_digits, fraction_text, fraction_of}
+use Rattle.line_base.specs.Number.{IsDigits, are_digits, is_digits, value_of, digit, front_digits, behind_digits, fraction_text, fraction_of}
 
 -- a digit's byte
 pub digit_range : (c : ℕ) → is_ascii_digit c ≡ true → (48 ≤ c) × (c ≤ 57)
@@ -13,6 +13,9 @@ digit_range c h = let both = and_parts _ _ h in (leb-true 48 c both.0, leb-true 
 
 pub digit_from_range : (c : ℕ) → 48 ≤ c → c ≤ 57 → is_ascii_digit c ≡ true
 digit_from_range c low high = and_from _ _ (le-leb 48 c low) (le-leb c 57 high)
+
+pub digit_is : (n : ℕ) → is_ascii_digit (digit n) ≡ true
+digit_is n = digit_from_range (digit n) (omega arith) (omega arith)
 
 pub are_digits-append : (xs ys : List ℕ) → are_digits (xs ++ ys) ≡ (are_digits xs && are_digits ys)
 are_digits-append [] ys = refl

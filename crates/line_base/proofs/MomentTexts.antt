@@ -9,7 +9,7 @@ use Rattle.jiff_core.proofs.SignedLemmas.{signed_arith, one_part}
 use Rattle.line_base.specs.declared.civil.Fields.{Fields}
 use Rattle.line_base.specs.Number.{IsDigits, value_of, digit, fraction_text, fraction_of}
 use Rattle.line_base.specs.Moment.{IsCivil, IsShown, IsMomentMillis, IsMomentText, millis_at, millis_of, moment_of, moment_text, has_form, is_offset, is_civil, counted, behind_seconds, seconds_form, fields_of_text, fields_of, fields_text, milli_of, two_digits, three_digits, four_digits, year_of, month_of, day_of}
-use Rattle.line_base.proofs.Digits.{IsFraction, fraction_found, fraction_of_text, IsStop, IsStop-none, IsStop-at, value_of-few, are_digits-take, are_digits-both, digit_from_range}
+use Rattle.line_base.proofs.Digits.{IsFraction, fraction_found, fraction_of_text, IsStop, IsStop-none, IsStop-at, value_of-few, are_digits-take, are_digits-both, digit_is}
 use Rattle.line_base.proofs.Calendar.{HasCivil, is_civil_from, is_civil_parts, IsDateOf, date_of_day}
 
 -- ---- what is read has the value that its text says
@@ -84,10 +84,7 @@ millis_of_text bytes millis t =
 
 -- ---- what is written is read back
 
-digit_is : (n : ℕ) → is_ascii_digit (digit n) ≡ true
-digit_is n = digit_from_range (digit n) (omega arith) (omega arith)
-
--- a form of digits and other bytes, a byte at a time
+-- the values of digits
 four_value : (n : ℕ) → n < 10_000 → value_of (four_digits n) ≡ n
 four_value n h = omega arith
 

@@ -20,9 +20,12 @@ nearest_only numerator denominator n h =
     div-eq_of_lt-le {k = n} (2 * denominator) {m = 2 * numerator + denominator} (grind arith) (grind arith)
 
 -- a whole value is nearest to itself
+pub IsNearest-whole : (numerator denominator n : ℕ) → 0 < denominator → numerator ≡ n * denominator → IsNearest numerator denominator n
+IsNearest-whole numerator denominator n h e = record { reached = grind arith; not_passed = grind arith }
+
 pub nearest_whole : (numerator denominator n : ℕ) → 0 < denominator → numerator ≡ n * denominator → nearest numerator denominator ≡ n
 nearest_whole numerator denominator n h e =
-    nearest_only numerator denominator n (record { reached = grind arith; not_passed = grind arith })
+    nearest_only numerator denominator n (IsNearest-whole numerator denominator n h e)
 
 -- to halve goes up at the half; a common factor changes nothing
 pub nearest_lowered : (value unit half scale numerator denominator : ℕ) → unit ≡ 2 * half → 0 < unit → 0 < scale → numerator ≡ value * scale → denominator ≡ unit * scale → nearest numerator denominator ≡ (value + half) / unit

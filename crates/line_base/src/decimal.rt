@@ -60,10 +60,9 @@ impl Decimal {
         let millionths = self.millionths();
         let whole = (millionths / 1_000_000) as u32;
         let rest = (millionths % 1_000_000) as u32;
-        let [w1, w2, w3, w4, w5, w6] = six_digits(whole);
-        let [r1, r2, r3, r4, r5, r6] = six_digits(rest);
-        let text = [w1, w2, w3, w4, w5, w6, b'.', r1, r2, r3, r4, r5, r6];
-        match to.extend_from_slice(&text[whole_start(whole)..rest_end(rest)]) {
+        let digits = all_digits(whole, rest);
+        let text = &digits[whole_start(whole)..rest_end(rest)];
+        match to.extend_from_slice(text) {
             Ok(()) => Ok(()),
             Err(_) => Err(Memory),
         }
@@ -196,6 +195,15 @@ fn limited(millionths: u128) -> Option<u64>
     ensures { result ≡ limited millionths }
 {
     if millionths < LIMIT { Some(millionths as u64) } else { None }
+}
+
+/// Six digits of the whole part, a point, and six digits of the rest.
+fn all_digits(whole: u32, rest: u32) -> [u8; 13]
+    ensures { result ≡ six_digits whole ++ (46 ∷ six_digits rest) }
+{
+    let [w1, w2, w3, w4, w5, w6] = six_digits(whole);
+    let [r1, r2, r3, r4, r5, r6] = six_digits(rest);
+    [w1, w2, w3, w4, w5, w6, b'.', r1, r2, r3, r4, r5, r6]
 }
 
 fn six_digits(number: u32) -> [u8; 6]

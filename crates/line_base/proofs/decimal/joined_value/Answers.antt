@@ -1,12 +1,13 @@
 use Rattle.std.proofs.Common.{refl, arith}
 use Rattle.line_base.proofs.Digits.{value_of-append, joined-lt}
+use Rattle.line_base.proofs.Nearest.{one_le_ten_pow}
 use Rattle.line_base.proofs.decimal.joined_value.Goals as goal
 
 pub overflow_mul-result : goal.overflow_mul-result
 overflow_mul-result c =
     let few = c.requires.whole.few in
     let others = c.requires.fraction.few in
-    let joined = joined-lt c.digits_value.result c.pow-weight.result 0 _ _ c.digits_value.ensures.below c.pow-weight.ensures (omega (arith, c.pow-weight.ensures)) few others in
+    let joined = joined-lt c.digits_value.result c.pow-weight.result 0 _ _ c.digits_value.ensures.below c.pow-weight.ensures (one_le_ten_pow _) few others in
     omega arith
 
 pub overflow_add-result : goal.overflow_add-result
