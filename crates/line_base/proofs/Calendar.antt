@@ -1,7 +1,7 @@
 -- Days by the calendar, and the dates of days.
-use Rattle.std.proofs.Common.{◌≡◌, ℕ, zero, suc, ◌+◌, ◌-◌, ◌*◌, ◌/◌, ◌%◌, ◌<◌, ◌≤◌, ◌⊎◌, inl, inr, Bool, true, false, cond, ◌&&◌, refl, sym, ap, subst, ◌∙◌, arith, Option, Some, None, ℤ, pos, neg_ℤ, ◌+ℤ◌, ◌-ℤ◌, ◌*ℤ◌, ◌<ℤ◌, ◌≤ℤ◌, int_le, unsigned_abs, FitsSigned, to_z, of_z, w64}
+use Rattle.std.proofs.Common.{◌≡◌, ℕ, zero, suc, ◌+◌, ◌-◌, ◌<◌, ◌≤◌, inl, inr, Bool, true, false, cond, refl, sym, ap, subst, ◌∙◌, arith, ℤ, pos, neg_ℤ, ◌+ℤ◌, ◌-ℤ◌, ◌<ℤ◌, ◌≤ℤ◌, int_le, unsigned_abs, FitsSigned, to_z, of_z, w64}
 use Rattle.std.specs.Int.{IsInRange, int_div_euclid}
-use Rattle.std.proofs.lemmas.Bool.{and_parts, and_from, leb-true, le-leb, ltb-true, lt-ltb, cases_eq, cases_Bool, both_ways}
+use Rattle.std.proofs.lemmas.Bool.{and_parts, and_from, leb-true, le-leb, ltb-true, lt-ltb, cases_eq}
 use Rattle.jiff_core.specs.Calendar.{days_in_month, day_count, days_from_civil, IsCivilDate}
 use Rattle.jiff_core.specs.Date.{epoch_day}
 use Rattle.jiff_core.specs.declared.civil.date.Date.{Date}
@@ -44,7 +44,8 @@ is_civil_parts f h =
       day = (leb-true _ _ day.0, leb-true _ _ day.1);
       hour = ltb-true _ _ d.0;
       minute = ltb-true _ _ e.0;
-      second = ltb-true _ _ e.1 }
+      second = ltb-true _ _ e.1;
+    }
 
 -- the year of a date is the last that begins on or before it
 pub year_to_is : (n y m d : ℕ) (day : ℤ) → IsCivilDate (pos y) m d → day ≡ days_from_civil (pos y) m d → 1 ≤ y → y ≤ n → year_to n day ≡ y
@@ -52,16 +53,17 @@ unfolding year_to
 year_to_is zero y m d day h e low high = absurd (omega arith)
 year_to_is (suc n) y m d day h e low high =
     elim (cases_eq y (suc n)) [
-      inl same ↦
-        let begun : int_le (days_from_civil (pos (suc n)) 1 1) day ≡ true =
+      | inl same ↦
+          let begun : int_le (days_from_civil (pos (suc n)) 1 1) day ≡ true =
           rw (← same, e) (let a = day_count-day_of_year (pos y) m d h.2.0 in let b = days_from_civil-day_count (pos y) m d in let k = days_from_civil-day_count (pos y) 1 1 in grind (arith, signed_arith)) in
-        rw begun (sym same)
-    | inr other ↦
-        let later : pos y <ℤ pos (suc n) = omega (arith, signed_arith) in
-        let before = day_count-lt_year (pos y) m d (pos (suc n)) 1 1 h (omega arith) later in
-        let not_begun : int_le (days_from_civil (pos (suc n)) 1 1) day ≡ false =
+          rw begun (sym same)
+      | inr other ↦
+          let later : pos y <ℤ pos (suc n) = omega (arith, signed_arith) in
+          let before = day_count-lt_year (pos y) m d (pos (suc n)) 1 1 h (omega arith) later in
+          let not_begun : int_le (days_from_civil (pos (suc n)) 1 1) day ≡ false =
           rw e (let b = days_from_civil-day_count (pos y) m d in let k = days_from_civil-day_count (pos (suc n)) 1 1 in grind (arith, signed_arith)) in
-        rw not_begun (year_to_is n y m d day h e low (omega arith)) ]
+          rw not_begun (year_to_is n y m d day h e low (omega arith))
+    ]
 
 -- and likewise the month within the year
 pub month_to_is : (n y m d : ℕ) (day : ℤ) → IsCivilDate (pos y) m d → day ≡ days_from_civil (pos y) m d → 1 ≤ m → m ≤ n → month_to n y day ≡ m
@@ -69,15 +71,16 @@ unfolding month_to
 month_to_is zero y m d day h e low high = absurd (omega arith)
 month_to_is (suc n) y m d day h e low high =
     elim (cases_eq m (suc n)) [
-      inl same ↦
-        let begun : int_le (days_from_civil (pos y) (suc n) 1) day ≡ true =
+      | inl same ↦
+          let begun : int_le (days_from_civil (pos y) (suc n) 1) day ≡ true =
           rw (← same, e) (let a = day_count-day (pos y) m d 1 h.2.0 (omega arith) in let b = days_from_civil-day_count (pos y) m d in let k = days_from_civil-day_count (pos y) m 1 in grind (arith, signed_arith)) in
-        rw begun (sym same)
-    | inr other ↦
-        let before = day_count-lt_month (pos y) m d (suc n) 1 h (omega arith) (omega arith) in
-        let not_begun : int_le (days_from_civil (pos y) (suc n) 1) day ≡ false =
+          rw begun (sym same)
+      | inr other ↦
+          let before = day_count-lt_month (pos y) m d (suc n) 1 h (omega arith) (omega arith) in
+          let not_begun : int_le (days_from_civil (pos y) (suc n) 1) day ≡ false =
           rw e (let b = days_from_civil-day_count (pos y) m d in let k = days_from_civil-day_count (pos y) (suc n) 1 in grind (arith, signed_arith)) in
-        rw not_begun (month_to_is n y m d day h e low (omega arith)) ]
+          rw not_begun (month_to_is n y m d day h e low (omega arith))
+    ]
 
 -- the date of a day
 pub year_of_is : (y m d : ℕ) (day : ℤ) → IsCivilDate (pos y) m d → day ≡ days_from_civil (pos y) m d → 1 ≤ y → y ≤ 9999 → year_of day ≡ y
@@ -108,9 +111,9 @@ pub year-from_one : (y : ℤ) (m d : ℕ) → IsCivilDate y m d → neg_ℤ (pos
 year-from_one y m d h low =
     by_lt_z y (pos 1)
     (λ early. let before = day_count-lt_year y m d (pos 1) 1 1 h (omega arith) early in
-      let count = days_from_civil-day_count y m d in
-      let first = day_count-first_year in
-      absurd (omega (arith, signed_arith)))
+    let count = days_from_civil-day_count y m d in
+    let first = day_count-first_year in
+    absurd (omega (arith, signed_arith)))
     (λ late. late)
 
 -- a test of days as a fact
@@ -136,13 +139,14 @@ year_to_bounds zero day low high =
 year_to_bounds (suc n) day low high =
     let next : suc n + 1 ≡ suc (suc n) = omega arith in
     let step : (b : Bool) → int_le (days_from_civil (pos (suc n)) 1 1) day ≡ b → IsYearOf (cond b (suc n) (year_to n day)) (suc n) day =
-      λ b. elim b as (λ b. int_le (days_from_civil (pos (suc n)) 1 1) day ≡ b → IsYearOf (cond b (suc n) (year_to n day)) (suc n) day) [
-        true ↦ λ e. record { low = omega arith; high = omega arith; begun = begun-true _ _ e; next = high }
+    λ b. elim b as (λ b. int_le (days_from_civil (pos (suc n)) 1 1) day ≡ b → IsYearOf (cond b (suc n) (year_to n day)) (suc n) day) [
+      | true ↦ λ e. record { low = omega arith; high = omega arith; begun = begun-true _ _ e; next = high }
       | false ↦ λ e.
           let same : n + 1 ≡ suc n = omega arith in
           let below : day <ℤ days_from_civil (pos (n + 1)) 1 1 = rw same (begun-false _ _ e) in
           let found = year_to_bounds n day low below in
-          record { low = found.low; high = (let h = found.high in omega arith); begun = found.begun; next = found.next } ] in
+          record { low = found.low; high = (let h = found.high in omega arith); begun = found.begun; next = found.next }
+    ] in
     step _ refl
 
 pub record IsMonthOf (m n y : ℕ) (day : ℤ) : Type 0 where
@@ -156,13 +160,14 @@ unfolding month_to
 month_to_bounds zero y day low high = absurd (omega (arith, signed_arith))
 month_to_bounds (suc n) y day low high =
     let step : (b : Bool) → int_le (days_from_civil (pos y) (suc n) 1) day ≡ b → IsMonthOf (cond b (suc n) (month_to n y day)) (suc n) y day =
-      λ b. elim b as (λ b. int_le (days_from_civil (pos y) (suc n) 1) day ≡ b → IsMonthOf (cond b (suc n) (month_to n y day)) (suc n) y day) [
-        true ↦ λ e. record { low = omega arith; high = omega arith; begun = begun-true _ _ e; next = high }
+    λ b. elim b as (λ b. int_le (days_from_civil (pos y) (suc n) 1) day ≡ b → IsMonthOf (cond b (suc n) (month_to n y day)) (suc n) y day) [
+      | true ↦ λ e. record { low = omega arith; high = omega arith; begun = begun-true _ _ e; next = high }
       | false ↦ λ e.
           let same : n + 1 ≡ suc n = omega arith in
           let below : day <ℤ days_from_civil (pos y) (n + 1) 1 = rw same (begun-false _ _ e) in
           let found = month_to_bounds n y day low below in
-          record { low = found.low; high = (let h = found.high in omega arith); begun = found.begun; next = found.next } ] in
+          record { low = found.low; high = (let h = found.high in omega arith); begun = found.begun; next = found.next }
+    ] in
     step _ refl
 
 -- the date of a day is the calendar's date with that day number
@@ -211,7 +216,8 @@ date_of_day day low high =
       year = (year.low, year.high);
       month = (month.low, month.high);
       within = (omega arith, omega (arith, signed_arith));
-      value = omega (arith, signed_arith) }
+      value = omega (arith, signed_arith);
+    }
 
 -- and a date that the calendar has is the date of its day
 pub record AreParts (y : ℤ) (m d : ℕ) (day : ℤ) : Type 0 where
@@ -234,7 +240,8 @@ date_parts z m d day h e low =
       year = same ∙ ap (λ (n : ℕ). pos n) (sym year);
       month = sym (month_of_is y m d day here at_day first last);
       within = sym (day_of_is y m d day here at_day first last);
-      high = rw year last }
+      high = rw year last;
+    }
 
 -- what `jiff` answers for the day of a moment
 pub day_parts : (millis q : ℤ) (date : Date) → FitsSigned w64 millis → IsMomentMillis millis → q ≡ int_div_euclid (to_z w64 (of_z w64 millis)) (pos 86_400_000) → epoch_day date ≡ to_z w64 (of_z w64 q) → AreParts date.year date.month date.day (int_div_euclid millis (pos 86_400_000))
@@ -252,11 +259,12 @@ days_range y m d h low =
     let within = day_count-day_of_year (pos y) m d h.2.0 in
     let first = day_count-first_year in
     let from_first : 3_652_791 ≤ day_count (pos y) 1 1 = elim (cases_eq y 1) [
-        inl same ↦ rw (same, first) (omega arith)
+      | inl same ↦ rw (same, first) (omega arith)
       | inr other ↦
           let after : pos 1 <ℤ pos y = omega (arith, signed_arith) in
           let later = day_count-later_year (pos 1) (pos y) (omega (arith, signed_arith)) after in
-          omega arith ] in
+          omega arith
+    ] in
     (omega (arith, signed_arith), omega (arith, signed_arith))
 
 pub millis_range : (f : Fields) → IsCivil f → IsMomentMillis (millis_at f)

@@ -1,5 +1,5 @@
 -- The texts of decimals: what is read, and that what is written is read back.
-use Rattle.std.proofs.Common.{◌≡◌, ℕ, zero, suc, ◌+◌, ◌-◌, ◌*◌, ◌/◌, ◌%◌, ◌^◌, ◌<◌, ◌≤◌, ◌⊎◌, inl, inr, Bool, true, false, cond, ◌&&◌, ◌||◌, ◌==◌, List, [], ◌∷◌, ◌++◌, length, length-drop, take, drop, refl, sym, ap, subst, ◌∙◌, arith, rules, IsTrue, Option, Some, None, IfSome, Ok, ok_or, nat_lt, append-nil, decimal}
+use Rattle.std.proofs.Common.{◌≡◌, ℕ, ◌+◌, ◌-◌, ◌*◌, ◌/◌, ◌%◌, ◌^◌, ◌<◌, ◌≤◌, ◌⊎◌, inl, inr, Bool, true, false, cond, ◌||◌, ◌==◌, List, [], ◌∷◌, ◌++◌, length, length-drop, take, drop, refl, sym, ap, ◌∙◌, arith, rules, Option, Some, None, IfSome, Ok, ok_or, nat_lt, append-nil, decimal}
 use Rattle.std.specs.Char.{is_ascii_digit}
 use Rattle.std.proofs.Math.Seq.{take-append-add}
 use Rattle.std.proofs.lemmas.List.{drop-append-le}
@@ -7,10 +7,10 @@ use Rattle.std.specs.Int.{IsInRange}
 use Rattle.std.proofs.lemmas.Nat.{pow-add}
 use Rattle.std.proofs.lemmas.Fmt.{digits_decimal, digits_value-decimal, decimal_nonempty, length-decimal-le}
 use Rattle.std.proofs.lemmas.Str.Parse.{IsNumeralModel, numerals_by_weight}
-use Rattle.std.proofs.lemmas.Bool.{and_parts, and_from, or_cases, eqb-true, eqb-false, ne_eqb, ltb-true, lt-ltb}
-use Rattle.line_base.specs.Number.{IsDigits, is_digits, are_digits, value_of, digit, front_digits, behind_digits, fraction_text, fraction_of}
-use Rattle.line_base.specs.Decimal.{Sign, bare, plus, minus, sign_text, Exponent, IsExponent, exponent_text, raise_of, drop_of, signed_raise, signed_drop, Numeral, IsNumeral, numeral_text, numerator_of, denominator_of, IsNearest, IsDecimalText, power_of, raising, lowering, signed_power_of, exponent_of, nearest, limited, scaled, behind_whole, millionths_of, decimal_of, six_digits, before, without_trailing_zeros, decimal_text}
-use Rattle.line_base.proofs.Digits.{is_digits-IsDigits, is_digits-true, IsFraction, fraction_found, fraction_of_text, IsStop, IsStop-none, IsStop-at, are_digits-front, front-append-behind, front_digits_at, behind_digits_at, value_of-append, digit_range, digit_is}
+use Rattle.std.proofs.lemmas.Bool.{and_parts, and_from, or_cases, eqb-true, ne_eqb, ltb-true, lt-ltb}
+use Rattle.line_base.specs.Number.{IsDigits, is_digits, are_digits, value_of, front_digits, behind_digits, fraction_text, fraction_of}
+use Rattle.line_base.specs.Decimal.{Sign, bare, plus, minus, sign_text, Exponent, IsExponent, exponent_text, raise_of, drop_of, signed_raise, signed_drop, Numeral, IsDecimalText, power_of, raising, lowering, signed_power_of, exponent_of, nearest, limited, scaled, behind_whole, millionths_of, decimal_of, six_digits, before, without_trailing_zeros, decimal_text}
+use Rattle.line_base.proofs.Digits.{is_digits-IsDigits, is_digits-true, IsFraction, fraction_found, fraction_of_text, IsStop, IsStop-none, IsStop-at, front-append-behind, front_digits_at, behind_digits_at, value_of-append, digit_range, digit_is}
 use Rattle.line_base.proofs.Nearest.{nearest_is, nearest_only, IsNearest-whole, one_le_ten_pow}
 
 -- ---- what is read has the value that its text says
@@ -39,7 +39,8 @@ raising_found mark sign text digits (Some power) marked spelled raises lowers h 
   form = record { mark = marked; digits = h.0 };
   spelling = ap (λ (xs : List ℕ). mark ∷ xs) spelled;
   raises = h.1 ∙ sym raises;
-  lowers = sym lowers }
+  lowers = sym lowers;
+}
 
 lowering_found : (mark : ℕ) (digits : List ℕ) (power : Option ℕ) → (mark ≡ 101) ⊎ (mark ≡ 69) → IfSome power (λ power. IsDigits 1 2 digits × (power ≡ value_of digits)) → IfSome (lowering power) (λ powers. HasExponent (mark ∷ (45 ∷ digits)) powers.0 powers.1)
 lowering_found mark digits None marked h = tt
@@ -48,7 +49,8 @@ lowering_found mark digits (Some power) marked h = record {
   form = record { mark = marked; digits = h.0 };
   spelling = refl;
   raises = refl;
-  lowers = h.1 }
+  lowers = h.1;
+}
 
 signed_found : (mark : ℕ) (text : List ℕ) → (mark ≡ 101) ⊎ (mark ≡ 69) → IfSome (signed_power_of text) (λ powers. HasExponent (mark ∷ text) powers.0 powers.1)
 signed_found mark [] marked = tt
@@ -56,8 +58,8 @@ signed_found mark (c ∷ cs) marked =
     if_either (c == 45) (lowering (power_of cs)) (cond (c == 43) (raising (power_of cs)) (raising (power_of (c ∷ cs)))) (λ powers. HasExponent (mark ∷ (c ∷ cs)) powers.0 powers.1)
     (λ h. rw (eqb-true c 45 h) (lowering_found mark cs (power_of cs) marked (power_found cs)))
     (λ h. if_either (c == 43) (raising (power_of cs)) (raising (power_of (c ∷ cs))) (λ powers. HasExponent (mark ∷ (c ∷ cs)) powers.0 powers.1)
-      (λ k. raising_found mark plus (c ∷ cs) cs (power_of cs) marked (rw (eqb-true c 43 k) refl) refl refl (power_found cs))
-      (λ k. raising_found mark bare (c ∷ cs) (c ∷ cs) (power_of (c ∷ cs)) marked refl refl refl (power_found (c ∷ cs))))
+    (λ k. raising_found mark plus (c ∷ cs) cs (power_of cs) marked (rw (eqb-true c 43 k) refl) refl refl (power_found cs))
+    (λ k. raising_found mark bare (c ∷ cs) (c ∷ cs) (power_of (c ∷ cs)) marked refl refl refl (power_found (c ∷ cs))))
 
 exponent_found : (text : List ℕ) → IfSome (exponent_of text) (λ powers. HasExponent text powers.0 powers.1)
 exponent_found [] = record { exponent = None; form = tt; spelling = refl; raises = refl; lowers = refl }
@@ -73,11 +75,12 @@ scaled_found bytes whole fraction rest (Some powers) form forms spelled h =
     let n : ℕ = nearest (value_of (whole ++ fraction) * 10 ^ powers.0 * 1_000_000) (10 ^ (length fraction + powers.1)) in
     if_either (nat_lt n 1_000_000_000_000) (Some n) None (λ millionths. IsDecimalText bytes millionths)
     (λ k. record {
-        numeral = record { whole = whole; fraction = fraction; exponent = h.exponent };
-        form = record { whole = form; fraction = forms; exponent = h.form };
-        spelling = spelled ∙ ap (λ (xs : List ℕ). whole ++ (fraction_text fraction ++ xs)) h.spelling;
-        value = rw (h.raises, h.lowers) (nearest_is _ _ (one_le_ten_pow (length fraction + drop_of h.exponent)));
-        limit = ltb-true _ _ k })
+      numeral = record { whole = whole; fraction = fraction; exponent = h.exponent };
+      form = record { whole = form; fraction = forms; exponent = h.form };
+      spelling = spelled ∙ ap (λ (xs : List ℕ). whole ++ (fraction_text fraction ++ xs)) h.spelling;
+      value = rw (h.raises, h.lowers) (nearest_is _ _ (one_le_ten_pow (length fraction + drop_of h.exponent)));
+      limit = ltb-true _ _ k;
+    })
     (λ k. tt)
 
 behind_found : (bytes whole rest : List ℕ) (parts : Option (List ℕ × List ℕ)) → IsDigits 1 18 whole → bytes ≡ whole ++ rest → IfSome parts (λ parts. IsFraction 20 rest parts.0 parts.1) → IfSome (behind_whole whole parts) (λ millionths. IsDecimalText bytes millionths)
@@ -98,8 +101,9 @@ exponent_stop : (exponent : Option Exponent) → IfSome exponent IsExponent → 
 exponent_stop None h = IsStop-none
 exponent_stop (Some exponent) h =
     elim h.mark [
-      inl lower ↦ rw lower (IsStop-at 101 (sign_text exponent.sign ++ exponent.digits) refl refl)
-    | inr upper ↦ rw upper (IsStop-at 69 (sign_text exponent.sign ++ exponent.digits) refl refl) ]
+      | inl lower ↦ rw lower (IsStop-at 101 (sign_text exponent.sign ++ exponent.digits) refl refl)
+      | inr upper ↦ rw upper (IsStop-at 69 (sign_text exponent.sign ++ exponent.digits) refl refl)
+    ]
 
 front_none : (fraction rest : List ℕ) → IsStop rest → front_digits (fraction_text fraction ++ rest) ≡ []
 front_none [] rest stop = stop.front
@@ -140,9 +144,9 @@ millionths_of_text bytes millionths t =
     let stop = exponent_stop t.numeral.exponent t.form.exponent in
     let rest : List ℕ = fraction_text t.numeral.fraction ++ exponent_text t.numeral.exponent in
     let front : front_digits bytes ≡ t.numeral.whole =
-      ap front_digits t.spelling ∙ front_digits_at t.numeral.whole rest t.form.whole.digits (front_none t.numeral.fraction _ stop) in
+    ap front_digits t.spelling ∙ front_digits_at t.numeral.whole rest t.form.whole.digits (front_none t.numeral.fraction _ stop) in
     let behind : behind_digits bytes ≡ fraction_text t.numeral.fraction ++ exponent_text t.numeral.exponent =
-      ap behind_digits t.spelling ∙ behind_digits_at t.numeral.whole rest t.form.whole.digits (behind_all t.numeral.fraction _ stop) in
+    ap behind_digits t.spelling ∙ behind_digits_at t.numeral.whole rest t.form.whole.digits (behind_all t.numeral.fraction _ stop) in
     let parts = fraction_of_text 20 t.numeral.fraction (exponent_text t.numeral.exponent) t.form.fraction stop in
     let whole : is_digits 1 18 t.numeral.whole ≡ true = is_digits-true 1 18 t.numeral.whole t.form.whole in
     let powers = exponent_of_text t.numeral.exponent t.form.exponent in
@@ -150,7 +154,7 @@ millionths_of_text bytes millionths t =
     let small : nat_lt millionths 1_000_000_000_000 ≡ true = lt-ltb _ _ t.limit in
     let value : scaled t.numeral.whole t.numeral.fraction (Some (raise_of t.numeral.exponent, drop_of t.numeral.exponent)) ≡ Some millionths = ap limited near ∙ rw small refl in
     let step : (front behind : List ℕ) → front ≡ t.numeral.whole → behind ≡ fraction_text t.numeral.fraction ++ exponent_text t.numeral.exponent → cond (is_digits 1 18 front) (behind_whole front (fraction_of 20 behind)) None ≡ Some millionths =
-      λ front behind p q. rw (p, q, whole, parts, powers) value in
+    λ front behind p q. rw (p, q, whole, parts, powers) value in
     step _ _ front behind
 
 -- ---- what is written is read back
@@ -171,20 +175,23 @@ cut_value a l k m j w v long same cut =
 cut_before : (c : ℕ) (cs cut : List ℕ) → IsCut cs cut → IsCut (c ∷ cs) (before c cut)
 cut_before c cs [] h =
     let step : (b : Bool) → (c == 48) ≡ b → IsCut (c ∷ cs) (cond b [] (c ∷ [])) = λ b. elim b as (λ b. (c == 48) ≡ b → IsCut (c ∷ cs) (cond b [] (c ∷ []))) [
-        true ↦ λ e. let zero_digit = eqb-true c 48 e in
+      | true ↦ λ e. let zero_digit = eqb-true c 48 e in
           record { shorter = omega arith; kept = λ digits. refl; value = rw zero_digit (omega (arith, h.value)) }
       | false ↦ λ e. record {
-          shorter = omega arith;
-          kept = λ digits. let both = and_parts (is_ascii_digit c) (are_digits cs) digits in and_from _ _ both.0 refl;
-          value = cut_value (c - 48) 0 (length cs) (length cs) (length (c ∷ cs) - length (c ∷ [])) 0 (value_of cs) (omega arith) (omega arith) (omega (arith, h.value)) } ] in
+        shorter = omega arith;
+        kept = λ digits. let both = and_parts (is_ascii_digit c) (are_digits cs) digits in and_from _ _ both.0 refl;
+        value = cut_value (c - 48) 0 (length cs) (length cs) (length (c ∷ cs) - length (c ∷ [])) 0 (value_of cs) (omega arith) (omega arith) (omega (arith, h.value));
+      }
+    ] in
     step _ refl
 cut_before c cs (d ∷ ds) h =
     record {
       shorter = (let shorter = h.shorter in omega arith);
       kept = λ digits. let both = and_parts (is_ascii_digit c) (are_digits cs) digits in and_from _ _ both.0 (h.kept both.1);
       value =
-        let shorter = h.shorter in
-        cut_value (c - 48) (length (d ∷ ds)) (length cs - length (d ∷ ds)) (length cs) (length (c ∷ cs) - length (c ∷ d ∷ ds)) (value_of (d ∷ ds)) (value_of cs) (omega arith) (omega arith) h.value }
+          let shorter = h.shorter in
+          cut_value (c - 48) (length (d ∷ ds)) (length cs - length (d ∷ ds)) (length cs) (length (c ∷ cs) - length (c ∷ d ∷ ds)) (value_of (d ∷ ds)) (value_of cs) (omega arith) (omega arith) h.value;
+    }
 
 pub without_trailing_zeros-IsCut : (digits : List ℕ) → IsCut digits (without_trailing_zeros digits)
 without_trailing_zeros-IsCut [] = record { shorter = omega arith; kept = λ h. h; value = refl }
@@ -212,7 +219,8 @@ written_text n whole fraction form forms value small = record {
   form = record { whole = form; fraction = forms; exponent = tt };
   spelling = ap (λ (text : List ℕ). whole ++ text) (sym (append-nil (fraction_text fraction)));
   value = IsNearest-whole _ _ n (one_le_ten_pow (length fraction + 0)) value;
-  limit = small }
+  limit = small;
+}
 
 pub decimal_text-IsDecimalText : (n : ℕ) → n < 1_000_000_000_000 → IsDecimalText (decimal_text n) n
 unfolding decimal_text
@@ -224,23 +232,25 @@ decimal_text-IsDecimalText n small =
     let rest_value = sym (six_value (n % 1_000_000) (omega arith)) ∙ cut.value in
     let value = written_value n (n / 1_000_000) (n % 1_000_000) (length fraction) (value_of fraction) (omega arith) rest_value cut.shorter in
     let joined : value_of (decimal (n / 1_000_000) ++ fraction) ≡ n / 1_000_000 * 10 ^ length fraction + value_of fraction =
-      value_of-append (decimal (n / 1_000_000)) fraction ∙ ap (λ (v : ℕ). v * 10 ^ length fraction + value_of fraction) (digits_value-decimal own_numerals (n / 1_000_000) whole_fits) in
+    value_of-append (decimal (n / 1_000_000)) fraction ∙ ap (λ (v : ℕ). v * 10 ^ length fraction + value_of fraction) (digits_value-decimal own_numerals (n / 1_000_000) whole_fits) in
     written_text n (decimal (n / 1_000_000)) (without_trailing_zeros (six_digits (n % 1_000_000)))
     (record {
-        digits = digits_decimal own_numerals (n / 1_000_000) whole_fits;
-        enough = (let some = decimal_nonempty (n / 1_000_000) whole_fits in omega arith);
-        few = (let few = length-decimal-le 6 (n / 1_000_000) (omega arith) whole_small whole_fits in omega arith) })
+      digits = digits_decimal own_numerals (n / 1_000_000) whole_fits;
+      enough = (let some = decimal_nonempty (n / 1_000_000) whole_fits in omega arith);
+      few = (let few = length-decimal-le 6 (n / 1_000_000) (omega arith) whole_small whole_fits in omega arith);
+    })
     (record {
-        digits = cut.kept (six_are_digits (n % 1_000_000));
-        enough = omega arith;
-        few = (let few = cut.shorter in omega arith) })
+      digits = cut.kept (six_are_digits (n % 1_000_000));
+      enough = omega arith;
+      few = (let few = cut.shorter in omega arith);
+    })
     (ap (λ (v : ℕ). v * 10 ^ 0 * 1_000_000) joined ∙ value) small
 
 -- the text of a decimal is read as that decimal
 pub decimal_of-decimal_text : (n : ℕ) → n < 1_000_000_000_000 → decimal_of (decimal_text n) ≡ Ok n
 unfolding decimal_of
 decimal_of-decimal_text n small =
-    ap (λ (read : Option ℕ). ok_or read (record { })) (millionths_of_text (decimal_text n) n (decimal_text-IsDecimalText n small))
+    ap (λ (read : Option ℕ). ok_or read (record {})) (millionths_of_text (decimal_text n) n (decimal_text-IsDecimalText n small))
 
 -- where the text lies among the digits
 pub text_slice : (w r start end : ℕ) → start ≤ 5 → IsInRange 6 13 end → drop start (six_digits w) ≡ decimal w → take (end - 6) (46 ∷ six_digits r) ≡ fraction_text (without_trailing_zeros (six_digits r)) → take (end - start) (drop start (six_digits w ++ (46 ∷ six_digits r))) ≡ decimal w ++ fraction_text (without_trailing_zeros (six_digits r))
@@ -249,5 +259,5 @@ text_slice w r start end low range whole rest =
     let both : end - start ≡ length (drop start (six_digits w)) + (end - 6) = rw size (let from = range.0 in omega arith) in
     let apart : drop start (six_digits w ++ (46 ∷ six_digits r)) ≡ drop start (six_digits w) ++ (46 ∷ six_digits r) = drop-append-le start (six_digits w) (46 ∷ six_digits r) (omega arith) in
     let step : (front text : List ℕ) → text ≡ front ++ (46 ∷ six_digits r) → end - start ≡ length front + (end - 6) → front ≡ decimal w → take (end - start) text ≡ decimal w ++ fraction_text (without_trailing_zeros (six_digits r)) =
-      λ front text p q e. rw (p, q, take-append-add front (46 ∷ six_digits r) (end - 6), rest, e) refl in
+    λ front text p q e. rw (p, q, take-append-add front (46 ∷ six_digits r) (end - 6), rest, e) refl in
     step _ _ apart both whole

@@ -1,7 +1,7 @@
 -- Digits at the front of a text, and their value.
-use Rattle.std.proofs.Common.{◌≡◌, ℕ, zero, suc, ◌+◌, ◌-◌, ◌*◌, ◌^◌, ◌<◌, ◌≤◌, Bool, true, false, cond, ◌&&◌, List, [], ◌∷◌, ◌++◌, length, get_or, take, drop, refl, sym, ap, ◌∙◌, subst, arith, rules, IsTrue, length-append, ◌==◌, nat_le, Option, Some, None, IfSome}
-use Rattle.std.proofs.Math.Nat.{pow-le-pow_right, pow-suc, mul-le-mul_left, mul-le-mul_right, one-le-pow}
-use Rattle.std.proofs.lemmas.List.{drop_more, take_more, take_all, length-take-le, length_push, drop_all}
+use Rattle.std.proofs.Common.{◌≡◌, ℕ, zero, suc, ◌+◌, ◌-◌, ◌*◌, ◌^◌, ◌<◌, ◌≤◌, Bool, true, false, cond, ◌&&◌, List, [], ◌∷◌, ◌++◌, length, get_or, take, drop, refl, sym, ap, ◌∙◌, arith, length-append, ◌==◌, nat_le, Option, Some, None, IfSome}
+use Rattle.std.proofs.Math.Nat.{pow-le-pow_right, pow-suc, mul-le-mul_right}
+use Rattle.std.proofs.lemmas.List.{drop_more, take_more, length-take-le}
 use Rattle.std.proofs.lemmas.Nat.{pow-add, mul-add-lt}
 use Rattle.std.proofs.lemmas.Bool.{and_parts, and_from, leb-true, le-leb, eqb-true}
 use Rattle.std.specs.Char.{is_ascii_digit}
@@ -21,8 +21,9 @@ pub are_digits-append : (xs ys : List ℕ) → are_digits (xs ++ ys) ≡ (are_di
 are_digits-append [] ys = refl
 are_digits-append (x ∷ xs) ys =
     elim (is_ascii_digit x) as (λ b. (b && are_digits (xs ++ ys)) ≡ ((b && are_digits xs) && are_digits ys)) [
-      true ↦ are_digits-append xs ys
-    | false ↦ refl ]
+      | true ↦ are_digits-append xs ys
+      | false ↦ refl
+    ]
 
 pub are_digits-both : (xs ys : List ℕ) → are_digits xs ≡ true → are_digits ys ≡ true → are_digits (xs ++ ys) ≡ true
 are_digits-both xs ys p q = are_digits-append xs ys ∙ and_from _ _ p q
@@ -77,15 +78,17 @@ pub front-append-behind : (xs : List ℕ) → front_digits xs ++ behind_digits x
 front-append-behind [] = refl
 front-append-behind (c ∷ cs) =
     elim (is_ascii_digit c) as (λ b. cond b (c ∷ front_digits cs) [] ++ cond b (behind_digits cs) (c ∷ cs) ≡ c ∷ cs) [
-      true ↦ ap (λ (xs : List ℕ). c ∷ xs) (front-append-behind cs)
-    | false ↦ refl ]
+      | true ↦ ap (λ (xs : List ℕ). c ∷ xs) (front-append-behind cs)
+      | false ↦ refl
+    ]
 
 pub are_digits-front : (xs : List ℕ) → are_digits (front_digits xs) ≡ true
 are_digits-front [] = refl
 are_digits-front (c ∷ cs) =
     let test : (b : Bool) → is_ascii_digit c ≡ b → are_digits (cond b (c ∷ front_digits cs) []) ≡ true = λ b e. elim b as (λ b. is_ascii_digit c ≡ b → are_digits (cond b (c ∷ front_digits cs) []) ≡ true) [
-      true ↦ λ e. and_from _ _ e (are_digits-front cs)
-    | false ↦ λ e. refl ] e in
+      | true ↦ λ e. and_from _ _ e (are_digits-front cs)
+      | false ↦ λ e. refl
+    ] e in
     test (is_ascii_digit c) refl
 
 -- digits before what begins with none are the front
@@ -139,15 +142,18 @@ pub fraction_found : (most : ℕ) (text : List ℕ) → IfSome (fraction_of most
 fraction_found most [] = record { form = record { digits = refl; enough = omega arith; few = omega arith }; spelling = refl }
 fraction_found most (c ∷ cs) =
     let step : (point digits : Bool) → (c == 46) ≡ point → is_digits 1 most (front_digits cs) ≡ digits → IfSome (cond {A = Option (List ℕ × List ℕ)} point (cond {A = Option (List ℕ × List ℕ)} digits (Some (front_digits cs, behind_digits cs)) None) (Some ([], c ∷ cs))) (λ parts. IsFraction most (c ∷ cs) parts.0 parts.1) =
-      λ point digits. elim point as (λ point. (c == 46) ≡ point → is_digits 1 most (front_digits cs) ≡ digits → IfSome (cond {A = Option (List ℕ × List ℕ)} point (cond {A = Option (List ℕ × List ℕ)} digits (Some (front_digits cs, behind_digits cs)) None) (Some ([], c ∷ cs))) (λ parts. IsFraction most (c ∷ cs) parts.0 parts.1)) [
-        true ↦ elim digits as (λ digits. (c == 46) ≡ true → is_digits 1 most (front_digits cs) ≡ digits → IfSome (cond {A = Option (List ℕ × List ℕ)} digits (Some (front_digits cs, behind_digits cs)) None) (λ parts. IsFraction most (c ∷ cs) parts.0 parts.1)) [
-            true ↦ λ e h.
-              let form = is_digits-IsDigits 1 most (front_digits cs) h in
-              record {
-                form = record { digits = form.digits; enough = omega arith; few = form.few };
-                spelling = rw (point_text (front_digits cs) form.enough, eqb-true c 46 e) (ap (λ (xs : List ℕ). 46 ∷ xs) (sym (front-append-behind cs))) }
-          | false ↦ λ e h. tt ]
-      | false ↦ λ e h. record { form = record { digits = refl; enough = omega arith; few = omega arith }; spelling = refl } ] in
+    λ point digits. elim point as (λ point. (c == 46) ≡ point → is_digits 1 most (front_digits cs) ≡ digits → IfSome (cond {A = Option (List ℕ × List ℕ)} point (cond {A = Option (List ℕ × List ℕ)} digits (Some (front_digits cs, behind_digits cs)) None) (Some ([], c ∷ cs))) (λ parts. IsFraction most (c ∷ cs) parts.0 parts.1)) [
+      | true ↦ elim digits as (λ digits. (c == 46) ≡ true → is_digits 1 most (front_digits cs) ≡ digits → IfSome (cond {A = Option (List ℕ × List ℕ)} digits (Some (front_digits cs, behind_digits cs)) None) (λ parts. IsFraction most (c ∷ cs) parts.0 parts.1)) [
+        | true ↦ λ e h.
+            let form = is_digits-IsDigits 1 most (front_digits cs) h in
+            record {
+              form = record { digits = form.digits; enough = omega arith; few = form.few };
+              spelling = rw (point_text (front_digits cs) form.enough, eqb-true c 46 e) (ap (λ (xs : List ℕ). 46 ∷ xs) (sym (front-append-behind cs)));
+            }
+        | false ↦ λ e h. tt
+      ]
+      | false ↦ λ e h. record { form = record { digits = refl; enough = omega arith; few = omega arith }; spelling = refl }
+    ] in
     step (c == 46) (is_digits 1 most (front_digits cs)) refl refl
 
 -- a text that begins with neither a digit nor a point

@@ -1,8 +1,8 @@
 -- The nearest whole number to a fraction whose numerator and denominator are scaled by powers of ten.
-use Rattle.std.proofs.Common.{◌≡◌, ℕ, zero, suc, ◌+◌, ◌-◌, ◌*◌, ◌/◌, ◌^◌, ◌<◌, ◌≤◌, ◌⊎◌, inl, inr, Bool, true, false, Some, None, refl, sym, ap, ◌∙◌, arith, nat_lt}
+use Rattle.std.proofs.Common.{◌≡◌, ℕ, zero, suc, ◌+◌, ◌-◌, ◌*◌, ◌/◌, ◌^◌, ◌<◌, ◌≤◌, ◌⊎◌, inl, inr, false, None, refl, sym, ap, ◌∙◌, arith, nat_lt}
 use Rattle.std.proofs.Math.Nat.{div-eq_of_lt-le, div-eq_of_lt, mul-div-le, lt-mul-div-succ, one-le-pow, pow-le-pow_right, mul-le-mul_left, mul-le-mul_right, pow-suc}
 use Rattle.std.proofs.lemmas.Nat.{pow-add}
-use Rattle.std.proofs.lemmas.Bool.{lt-ltb, le-ltb}
+use Rattle.std.proofs.lemmas.Bool.{le-ltb}
 use Rattle.line_base.specs.Decimal.{IsNearest, nearest, limited}
 
 -- the quotient of the definition is nearest, and nothing else is
@@ -11,7 +11,8 @@ nearest_is numerator denominator h =
     let double : 0 < 2 * denominator = omega arith in
     record {
       reached = mul-div-le (2 * numerator + denominator) (2 * denominator);
-      not_passed = lt-mul-div-succ (2 * numerator + denominator) double }
+      not_passed = lt-mul-div-succ (2 * numerator + denominator) double;
+    }
 
 pub nearest_only : (numerator denominator n : ℕ) → IsNearest numerator denominator n → nearest numerator denominator ≡ n
 nearest_only numerator denominator n h =
@@ -39,7 +40,8 @@ nearest_lowered value unit half scale numerator denominator even pos_unit pos_sc
     let same : unit * scale ≡ 2 * half * scale = ap (λ (u : ℕ). u * scale) even in
     nearest_only numerator denominator n (record {
       reached = rw (e, f) (omega (arith, low_scaled, same));
-      not_passed = rw (e, f) (omega (arith, high_scaled, same)) })
+      not_passed = rw (e, f) (omega (arith, high_scaled, same));
+    })
 
 pub one_le_ten_pow : (k : ℕ) → 1 ≤ 10 ^ k
 one_le_ten_pow k = one-le-pow k 10 (omega arith)

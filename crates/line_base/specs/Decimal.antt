@@ -1,4 +1,4 @@
-use Rattle.std.specs.Prelude.{◌≡◌, ℕ, ◌+◌, ◌*◌, ◌/◌, ◌%◌, ◌^◌, ◌<◌, ◌≤◌, ◌⊎◌, ◌==◌, ◌||◌, nat_lt, if◌then◌else◌, List, [], ◌∷◌, ◌++◌, length, Option, Some, None, Result, Ok, Err, IfSome, ok_or, decimal}
+use Rattle.std.specs.Prelude.{◌≡◌, ℕ, ◌+◌, ◌*◌, ◌/◌, ◌%◌, ◌^◌, ◌<◌, ◌≤◌, ◌⊎◌, ◌==◌, ◌||◌, nat_lt, if◌then◌else◌, List, [], ◌∷◌, ◌++◌, length, Option, Some, None, Result, IfSome, ok_or, decimal}
 use Rattle.line_base.specs.Number.{IsDigits, is_digits, value_of, digit, front_digits, behind_digits, fraction_text, fraction_of}
 use Rattle.line_base.specs.declared.decimal.BadDecimal.{BadDecimal}
 
@@ -135,7 +135,7 @@ millionths_of bytes =
 
 -- what reading bytes as a decimal answers
 unfoldable pub decimal_of : List ℕ → Result ℕ BadDecimal
-decimal_of bytes = ok_or (millionths_of bytes) (record { })
+decimal_of bytes = ok_or (millionths_of bytes) (record {})
 
 -- ---- how decimals are written
 

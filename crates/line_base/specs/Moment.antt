@@ -1,4 +1,4 @@
-use Rattle.std.specs.Prelude.{◌≡◌, ℕ, zero, suc, ◌+◌, ◌-◌, ◌*◌, ◌/◌, ◌%◌, ◌<◌, ◌≤◌, Bool, true, false, ◌&&◌, ◌||◌, ◌==◌, IsTrue, nat_le, nat_lt, int_le, if◌then◌else◌, List, [], ◌∷◌, ◌++◌, length, take, drop, Option, Some, None, Result, Ok, Err, codes, bytes_eq, zip, ok_or, ℤ, pos, neg_ℤ, ◌+ℤ◌, ◌-ℤ◌, ◌*ℤ◌, unsigned_abs}
+use Rattle.std.specs.Prelude.{◌≡◌, ℕ, zero, suc, ◌+◌, ◌*◌, ◌/◌, ◌%◌, ◌<◌, Bool, ◌&&◌, ◌||◌, ◌==◌, IsTrue, nat_lt, int_le, if◌then◌else◌, List, [], ◌∷◌, ◌++◌, length, take, drop, Option, Some, None, Result, codes, bytes_eq, zip, ok_or, ℤ, pos, neg_ℤ, ◌+ℤ◌, ◌-ℤ◌, ◌*ℤ◌, unsigned_abs}
 use Rattle.std.specs.Int.{IsInRange, is_in_range, int_div_euclid, int_rem_euclid}
 use Rattle.std.specs.Char.{is_ascii_digit}
 use Rattle.std.specs.List.{list_all}
@@ -73,7 +73,8 @@ fields_of_text seconds fraction = record {
   hour = number_at 11 2 seconds;
   minute = number_at 14 2 seconds;
   second = number_at 17 2 seconds;
-  milli = milli_of fraction }
+  milli = milli_of fraction;
+}
 
 -- an offset is absent, `Z`, or a sign, hours below 24 and minutes below 60
 abbrev pub is_offset : List ℕ → Bool
@@ -119,7 +120,7 @@ millis_of bytes =
 
 -- what reading bytes as a moment answers
 unfoldable pub moment_of : List ℕ → Result ℤ BadMoment
-moment_of bytes = ok_or (millis_of bytes) (record { })
+moment_of bytes = ok_or (millis_of bytes) (record {})
 
 -- ---- how moments are written
 
@@ -152,7 +153,8 @@ fields_on day time = record {
   hour = time / 1_000 / 60 / 60;
   minute = time / 1_000 / 60 % 60;
   second = time / 1_000 % 60;
-  milli = time % 1_000 }
+  milli = time % 1_000;
+}
 
 -- the fields of a moment
 abbrev pub fields_of : ℤ → Fields

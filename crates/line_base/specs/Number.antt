@@ -1,4 +1,4 @@
-use Rattle.std.specs.Prelude.{ℕ, ◌+◌, ◌-◌, ◌*◌, ◌%◌, ◌^◌, ◌≤◌, Bool, ◌&&◌, ◌==◌, IsTrue, nat_le, if◌then◌else◌, List, [], ◌∷◌, ◌++◌, length, take, drop, Option, Some, None}
+use Rattle.std.specs.Prelude.{ℕ, ◌+◌, ◌-◌, ◌*◌, ◌%◌, ◌^◌, ◌≤◌, Bool, ◌&&◌, ◌==◌, IsTrue, nat_le, if◌then◌else◌, List, [], ◌∷◌, length, Option, Some, None}
 use Rattle.std.specs.List.{list_all}
 use Rattle.std.specs.Char.{is_ascii_digit}
 
@@ -45,7 +45,7 @@ abbrev pub fraction_of : ℕ → List ℕ → Option (List ℕ × List ℕ)
 fraction_of most [] = Some ([], [])
 fraction_of most (c ∷ cs) =
     if c == 46 then
-        (if is_digits 1 most (front_digits cs) then Some (front_digits cs, behind_digits cs) else None)
+    (if is_digits 1 most (front_digits cs) then Some (front_digits cs, behind_digits cs) else None)
     else Some ([], c ∷ cs)
 
 -- the last digit of a number, as a byte

@@ -194,7 +194,11 @@ fn lowered(number: u128, power: usize) -> Option<u64>
 fn limited(millionths: u128) -> Option<u64>
     ensures { result ≡ limited millionths }
 {
-    if millionths < LIMIT { Some(millionths as u64) } else { None }
+    if millionths < LIMIT {
+        Some(millionths as u64)
+    } else {
+        None
+    }
 }
 
 /// Six digits of the whole part, a point, and six digits of the rest.

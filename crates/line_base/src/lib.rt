@@ -11,6 +11,8 @@ mod moment;
 mod name;
 mod number;
 mod states;
+#[cfg(test)]
+mod tests;
 mod text;
 mod word;
 

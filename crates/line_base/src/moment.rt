@@ -2,8 +2,8 @@ ghost use Rattle.std.specs.Prelude.{◌≡◌, ◌+◌, ◌^◌, ◌<◌, ◌≤
 ghost use Rattle.line_base.specs.Number.{are_digits};
 ghost use Rattle.line_base.specs.Moment.{IsMomentMillis, IsMomentText, fits, has_form, number_at, is_offset, milli_of, millis_of, moment_of, moment_text, fields_of_text, seconds_form, IsShown};
 
-use crate::memory::Memory;
 use crate::civil::Fields;
+use crate::memory::Memory;
 use crate::number::{digits_value, read_fraction};
 use std::marker::Model;
 use thiserror::Error;
@@ -155,11 +155,19 @@ fn is_offset(bytes: &[u8]) -> bool
 fn has_form(form: &[u8], bytes: &[u8]) -> bool
     ensures { result ≡ has_form form.now bytes.now }
 {
-    form.len() == bytes.len() && form.iter().zip(bytes).all(|(form, byte)| fits(*form, *byte))
+    form.len() == bytes.len()
+        && form
+            .iter()
+            .zip(bytes)
+            .all(|(form, byte)| fits(*form, *byte))
 }
 
 fn fits(form: u8, byte: u8) -> bool
     ensures { result ≡ fits form byte }
 {
-    if form == b'd' { byte.is_ascii_digit() } else { form == byte }
+    if form == b'd' {
+        byte.is_ascii_digit()
+    } else {
+        form == byte
+    }
 }

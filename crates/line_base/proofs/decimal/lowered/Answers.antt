@@ -1,4 +1,4 @@
-use Rattle.std.proofs.Common.{ℕ, ◌^◌, ◌≤◌, ◌<◌, ap, sym, arith}
+use Rattle.std.proofs.Common.{◌^◌, ◌≤◌, ap, sym, arith}
 use Rattle.std.proofs.Math.Nat.{pow-le-pow_right}
 use Rattle.line_base.specs.Decimal.{limited}
 use Rattle.line_base.proofs.Nearest.{lowered_small, one_le_ten_pow}

@@ -1,4 +1,4 @@
-use Rattle.std.proofs.Common.{◌≡◌, ℕ, ◌+◌, ◌/◌, ◌%◌, ◌<◌, ◌≤◌, List, [], ◌∷◌, sym, arith, decimal}
+use Rattle.std.proofs.Common.{sym, arith}
 use Rattle.line_base.proofs.Written.{decimal_of_1, decimal_of_2, decimal_of_3, decimal_of_4, decimal_of_5, decimal_of_6}
 use Rattle.line_base.proofs.decimal.whole_start.Goals as goal
 

@@ -1,4 +1,4 @@
-use Rattle.std.proofs.Common.{◌≡◌, ◌<◌, ◌≤◌, ℤ, pos, refl, arith, FitsSigned, to_z, of_z, w16, w64}
+use Rattle.std.proofs.Common.{◌≡◌, pos, refl, arith, FitsSigned, w16, w64}
 use Rattle.std.specs.Int.{int_rem_euclid}
 use Rattle.std.proofs.lemmas.Int.{to_z-of_z}
 use Rattle.line_base.proofs.Calendar.{day_parts}
@@ -39,4 +39,5 @@ returns-clause-shown c =
       hour = rw (to_z-of_z w64 _ rest_fits) (omega arith);
       minute = omega arith;
       second = omega arith;
-      milli = omega arith }
+      milli = omega arith;
+    }

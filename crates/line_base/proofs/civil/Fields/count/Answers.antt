@@ -1,8 +1,8 @@
-use Rattle.std.proofs.Common.{◌≡◌, ℕ, ◌<◌, ◌≤◌, ℤ, pos, refl, sym, ap, ◌∙◌, inl, inr, arith, Some, FitsSigned, to_z, of_z, w16, w8, w32, w64}
+use Rattle.std.proofs.Common.{◌≡◌, pos, refl, ap, inl, inr, arith, Some, to_z, w16, w8}
 use Rattle.std.proofs.lemmas.Int.{to_z_pos}
 use Rattle.std.proofs.lemmas.Bool.{cases_Bool, false≢true}
-use Rattle.line_base.specs.Moment.{is_civil, counted, millis_at}
-use Rattle.line_base.proofs.Calendar.{HasCivil, is_civil_from, is_civil_parts, year_to_is, day_of_is}
+use Rattle.line_base.specs.Moment.{is_civil}
+use Rattle.line_base.proofs.Calendar.{HasCivil, is_civil_from, is_civil_parts}
 use Rattle.jiff_core.specs.DateTime.{civil_seconds}
 use Rattle.jiff_core.proofs.SignedLemmas.{signed_arith, signed_casts}
 use Rattle.line_base.proofs.civil.Fields.count.Goals as goal
@@ -24,7 +24,8 @@ returns-in-Ok c =
       day = (omega (arith, signed_arith), omega (arith, signed_arith));
       hour = omega (arith, signed_arith);
       minute = omega (arith, signed_arith);
-      second = omega (arith, signed_arith) } in
+      second = omega (arith, signed_arith);
+    } in
     let same_year = shown.0.0 in
     let same_month : c.in-Ok.civil.date.month ≡ c.args.self.month = omega (arith, signed_arith) in
     let same_day : c.in-Ok.civil.date.day ≡ c.args.self.day = omega (arith, signed_arith) in
@@ -41,9 +42,11 @@ returns-in-Err c =
     let second : to_z w8 c.args.self.second ≡ pos c.args.self.second = to_z_pos w8 _ (omega arith) in
     let wanted = rw (year, month, day, hour, minute, second) at c.in-Err.ensures.succeeds.1 in
     elim (cases_Bool (is_civil c.args.self)) [
-      inl whole ↦
-        let parts = is_civil_parts c.args.self whole in
-        absurd (false≢true (wanted
-          (((omega (arith, signed_arith), omega (arith, signed_arith)), (omega (arith, signed_arith), omega (arith, signed_arith)), (omega (arith, signed_arith), omega (arith, signed_arith))),
-          ((omega (arith, signed_arith), omega (arith, signed_arith)), (omega (arith, signed_arith), omega (arith, signed_arith)), (omega (arith, signed_arith), omega (arith, signed_arith)), (omega (arith, signed_arith), omega (arith, signed_arith))))))
-    | inr other ↦ rw other refl ]
+      | inl whole ↦
+          let parts = is_civil_parts c.args.self whole in
+          absurd (false≢true (wanted (
+            ((omega (arith, signed_arith), omega (arith, signed_arith)), (omega (arith, signed_arith), omega (arith, signed_arith)), (omega (arith, signed_arith), omega (arith, signed_arith))),
+            ((omega (arith, signed_arith), omega (arith, signed_arith)), (omega (arith, signed_arith), omega (arith, signed_arith)), (omega (arith, signed_arith), omega (arith, signed_arith)), (omega (arith, signed_arith), omega (arith, signed_arith))),
+          )))
+      | inr other ↦ rw other refl
+    ]

@@ -1,4 +1,4 @@
-use Rattle.std.proofs.Common.{List, ℕ, ◌≡◌, ◌<◌, ◌-◌, ◌++◌, take, drop, subst, ap, ◌∙◌, rules}
+use Rattle.std.proofs.Common.{List, ℕ, ◌<◌, ◌-◌, ◌++◌, take, drop, subst, ap, ◌∙◌}
 use Rattle.line_base.specs.Decimal.{decimal_text}
 use Rattle.line_base.proofs.DecimalTexts.{decimal_of-decimal_text, text_slice}
 use Rattle.line_base.proofs.decimal.Decimal.write.Goals as goal

@@ -1,6 +1,6 @@
-use Rattle.std.proofs.Common.{ℤ, ◌≡◌, Option, Some, Ok, IfSome, sym, subst, ap, ◌∙◌, rules, arith, FitsSigned, w64}
+use Rattle.std.proofs.Common.{ℤ, ◌≡◌, Option, Some, Ok, IfSome, sym, subst, ap, ◌∙◌, rules, FitsSigned, w64}
 use Rattle.std.proofs.lemmas.Int.{to_z-of_z}
-use Rattle.line_base.specs.Moment.{IsMomentText, IsMomentMillis}
+use Rattle.line_base.specs.Moment.{IsMomentText}
 use Rattle.line_base.proofs.MomentTexts.{millis_found, millis_of_text}
 use Rattle.line_base.proofs.Calendar.{millis_range}
 use Rattle.line_base.proofs.moment.Moment.read.Goals as goal
