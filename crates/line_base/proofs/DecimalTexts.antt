@@ -1,16 +1,16 @@
 -- The texts of decimals: what is read, and that what is written is read back.
-use Rattle.std.proofs.Common.{◌≡◌, ℕ, ◌+◌, ◌-◌, ◌*◌, ◌/◌, ◌%◌, ◌^◌, ◌<◌, ◌≤◌, ◌⊎◌, inl, inr, Bool, true, false, cond, ◌||◌, ◌==◌, List, [], ◌∷◌, ◌++◌, length, length-drop, take, drop, refl, sym, ap, ◌∙◌, arith, rules, Option, Some, None, IfSome, Ok, ok_or, nat_lt, append-nil, decimal}
+use Rattle.std.proofs.Common.{◌≡◌, ℕ, ◌+◌, ◌-◌, ◌*◌, ◌/◌, ◌%◌, ◌^◌, ◌<◌, ◌≤◌, ◌⊎◌, inl, inr, Bool, true, false, cond, ◌||◌, ◌==◌, List, [], ◌∷◌, ◌++◌, length, length-drop, take, drop, refl, sym, ap, ◌∙◌, arith, Option, Some, None, IfSome, Ok, ok_or, nat_lt, append-nil, decimal}
 use Rattle.std.specs.Char.{is_ascii_digit}
 use Rattle.std.proofs.Math.Seq.{take-append-add}
 use Rattle.std.proofs.lemmas.List.{drop-append-le}
 use Rattle.std.specs.Int.{IsInRange}
 use Rattle.std.proofs.lemmas.Nat.{pow-add}
 use Rattle.std.proofs.lemmas.Fmt.{digits_decimal, digits_value-decimal, decimal_nonempty, length-decimal-le}
-use Rattle.std.proofs.lemmas.Str.Parse.{IsNumeralModel, numerals_by_weight}
 use Rattle.std.proofs.lemmas.Bool.{and_parts, and_from, or_cases, eqb-true, ne_eqb, ltb-true, lt-ltb}
 use Rattle.line_base.specs.Number.{IsDigits, is_digits, are_digits, value_of, front_digits, behind_digits, fraction_text, fraction_of}
 use Rattle.line_base.specs.Decimal.{Sign, bare, plus, minus, sign_text, Exponent, IsExponent, exponent_text, raise_of, drop_of, signed_raise, signed_drop, Numeral, IsDecimalText, power_of, raising, lowering, signed_power_of, exponent_of, nearest, limited, scaled, behind_whole, millionths_of, decimal_of, six_digits, before, without_trailing_zeros, decimal_text}
 use Rattle.line_base.proofs.Digits.{is_digits-IsDigits, is_digits-true, IsFraction, fraction_found, fraction_of_text, IsStop, IsStop-none, IsStop-at, front-append-behind, front_digits_at, behind_digits_at, value_of-append, digit_range, digit_is}
+use Rattle.line_base.proofs.Written.{own_numerals}
 use Rattle.line_base.proofs.Nearest.{nearest_is, nearest_only, IsNearest-whole, one_le_ten_pow}
 
 -- ---- what is read has the value that its text says
@@ -158,9 +158,6 @@ millionths_of_text bytes millionths t =
     step _ _ front behind
 
 -- ---- what is written is read back
-
-own_numerals : IsNumeralModel (λ ds. are_digits ds ≡ true) value_of
-own_numerals = numerals_by_weight (λ ds. are_digits ds ≡ true) (search rules) value_of (search rules)
 
 -- trailing zeros may be taken off a fraction
 pub record IsCut (digits cut : List ℕ) : Type 0 where

@@ -1,8 +1,10 @@
 -- How numbers are written: `decimal` digit by digit.
-use Rattle.std.proofs.Common.{◌≡◌, ℕ, ◌*◌, ◌/◌, ◌%◌, ◌<◌, ◌≤◌, List, [], ◌∷◌, ◌++◌, refl, arith, decimal}
-use Rattle.std.proofs.lemmas.Fmt.{decimal_digit, decimal_step}
+use Rattle.std.proofs.Common.{◌≡◌, ℕ, ◌^◌, true, rules, Some, ◌*◌, ◌/◌, ◌%◌, ◌<◌, ◌≤◌, List, [], ◌∷◌, ◌++◌, refl, arith, decimal}
+use Rattle.std.proofs.lemmas.Fmt.{decimal_digit, decimal_step, decimal_nonempty, length-decimal-le, digits_decimal, digits_value-decimal}
+use Rattle.std.proofs.lemmas.Str.Parse.{IsNumeralModel, numerals_by_weight}
 use Rattle.std.proofs.Math.Nat.{div-div-eq-div-mul}
-use Rattle.line_base.specs.Number.{digit}
+use Rattle.line_base.specs.Number.{digit, are_digits, is_digits, value_of, number_of}
+use Rattle.line_base.proofs.Digits.{is_digits-true}
 use Rattle.line_base.specs.Decimal.{six_digits}
 
 pub decimal_of_1 : (n : ℕ) → n < 10 → decimal n ≡ digit n ∷ []
@@ -33,3 +35,17 @@ decimal_of_5 n low high =
 pub decimal_of_6 : (n : ℕ) → 100_000 ≤ n → n < 1_000_000 → decimal n ≡ six_digits n
 decimal_of_6 n low high =
     rw (← tenths n 10, ← tenths n 100, ← tenths n 1_000, ← tenths n 10_000) (step n _ (omega arith) (omega arith) (decimal_of_5 (n / 10) (omega arith) (omega arith)))
+
+-- `are_digits` and `value_of` are what std knows of digits
+pub own_numerals : IsNumeralModel (λ ds. are_digits ds ≡ true) value_of
+own_numerals = numerals_by_weight (λ ds. are_digits ds ≡ true) (search rules) value_of (search rules)
+
+-- a number of at most nine digits is read as itself
+pub number_of-decimal : (n : ℕ) → n < 1_000_000_000 → number_of (decimal n) ≡ Some n
+number_of-decimal n small =
+    let fits : n < 2 ^ 64 = omega arith in
+    let below : n < 10 ^ 9 = small in
+    let some = decimal_nonempty n fits in
+    let few = length-decimal-le 9 n (omega arith) below fits in
+    let form : is_digits 1 9 (decimal n) ≡ true = is_digits-true 1 9 (decimal n) (record { digits = digits_decimal own_numerals n fits; enough = omega arith; few = few }) in
+    rw (form, digits_value-decimal own_numerals n fits) refl

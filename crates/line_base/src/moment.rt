@@ -13,7 +13,7 @@ const SECONDS_FORM: &[u8] = b"dddd-dd-ddTdd:dd:dd";
 
 /// A moment on a civil clock of the years 1 to 9999, in milliseconds since
 /// 1970-01-01T00:00:00.000.
-#[derive(Clone, Copy, Debug, PartialEq, Eq)]
+#[derive(Clone, Copy, Debug, PartialEq, Eq, PartialOrd, Ord, Hash)]
 pub struct Moment {
     millis: i64,
 }

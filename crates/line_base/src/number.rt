@@ -1,9 +1,6 @@
 ghost use Rattle.std.specs.Prelude.{◌≡◌, ◌^◌, ◌<◌, ◌≤◌, IsTrue, length, option_map};
 ghost use Rattle.line_base.specs.Number.{are_digits, is_digits, value_of, number_of, front_digits, behind_digits, fraction_of, digit};
 
-/// The most digits that `digits_value` counts.
-const MOST_DIGITS: usize = 20;
-
 /// Reads bytes as a plain number, which is 1 to 9 decimal digits.
 pub fn read_number(bytes: &[u8]) -> Option<u32>
     ensures { result ≡ number_of bytes.now }
