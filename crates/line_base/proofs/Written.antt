@@ -1,10 +1,10 @@
 -- How numbers are written: `decimal` digit by digit.
-use Rattle.std.proofs.Common.{◌≡◌, ℕ, ◌^◌, true, rules, Some, ◌*◌, ◌/◌, ◌%◌, ◌<◌, ◌≤◌, List, [], ◌∷◌, ◌++◌, refl, arith, decimal}
+use Rattle.std.proofs.Common.{Bool, false, cond, None, ◌≡◌, ℕ, ◌^◌, true, rules, Some, ◌*◌, ◌/◌, ◌%◌, ◌<◌, ◌≤◌, List, [], ◌∷◌, ◌++◌, refl, arith, decimal}
 use Rattle.std.proofs.lemmas.Fmt.{decimal_digit, decimal_step, decimal_nonempty, length-decimal-le, digits_decimal, digits_value-decimal}
 use Rattle.std.proofs.lemmas.Str.Parse.{IsNumeralModel, numerals_by_weight}
 use Rattle.std.proofs.Math.Nat.{div-div-eq-div-mul}
 use Rattle.line_base.specs.Number.{digit, are_digits, is_digits, value_of, number_of}
-use Rattle.line_base.proofs.Digits.{is_digits-true}
+use Rattle.line_base.proofs.Digits.{is_digits-true, is_digits-IsDigits, value_of-few}
 use Rattle.line_base.specs.Decimal.{six_digits}
 
 pub decimal_of_1 : (n : ℕ) → n < 10 → decimal n ≡ digit n ∷ []
@@ -49,3 +49,16 @@ number_of-decimal n small =
     let few = length-decimal-le 9 n (omega arith) below fits in
     let form : is_digits 1 9 (decimal n) ≡ true = is_digits-true 1 9 (decimal n) (record { digits = digits_decimal own_numerals n fits; enough = omega arith; few = few }) in
     rw (form, digits_value-decimal own_numerals n fits) refl
+
+-- and what is read as a number is below 10^9
+pub number_of-lt : (bytes : List ℕ) (n : ℕ) → number_of bytes ≡ Some n → n < 1_000_000_000
+number_of-lt bytes n h =
+    let step : (b : Bool) → is_digits 1 9 bytes ≡ b → cond b (Some (value_of bytes)) None ≡ Some n → n < 1_000_000_000 = λ b. elim b as (λ b. is_digits 1 9 bytes ≡ b → cond b (Some (value_of bytes)) None ≡ Some n → n < 1_000_000_000) [
+      | true ↦ λ e k.
+          let form = is_digits-IsDigits 1 9 bytes e in
+          let same : value_of bytes ≡ n = cc in
+          let below = value_of-few bytes 9 form.digits form.few in
+          omega arith
+      | false ↦ λ e k. cc
+    ] in
+    step _ refl h
