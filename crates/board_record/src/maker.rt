@@ -1,4 +1,4 @@
-ghost use Rattle.std.specs.Prelude.{◌≡◌, ℕ, ◌+◌, ◌<◌, ◌≤◌, ◌^◌, IfOk};
+ghost use Rattle.std.specs.Prelude.{IsErr, ◌↔◌, ◌-◌, ◌≡◌, ℕ, ◌+◌, ◌<◌, ◌≤◌, ◌^◌, IfOk};
 ghost use Rattle.board_record.specs.Maker.{Maker, made_id, next_id, after_next, IsMadeAlone};
 
 use crate::id::BoardId;
@@ -46,11 +46,12 @@ impl IdMaker {
     /// hexadecimal. `IdsUsedUp` exactly where the count is 2^48 - 1.
     pub fn next(&mut self) -> Result<BoardId, IdsUsedUp>
         ensures answer { result ≡ next_id self.old }
+        ensures used_up { IsErr result ↔ (self.old.used ≡ 2 ^ 48 - 1) }
         ensures after { self.new ≡ after_next self.old }
         // no other machine and no other count makes this id
         ensures alone { IfOk result (IsMadeAlone self.new) }
     {
-        if self.used == MOST_IDS {
+        if self.used >= MOST_IDS {
             return Err(IdsUsedUp);
         }
         self.used += 1;
