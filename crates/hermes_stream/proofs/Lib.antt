@@ -1,0 +1,4 @@
+pub mod Ends
+pub mod Streams
+pub mod Places
+pub mod Runs

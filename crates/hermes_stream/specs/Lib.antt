@@ -1,0 +1,4 @@
+pub mod Frames
+pub mod Cutter
+pub mod Block
+pub mod Rests
