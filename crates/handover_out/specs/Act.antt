@@ -2,8 +2,7 @@ use Rattle.std.specs.Prelude.{ℕ, Bool, true, false, Option, Some, None}
 use Rattle.line_base.specs.declared.states.Transfer.{Transfer}
 use Rattle.board_record.specs.declared.record.Record.{Record}
 use Rattle.handover_out.specs.declared.act.OutAct.{OutAct}
-use Rattle.handover_out.specs.declared.act.OutDeed.{OutDeed}
-use Rattle.handover_out.specs.declared.act.OutDeed.TheVariants.{Opens, Refuses, Leaves, Returns, Loses}
+use Rattle.handover_out.specs.declared.act.OutDeed.TheVariants.{Leaves, Returns, Loses}
 use Rattle.handover_out.specs.declared.act.OutSend.{OutSend}
 use Rattle.handover_out.specs.declared.act.OutSend.TheVariants.{Finished}
 

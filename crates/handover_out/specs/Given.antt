@@ -1,9 +1,8 @@
-use Rattle.std.specs.Prelude.{◌≡◌, ◌↔◌, ℕ, Option, Some, None, IsTrue, IsSome, IfSome}
+use Rattle.std.specs.Prelude.{◌≡◌, ◌↔◌, Option, Some, None, IsTrue, IsSome, IfSome}
 use Rattle.handover_out.specs.declared.breach.OutBreach.{OutBreach}
 use Rattle.handover_out.specs.declared.breach.OutBreach.TheVariants as breach
 use Rattle.handover_out.specs.declared.input.OutInput.{OutInput}
 use Rattle.handover_out.specs.declared.input.OutInput.TheVariants.{Offer, Revoke, MachineReady, RevokeMachineReady, Start, Stop}
-use Rattle.handover_out.specs.declared.phase.Phase.TheVariants.{Idle}
 use Rattle.handover_out.specs.State.{OutState, would_open}
 use Rattle.handover_out.specs.Row.{outlet_row}
 

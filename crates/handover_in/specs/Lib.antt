@@ -1,0 +1,5 @@
+pub mod State
+pub mod Act
+pub mod Own
+pub mod Row
+pub mod Given
