@@ -66,7 +66,7 @@ revoke_machine_ready_row _ _ = None
 
 -- the record is there exactly where the start opens
 abbrev pub start_row : Phase → OutState → ℕ → Option Record → Option OutRow
-start_row Idle s id (Some board) = row_if (would_open s id) (started s (Moving board false)) (record nothing { deed = Some (Opens id); drive = Some true })
+start_row Idle s id (Some board) = row_if (would_open s id) (started s (Moving board false)) (record nothing { deed = Some (Opens board.id); drive = Some true })
 start_row Idle s id None = row_if (s.ready && not (would_open s id)) (started s (Ended id)) (record nothing { deed = Some (Refuses id); send = Some (Finished NotStarted id) })
 start_row _ _ _ _ = None
 

@@ -8,6 +8,7 @@ mod act;
 mod breach;
 mod close;
 mod input;
+pub mod laws;
 mod offer;
 mod outlet;
 mod phase;

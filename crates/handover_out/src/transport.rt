@@ -24,6 +24,7 @@ impl Outlet {
         self.ready = false;
         match board {
             Some(board) => {
+                let id = board.id;
                 self.phase = Phase::Moving {
                     board,
                     begun: false,
