@@ -128,9 +128,10 @@ abbrev pub fault_row : Phase → InState → Option InRow
 fault_row (Taking board own heard) s = row (goes_on s (Stopped board own (complete_if heard))) (stops board own)
 fault_row _ s = row s nothing
 
-abbrev pub off_unless : Bool → InAct
-off_unless true = nothing
-off_unless false = drive_off
+-- the drive runs on for a board that has left
+abbrev pub off_unless : Bool → Option Bool
+off_unless true = None
+off_unless false = Some false
 
 abbrev pub is_complete : Option Transfer → Bool
 is_complete (Some transfer.Complete) = true
@@ -144,7 +145,7 @@ closes_stopped board own left = row (closed (Waiting board own left)) nothing
 abbrev pub closed_row : Phase → Option InRow
 closed_row Idle = row (closed Idle) nothing
 closed_row (Taking board NotStarted _) = row (closed Idle) (drops board NotStarted None (Some false))
-closed_row (Taking board own heard) = row (closed (Waiting board own heard)) (off_unless heard)
+closed_row (Taking board own heard) = row (closed (Waiting board own heard)) (record nothing { drive = off_unless heard })
 closed_row (Stopped board own heard) = closes_stopped board own (is_complete heard)
 closed_row (Waiting board own heard) = row (closed (Waiting board own heard)) nothing
 

@@ -10,6 +10,7 @@ mod close;
 mod finish;
 mod input;
 mod intake;
+pub mod laws;
 mod offer;
 mod phase;
 mod sensor;
