@@ -1,17 +1,17 @@
-use Rattle.std.specs.Prelude.{Option, Some, None, IsSome}
+use Rattle.std.specs.Prelude.{◌≡◌, true, false, Option, Some, None, IsSome}
 use Rattle.handover_in.specs.declared.breach.InBreach.{InBreach}
 use Rattle.handover_in.specs.declared.breach.InBreach.TheVariants as breach
 use Rattle.handover_in.specs.declared.input.InInput.{InInput}
 use Rattle.handover_in.specs.declared.input.InInput.TheVariants.{Ready, Unready, Start, BoardAvailable, RevokeBoardAvailable, Finished}
-use Rattle.handover_in.specs.State.{InState}
-use Rattle.handover_in.specs.Row.{intake_row}
+use Rattle.handover_in.specs.declared.phase.InPhase.TheVariants as names
+use Rattle.handover_in.specs.State.{InState, name_of_phase}
 
 -- what an intake's machine sees to: it says that it is ready or not, and starts, only where the
 -- table has a row for it
 abbrev pub IsGiven : InState → InInput → Type 0
-IsGiven s Ready = IsSome (intake_row s Ready)
-IsGiven s Unready = IsSome (intake_row s Unready)
-IsGiven s Start = IsSome (intake_row s Start)
+IsGiven s Ready = (name_of_phase s.phase ≡ names.Idle) × (s.ready ≡ false)
+IsGiven s Unready = (name_of_phase s.phase ≡ names.Idle) × (s.ready ≡ true)
+IsGiven s Start = (name_of_phase s.phase ≡ names.Idle) × (s.ready ≡ true) × IsSome s.offer
 IsGiven _ _ = Unit {0}
 
 -- the breach that is named after a message

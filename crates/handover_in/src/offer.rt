@@ -1,9 +1,11 @@
-ghost use Rattle.std.specs.Prelude.{◌≡◌, IsSome, IfOk, IfErr, OnErr, None};
+ghost use Rattle.std.specs.Prelude.{◌≡◌, IfOk, IfErr, OnErr, None};
 ghost use Rattle.handover_in.specs.State.{takes_offers, passes_offers_over};
+ghost use Rattle.handover_in.specs.Given.{IsGiven};
 ghost use Rattle.handover_in.specs.Row.{ready_row, unready_row, start_row, board_available_row, revoke_board_available_row, row};
 
 use crate::act::{InAct, InSend};
 use crate::breach::InBreach;
+use crate::input::InInput;
 use crate::intake::Intake;
 use crate::phase::Phase;
 use board_record::Record;
@@ -11,7 +13,7 @@ use line_base::Seen;
 
 impl Intake {
     pub(crate) fn get_ready(&mut self) -> InAct
-        requires { IsSome (ready_row self.old.phase self.old) }
+        requires { IsGiven self.old InInput.Ready }
         ensures { ready_row self.old.phase self.old ≡ row self.new result }
     {
         self.ready = true;
@@ -19,7 +21,7 @@ impl Intake {
     }
 
     pub(crate) fn get_unready(&mut self) -> InAct
-        requires { IsSome (unready_row self.old.phase self.old) }
+        requires { IsGiven self.old InInput.Unready }
         ensures { unready_row self.old.phase self.old ≡ row self.new result }
     {
         self.ready = false;
@@ -27,7 +29,7 @@ impl Intake {
     }
 
     pub(crate) fn start(&mut self) -> InAct
-        requires { IsSome (start_row self.old.phase self.old.offer self.old.ready) }
+        requires { IsGiven self.old InInput.Start }
         ensures { start_row self.old.phase self.old.offer self.old.ready ≡ row self.new result }
     {
         self.ready = false;

@@ -3,14 +3,14 @@ use Rattle.handover_out.specs.declared.breach.OutBreach.{OutBreach}
 use Rattle.handover_out.specs.declared.breach.OutBreach.TheVariants as breach
 use Rattle.handover_out.specs.declared.input.OutInput.{OutInput}
 use Rattle.handover_out.specs.declared.input.OutInput.TheVariants.{Offer, Revoke, MachineReady, RevokeMachineReady, Start, Stop}
-use Rattle.handover_out.specs.State.{OutState, would_open}
-use Rattle.handover_out.specs.Row.{outlet_row}
+use Rattle.handover_out.specs.declared.phase.OutPhase.TheVariants as names
+use Rattle.handover_out.specs.State.{OutState, name_of_phase, would_open}
 
 -- what an outlet's machine sees to: it offers and revokes only where the table has a row for it,
 -- and at a start it gives the board of that id exactly where the start opens
 abbrev pub IsGiven : OutState → OutInput → Type 0
-IsGiven s (Offer id) = IsSome (outlet_row s (Offer id))
-IsGiven s Revoke = IsSome (outlet_row s Revoke)
+IsGiven s (Offer _) = (name_of_phase s.phase ≡ names.Idle) × (s.offered ≡ None)
+IsGiven s Revoke = (name_of_phase s.phase ≡ names.Idle) × IsSome s.offered
 IsGiven s (Start id board) = (IsSome board ↔ IsTrue (would_open s id)) × IfSome board (λ board. board.id ≡ id)
 IsGiven _ _ = Unit {0}
 

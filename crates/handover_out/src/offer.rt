@@ -1,15 +1,17 @@
-ghost use Rattle.std.specs.Prelude.{◌≡◌, IsSome, IfOk, IfErr, OnErr, None};
+ghost use Rattle.std.specs.Prelude.{◌≡◌, IfOk, IfErr, OnErr, None};
+ghost use Rattle.handover_out.specs.Given.{IsGiven};
 ghost use Rattle.handover_out.specs.Row.{offer_row, revoke_row, machine_ready_row, revoke_machine_ready_row, row};
 
 use crate::act::{OutAct, OutSend};
 use crate::breach::OutBreach;
+use crate::input::OutInput;
 use crate::outlet::Outlet;
 use crate::phase::Phase;
 use board_record::BoardId;
 
 impl Outlet {
     pub(crate) fn offer(&mut self, id: BoardId) -> OutAct
-        requires { IsSome (offer_row self.old.phase self.old id) }
+        requires { IsGiven self.old (OutInput.Offer id) }
         ensures { offer_row self.old.phase self.old id ≡ row self.new result }
     {
         self.offered = Some(id);
@@ -18,7 +20,7 @@ impl Outlet {
     }
 
     pub(crate) fn revoke(&mut self) -> OutAct
-        requires { IsSome (revoke_row self.old.phase self.old) }
+        requires { IsGiven self.old OutInput.Revoke }
         ensures { revoke_row self.old.phase self.old ≡ row self.new result }
     {
         self.offered = None;
