@@ -1,10 +1,12 @@
-use Rattle.std.proofs.Common.{◌≡◌, ◌⊎◌, inl, inr, ◌++◌, ◌∷◌, [], ◌∙◌, ap, sym, Bool, true, false, List, Option, Some, None, refl, append_assoc, unwrap_or}
+use Rattle.std.proofs.Common.{◌≡◌, ◌⊎◌, inl, inr, ◌++◌, ◌∷◌, [], ◌∙◌, ap, sym, Bool, true, false, List, Option, Some, None, refl, append_assoc, unwrap_or, is_some, ◌↔◌, IsSome}
 use Rattle.line_base.specs.declared.states.Seen.{Seen}
 use Rattle.line_base.specs.declared.states.Seen.TheVariants.{NotStarted, Incomplete, Complete, Taken}
+use Rattle.line_base.specs.declared.states.SensorEvent.{SensorEvent}
 use Rattle.line_base.specs.declared.states.SensorEvent.TheVariants as event
 use Rattle.line_base.specs.declared.states.Transfer.{Transfer}
 use Rattle.line_base.specs.declared.states.Transfer.TheVariants as said
 use Rattle.board_record.specs.declared.record.Record.{Record}
+use Rattle.transfer_state.specs.declared.intake.InEnd.{InEnd}
 use Rattle.transfer_state.specs.declared.intake.InEnd.TheVariants.{Keep, Drop, Wait}
 use Rattle.transfer_state.specs.Intake.{in_ends}
 use Rattle.handover_in.specs.declared.input.InInput.{InInput}
@@ -13,7 +15,8 @@ use Rattle.handover_in.specs.declared.phase.Phase.{Phase}
 use Rattle.handover_in.specs.declared.phase.Phase.TheVariants as phase
 use Rattle.handover_in.specs.State.{InState, at_rest, held}
 use Rattle.handover_in.specs.Own.{own_after}
-use Rattle.handover_in.specs.Row.{InRow, intake_row, complete_if, is_complete, off_unless}
+use Rattle.handover_in.specs.Row.{InRow, intake_row, complete_if, is_complete, off_unless, ends_stopped, waiting_row, taking_row, sensed_row, closed_row, stand_row, fault_row}
+use Rattle.handover_in.specs.Given.{IsGiven, breach_of}
 use Rattle.handover_in.specs.Run.{stay, step, after_all}
 use Rattle.handover_in.specs.Records.{list_of, goes_in, comes_out, all_in, all_out, held_by, held_by_all, id_of}
 use Rattle.handover_in.specs.Offers.{is_start, starts_at, offer_after, ready_after}
@@ -371,3 +374,102 @@ driven_after_all on s (input ∷ inputs) play driven =
 
 pub drive_is_driven : (inputs : List InInput) → IsDriven (after_all at_rest inputs).phase (drive_after_all false at_rest inputs)
 drive_is_driven inputs = driven_after_all false at_rest inputs tt refl
+
+-- what is given is what has a row
+
+stopped_has_row : (end : InEnd) (s : InState) (board : Record) (own : Seen) (n : Transfer) → is_some (ends_stopped end s board own n) ≡ true
+stopped_has_row Keep _ _ _ _ = refl
+stopped_has_row Drop _ _ _ _ = refl
+stopped_has_row Wait _ _ _ _ = refl
+
+waiting_has_row : (own : Seen) (heard : Bool) (s : InState) (board : Record) → is_some (waiting_row s board own heard) ≡ true
+waiting_has_row Complete true _ _ = refl
+waiting_has_row Complete false _ _ = refl
+waiting_has_row NotStarted _ _ _ = refl
+waiting_has_row Incomplete _ _ _ = refl
+waiting_has_row Taken _ _ _ = refl
+
+taking_has_row : (own : Seen) (heard : Bool) (event : SensorEvent) (s : InState) (board : Record) → is_some (taking_row s board own heard event) ≡ true
+taking_has_row _ true event.Full _ _ = refl
+taking_has_row _ false event.Full _ _ = refl
+taking_has_row Incomplete true event.Taken _ _ = refl
+taking_has_row Incomplete false event.Taken _ _ = refl
+taking_has_row NotStarted true event.Taken _ _ = refl
+taking_has_row NotStarted false event.Taken _ _ = refl
+taking_has_row Complete true event.Taken _ _ = refl
+taking_has_row Complete false event.Taken _ _ = refl
+taking_has_row Taken true event.Taken _ _ = refl
+taking_has_row Taken false event.Taken _ _ = refl
+taking_has_row _ true _ _ _ = refl
+taking_has_row _ false _ _ _ = refl
+
+sensed_has_row : (phase : Phase) (s : InState) (event : SensorEvent) → is_some (sensed_row phase s event) ≡ true
+sensed_has_row phase.Idle s event.Left = refl
+sensed_has_row phase.Idle s event.Begun = refl
+sensed_has_row phase.Idle s event.Full = refl
+sensed_has_row phase.Idle s event.Back = refl
+sensed_has_row phase.Idle s event.Taken = refl
+sensed_has_row (phase.Taking _ _ _) s event.Left = refl
+sensed_has_row (phase.Taking board own heard) s event.Begun = taking_has_row own heard event.Begun s board
+sensed_has_row (phase.Taking board own heard) s event.Full = taking_has_row own heard event.Full s board
+sensed_has_row (phase.Taking board own heard) s event.Back = taking_has_row own heard event.Back s board
+sensed_has_row (phase.Taking board own heard) s event.Taken = taking_has_row own heard event.Taken s board
+sensed_has_row (phase.Stopped _ _ _) s event.Left = refl
+sensed_has_row (phase.Stopped _ _ None) s event.Begun = refl
+sensed_has_row (phase.Stopped _ _ None) s event.Full = refl
+sensed_has_row (phase.Stopped _ _ None) s event.Back = refl
+sensed_has_row (phase.Stopped _ _ None) s event.Taken = refl
+sensed_has_row (phase.Stopped board own (Some n)) s event.Begun = stopped_has_row (in_ends (own_after own event.Begun) n) s board (own_after own event.Begun) n
+sensed_has_row (phase.Stopped board own (Some n)) s event.Full = stopped_has_row (in_ends (own_after own event.Full) n) s board (own_after own event.Full) n
+sensed_has_row (phase.Stopped board own (Some n)) s event.Back = stopped_has_row (in_ends (own_after own event.Back) n) s board (own_after own event.Back) n
+sensed_has_row (phase.Stopped board own (Some n)) s event.Taken = stopped_has_row (in_ends (own_after own event.Taken) n) s board (own_after own event.Taken) n
+sensed_has_row (phase.Waiting _ _ _) s event.Left = refl
+sensed_has_row (phase.Waiting board own heard) s event.Begun = waiting_has_row (own_after own event.Begun) heard s board
+sensed_has_row (phase.Waiting board own heard) s event.Full = waiting_has_row (own_after own event.Full) heard s board
+sensed_has_row (phase.Waiting board own heard) s event.Back = waiting_has_row (own_after own event.Back) heard s board
+sensed_has_row (phase.Waiting board own heard) s event.Taken = waiting_has_row (own_after own event.Taken) heard s board
+
+closed_has_row : (phase : Phase) → is_some (closed_row phase) ≡ true
+closed_has_row phase.Idle = refl
+closed_has_row (phase.Taking _ NotStarted _) = refl
+closed_has_row (phase.Taking _ _ _) = refl
+closed_has_row (phase.Stopped _ NotStarted _) = refl
+closed_has_row (phase.Stopped _ _ _) = refl
+closed_has_row (phase.Waiting _ _ _) = refl
+
+stand_has_row : (phase : Phase) (s : InState) → is_some (stand_row phase s) ≡ true
+stand_has_row (phase.Waiting _ Complete _) s = refl
+stand_has_row _ s = refl
+
+fault_has_row : (phase : Phase) (s : InState) → is_some (fault_row phase s) ≡ true
+fault_has_row (phase.Taking _ _ _) s = refl
+fault_has_row _ s = refl
+
+given_of : (phase : Phase) (o : Option Record) (r : Bool) (input : InInput) → breach_of input ≡ None
+    → IsSome (intake_row (state phase o r) input) ↔ IsGiven (state phase o r) input
+given_of phase.Idle o false input.Ready _ = (λ _. (refl, refl), λ _. refl)
+given_of phase.Idle o true input.Ready _ = (λ found. cc, λ given. cc)
+given_of phase.Idle o true input.Unready _ = (λ _. (refl, refl), λ _. refl)
+given_of phase.Idle o false input.Unready _ = (λ found. cc, λ given. cc)
+given_of phase.Idle (Some _) true input.Start _ = (λ _. (refl, refl, refl), λ _. refl)
+given_of phase.Idle (Some _) false input.Start _ = (λ found. cc, λ given. cc)
+given_of phase.Idle None r input.Start _ = (λ found. cc, λ given. cc)
+given_of (phase.Taking _ _ _) o r input.Ready _ = (λ found. cc, λ given. cc)
+given_of (phase.Taking _ _ _) o r input.Unready _ = (λ found. cc, λ given. cc)
+given_of (phase.Taking _ _ _) o r input.Start _ = (λ found. cc, λ given. cc)
+given_of (phase.Stopped _ _ _) o r input.Ready _ = (λ found. cc, λ given. cc)
+given_of (phase.Stopped _ _ _) o r input.Unready _ = (λ found. cc, λ given. cc)
+given_of (phase.Stopped _ _ _) o r input.Start _ = (λ found. cc, λ given. cc)
+given_of (phase.Waiting _ _ _) o r input.Ready _ = (λ found. cc, λ given. cc)
+given_of (phase.Waiting _ _ _) o r input.Unready _ = (λ found. cc, λ given. cc)
+given_of (phase.Waiting _ _ _) o r input.Start _ = (λ found. cc, λ given. cc)
+given_of phase o r (input.BoardAvailable _) breach = cc
+given_of phase o r input.RevokeBoardAvailable breach = cc
+given_of phase o r (input.Finished _ _) breach = cc
+given_of phase o r (input.Sensed event) _ = (λ _. tt, λ _. sensed_has_row phase (state phase o r) event)
+given_of phase o r input.Fault _ = (λ _. tt, λ _. fault_has_row phase (state phase o r))
+given_of phase o r input.Closed _ = (λ _. tt, λ _. closed_has_row phase)
+given_of phase o r input.Stand _ = (λ _. tt, λ _. stand_has_row phase (state phase o r))
+
+pub given_exactly : (s : InState) (input : InInput) → breach_of input ≡ None → IsSome (intake_row s input) ↔ IsGiven s input
+given_exactly s input = given_of s.phase s.offer s.ready input

@@ -1,14 +1,22 @@
 //! What holds of an intake whatever it meets. Each law is a contract over the definitions that
 //! `Intake::apply` meets.
 
-ghost use Rattle.std.specs.Prelude.{◌≡◌, ◌++◌, List, Some, false};
+ghost use Rattle.std.specs.Prelude.{◌≡◌, ◌↔◌, IsSome, None, ◌++◌, List, Some, false};
 ghost use Rattle.handover_in.specs.declared.input.InInput.{InInput as Input};
 ghost use Rattle.handover_in.specs.State.{InState, at_rest, held};
 ghost use Rattle.handover_in.specs.Row.{InRow, intake_row};
+ghost use Rattle.handover_in.specs.Given.{IsGiven, breach_of};
 ghost use Rattle.handover_in.specs.Run.{step, after_all};
 ghost use Rattle.handover_in.specs.Records.{list_of, id_of, all_in, all_out, held_by_all};
 ghost use Rattle.handover_in.specs.Offers.{is_start, starts_at, offer_after, ready_after};
 ghost use Rattle.handover_in.specs.Ends.{nothing_yet, learned_after, learned_after_all, IsLearned, IsDriven, drive_after_all, IsInPlay};
+
+/// The table has a row for what is no message exactly where it is given: for what the machine
+/// says and starts on its condition, and for each sensor event, fault, close and new connection.
+#[tactic(auto, using(crate::proofs::IntakeLaws::given_exactly))]
+pub fn rows_stand_where_given()
+    ensures { (s : InState) (input : Input) → breach_of input ≡ None → IsSome (intake_row s input) ↔ IsGiven s input }
+{}
 
 /// A record that goes in comes out as it was, once and in order: over any list of inputs, the
 /// record that was held and those of the transports that started are those that were handed on or

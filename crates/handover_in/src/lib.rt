@@ -14,6 +14,8 @@ pub mod laws;
 mod offer;
 mod phase;
 mod sensor;
+#[cfg(test)]
+mod tests;
 
 pub use act::{InAct, InDeed, InSend};
 pub use breach::InBreach;

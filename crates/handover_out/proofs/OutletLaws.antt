@@ -1,4 +1,4 @@
-use Rattle.std.proofs.Common.{◌≡◌, ◌++◌, ◌∷◌, [], ◌∙◌, ap, sym, ℕ, Bool, true, false, List, Option, Some, None, IfSome, refl, append_assoc, unwrap_or, is_some, ◌&&◌, eq-eqb}
+use Rattle.std.proofs.Common.{◌≡◌, ◌++◌, ◌∷◌, [], ◌∙◌, ap, sym, ℕ, Bool, true, false, List, Option, Some, None, IfSome, refl, append_assoc, unwrap_or, is_some, ◌&&◌, eq-eqb, ◌↔◌, IsSome}
 use Rattle.line_base.specs.declared.states.Transfer.{Transfer}
 use Rattle.line_base.specs.declared.states.SensorEvent.{SensorEvent}
 use Rattle.line_base.specs.declared.states.SensorEvent.TheVariants as event
@@ -14,6 +14,7 @@ use Rattle.handover_out.specs.declared.phase.Phase.TheVariants as phase
 use Rattle.handover_out.specs.State.{OutState, at_rest, held, would_open}
 use Rattle.handover_out.specs.Act.{drive_off, returns}
 use Rattle.handover_out.specs.Row.{OutRow, outlet_row, row_if, sensed_row}
+use Rattle.handover_out.specs.Given.{IsGiven, breach_of}
 use Rattle.handover_out.specs.Run.{stay, step, after_all}
 use Rattle.handover_out.specs.Records.{list_of, goes_in, comes_out, all_in, all_out, held_by, held_by_all, id_of}
 use Rattle.handover_out.specs.Offers.{is_opening, opens_at, offered_after, ready_after, touched_after}
@@ -274,3 +275,32 @@ pub close_ends : (board : Record) (begun : Bool) (o t : Option ℕ) (r : Bool) (
     → (step (state (phase.Moving board begun) o t r) input.Closed).act.deed ≡ deed_of_end (out_ends (own_of begun) said) board.id
 close_ends board false o t r said = refl
 close_ends board true o t r said = refl
+
+-- what is given is what has a row
+
+given_of : (phase : Phase) (o t : Option ℕ) (r : Bool) (input : OutInput) → breach_of input ≡ None
+    → IsSome (outlet_row (state phase o t r) input) ↔ IsGiven (state phase o t r) input
+given_of phase.Idle None t r (input.Offer id) _ = (λ _. (refl, refl), λ _. refl)
+given_of phase.Idle (Some _) t r (input.Offer id) _ = (λ found. cc, λ given. cc)
+given_of phase.Idle None t r input.Revoke _ = (λ found. cc, λ given. cc)
+given_of phase.Idle (Some _) t r input.Revoke _ = (λ _. (refl, refl), λ _. refl)
+given_of (phase.Moving _ _) o t r (input.Offer id) _ = (λ found. cc, λ given. cc)
+given_of (phase.Moving _ _) o t r input.Revoke _ = (λ found. cc, λ given. cc)
+given_of (phase.Stuck _ _ _) o t r (input.Offer id) _ = (λ found. cc, λ given. cc)
+given_of (phase.Stuck _ _ _) o t r input.Revoke _ = (λ found. cc, λ given. cc)
+given_of (phase.Ended _) o t r (input.Offer id) _ = (λ found. cc, λ given. cc)
+given_of (phase.Ended _) o t r input.Revoke _ = (λ found. cc, λ given. cc)
+given_of phase o t r input.MachineReady breach = cc
+given_of phase o t r input.RevokeMachineReady breach = cc
+given_of phase o t r (input.Start _ _) breach = cc
+given_of phase o t r (input.Stop _ _) breach = cc
+given_of phase o t r (input.Sensed event) _ = (λ _. tt, λ _. has_row phase o t r event)
+given_of (phase.Moving _ false) o t r input.Fault _ = (λ _. tt, λ _. refl)
+given_of (phase.Moving _ true) o t r input.Fault _ = (λ _. tt, λ _. refl)
+given_of _ o t r input.Fault _ = (λ _. tt, λ _. refl)
+given_of (phase.Moving _ false) o t r input.Closed _ = (λ _. tt, λ _. refl)
+given_of (phase.Moving _ true) o t r input.Closed _ = (λ _. tt, λ _. refl)
+given_of _ o t r input.Closed _ = (λ _. tt, λ _. refl)
+
+pub given_exactly : (s : OutState) (input : OutInput) → breach_of input ≡ None → IsSome (outlet_row s input) ↔ IsGiven s input
+given_exactly s input = given_of s.phase s.offered s.touched s.ready input

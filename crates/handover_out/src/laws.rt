@@ -1,7 +1,7 @@
 //! What holds of an outlet whatever it meets. Each law is a contract over the definitions that
 //! `Outlet::apply` meets.
 
-ghost use Rattle.std.specs.Prelude.{◌≡◌, ◌++◌, List, ℕ, Bool, Option, Some, None, true, false};
+ghost use Rattle.std.specs.Prelude.{◌≡◌, ◌↔◌, IsSome, ◌++◌, List, ℕ, Bool, Option, Some, None, true, false};
 ghost use Rattle.line_base.specs.declared.states.Transfer.{Transfer as Said};
 ghost use Rattle.board_record.specs.declared.record.Record.{Record as Board};
 ghost use Rattle.transfer_state.specs.Outlet.{out_ends};
@@ -10,10 +10,18 @@ ghost use Rattle.handover_out.specs.declared.input.OutInput.TheVariants.{Stop, F
 ghost use Rattle.handover_out.specs.declared.phase.Phase.TheVariants.{Moving};
 ghost use Rattle.handover_out.specs.State.{OutState, at_rest, held};
 ghost use Rattle.handover_out.specs.Row.{OutRow, outlet_row};
+ghost use Rattle.handover_out.specs.Given.{IsGiven, breach_of};
 ghost use Rattle.handover_out.specs.Run.{step, after_all};
 ghost use Rattle.handover_out.specs.Records.{list_of, id_of, all_in, all_out, held_by_all};
 ghost use Rattle.handover_out.specs.Offers.{is_opening, opens_at, offered_after, ready_after, touched_after};
 ghost use Rattle.handover_out.specs.Sensors.{between_after_all, IsSensed, own_of, deed_of_end, is_moving, drive_after_all};
+
+/// The table has a row for what is no message exactly where it is given: for an offer or a
+/// revocation on its condition, and for each sensor event, fault and close.
+#[tactic(auto, using(crate::proofs::OutletLaws::given_exactly))]
+pub fn rows_stand_where_given()
+    ensures { (s : OutState) (input : Input) → breach_of input ≡ None → IsSome (outlet_row s input) ↔ IsGiven s input }
+{}
 
 /// A record that goes in comes out as it was, once and in order: over any list of inputs, the
 /// record that was held and those that went in are those that were given back or handed on, and

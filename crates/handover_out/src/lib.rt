@@ -13,6 +13,8 @@ mod offer;
 mod outlet;
 mod phase;
 mod sensor;
+#[cfg(test)]
+mod tests;
 mod transport;
 
 pub use act::{OutAct, OutDeed, OutSend};
