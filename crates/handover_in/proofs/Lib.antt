@@ -1,0 +1,3 @@
+mod Rows
+pub mod Table
+pub mod IntakeLaws

@@ -1,0 +1,157 @@
+ghost use Rattle.std.specs.Prelude.{◌≡◌};
+ghost use Rattle.handover_in.specs.declared.phase.Phase.TheVariants.{Idle};
+ghost use Rattle.handover_in.specs.Own.{own_after};
+ghost use Rattle.handover_in.specs.Row.{taking_row, stopped_row, waiting_row, sensed_row, fault_row, complete_if, row};
+
+use crate::act::{InAct, stop};
+use crate::intake::Intake;
+use crate::phase::Phase;
+use board_record::Record;
+use line_base::{Seen, SensorEvent, Transfer};
+use std::mem;
+
+impl Intake {
+    pub(crate) fn sense(&mut self, event: SensorEvent) -> InAct
+        ensures { sensed_row self.old.phase self.old event ≡ row self.new result }
+    {
+        if event == SensorEvent::Left {
+            return InAct::nothing();
+        }
+        match mem::replace(&mut self.phase, Phase::Idle) {
+            Phase::Idle => InAct::nothing(),
+            Phase::Taking { board, own, heard } => self.sense_taking(board, own, heard, event),
+            Phase::Stopped { board, own, heard } => {
+                self.sense_stopped(board, own_after(own, event), heard)
+            }
+            Phase::Waiting { board, own, heard } => {
+                self.sense_waiting(board, own_after(own, event), heard)
+            }
+        }
+    }
+
+    fn sense_taking(&mut self, board: Record, own: Seen, heard: bool, event: SensorEvent) -> InAct
+        requires { self.old.phase ≡ Idle }
+        ensures { taking_row self.old board own heard event ≡ row self.new result }
+    {
+        match (event, own) {
+            (SensorEvent::Full, _) => self.come_in(board, heard),
+            (SensorEvent::Taken, Seen::Incomplete) => self.be_taken(board, heard),
+            _ => {
+                self.phase = Phase::Taking {
+                    board,
+                    own: own_after(own, event),
+                    heard,
+                };
+                InAct::nothing()
+            }
+        }
+    }
+
+    fn come_in(&mut self, board: Record, heard: bool) -> InAct
+        requires { self.old.phase ≡ Idle }
+        ensures { taking_row self.old board Seen.NotStarted heard SensorEvent.Full ≡ row self.new result }
+    {
+        let said = stop(&board, Seen::Complete);
+        if heard {
+            InAct::settles(board, said, Some(false))
+        } else {
+            self.phase = Phase::Stopped {
+                board,
+                own: Seen::Complete,
+                heard: None,
+            };
+            InAct::stops(said)
+        }
+    }
+
+    fn be_taken(&mut self, board: Record, heard: bool) -> InAct
+        requires { self.old.phase ≡ Idle }
+        ensures { taking_row self.old board Seen.Incomplete heard SensorEvent.Taken ≡ row self.new result }
+    {
+        let said = stop(&board, Seen::Taken);
+        if heard {
+            InAct::drops(board, Seen::Taken, said, Some(false))
+        } else {
+            self.phase = Phase::Stopped {
+                board,
+                own: Seen::Taken,
+                heard: None,
+            };
+            InAct::stops(said)
+        }
+    }
+
+    fn sense_stopped(&mut self, board: Record, own: Seen, heard: Option<Transfer>) -> InAct
+        requires { self.old.phase ≡ Idle }
+        ensures { stopped_row self.old board own heard ≡ row self.new result }
+    {
+        match heard {
+            None => {
+                self.phase = Phase::Stopped { board, own, heard };
+                InAct::nothing()
+            }
+            Some(heard) => self.end_stopped(board, own, heard),
+        }
+    }
+
+    fn sense_waiting(&mut self, board: Record, own: Seen, heard: bool) -> InAct
+        requires { self.old.phase ≡ Idle }
+        ensures { waiting_row self.old board own heard ≡ row self.new result }
+    {
+        match own {
+            Seen::Complete if heard => InAct::settles(board, None, Some(false)),
+            Seen::Complete => {
+                self.phase = Phase::Waiting { board, own, heard };
+                InAct::drive_off()
+            }
+            Seen::Incomplete => {
+                self.phase = Phase::Waiting { board, own, heard };
+                InAct::nothing()
+            }
+            Seen::NotStarted | Seen::Taken => InAct::drops(board, own, None, Some(false)),
+        }
+    }
+
+    pub(crate) fn fault(&mut self) -> InAct
+        ensures { fault_row self.old.phase self.old ≡ row self.new result }
+    {
+        match mem::replace(&mut self.phase, Phase::Idle) {
+            Phase::Taking { board, own, heard } => {
+                let said = stop(&board, own);
+                self.phase = Phase::Stopped {
+                    board,
+                    own,
+                    heard: complete_if(heard),
+                };
+                InAct::stops(said)
+            }
+            phase => {
+                self.phase = phase;
+                InAct::nothing()
+            }
+        }
+    }
+}
+
+/// What the sensors have seen of a board after one event more.
+fn own_after(own: Seen, event: SensorEvent) -> Seen
+    ensures { result ≡ own_after own event }
+{
+    match (event, own) {
+        (SensorEvent::Begun, Seen::NotStarted) => Seen::Incomplete,
+        (SensorEvent::Full, _) => Seen::Complete,
+        (SensorEvent::Back, _) => Seen::NotStarted,
+        (SensorEvent::Taken, Seen::Incomplete) => Seen::Taken,
+        _ => own,
+    }
+}
+
+fn complete_if(heard: bool) -> Option<Transfer>
+    ensures { result ≡ complete_if heard }
+{
+    if heard {
+        Some(Transfer::Complete)
+    } else {
+        None
+    }
+}
