@@ -1,2 +1,5 @@
 pub mod Text
 pub mod Name
+pub mod Number
+pub mod Decimal
+pub mod Moment

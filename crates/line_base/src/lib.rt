@@ -1,19 +1,26 @@
 //! Small values that every layer above speaks of.
 //!
-//! Texts, names, words, decimals, and the enumerations of the standard's messages. Nothing here
+//! Texts, names, words, numbers, decimals, moments, and the enumerations of the standard's messages. Nothing here
 //! knows of messages, machines or lines.
 #![tactic(auto)]
 
+mod civil;
 mod decimal;
 mod memory;
+mod moment;
 mod name;
+mod number;
 mod states;
+#[cfg(test)]
+mod tests;
 mod text;
 mod word;
 
-pub use decimal::Decimal;
+pub use decimal::{BadDecimal, Decimal};
 pub use memory::Memory;
+pub use moment::{BadMoment, Moment};
 pub use name::{Name, NameError};
+pub use number::read_number;
 pub use states::{Code, Flip, Quality, Role, Seen, SensorEvent, Severity, Side, Transfer};
 pub use text::{Text, TextError};
 pub use word::{Word, Words};
