@@ -1,0 +1,69 @@
+use Rattle.std.specs.Prelude.{◌≡◌, ◌+◌, ◌++◌, ◌∷◌, [], ℕ, List, filter, map}
+use Rattle.line_world.specs.declared.board.Board.{Board}
+use Rattle.line_world.specs.declared.gap.Gap.{Gap}
+use Rattle.line_world.specs.declared.gap.Gap.TheVariants as gaps
+use Rattle.line_world.specs.declared.gap.AtGap.{AtGap}
+use Rattle.line_world.specs.declared.moves.Move.{Move}
+use Rattle.line_world.specs.declared.moves.Move.TheVariants as moves
+use Rattle.line_world.specs.FloorPlan.{AtMachine, FloorPlan, gap_at, has_id}
+
+abbrev pub boards_in : Gap → List Board
+boards_in gaps.Free = []
+boards_in (gaps.Begun board) = board ∷ []
+boards_in (gaps.Left board) = board ∷ []
+
+abbrev pub boards_along : List AtMachine → List AtGap → List Board
+boards_along [] gaps = []
+boards_along (machine ∷ machines) [] = boards_along machines [] ++ machine.boards
+boards_along (machine ∷ machines) (gap ∷ gaps) = boards_along machines gaps ++ (boards_in gap.lies ++ machine.boards)
+
+-- all boards of the floor in the order in which they come out of the line: from the exit of the
+-- last machine back to the entry of the first
+abbrev pub boards_on : FloorPlan → List Board
+boards_on plan = boards_along plan.machines plan.gaps
+
+-- these are the same boards in the same order, but for this one, which is gone
+pub record LosesBoard (old new : List Board) (board : Board) : Type 0 where
+  pub front : List Board
+  pub back : List Board
+  pub before : old ≡ front ++ board ∷ back
+  pub after : new ≡ front ++ back
+
+-- a move neither makes nor loses a board, and none overtakes another; but `take` takes the one
+-- board that lies in the gap
+abbrev pub KeepsBoards : Move → Gap → List Board → List Board → Type 0
+KeepsBoards moves.Begin lies old new = new ≡ old
+KeepsBoards moves.Left lies old new = new ≡ old
+KeepsBoards moves.Enter lies old new = new ≡ old
+KeepsBoards moves.Back lies old new = new ≡ old
+KeepsBoards moves.HandIn lies old new = new ≡ old
+KeepsBoards moves.Take lies old new = (board : Board) × (boards_in lies ≡ board ∷ []) × LosesBoard old new board
+
+-- a place of the floor: a machine or a gap, by its number
+pub data Place : Type 0 where
+  machine_number : ℕ → Place
+  gap_number : ℕ → Place
+
+abbrev pub places_along : ℕ → ℕ → List AtMachine → List AtGap → List Place
+places_along id number [] gaps = []
+places_along id number (machine ∷ machines) [] = places_along id (number + 1) machines [] ++ map (λ _. machine_number number) (filter (has_id id) machine.boards)
+places_along id number (machine ∷ machines) (gap ∷ gaps) = places_along id (number + 1) machines gaps ++ (map (λ _. gap_number number) (filter (has_id id) (boards_in gap.lies)) ++ map (λ _. machine_number number) (filter (has_id id) machine.boards))
+
+-- where the boards with this id are: a place for each of them
+abbrev pub places_of : ℕ → FloorPlan → List Place
+places_of id plan = places_along id 1 plan.machines plan.gaps
+
+abbrev pub IsInOnePlace : ℕ → FloorPlan → Type 0
+IsInOnePlace id plan = (place : Place) × (places_of id plan ≡ place ∷ [])
+
+abbrev pub IsNowhere : ℕ → FloorPlan → Type 0
+IsNowhere id plan = places_of id plan ≡ []
+
+-- a board that is in exactly one place is so after the move; but one that `take` takes is nowhere
+abbrev pub KeepsPlaces : Move → Gap → FloorPlan → FloorPlan → Type 0
+KeepsPlaces moves.Begin lies old new = (id : ℕ) → IsInOnePlace id old → IsInOnePlace id new
+KeepsPlaces moves.Left lies old new = (id : ℕ) → IsInOnePlace id old → IsInOnePlace id new
+KeepsPlaces moves.Enter lies old new = (id : ℕ) → IsInOnePlace id old → IsInOnePlace id new
+KeepsPlaces moves.Back lies old new = (id : ℕ) → IsInOnePlace id old → IsInOnePlace id new
+KeepsPlaces moves.HandIn lies old new = (id : ℕ) → IsInOnePlace id old → IsInOnePlace id new
+KeepsPlaces moves.Take lies old new = (id : ℕ) → IsInOnePlace id old → elim (filter (has_id id) (boards_in lies)) [ [] ↦ IsInOnePlace id new | _ ∷ _ ↦ IsNowhere id new ]
