@@ -5,6 +5,7 @@ ghost use Rattle.line_world.specs.Moves.{AnswersAround, around_move};
 ghost use Rattle.line_world.specs.declared.moves.Move.TheVariants as moves;
 ghost use Rattle.line_world.specs.declared.moves.MoveError.TheVariants as errors;
 
+use crate::board::Board;
 use crate::gap::{AtGap, Gap};
 use crate::moves::{Move, MoveError, MoveNo};
 use crate::station::Station;
@@ -73,7 +74,7 @@ fn leave(up: &mut Station, between: &mut AtGap) -> Result<(), MoveError>
 fn enter(between: &mut AtGap, down: &mut Station) -> Result<(), MoveError>
     ensures around { (up : AtMachine) → AnswersAround moves.Enter up between.old down.old up between.new down.new result }
 {
-    let Gap::Left(board) = between.lies else {
+    let Gap::Left(Board { id }) = between.lies else {
         return Err(MoveError::No(MoveNo::NotLeft));
     };
     if !between.entry_drive {
@@ -83,7 +84,7 @@ fn enter(between: &mut AtGap, down: &mut Station) -> Result<(), MoveError>
     make_room(&mut down.unread)?;
     between.lies = Gap::Free;
     between.entry_drive = false;
-    down.boards.push(board).unwrap();
+    down.boards.push(Board { id }).unwrap();
     down.unread.push(seen(Side::Entry, SensorEvent::Full)).unwrap();
     Ok(())
 }
@@ -91,7 +92,7 @@ fn enter(between: &mut AtGap, down: &mut Station) -> Result<(), MoveError>
 fn go_back(up: &mut Station, between: &mut AtGap, down: &mut Station) -> Result<(), MoveError>
     ensures { AnswersAround moves.Back up.old between.old down.old up.new between.new down.new result }
 {
-    let Gap::Begun(board) = between.lies else {
+    let Gap::Begun(Board { id }) = between.lies else {
         return Err(MoveError::No(MoveNo::NotBegun));
     };
     if between.exit_drive {
@@ -101,7 +102,7 @@ fn go_back(up: &mut Station, between: &mut AtGap, down: &mut Station) -> Result<
     make_room(&mut up.unread)?;
     make_room(&mut down.unread)?;
     between.lies = Gap::Free;
-    up.boards.insert(0, board).unwrap();
+    up.boards.insert(0, Board { id }).unwrap();
     up.unread.push(seen(Side::Exit, SensorEvent::Back)).unwrap();
     down.unread.push(seen(Side::Entry, SensorEvent::Back)).unwrap();
     Ok(())
@@ -110,7 +111,7 @@ fn go_back(up: &mut Station, between: &mut AtGap, down: &mut Station) -> Result<
 fn hand_in(between: &mut AtGap, down: &mut Station) -> Result<(), MoveError>
     ensures around { (up : AtMachine) → AnswersAround moves.HandIn up between.old down.old up between.new down.new result }
 {
-    let Gap::Left(board) = between.lies else {
+    let Gap::Left(Board { id }) = between.lies else {
         return Err(MoveError::No(MoveNo::NotLeft));
     };
     if between.entry_drive {
@@ -119,7 +120,7 @@ fn hand_in(between: &mut AtGap, down: &mut Station) -> Result<(), MoveError>
     make_room(&mut down.boards)?;
     make_room(&mut down.unread)?;
     between.lies = Gap::Free;
-    down.boards.push(board).unwrap();
+    down.boards.push(Board { id }).unwrap();
     down.unread.push(seen(Side::Entry, SensorEvent::Full)).unwrap();
     Ok(())
 }

@@ -68,7 +68,11 @@ impl Floor {
             return Err(Memory);
         }
         if !is_first {
-            self.gaps.push(AtGap::free()).unwrap();
+            self.gaps.push(AtGap {
+                lies: Gap::Free,
+                exit_drive: false,
+                entry_drive: false,
+            }).unwrap();
         }
         Ok(())
     }
@@ -139,7 +143,7 @@ impl Floor {
             return Err(MoveError::No(MoveNo::NoGap));
         }
         apply_at(&mut self.machines, &mut self.gaps, gap, step)?;
-        if step == Move::Take {
+        if let Move::Take = step {
             self.boards -= 1;
         }
         Ok(())

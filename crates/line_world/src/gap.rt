@@ -1,5 +1,5 @@
 ghost use Rattle.std.specs.Prelude.{◌≡◌};
-ghost use Rattle.line_world.specs.FloorPlan.{drive_of, with_drive, free_gap};
+ghost use Rattle.line_world.specs.FloorPlan.{drive_of, with_drive};
 
 use crate::board::Board;
 use line_base::Side;
@@ -25,17 +25,6 @@ pub struct AtGap {
 }
 
 impl AtGap {
-    /// A free gap, its drives off.
-    pub fn free() -> AtGap
-        ensures { result ≡ free_gap }
-    {
-        AtGap {
-            lies: Gap::Free,
-            exit_drive: false,
-            entry_drive: false,
-        }
-    }
-
     /// Whether the drive on one side runs.
     pub fn drive(&self, side: Side) -> bool
         ensures { result ≡ drive_of self.now side }
@@ -48,7 +37,8 @@ impl AtGap {
 
     /// Switches the drive on one side.
     pub fn set_drive(&mut self, side: Side, on: bool)
-        ensures { self.new ≡ with_drive self.old side on }
+        ensures drive { self.new ≡ with_drive self.old side on }
+        ensures lies { self.new.lies ≡ self.old.lies }
     {
         match side {
             Side::Exit => self.exit_drive = on,

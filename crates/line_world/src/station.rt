@@ -1,5 +1,6 @@
-ghost use Rattle.std.specs.Prelude.{◌≡◌, ◌++◌, ◌∷◌, [], Ok, Some, None, OnOk, OnErr, IfOk, drop, is_some, slice_get};
+ghost use Rattle.std.specs.Prelude.{◌≡◌, ◌<◌, ◌++◌, ◌∷◌, [], IfNone, IfOk, IfSome, OnOk, OnErr, drop, is_some, length, slice_get};
 ghost use Rattle.line_world.specs.FloorPlan.{board_found, empty_machine, place_of, with_new_id, without_board};
+ghost use Rattle.line_world.specs.Boards.{LosesBoard};
 
 use crate::board::Board;
 use crate::sensors::Sensors;
@@ -53,8 +54,9 @@ impl Station {
     pub fn place(&mut self, board: Board) -> Result<(), Memory>
         ensures ok { OnOk result (self.new ≡ record self.old { boards = self.old.boards ++ board ∷ [] }) }
         ensures memory { OnErr result (self.new ≡ self.old) }
+        ensures gained { OnOk result (LosesBoard self.new.boards self.old.boards board) }
     {
-        match self.boards.push(board) {
+        match self.boards.push(Board { id: board.id }) {
             Ok(()) => Ok(()),
             Err(_) => Err(Memory),
         }
@@ -64,6 +66,7 @@ impl Station {
     pub fn tell(&mut self, sensed: Sensed) -> Result<(), Memory>
         ensures ok { OnOk result (self.new ≡ record self.old { unread = self.old.unread ++ sensed ∷ [] }) }
         ensures memory { OnErr result (self.new ≡ self.old) }
+        ensures boards { self.new.boards ≡ self.old.boards }
     {
         match self.unread.push(sensed) {
             Ok(()) => Ok(()),
@@ -76,6 +79,7 @@ impl Station {
         ensures events { IfOk result (λ events. events ≡ self.old.unread) }
         ensures ok { OnOk result (self.new ≡ record self.old { unread = [] }) }
         ensures memory { OnErr result (self.new ≡ self.old) }
+        ensures boards { self.new.boards ≡ self.old.boards }
     {
         let events = Sensors::of(alloc, &self.unread)?;
         self.unread.clear();
@@ -86,17 +90,22 @@ impl Station {
     pub fn remove(&mut self, id: BoardId) -> Option<Board>
         ensures taken { result ≡ board_found id self.old.boards }
         ensures left { self.new ≡ record self.old { boards = without_board id self.old.boards } }
+        ensures lost { IfSome result (LosesBoard self.old.boards self.new.boards) }
+        ensures none { IfNone result (self.new.boards ≡ self.old.boards) }
     {
-        let place = self.boards.iter().position(|board| board.has_id(id))?;
-        Some(self.boards.remove(place))
+        match place_of(&self.boards, id) {
+            Some(place) => Some(self.boards.remove(place)),
+            None => None,
+        }
     }
 
     /// Gives the first board with an id another one; `false` where there is none.
     pub fn replace(&mut self, old: BoardId, new: BoardId) -> bool
         ensures found { result ≡ is_some (place_of old self.old.boards) }
         ensures boards { self.new ≡ record self.old { boards = with_new_id old new self.old.boards } }
+        ensures as_many { length self.new.boards ≡ length self.old.boards }
     {
-        match self.boards.iter().position(|board| board.has_id(old)) {
+        match place_of(&self.boards, old) {
             Some(place) => {
                 self.boards[place] = Board { id: Some(new) };
                 true
@@ -109,10 +118,20 @@ impl Station {
     pub fn take_front(&mut self) -> Option<Board>
         ensures front { result ≡ slice_get self.old.boards 0 }
         ensures boards { self.new ≡ record self.old { boards = drop 1 self.old.boards } }
+        ensures lost { IfSome result (LosesBoard self.old.boards self.new.boards) }
+        ensures none { IfNone result (self.new.boards ≡ self.old.boards) }
     {
         if self.boards.is_empty() {
             return None;
         }
         Some(self.boards.remove(0))
     }
+}
+
+/// The place of the first board with an id.
+fn place_of(boards: &[Board], id: BoardId) -> Option<usize>
+    ensures place { result ≡ place_of id boards.now }
+    ensures within { IfSome result (λ place. place < length boards.now) }
+{
+    boards.iter().position(|board| board.has_id(id))
 }
