@@ -4,7 +4,7 @@ use Rattle.std.specs.Prelude.{slice_set, slice_index_or}
 use Rattle.std.proofs.lemmas.List.{set-get_or}
 use Rattle.line_world.specs.declared.board.Board.{Board}
 use Rattle.line_world.specs.declared.gap.AtGap.{AtGap}
-use Rattle.line_world.specs.FloorPlan.{AtMachine, FloorPlan, IsGap, IsWhole}
+use Rattle.line_world.specs.FloorPlan.{AtMachine, empty_machine, free_gap}
 use Rattle.line_world.specs.Moves.{Around, around_of, with_around}
 use Rattle.line_world.specs.Boards.{boards_along, boards_in, boards_on}
 
@@ -59,3 +59,11 @@ along-set_gap [] gaps i gap d h = refl
 along-set_gap (x ∷ xs) [] i gap d h = refl
 along-set_gap (x ∷ xs) (g ∷ gs) zero gap d h = rw h refl
 along-set_gap (x ∷ xs) (g ∷ gs) (suc i) gap d h = rw (along-set_gap xs gs i gap d h) refl
+
+-- one machine more, with its gap, changes nothing
+pub along_more : (machines : List AtMachine) (gaps : List AtGap) → length gaps + 1 ≡ length machines → boards_along (machines ++ empty_machine ∷ []) (gaps ++ free_gap ∷ []) ≡ boards_along machines gaps
+along_more [] gaps h = absurd (omega (arith, h))
+along_more (x ∷ []) [] h = refl
+along_more (x ∷ []) (g ∷ gs) h = absurd (omega (arith, h))
+along_more (x ∷ y ∷ ys) [] h = absurd (omega (arith, h))
+along_more (x ∷ y ∷ ys) (g ∷ gs) h = ap (λ rest. rest ++ (boards_in g.lies ++ x.boards)) (along_more (y ∷ ys) gs (omega (arith, h)))

@@ -4,10 +4,10 @@ use Rattle.std.specs.Prelude.{slice_set, slice_index_or, remove}
 use Rattle.std.proofs.lemmas.List.{take-append-drop}
 use Rattle.line_world.specs.declared.board.Board.{Board}
 use Rattle.line_world.specs.declared.gap.AtGap.{AtGap}
-use Rattle.line_world.specs.FloorPlan.{AtMachine}
+use Rattle.line_world.specs.FloorPlan.{AtMachine, empty_machine, free_gap}
 use Rattle.line_world.specs.Boards.{LosesBoard, boards_along}
 use Rattle.line_world.specs.Counted.{IsCounted}
-use Rattle.line_world.proofs.Along.{machine_hole, along_at, length_along-set, along-set_gap}
+use Rattle.line_world.proofs.Along.{machine_hole, along_at, along_more, length_along-set, along-set_gap}
 
 pub length_lost : {old new : List Board} {board : Board} → LosesBoard old new board → length old ≡ length new + 1
 length_lost {old} {new} {board} loss =
@@ -69,4 +69,12 @@ remove_loses boards i board h is =
     back = drop (suc i) boards;
     before = sym (take-append-drop i boards) ∙ ap (λ rest. take i boards ++ rest) (drop-cons boards i board h ∙ ap (λ b. b ∷ drop (suc i) boards) (sym is));
     after = refl;
+  }
+
+pub counted_more : (machines : List AtMachine) (gaps : List AtGap) (count : ℕ) → IsCounted machines gaps count → 0 < length machines → IsCounted (machines ++ empty_machine ∷ []) (gaps ++ free_gap ∷ []) count
+counted_more machines gaps count counted some =
+  let more = along_more machines gaps (omega (arith, counted.whole, some)) in
+  record {
+    whole = simp length-append (omega (arith, counted.whole, some));
+    all = rw more counted.all;
   }

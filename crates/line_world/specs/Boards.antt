@@ -59,6 +59,11 @@ IsInOnePlace id plan = (place : Place) × (places_of id plan ≡ place ∷ [])
 abbrev pub IsNowhere : ℕ → FloorPlan → Type 0
 IsNowhere id plan = places_of id plan ≡ []
 
+-- after a `take`: nowhere, if this is the board that was taken, and else in one place
+abbrev pub StaysUnlessTaken : ℕ → List Board → FloorPlan → Type 0
+StaysUnlessTaken id [] plan = IsInOnePlace id plan
+StaysUnlessTaken id (_ ∷ _) plan = IsNowhere id plan
+
 -- a board that is in exactly one place is so after the move; but one that `take` takes is nowhere
 abbrev pub KeepsPlaces : Move → Gap → FloorPlan → FloorPlan → Type 0
 KeepsPlaces moves.Begin lies old new = (id : ℕ) → IsInOnePlace id old → IsInOnePlace id new
@@ -66,4 +71,4 @@ KeepsPlaces moves.Left lies old new = (id : ℕ) → IsInOnePlace id old → IsI
 KeepsPlaces moves.Enter lies old new = (id : ℕ) → IsInOnePlace id old → IsInOnePlace id new
 KeepsPlaces moves.Back lies old new = (id : ℕ) → IsInOnePlace id old → IsInOnePlace id new
 KeepsPlaces moves.HandIn lies old new = (id : ℕ) → IsInOnePlace id old → IsInOnePlace id new
-KeepsPlaces moves.Take lies old new = (id : ℕ) → IsInOnePlace id old → elim (filter (has_id id) (boards_in lies)) [ [] ↦ IsInOnePlace id new | _ ∷ _ ↦ IsNowhere id new ]
+KeepsPlaces moves.Take lies old new = (id : ℕ) → IsInOnePlace id old → StaysUnlessTaken id (filter (has_id id) (boards_in lies)) new

@@ -53,7 +53,7 @@ fn begin(up: &mut Station, between: &mut AtGap, down: &mut Station) -> Result<()
 }
 
 fn leave(up: &mut Station, between: &mut AtGap) -> Result<(), MoveError>
-    ensures around { (down : AtMachine) → AnswersAround moves.Left up.old between.old down up.new between.new down result }
+    ensures { (down : AtMachine) → AnswersAround moves.Left up.old between.old down up.new between.new down result }
 {
     let Gap::Begun(board) = between.lies else {
         return Err(MoveError::No(MoveNo::NotBegun));
@@ -72,7 +72,7 @@ fn leave(up: &mut Station, between: &mut AtGap) -> Result<(), MoveError>
 }
 
 fn enter(between: &mut AtGap, down: &mut Station) -> Result<(), MoveError>
-    ensures around { (up : AtMachine) → AnswersAround moves.Enter up between.old down.old up between.new down.new result }
+    ensures { (up : AtMachine) → AnswersAround moves.Enter up between.old down.old up between.new down.new result }
 {
     let Gap::Left(Board { id }) = between.lies else {
         return Err(MoveError::No(MoveNo::NotLeft));
@@ -109,7 +109,7 @@ fn go_back(up: &mut Station, between: &mut AtGap, down: &mut Station) -> Result<
 }
 
 fn hand_in(between: &mut AtGap, down: &mut Station) -> Result<(), MoveError>
-    ensures around { (up : AtMachine) → AnswersAround moves.HandIn up between.old down.old up between.new down.new result }
+    ensures { (up : AtMachine) → AnswersAround moves.HandIn up between.old down.old up between.new down.new result }
 {
     let Gap::Left(Board { id }) = between.lies else {
         return Err(MoveError::No(MoveNo::NotLeft));

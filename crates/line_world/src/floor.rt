@@ -230,14 +230,14 @@ impl Floor {
 }
 
 fn apply_at(
-    machines: &mut Vec<Station>,
-    gaps: &mut Vec<AtGap>,
+    machines: &mut [Station],
+    gaps: &mut [AtGap],
     gap: usize,
     step: Move,
 ) -> Result<(), MoveError>
-    requires machines { IsGap (record { machines = machines.old.items; gaps = gaps.old.items }) gap }
-    requires gaps { IsWhole (record { machines = machines.old.items; gaps = gaps.old.items }) }
-    ensures { AnswersFloor gap step (record { machines = machines.old.items; gaps = gaps.old.items }) (record { machines = machines.new.items; gaps = gaps.new.items }) result }
+    requires there { IsGap (record { machines = machines.old; gaps = gaps.old }) gap }
+    requires whole { IsWhole (record { machines = machines.old; gaps = gaps.old }) }
+    ensures { AnswersFloor gap step (record { machines = machines.old; gaps = gaps.old }) (record { machines = machines.new; gaps = gaps.new }) result }
 {
     let (above, below) = machines.split_at_mut(gap);
     apply_around(&mut above[gap - 1], &mut gaps[gap - 1], &mut below[0], step)
