@@ -13,6 +13,7 @@ use Rattle.line_world.specs.declared.moves.MoveNo.TheVariants as nos
 use Rattle.line_world.specs.FloorPlan.{AtMachine, FloorPlan, IsGap, IsWhole, gap_at, machine_at, empty_machine, free_gap}
 use Rattle.line_world.specs.Moves.{Around, around_move, around_of, floor_after, floor_move, has_gap, with_around}
 use Rattle.line_world.specs.Boards.{KeepsBoards, LosesBoard, boards_along, boards_in, boards_on}
+use Rattle.line_world.specs.Counted.{IsCounted}
 use Rattle.line_world.specs.Events.{ReachesBothSides, event_of, seen_at}
 use Rattle.line_world.proofs.Along.{AroundHole, around_hole, boards_around}
 use Rattle.line_world.proofs.Counting.{length_lost}
@@ -145,3 +146,25 @@ length_taken moves.Enter lies old new is h = absurd (cc)
 length_taken moves.Back lies old new is h = absurd (cc)
 length_taken moves.HandIn lies old new is h = absurd (cc)
 length_taken moves.Take lies old new is h = length_lost h.2
+
+whole_after : (gap : ℕ) (step : Move) (old new : FloorPlan) → IsWhole old → floor_move gap step old ≡ Ok new → IsWhole new
+whole_after gap step old new whole h =
+  let done = done_of gap step old new h in
+  rw done.after (simp length-set whole)
+
+pub counted_moved : (gap : ℕ) (step : Move) (old new : FloorPlan) (count : ℕ) → IsCounted old.machines old.gaps count → (step ≡ moves.Take → ⊥) → floor_move gap step old ≡ Ok new → IsCounted new.machines new.gaps count
+counted_moved gap step old new count counted not h =
+  let boards = keeps_boards gap step old new counted.whole h in
+  record {
+    whole = whole_after gap step old new counted.whole h;
+    all = counted.all ∙ sym (length_kept step (gap_at old gap).lies _ _ not boards);
+  }
+
+pub counted_taken : (gap : ℕ) (step : Move) (old new : FloorPlan) (count : ℕ) → IsCounted old.machines old.gaps count → step ≡ moves.Take → floor_move gap step old ≡ Ok new → (1 ≤ count) × IsCounted new.machines new.gaps (count - 1)
+counted_taken gap step old new count counted is h =
+  let boards = keeps_boards gap step old new counted.whole h in
+  let lost : length (boards_on old) ≡ length (boards_on new) + 1 = length_taken step (gap_at old gap).lies _ _ is boards in
+  (omega (arith, counted.all, lost), record {
+    whole = whole_after gap step old new counted.whole h;
+    all = omega (arith, counted.all, lost);
+  })

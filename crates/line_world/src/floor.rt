@@ -229,7 +229,22 @@ impl Floor {
     }
 }
 
+/// Does a move at a gap that is there.
 fn apply_at(
+    machines: &mut Vec<Station>,
+    gaps: &mut Vec<AtGap>,
+    gap: usize,
+    step: Move,
+) -> Result<(), MoveError>
+    requires there { IsGap (record { machines = machines.old.items; gaps = gaps.old.items }) gap }
+    requires whole { IsWhole (record { machines = machines.old.items; gaps = gaps.old.items }) }
+    ensures { AnswersFloor gap step (record { machines = machines.old.items; gaps = gaps.old.items }) (record { machines = machines.new.items; gaps = gaps.new.items }) result }
+{
+    apply_parted(machines, gaps, gap, step)
+}
+
+/// The same on slices, which can be parted at the gap.
+fn apply_parted(
     machines: &mut [Station],
     gaps: &mut [AtGap],
     gap: usize,

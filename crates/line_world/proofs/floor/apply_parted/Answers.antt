@@ -1,7 +1,7 @@
 use Rattle.std.proofs.Common.{◌++◌}
 use Rattle.line_world.specs.FloorPlan.{FloorPlan, IsGap, IsWhole}
 use Rattle.line_world.proofs.Splitting.{joined}
-use Rattle.line_world.proofs.floor.apply_at.Goals as goal
+use Rattle.line_world.proofs.floor.apply_parted.Goals as goal
 
 pub returns : goal.returns
 returns c =
