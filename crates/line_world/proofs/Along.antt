@@ -19,11 +19,11 @@ machine_hole [] gaps i h = absurd (omega arith)
 machine_hole (x ∷ xs) [] zero h = record { front = boards_along xs []; back = []; filled = λ m. rw append-nil refl }
 machine_hole (x ∷ xs) (g ∷ gs) zero h = record { front = boards_along xs gs ++ boards_in g.lies; back = []; filled = λ m. rw append-nil (simp append_assoc) }
 machine_hole (x ∷ xs) [] (suc i) h =
-  let rest = machine_hole xs [] i (omega arith) in
-  record { front = rest.front; back = rest.back ++ x.boards; filled = λ m. rw (rest.filled m) (simp append_assoc) }
+    let rest = machine_hole xs [] i (omega arith) in
+    record { front = rest.front; back = rest.back ++ x.boards; filled = λ m. rw (rest.filled m) (simp append_assoc) }
 machine_hole (x ∷ xs) (g ∷ gs) (suc i) h =
-  let rest = machine_hole xs gs i (omega arith) in
-  record { front = rest.front; back = rest.back ++ (boards_in g.lies ++ x.boards); filled = λ m. rw (rest.filled m) (simp append_assoc) }
+    let rest = machine_hole xs gs i (omega arith) in
+    record { front = rest.front; back = rest.back ++ (boards_in g.lies ++ x.boards); filled = λ m. rw (rest.filled m) (simp append_assoc) }
 
 pub along_at : (machines : List AtMachine) (gaps : List AtGap) (i : ℕ) (d : AtMachine) (hole : MachineHole machines gaps i) → boards_along machines gaps ≡ hole.front ++ ((get_or machines i d).boards ++ hole.back)
 along_at machines gaps i d hole = rw set-get_or at (hole.filled (get_or machines i d))
@@ -44,14 +44,14 @@ around_hole (x ∷ y ∷ ys) [] i h k = absurd (omega arith)
 around_hole (x ∷ y ∷ ys) (g ∷ []) zero h k = record { front = boards_along ys []; back = []; filled = λ a. rw append-nil (simp append_assoc) }
 around_hole (x ∷ y ∷ ys) (g ∷ g' ∷ gs) zero h k = record { front = boards_along ys gs ++ boards_in g'.lies; back = []; filled = λ a. rw append-nil (simp append_assoc) }
 around_hole (x ∷ y ∷ ys) (g ∷ gs) (suc i) h k =
-  let rest = around_hole (y ∷ ys) gs i (omega arith) (omega arith) in
-  record { front = rest.front; back = rest.back ++ (boards_in g.lies ++ x.boards); filled = λ a. rw (rest.filled a) (simp append_assoc) }
+    let rest = around_hole (y ∷ ys) gs i (omega arith) (omega arith) in
+    record { front = rest.front; back = rest.back ++ (boards_in g.lies ++ x.boards); filled = λ a. rw (rest.filled a) (simp append_assoc) }
 
 -- the number of boards with one machine changed
 pub length_along-set : (machines : List AtMachine) (gaps : List AtGap) (i : ℕ) (machine d : AtMachine) → i < length machines → length (boards_along (slice_set machines i machine) gaps) + length (get_or machines i d).boards ≡ length (boards_along machines gaps) + length machine.boards
 length_along-set machines gaps i machine d h =
-  let hole = machine_hole machines gaps i h in
-  rw (hole.filled machine, along_at machines gaps i d hole) (simp length-append (omega arith))
+    let hole = machine_hole machines gaps i h in
+    rw (hole.filled machine, along_at machines gaps i d hole) (simp length-append (omega arith))
 
 -- what lies in the gaps is all that counts of them
 pub along-set_gap : (machines : List AtMachine) (gaps : List AtGap) (i : ℕ) (gap d : AtGap) → gap.lies ≡ (get_or gaps i d).lies → boards_along machines (slice_set gaps i gap) ≡ boards_along machines gaps

@@ -14,11 +14,11 @@ use Rattle.line_world.specs.Boards.{IsInOnePlace, IsNowhere, KeepsBoards, KeepsP
 length_places : (id number : ℕ) (machines : List AtMachine) (gaps : List AtGap) → length (places_along id number machines gaps) ≡ length (filter (has_id id) (boards_along machines gaps))
 length_places id number [] gaps = refl
 length_places id number (machine ∷ machines) [] =
-  let rest = length_places id (number + 1) machines [] in
-  simp (length-append, length-map, filter-append) (omega (arith, rest))
+    let rest = length_places id (number + 1) machines [] in
+    simp (length-append, length-map, filter-append) (omega (arith, rest))
 length_places id number (machine ∷ machines) (gap ∷ gaps) =
-  let rest = length_places id (number + 1) machines gaps in
-  simp (length-append, length-map, filter-append) (omega (arith, rest))
+    let rest = length_places id (number + 1) machines gaps in
+    simp (length-append, length-map, filter-append) (omega (arith, rest))
 
 one_place : (id : ℕ) (plan : FloorPlan) (places : List Place) → places_of id plan ≡ places → length places ≡ 1 → IsInOnePlace id plan
 one_place id plan [] is h = absurd (cc)
@@ -45,15 +45,15 @@ lost_with id front back board false h = simp (filter-append, length-append) (rw 
 
 taken_places : (id : ℕ) (lies : Gap) (old new : FloorPlan) (board : Board) (has : Bool) → boards_in lies ≡ board ∷ [] → LosesBoard (boards_on old) (boards_on new) board → has_id id board ≡ has → IsInOnePlace id old → StaysUnlessTaken id (filter (has_id id) (boards_in lies)) new
 taken_places id lies old new board true is loss h one =
-  let before = boards_of_one_place id old one in
-  let lost = lost_with id loss.front loss.back board true h in
-  let none : length (filter (has_id id) (boards_on new)) ≡ 0 = rw loss.after (omega (arith, lost, rw loss.before at before)) in
-  rw (is, h) (nowhere_of id new none)
+    let before = boards_of_one_place id old one in
+    let lost = lost_with id loss.front loss.back board true h in
+    let none : length (filter (has_id id) (boards_on new)) ≡ 0 = rw loss.after (omega (arith, lost, rw loss.before at before)) in
+    rw (is, h) (nowhere_of id new none)
 taken_places id lies old new board false is loss h one =
-  let before = boards_of_one_place id old one in
-  let lost = lost_with id loss.front loss.back board false h in
-  let as_many : length (filter (has_id id) (boards_on new)) ≡ 1 = rw loss.after (omega (arith, lost, rw loss.before at before)) in
-  rw (is, h) (one_place_of id new as_many)
+    let before = boards_of_one_place id old one in
+    let lost = lost_with id loss.front loss.back board false h in
+    let as_many : length (filter (has_id id) (boards_on new)) ≡ 1 = rw loss.after (omega (arith, lost, rw loss.before at before)) in
+    rw (is, h) (one_place_of id new as_many)
 
 pub keeps_places : (step : Move) (lies : Gap) (old new : FloorPlan) → KeepsBoards step lies (boards_on old) (boards_on new) → KeepsPlaces step lies old new
 keeps_places moves.Begin lies old new h = λ id one. same_places id old new h one

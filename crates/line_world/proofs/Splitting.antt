@@ -27,25 +27,25 @@ answers_floor gap step plan after (Err errors.Memory) is h = (rw (floor_move_at 
 -- the machines on either side, set where the list was split behind the upstream one
 split_set : (front back : List AtMachine) (gap : ℕ) (up down : AtMachine) → 1 ≤ gap → length front ≡ gap → slice_set (slice_set (front ++ back) (gap - 1) up) (gap + 1 - 1) down ≡ slice_set front (gap - 1) up ++ slice_set back 0 down
 split_set front back gap up down counted h =
-  let here : gap - 1 < length front = omega (arith, counted, h) in
-  let long : length (slice_set front (gap - 1) up) ≡ gap = simp length-set h in
-  let none : gap + 1 - 1 - gap ≡ 0 = omega arith in
-  rw (set-append_left front back (gap - 1) up here, set-append_right (slice_set front (gap - 1) up) back gap (gap + 1 - 1) down long (omega arith)) (rw none refl)
+    let here : gap - 1 < length front = omega (arith, counted, h) in
+    let long : length (slice_set front (gap - 1) up) ≡ gap = simp length-set h in
+    let none : gap + 1 - 1 - gap ≡ 0 = omega arith in
+    rw (set-append_left front back (gap - 1) up here, set-append_right (slice_set front (gap - 1) up) back gap (gap + 1 - 1) down long (omega arith)) (rw none refl)
 
 -- a move around a gap, where the machines stand in two lists that are parted at the gap
 pub joined : (front back : List AtMachine) (gaps : List AtGap) (gap : ℕ) (step : Move) (above : AtMachine) (between : AtGap) (below : AtMachine) (up down : AtMachine) (now : AtGap) (result : Result (Unit {0}) MoveError) → IsGap (record { machines = front ++ back; gaps = gaps }) gap → IsWhole (record { machines = front ++ back; gaps = gaps }) → length front ≡ gap → AnswersAround step (get_or front (gap - 1) above) (get_or gaps (gap - 1) between) (get_or back 0 below) up now down result → AnswersFloor gap step (record { machines = front ++ back; gaps = gaps }) (record { machines = slice_set front (gap - 1) up ++ slice_set back 0 down; gaps = slice_set gaps (gap - 1) now }) result
 joined front back gaps gap step above between below up down now result is whole long h =
-  let all : length (front ++ back) ≡ length front + length back = length-append front back in
-  let in_front : gap - 1 < length front = omega (arith, is.counted, long) in
-  let in_back : 0 < length back = omega (arith, is.within, long, all) in
-  let in_gaps : gap - 1 < length gaps = omega (arith, is.counted, is.within, whole) in
-  let none : gap + 1 - 1 - gap ≡ 0 = omega arith in
-  let up_is : get_or front (gap - 1) above ≡ get_or (front ++ back) (gap - 1) empty_machine =
+    let all : length (front ++ back) ≡ length front + length back = length-append front back in
+    let in_front : gap - 1 < length front = omega (arith, is.counted, long) in
+    let in_back : 0 < length back = omega (arith, is.within, long, all) in
+    let in_gaps : gap - 1 < length gaps = omega (arith, is.counted, is.within, whole) in
+    let none : gap + 1 - 1 - gap ≡ 0 = omega arith in
+    let up_is : get_or front (gap - 1) above ≡ get_or (front ++ back) (gap - 1) empty_machine =
     get_or_default front (gap - 1) above empty_machine in_front ∙ sym (get_or_append_left front back empty_machine (gap - 1) in_front) in
-  let between_is : get_or gaps (gap - 1) between ≡ get_or gaps (gap - 1) free_gap = get_or_default gaps (gap - 1) between free_gap in_gaps in
-  let down_is : get_or back 0 below ≡ get_or (front ++ back) (gap + 1 - 1) empty_machine =
+    let between_is : get_or gaps (gap - 1) between ≡ get_or gaps (gap - 1) free_gap = get_or_default gaps (gap - 1) between free_gap in_gaps in
+    let down_is : get_or back 0 below ≡ get_or (front ++ back) (gap + 1 - 1) empty_machine =
     get_or_default back 0 below empty_machine in_back ∙ ap (λ i. get_or back i empty_machine) (sym none) ∙ sym (get_or-append_right front back gap (gap + 1 - 1) empty_machine long (omega arith)) in
-  let plan : FloorPlan = record { machines = front ++ back; gaps = gaps } in
-  let after : Around = record { up = up; between = now; down = down } in
-  let around = rw (up_is, between_is, down_is) at h in
-  rw (← split_set front back gap up down is.counted long) (answers_floor gap step plan after result is around)
+    let plan : FloorPlan = record { machines = front ++ back; gaps = gaps } in
+    let after : Around = record { up = up; between = now; down = down } in
+    let around = rw (up_is, between_is, down_is) at h in
+    rw (← split_set front back gap up down is.counted long) (answers_floor gap step plan after result is around)

@@ -213,8 +213,8 @@ Answers move before after (Err errors.Memory) = IsOk move × (after ≡ before)
 
 abbrev pub AnswersAround : Move → AtMachine → AtGap → AtMachine → AtMachine → AtGap → AtMachine → Result (Unit {0}) MoveError → Type 0
 AnswersAround step up between down up' between' down' result =
-  let before : Around = record { up = up; between = between; down = down } in
-  Answers (around_move step before) before (record { up = up'; between = between'; down = down' }) result
+    let before : Around = record { up = up; between = between; down = down } in
+    Answers (around_move step before) before (record { up = up'; between = between'; down = down' }) result
 
 abbrev pub AnswersFloor : ℕ → Move → FloorPlan → FloorPlan → Result (Unit {0}) MoveError → Type 0
 AnswersFloor gap step before after result = Answers (floor_move gap step before) before after result

@@ -47,8 +47,12 @@ fn begin(up: &mut Station, between: &mut AtGap, down: &mut Station) -> Result<()
     make_room(&mut up.unread)?;
     make_room(&mut down.unread)?;
     between.lies = Gap::Begun(up.boards.remove(0));
-    up.unread.push(seen(Side::Exit, SensorEvent::Begun)).unwrap();
-    down.unread.push(seen(Side::Entry, SensorEvent::Begun)).unwrap();
+    up.unread
+        .push(seen(Side::Exit, SensorEvent::Begun))
+        .unwrap();
+    down.unread
+        .push(seen(Side::Entry, SensorEvent::Begun))
+        .unwrap();
     Ok(())
 }
 
@@ -85,7 +89,9 @@ fn enter(between: &mut AtGap, down: &mut Station) -> Result<(), MoveError>
     between.lies = Gap::Free;
     between.entry_drive = false;
     down.boards.push(Board { id }).unwrap();
-    down.unread.push(seen(Side::Entry, SensorEvent::Full)).unwrap();
+    down.unread
+        .push(seen(Side::Entry, SensorEvent::Full))
+        .unwrap();
     Ok(())
 }
 
@@ -104,7 +110,9 @@ fn go_back(up: &mut Station, between: &mut AtGap, down: &mut Station) -> Result<
     between.lies = Gap::Free;
     up.boards.insert(0, Board { id }).unwrap();
     up.unread.push(seen(Side::Exit, SensorEvent::Back)).unwrap();
-    down.unread.push(seen(Side::Entry, SensorEvent::Back)).unwrap();
+    down.unread
+        .push(seen(Side::Entry, SensorEvent::Back))
+        .unwrap();
     Ok(())
 }
 
@@ -121,7 +129,9 @@ fn hand_in(between: &mut AtGap, down: &mut Station) -> Result<(), MoveError>
     make_room(&mut down.unread)?;
     between.lies = Gap::Free;
     down.boards.push(Board { id }).unwrap();
-    down.unread.push(seen(Side::Entry, SensorEvent::Full)).unwrap();
+    down.unread
+        .push(seen(Side::Entry, SensorEvent::Full))
+        .unwrap();
     Ok(())
 }
 
@@ -144,8 +154,12 @@ fn take(up: &mut Station, between: &mut AtGap, down: &mut Station) -> Result<(),
     make_room(&mut up.unread)?;
     make_room(&mut down.unread)?;
     between.lies = Gap::Free;
-    up.unread.push(seen(Side::Exit, SensorEvent::Taken)).unwrap();
-    down.unread.push(seen(Side::Entry, SensorEvent::Taken)).unwrap();
+    up.unread
+        .push(seen(Side::Exit, SensorEvent::Taken))
+        .unwrap();
+    down.unread
+        .push(seen(Side::Entry, SensorEvent::Taken))
+        .unwrap();
     Ok(())
 }
 

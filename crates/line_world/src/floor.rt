@@ -68,11 +68,13 @@ impl Floor {
             return Err(Memory);
         }
         if !is_first {
-            self.gaps.push(AtGap {
-                lies: Gap::Free,
-                exit_drive: false,
-                entry_drive: false,
-            }).unwrap();
+            self.gaps
+                .push(AtGap {
+                    lies: Gap::Free,
+                    exit_drive: false,
+                    entry_drive: false,
+                })
+                .unwrap();
         }
         Ok(())
     }

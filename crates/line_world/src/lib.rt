@@ -12,6 +12,8 @@ mod gap;
 mod moves;
 mod sensors;
 mod station;
+#[cfg(test)]
+mod tests;
 
 pub use board::Board;
 pub use floor::Floor;

@@ -20,17 +20,17 @@ returns-in-Take-clause-boards c = rw (← c.self.view_is) (keeps_boards c.args.g
 
 pub returns-in-Take-clause-places : goal.returns-in-Take-clause-places
 returns-in-Take-clause-places c =
-  let boards = keeps_boards c.args.gap c.args.step (record { machines = c.self.inside.machines.items; gaps = c.self.inside.gaps.items }) (record { machines = c.apply_at.new.machines.items; gaps = c.apply_at.new.gaps.items }) c.self.invariant.whole c.in_ok-apply_at.ensures in
-  rw (← c.self.view_is) (keeps_places c.args.step _ (record { machines = c.self.inside.machines.items; gaps = c.self.inside.gaps.items }) (record { machines = c.apply_at.new.machines.items; gaps = c.apply_at.new.gaps.items }) boards)
+    let boards = keeps_boards c.args.gap c.args.step (record { machines = c.self.inside.machines.items; gaps = c.self.inside.gaps.items }) (record { machines = c.apply_at.new.machines.items; gaps = c.apply_at.new.gaps.items }) c.self.invariant.whole c.in_ok-apply_at.ensures in
+    rw (← c.self.view_is) (keeps_places c.args.step _ (record { machines = c.self.inside.machines.items; gaps = c.self.inside.gaps.items }) (record { machines = c.apply_at.new.machines.items; gaps = c.apply_at.new.gaps.items }) boards)
 
 pub returns-in_default : goal.returns-in_default
 returns-in_default c =
-  let moved = c.in_ok-apply_at.ensures in
-  let boards = keeps_boards c.args.gap c.args.step (record { machines = c.self.inside.machines.items; gaps = c.self.inside.gaps.items }) (record { machines = c.apply_at.new.machines.items; gaps = c.apply_at.new.gaps.items }) c.self.invariant.whole moved in
-  rw (← c.self.view_is) (record {
-    answer = moved;
-    boards = boards;
-    places = keeps_places c.args.step _ (record { machines = c.self.inside.machines.items; gaps = c.self.inside.gaps.items }) (record { machines = c.apply_at.new.machines.items; gaps = c.apply_at.new.gaps.items }) boards;
-    events = reaches_both_sides c.args.gap c.args.step (record { machines = c.self.inside.machines.items; gaps = c.self.inside.gaps.items }) (record { machines = c.apply_at.new.machines.items; gaps = c.apply_at.new.gaps.items }) moved;
-    refused = tt;
-  })
+    let moved = c.in_ok-apply_at.ensures in
+    let boards = keeps_boards c.args.gap c.args.step (record { machines = c.self.inside.machines.items; gaps = c.self.inside.gaps.items }) (record { machines = c.apply_at.new.machines.items; gaps = c.apply_at.new.gaps.items }) c.self.invariant.whole moved in
+    rw (← c.self.view_is) (record {
+      answer = moved;
+      boards = boards;
+      places = keeps_places c.args.step _ (record { machines = c.self.inside.machines.items; gaps = c.self.inside.gaps.items }) (record { machines = c.apply_at.new.machines.items; gaps = c.apply_at.new.gaps.items }) boards;
+      events = reaches_both_sides c.args.gap c.args.step (record { machines = c.self.inside.machines.items; gaps = c.self.inside.gaps.items }) (record { machines = c.apply_at.new.machines.items; gaps = c.apply_at.new.gaps.items }) moved;
+      refused = tt;
+    })

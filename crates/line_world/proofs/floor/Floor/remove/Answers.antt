@@ -5,17 +5,17 @@ use Rattle.line_world.proofs.floor.Floor.remove.Goals as goal
 
 pub overflow_sub-self : goal.overflow_sub-self
 overflow_sub-self c =
-  let machines = ap (λ (plan : FloorPlan). length plan.machines) c.self.view_is in
-  let within = counted_within c.self.inside.machines.items c.self.inside.gaps.items c.self.inside.boards (c.args.machine - 1) c.index_mut.result.now c.self.invariant (omega arith) (search rules) in
-  omega (arith, length_lost c.in_ok-board.ensures.lost, within)
+    let machines = ap (λ (plan : FloorPlan). length plan.machines) c.self.view_is in
+    let within = counted_within c.self.inside.machines.items c.self.inside.gaps.items c.self.inside.boards (c.args.machine - 1) c.index_mut.result.now c.self.invariant (omega arith) (search rules) in
+    omega (arith, length_lost c.in_ok-board.ensures.lost, within)
 
 pub invariant_of-self-2 : goal.invariant_of-self-2
 invariant_of-self-2 c =
-  let machines = ap (λ (plan : FloorPlan). length plan.machines) c.self.view_is in
-  let within = counted_within c.self.inside.machines.items c.self.inside.gaps.items c.self.inside.boards (c.args.machine - 1) c.index_mut.result.now c.self.invariant (omega arith) (search rules) in
-  counted_set _ _ c.self.inside.boards _ _ c.index_mut.result.now _ c.self.invariant (omega arith) (search rules) (omega (arith, length_lost c.in_ok-board.ensures.lost, within))
+    let machines = ap (λ (plan : FloorPlan). length plan.machines) c.self.view_is in
+    let within = counted_within c.self.inside.machines.items c.self.inside.gaps.items c.self.inside.boards (c.args.machine - 1) c.index_mut.result.now c.self.invariant (omega arith) (search rules) in
+    counted_set _ _ c.self.inside.boards _ _ c.index_mut.result.now _ c.self.invariant (omega arith) (search rules) (omega (arith, length_lost c.in_ok-board.ensures.lost, within))
 
 pub returns-clause-boards : goal.returns-clause-boards
 returns-clause-boards c =
-  let machines = ap (λ (plan : FloorPlan). length plan.machines) c.self.view_is in
-  rw (← c.self.view_is) (along_loses c.self.inside.machines.items c.self.inside.gaps.items (c.args.machine - 1) _ c.index_mut.result.now _ (omega arith) (search rules) c.in_ok-board.ensures.lost)
+    let machines = ap (λ (plan : FloorPlan). length plan.machines) c.self.view_is in
+    rw (← c.self.view_is) (along_loses c.self.inside.machines.items c.self.inside.gaps.items (c.args.machine - 1) _ c.index_mut.result.now _ (omega arith) (search rules) c.in_ok-board.ensures.lost)
