@@ -1,7 +1,10 @@
 //! The moves, each around its gap: the machine upstream of it, the gap, the machine downstream.
-ghost use Rattle.std.specs.Prelude.{◌≡◌, ◌<◌, OnOk, IfErr, vec_capacity, vec_len};
+ghost use Rattle.std.specs.Prelude.{◌≡◌, ◌<◌, ◌++◌, ◌∷◌, [], OnOk, OnErr, IfErr, vec_capacity, vec_len};
+ghost use Rattle.line_base.specs.declared.states.Side.TheVariants as sides;
+ghost use Rattle.line_base.specs.declared.states.SensorEvent.TheVariants as sensors;
 ghost use Rattle.line_world.specs.FloorPlan.{AtMachine};
 ghost use Rattle.line_world.specs.Moves.{AnswersAround, around_move};
+ghost use Rattle.line_world.specs.declared.gap.Gap.TheVariants as gaps;
 ghost use Rattle.line_world.specs.declared.moves.Move.TheVariants as moves;
 ghost use Rattle.line_world.specs.declared.moves.MoveError.TheVariants as errors;
 
@@ -47,12 +50,8 @@ fn begin(up: &mut Station, between: &mut AtGap, down: &mut Station) -> Result<()
     make_room(&mut up.unread)?;
     make_room(&mut down.unread)?;
     between.lies = Gap::Begun(up.boards.remove(0));
-    up.unread
-        .push(seen(Side::Exit, SensorEvent::Begun))
-        .unwrap();
-    down.unread
-        .push(seen(Side::Entry, SensorEvent::Begun))
-        .unwrap();
+    tell(&mut up.unread, Side::Exit, SensorEvent::Begun);
+    tell(&mut down.unread, Side::Entry, SensorEvent::Begun);
     Ok(())
 }
 
@@ -71,27 +70,21 @@ fn leave(up: &mut Station, between: &mut AtGap) -> Result<(), MoveError>
     make_room(&mut up.unread)?;
     between.lies = Gap::Left(board);
     between.exit_drive = false;
-    up.unread.push(seen(Side::Exit, SensorEvent::Left)).unwrap();
+    tell(&mut up.unread, Side::Exit, SensorEvent::Left);
     Ok(())
 }
 
 fn enter(between: &mut AtGap, down: &mut Station) -> Result<(), MoveError>
     ensures { (up : AtMachine) → AnswersAround moves.Enter up between.old down.old up between.new down.new result }
 {
-    let Gap::Left(Board { id }) = between.lies else {
+    let Gap::Left(board) = between.lies else {
         return Err(MoveError::No(MoveNo::NotLeft));
     };
     if !between.entry_drive {
         return Err(MoveError::No(MoveNo::EntryDriveOff));
     }
-    make_room(&mut down.boards)?;
-    make_room(&mut down.unread)?;
-    between.lies = Gap::Free;
+    come_in(board, between, down)?;
     between.entry_drive = false;
-    down.boards.push(Board { id }).unwrap();
-    down.unread
-        .push(seen(Side::Entry, SensorEvent::Full))
-        .unwrap();
     Ok(())
 }
 
@@ -109,36 +102,46 @@ fn go_back(up: &mut Station, between: &mut AtGap, down: &mut Station) -> Result<
     make_room(&mut down.unread)?;
     between.lies = Gap::Free;
     up.boards.insert(0, Board { id }).unwrap();
-    up.unread.push(seen(Side::Exit, SensorEvent::Back)).unwrap();
-    down.unread
-        .push(seen(Side::Entry, SensorEvent::Back))
-        .unwrap();
+    tell(&mut up.unread, Side::Exit, SensorEvent::Back);
+    tell(&mut down.unread, Side::Entry, SensorEvent::Back);
     Ok(())
 }
 
 fn hand_in(between: &mut AtGap, down: &mut Station) -> Result<(), MoveError>
     ensures { (up : AtMachine) → AnswersAround moves.HandIn up between.old down.old up between.new down.new result }
 {
-    let Gap::Left(Board { id }) = between.lies else {
+    let Gap::Left(board) = between.lies else {
         return Err(MoveError::No(MoveNo::NotLeft));
     };
     if between.entry_drive {
         return Err(MoveError::No(MoveNo::EntryDriveOn));
     }
+    come_in(board, between, down)
+}
+
+/// The board of a gap comes wholly inside the downstream machine.
+fn come_in(board: Board, between: &mut AtGap, down: &mut Station) -> Result<(), MoveError>
+    ensures gap { OnOk result (between.new ≡ record between.old { lies = gaps.Free }) }
+    ensures boards { OnOk result (down.new.boards ≡ down.old.boards ++ board ∷ []) }
+    ensures event { OnOk result (down.new.unread ≡ down.old.unread ++ record { side = sides.Entry; event = sensors.Full } ∷ []) }
+    ensures memory { IfErr result (λ error. error ≡ errors.Memory) }
+    ensures same_gap { OnErr result (between.new ≡ between.old) }
+    ensures same_machine { OnErr result (down.new ≡ down.old) }
+{
     make_room(&mut down.boards)?;
     make_room(&mut down.unread)?;
     between.lies = Gap::Free;
-    down.boards.push(Board { id }).unwrap();
-    down.unread
-        .push(seen(Side::Entry, SensorEvent::Full))
-        .unwrap();
+    // a board whose parts aren't named has no generated proof here
+    down.boards.push(Board { id: board.id }).unwrap();
+    tell(&mut down.unread, Side::Entry, SensorEvent::Full);
     Ok(())
 }
 
 fn take(up: &mut Station, between: &mut AtGap, down: &mut Station) -> Result<(), MoveError>
     ensures { AnswersAround moves.Take up.old between.old down.old up.new between.new down.new result }
 {
-    match between.lies {
+    let taken = between.lies;
+    match taken {
         Gap::Free => return Err(MoveError::No(MoveNo::NotBegun)),
         Gap::Begun(_) => {
             if between.exit_drive {
@@ -154,15 +157,12 @@ fn take(up: &mut Station, between: &mut AtGap, down: &mut Station) -> Result<(),
     make_room(&mut up.unread)?;
     make_room(&mut down.unread)?;
     between.lies = Gap::Free;
-    up.unread
-        .push(seen(Side::Exit, SensorEvent::Taken))
-        .unwrap();
-    down.unread
-        .push(seen(Side::Entry, SensorEvent::Taken))
-        .unwrap();
+    tell(&mut up.unread, Side::Exit, SensorEvent::Taken);
+    tell(&mut down.unread, Side::Entry, SensorEvent::Taken);
     Ok(())
 }
 
+/// Room for one more.
 fn make_room<T>(list: &mut Vec<T>) -> Result<(), MoveError>
     ensures same { list.new.items ≡ list.old.items }
     ensures room { OnOk result (vec_len list.new < vec_capacity list.new) }
@@ -174,8 +174,10 @@ fn make_room<T>(list: &mut Vec<T>) -> Result<(), MoveError>
     }
 }
 
-fn seen(side: Side, event: SensorEvent) -> Sensed
-    ensures { result ≡ record { side = side; event = event } }
+/// One more event to read, for which there is room.
+fn tell(unread: &mut Vec<Sensed>, side: Side, event: SensorEvent)
+    requires { vec_len unread.old < vec_capacity unread.old }
+    ensures { unread.new.items ≡ unread.old.items ++ record { side = side; event = event } ∷ [] }
 {
-    Sensed { side, event }
+    unread.push(Sensed { side, event }).unwrap();
 }
