@@ -1,4 +1,4 @@
-use Rattle.std.specs.Prelude.{◌≡◌, ◌+◌, ◌++◌, ◌∷◌, [], ℕ, List, filter, map}
+use Rattle.std.specs.Prelude.{◌≡◌, ◌≢◌, ◌+◌, ◌++◌, ◌∷◌, [], ℕ, true, false, List, Some, filter, map}
 use Rattle.line_world.specs.declared.board.Board.{Board}
 use Rattle.line_world.specs.declared.gap.Gap.{Gap}
 use Rattle.line_world.specs.declared.gap.Gap.TheVariants as gaps
@@ -39,6 +39,17 @@ KeepsBoards moves.Back lies old new = new ≡ old
 KeepsBoards moves.HandIn lies old new = new ≡ old
 KeepsBoards moves.Take lies old new = (board : Board) × (boards_in lies ≡ board ∷ []) × LosesBoard old new board
 
+-- these are the same boards in the same order, but for this one, in whose stead stands another
+pub record ChangesBoard (old new : List Board) (was now : Board) : Type 0 where
+  pub front : List Board
+  pub back : List Board
+  pub before : old ≡ front ++ was ∷ back
+  pub after : new ≡ front ++ now ∷ back
+
+-- one board that has the first of these ids gets the second
+abbrev pub ChangesId : ℕ → ℕ → List Board → List Board → Type 0
+ChangesId was now old new = (board : Board) × (has_id was board ≡ true) × ChangesBoard old new board (record { id = Some now })
+
 -- a place of the floor: a machine or a gap, by its number
 pub data Place : Type 0 where
   machine_number : ℕ → Place
@@ -72,3 +83,18 @@ KeepsPlaces moves.Enter lies old new = (id : ℕ) → IsInOnePlace id old → Is
 KeepsPlaces moves.Back lies old new = (id : ℕ) → IsInOnePlace id old → IsInOnePlace id new
 KeepsPlaces moves.HandIn lies old new = (id : ℕ) → IsInOnePlace id old → IsInOnePlace id new
 KeepsPlaces moves.Take lies old new = (id : ℕ) → IsInOnePlace id old → StaysUnlessTaken id (filter (has_id id) (boards_in lies)) new
+
+-- a board that was in one place is so again; the one that is taken out is nowhere
+abbrev pub LosesPlace : FloorPlan → FloorPlan → Board → Type 0
+LosesPlace old new board = (id : ℕ) → IsInOnePlace id old → StaysUnlessTaken id (filter (has_id id) (board ∷ [])) new
+
+-- and one that comes is in one place, if there was none with its id
+pub record GainsPlace (old new : FloorPlan) (board : Board) : Type 0 where
+  pub own : (id : ℕ) → has_id id board ≡ true → IsNowhere id old → IsInOnePlace id new
+  pub others : (id : ℕ) → has_id id board ≡ false → IsInOnePlace id old → IsInOnePlace id new
+
+-- and so is one that gets an id that no other has
+pub record ChangesPlace (was now : ℕ) (old new : FloorPlan) : Type 0 where
+  pub before : was ≢ now → IsInOnePlace was old → IsNowhere was new
+  pub after : was ≢ now → IsNowhere now old → IsInOnePlace now new
+  pub others : (id : ℕ) → id ≢ was → id ≢ now → IsInOnePlace id old → IsInOnePlace id new

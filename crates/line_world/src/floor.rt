@@ -1,7 +1,8 @@
 ghost use Rattle.std.specs.Prelude.{◌≡◌, ◌++◌, ◌∷◌, [], ℕ, IfOk, IfSome, OnOk, OnErr, drop, is_some, length, slice_get};
+ghost use Rattle.std.specs.Bool.{OnTrue};
 ghost use Rattle.line_world.specs.FloorPlan.{FloorPlan, IsGap, IsMachine, IsWhole, board_found, drive_of, gap_at, machine_at, no_floor, one_machine_more, place_of, with_boards, with_drive, with_gap, with_new_id, with_unread, without_board};
 ghost use Rattle.line_world.specs.Moves.{AnswersFloor};
-ghost use Rattle.line_world.specs.Boards.{KeepsBoards, KeepsPlaces, LosesBoard, boards_on};
+ghost use Rattle.line_world.specs.Boards.{ChangesId, ChangesPlace, GainsPlace, KeepsBoards, KeepsPlaces, LosesBoard, LosesPlace, boards_on};
 ghost use Rattle.line_world.specs.Events.{ReachesBothSides};
 
 use crate::around::apply_around;
@@ -55,6 +56,7 @@ impl Floor {
     }
 
     /// Adds a machine at the downstream end, and a free gap before it where it isn't the first.
+    /// `Memory` where there is no room for it; the floor is then as it was.
     pub fn add_machine(&mut self) -> Result<(), Memory>
         ensures ok { OnOk result (self.new ≡ one_machine_more self.old) }
         ensures memory { OnErr result (self.new ≡ self.old) }
@@ -127,8 +129,9 @@ impl Floor {
         self.boards
     }
 
-    /// Does a move at a gap. `No` with the first reason against it that holds, `NoGap` where there
-    /// is no such gap. After an error the floor is as it was.
+    /// Does a move at a gap. `No` with the first reason of the move table that holds, `NoGap` where
+    /// there is no such gap; `Memory` where none holds and there is no room. After an error the
+    /// floor is as it was.
     pub fn apply(&mut self, gap: usize, step: Move) -> Result<(), MoveError>
         ensures answer { AnswersFloor gap step self.old self.new result }
 
@@ -160,7 +163,8 @@ impl Floor {
         self.gaps[gap - 1].set_drive(side, on);
     }
 
-    /// Takes the sensor events that a machine hasn't read.
+    /// Takes the sensor events that a machine hasn't read. `Memory` where there is no room for
+    /// their list; they are then unread as before.
     pub fn read_all(&mut self, machine: usize) -> Result<Sensors, Memory>
         requires { IsMachine self.old machine }
         ensures events { IfOk result (λ events. events ≡ (machine_at self.old machine).unread) }
@@ -170,12 +174,14 @@ impl Floor {
         self.machines[machine - 1].read_all(self.alloc)
     }
 
-    /// Puts a board at the back of a machine's list.
+    /// Puts a board at the back of a machine's list. `Memory` where there is no room for it; the
+    /// floor is then as it was.
     pub fn place(&mut self, machine: usize, board: Board) -> Result<(), Memory>
         requires { IsMachine self.old machine }
         ensures ok { OnOk result (self.new ≡ with_boards self.old machine ((machine_at self.old machine).boards ++ board ∷ [])) }
         ensures memory { OnErr result (self.new ≡ self.old) }
         ensures boards { OnOk result (LosesBoard (boards_on self.new) (boards_on self.old) board) }
+        ensures places { OnOk result (GainsPlace self.old self.new board) }
     {
         if self.boards == usize::MAX {
             return Err(Memory);
@@ -192,6 +198,7 @@ impl Floor {
         ensures taken { result ≡ board_found id (machine_at self.old machine).boards }
         ensures left { self.new ≡ with_boards self.old machine (without_board id (machine_at self.old machine).boards) }
         ensures boards { IfSome result (LosesBoard (boards_on self.old) (boards_on self.new)) }
+        ensures places { IfSome result (LosesPlace self.old self.new) }
     {
         let board = self.machines[machine - 1].remove(id)?;
         self.boards -= 1;
@@ -204,11 +211,14 @@ impl Floor {
         requires { IsMachine self.old machine }
         ensures found { result ≡ is_some (place_of old (machine_at self.old machine).boards) }
         ensures after { self.new ≡ with_boards self.old machine (with_new_id old new (machine_at self.old machine).boards) }
+        ensures boards { OnTrue result (ChangesId old new (boards_on self.old) (boards_on self.new)) }
+        ensures places { OnTrue result (ChangesPlace old new self.old self.new) }
     {
         self.machines[machine - 1].replace(old, new)
     }
 
-    /// Adds a sensor event that no move caused.
+    /// Adds a sensor event that no move caused, as the last one that the machine has to read.
+    /// `Memory` where there is no room for it; the floor is then as it was.
     pub fn lie(&mut self, machine: usize, sensed: Sensed) -> Result<(), Memory>
         requires { IsMachine self.old machine }
         ensures ok { OnOk result (self.new ≡ with_unread self.old machine ((machine_at self.old machine).unread ++ sensed ∷ [])) }
@@ -224,6 +234,7 @@ impl Floor {
         ensures front { result ≡ slice_get (machine_at self.old machine).boards 0 }
         ensures after { self.new ≡ with_boards self.old machine (drop 1 (machine_at self.old machine).boards) }
         ensures boards { IfSome result (LosesBoard (boards_on self.old) (boards_on self.new)) }
+        ensures places { IfSome result (LosesPlace self.old self.new) }
     {
         let board = self.machines[machine - 1].take_front()?;
         self.boards -= 1;

@@ -1,6 +1,7 @@
 ghost use Rattle.std.specs.Prelude.{◌≡◌, ◌<◌, ◌++◌, ◌∷◌, [], IfNone, IfOk, IfSome, OnOk, OnErr, drop, is_some, length, slice_get};
+ghost use Rattle.std.specs.Bool.{OnTrue};
 ghost use Rattle.line_world.specs.FloorPlan.{board_found, empty_machine, place_of, with_new_id, without_board};
-ghost use Rattle.line_world.specs.Boards.{LosesBoard};
+ghost use Rattle.line_world.specs.Boards.{ChangesId, LosesBoard};
 
 use crate::board::Board;
 use crate::sensors::Sensors;
@@ -104,6 +105,7 @@ impl Station {
         ensures found { result ≡ is_some (place_of old self.old.boards) }
         ensures boards { self.new ≡ record self.old { boards = with_new_id old new self.old.boards } }
         ensures as_many { length self.new.boards ≡ length self.old.boards }
+        ensures changed { OnTrue result (ChangesId old new self.old.boards self.new.boards) }
     {
         match place_of(&self.boards, old) {
             Some(place) => {

@@ -1,6 +1,8 @@
 use Rattle.std.proofs.Common.{rules, arith, ap, refl, ◌≡◌, ◌+◌, ◌-◌, ◌<◌, ◌≤◌, length, get_or}
+use Rattle.std.specs.Prelude.{slice_set}
 use Rattle.line_world.specs.FloorPlan.{AtMachine, FloorPlan}
 use Rattle.line_world.proofs.Counting.{along_loses, counted_set, counted_within, length_lost}
+use Rattle.line_world.proofs.Placing.{loses_place}
 use Rattle.line_world.proofs.floor.Floor.unseen_out.Goals as goal
 
 pub overflow_sub-self : goal.overflow_sub-self
@@ -19,3 +21,8 @@ pub returns-clause-boards : goal.returns-clause-boards
 returns-clause-boards c =
     let machines = ap (λ (plan : FloorPlan). length plan.machines) c.self.view_is in
     rw (← c.self.view_is) (along_loses c.self.inside.machines.items c.self.inside.gaps.items (c.args.machine - 1) _ c.index_mut.result.now _ (omega arith) (search rules) c.in_ok-board.ensures.lost)
+
+pub returns-clause-places : goal.returns-clause-places
+returns-clause-places c =
+    let machines = ap (λ (plan : FloorPlan). length plan.machines) c.self.view_is in
+    rw (← c.self.view_is) (loses_place (record { machines = c.self.inside.machines.items; gaps = c.self.inside.gaps.items }) (record { machines = slice_set c.self.inside.machines.items (c.args.machine - 1) c.take_front.new.self; gaps = c.self.inside.gaps.items }) c.in_ok-board.board (along_loses c.self.inside.machines.items c.self.inside.gaps.items (c.args.machine - 1) _ c.index_mut.result.now _ (omega arith) (search rules) c.in_ok-board.ensures.lost))
