@@ -1,12 +1,12 @@
 -- The boards along the line, with one machine or one gap and its machines changed.
-use Rattle.std.proofs.Common.{◌≡◌, ◌∙◌, ℕ, zero, suc, ◌+◌, ◌-◌, ◌<◌, ◌≤◌, List, [], ◌∷◌, ◌++◌, length, get_or, refl, sym, ap, arith, append_assoc, append-nil, length-append}
-use Rattle.std.specs.Prelude.{slice_set, slice_index_or}
+use Rattle.std.proofs.Common.{◌≡◌, ℕ, zero, suc, ◌+◌, ◌<◌, List, [], ◌∷◌, ◌++◌, length, get_or, refl, ap, arith, append_assoc, append-nil, length-append}
+use Rattle.std.specs.Prelude.{slice_set}
 use Rattle.std.proofs.lemmas.List.{set-get_or}
 use Rattle.line_world.specs.declared.board.Board.{Board}
 use Rattle.line_world.specs.declared.gap.AtGap.{AtGap}
 use Rattle.line_world.specs.FloorPlan.{AtMachine, empty_machine, free_gap}
-use Rattle.line_world.specs.Moves.{Around, around_of, with_around}
-use Rattle.line_world.specs.Boards.{boards_along, boards_in, boards_on}
+use Rattle.line_world.specs.Moves.{Around}
+use Rattle.line_world.specs.Boards.{boards_along, boards_in}
 
 -- the boards before and behind those of one machine, whatever it has
 pub record MachineHole (machines : List AtMachine) (gaps : List AtGap) (i : ℕ) : Type 0 where

@@ -1,6 +1,6 @@
 -- What a change at one machine, or of a move, does to the count of boards.
-use Rattle.std.proofs.Common.{◌≡◌, ◌∙◌, ℕ, zero, suc, ◌+◌, ◌-◌, ◌<◌, ◌≤◌, List, [], ◌∷◌, ◌++◌, length, get_or, take, drop, refl, sym, ap, arith, append_assoc, append-nil, length-append, length-set, drop-cons}
-use Rattle.std.specs.Prelude.{slice_set, slice_index_or, remove}
+use Rattle.std.proofs.Common.{◌≡◌, ◌∙◌, ℕ, suc, ◌+◌, ◌<◌, ◌≤◌, List, [], ◌∷◌, ◌++◌, length, get_or, take, drop, refl, sym, ap, arith, append_assoc, length-append, length-set, drop-cons}
+use Rattle.std.specs.Prelude.{slice_set, remove}
 use Rattle.std.proofs.lemmas.List.{take-append-drop}
 use Rattle.line_world.specs.declared.board.Board.{Board}
 use Rattle.line_world.specs.declared.gap.AtGap.{AtGap}

@@ -1,23 +1,21 @@
 -- What a done move does to the floor: the laws of the move table over the whole line.
-use Rattle.std.proofs.Common.{◌≡◌, ◌≢◌, ◌∙◌, ℕ, zero, suc, ◌+◌, ◌-◌, ◌<◌, ◌≤◌, ◌++◌, ◌∷◌, [], ◌&&◌, List, Bool, true, false, length, get_or, refl, sym, ap, subst, arith, append_assoc, length-append, length-set}
-use Rattle.std.specs.Prelude.{Result, Ok, Err, cond, slice_set, slice_index_or, nat_lt}
+use Rattle.std.proofs.Common.{◌≡◌, ◌≢◌, ◌∙◌, ℕ, suc, ◌+◌, ◌-◌, ◌<◌, ◌≤◌, ◌++◌, ◌&&◌, List, Bool, true, false, length, refl, sym, ap, arith, append_assoc, length-set}
+use Rattle.std.specs.Prelude.{Result, Ok, Err, cond, slice_set, nat_lt}
 use Rattle.std.proofs.lemmas.List.{set-get_or, get_or-set_same, get_or-set_other}
-use Rattle.line_base.specs.declared.states.Side.TheVariants as sides
 use Rattle.line_world.specs.declared.board.Board.{Board}
 use Rattle.line_world.specs.declared.gap.Gap.{Gap}
-use Rattle.line_world.specs.declared.gap.AtGap.{AtGap}
 use Rattle.line_world.specs.declared.moves.Move.{Move}
 use Rattle.line_world.specs.declared.moves.Move.TheVariants as moves
 use Rattle.line_world.specs.declared.moves.MoveNo.{MoveNo}
 use Rattle.line_world.specs.declared.moves.MoveNo.TheVariants as nos
-use Rattle.line_world.specs.FloorPlan.{AtMachine, FloorPlan, IsGap, IsWhole, gap_at, machine_at, empty_machine, free_gap}
+use Rattle.line_world.specs.FloorPlan.{AtMachine, FloorPlan, IsGap, IsWhole, gap_at, machine_at}
 use Rattle.line_world.specs.Moves.{Around, around_move, around_of, floor_after, floor_move, has_gap, with_around}
-use Rattle.line_world.specs.Boards.{KeepsBoards, LosesBoard, boards_along, boards_in, boards_on}
+use Rattle.line_world.specs.Boards.{KeepsBoards, boards_on}
 use Rattle.line_world.specs.Counted.{IsCounted}
-use Rattle.line_world.specs.Events.{ReachesBothSides, event_of, seen_at}
+use Rattle.line_world.specs.Events.{ReachesBothSides}
 use Rattle.line_world.proofs.Along.{AroundHole, around_hole, boards_around}
 use Rattle.line_world.proofs.Counting.{length_lost}
-use Rattle.line_world.proofs.Moving.{Moved, moved}
+use Rattle.line_world.proofs.Moving.{moved}
 
 -- a done move: its gap is there, and around it the table's row was done
 pub record Done (gap : ℕ) (step : Move) (old new : FloorPlan) : Type 0 where

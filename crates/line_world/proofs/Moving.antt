@@ -1,6 +1,6 @@
 -- What a done move does around its gap: the laws of the move table.
-use Rattle.std.proofs.Common.{◌≡◌, ◌∙◌, ℕ, ◌++◌, ◌∷◌, [], List, Bool, true, false, refl, sym, ap, subst, arith, append_assoc, append-nil}
-use Rattle.std.specs.Prelude.{Result, Ok, Err}
+use Rattle.std.proofs.Common.{◌≡◌, ◌++◌, ◌∷◌, [], List, Bool, true, false, refl, sym, subst, append_assoc, append-nil}
+use Rattle.std.specs.Prelude.{Result, Ok}
 use Rattle.line_base.specs.declared.states.Side.TheVariants as sides
 use Rattle.board_record.specs.declared.sensed.Sensed.{Sensed}
 use Rattle.line_world.specs.declared.board.Board.{Board}
@@ -10,7 +10,7 @@ use Rattle.line_world.specs.declared.moves.Move.{Move}
 use Rattle.line_world.specs.declared.moves.Move.TheVariants as moves
 use Rattle.line_world.specs.declared.moves.MoveNo.{MoveNo}
 use Rattle.line_world.specs.Moves.{Around, around_move}
-use Rattle.line_world.specs.Boards.{KeepsBoards, boards_in}
+use Rattle.line_world.specs.Boards.{KeepsBoards}
 use Rattle.line_world.specs.Events.{event_of, seen_at}
 use Rattle.line_world.proofs.Along.{boards_around}
 

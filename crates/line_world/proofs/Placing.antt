@@ -1,6 +1,6 @@
 -- A board in exactly one place stays in exactly one.
-use Rattle.std.proofs.Common.{◌≡◌, ◌∙◌, ℕ, zero, suc, ◌+◌, ◌++◌, ◌∷◌, [], List, Bool, true, false, length, refl, sym, ap, subst, arith, append_assoc, length-append}
-use Rattle.std.specs.Prelude.{◌≢◌, ◌<◌, Option, Some, None, cond, filter, map, slice_set}
+use Rattle.std.proofs.Common.{◌≡◌, ◌∙◌, ℕ, suc, ◌+◌, ◌++◌, ◌∷◌, [], List, Bool, true, false, length, refl, sym, ap, arith, append_assoc, length-append}
+use Rattle.std.specs.Prelude.{◌≢◌, ◌<◌, Option, Some, None, cond, filter, slice_set}
 use Rattle.std.proofs.Common.{drop, drop-cons, get_or, take, eqb-true, eq-eqb, ne_eqb}
 use Rattle.std.proofs.lemmas.List.{length-map, nil_from_length, set_split, take-append-drop}
 use Rattle.std.specs.Bool.{OnTrue}

@@ -1,14 +1,14 @@
 -- A move on the floor by one around its gap.
-use Rattle.std.proofs.Common.{◌≡◌, ◌≢◌, ◌∙◌, ℕ, zero, suc, ◌+◌, ◌-◌, ◌<◌, ◌≤◌, ◌++◌, ◌∷◌, [], List, length, get_or, refl, sym, ap, subst, arith, length-append, length-set}
-use Rattle.std.specs.Prelude.{Result, Ok, Err, IsOk, slice_set, slice_index_or}
+use Rattle.std.proofs.Common.{◌≡◌, ◌∙◌, ℕ, ◌+◌, ◌-◌, ◌<◌, ◌≤◌, ◌++◌, List, length, get_or, refl, sym, ap, arith, length-append, length-set}
+use Rattle.std.specs.Prelude.{Result, Ok, Err, IsOk, slice_set}
 use Rattle.std.proofs.lemmas.List.{get_or_default, get_or_append_left, get_or-append_right, set-append_left, set-append_right}
 use Rattle.line_world.specs.declared.gap.AtGap.{AtGap}
 use Rattle.line_world.specs.declared.moves.Move.{Move}
 use Rattle.line_world.specs.declared.moves.MoveNo.{MoveNo}
 use Rattle.line_world.specs.declared.moves.MoveError.{MoveError}
 use Rattle.line_world.specs.declared.moves.MoveError.TheVariants as errors
-use Rattle.line_world.specs.FloorPlan.{AtMachine, FloorPlan, IsGap, IsWhole, empty_machine, free_gap, gap_at, machine_at}
-use Rattle.line_world.specs.Moves.{Answers, AnswersAround, AnswersFloor, Around, around_move, around_of, floor_after, floor_move, has_gap, with_around}
+use Rattle.line_world.specs.FloorPlan.{AtMachine, FloorPlan, IsGap, IsWhole, empty_machine, free_gap}
+use Rattle.line_world.specs.Moves.{Answers, AnswersAround, AnswersFloor, Around, around_move, around_of, floor_after, floor_move, with_around}
 use Rattle.line_world.proofs.Keeping.{has_gap_of, with_around_same}
 
 floor_move_at : (gap : ℕ) (step : Move) (plan : FloorPlan) → IsGap plan gap → floor_move gap step plan ≡ floor_after plan gap (around_move step (around_of plan gap))

@@ -5,7 +5,7 @@ use Rattle.line_world.specs.declared.gap.Gap.TheVariants as gaps
 use Rattle.line_world.specs.declared.gap.AtGap.{AtGap}
 use Rattle.line_world.specs.declared.moves.Move.{Move}
 use Rattle.line_world.specs.declared.moves.Move.TheVariants as moves
-use Rattle.line_world.specs.FloorPlan.{AtMachine, FloorPlan, gap_at, has_id}
+use Rattle.line_world.specs.FloorPlan.{AtMachine, FloorPlan, has_id}
 
 abbrev pub boards_in : Gap → List Board
 boards_in gaps.Free = []

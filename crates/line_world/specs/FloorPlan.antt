@@ -1,9 +1,8 @@
-use Rattle.std.specs.Prelude.{◌≡◌, ◌+◌, ◌-◌, ◌<◌, ◌≤◌, ◌++◌, ◌∷◌, [], ℕ, Bool, false, List, Option, Some, None, nat_eq, length, position, remove, slice_get, slice_index_or, slice_set}
+use Rattle.std.specs.Prelude.{◌≡◌, ◌-◌, ◌<◌, ◌≤◌, ◌++◌, ◌∷◌, [], ℕ, Bool, false, List, Option, Some, None, nat_eq, length, position, remove, slice_get, slice_index_or, slice_set}
 use Rattle.line_base.specs.declared.states.Side.{Side}
 use Rattle.line_base.specs.declared.states.Side.TheVariants as sides
 use Rattle.board_record.specs.declared.sensed.Sensed.{Sensed}
 use Rattle.line_world.specs.declared.board.Board.{Board}
-use Rattle.line_world.specs.declared.gap.Gap.{Gap}
 use Rattle.line_world.specs.declared.gap.Gap.TheVariants as gaps
 use Rattle.line_world.specs.declared.gap.AtGap.{AtGap}
 

@@ -1,5 +1,3 @@
-use Rattle.std.proofs.Common.{◌++◌}
-use Rattle.line_world.specs.FloorPlan.{FloorPlan, IsGap, IsWhole}
 use Rattle.line_world.proofs.Splitting.{joined}
 use Rattle.line_world.proofs.floor.apply_parted.Goals as goal
 

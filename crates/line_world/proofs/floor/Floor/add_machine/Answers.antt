@@ -1,4 +1,4 @@
-use Rattle.std.proofs.Common.{rules, arith, ◌≡◌, ◌++◌, ◌∷◌, [], ◌<◌, length}
+use Rattle.std.proofs.Common.{rules, ◌≡◌, ◌++◌, ◌∷◌, [], ◌<◌, length}
 use Rattle.line_world.specs.FloorPlan.{empty_machine, free_gap}
 use Rattle.line_world.proofs.Counting.{counted_more}
 use Rattle.line_world.proofs.floor.Floor.add_machine.Goals as goal

@@ -1,7 +1,3 @@
-use Rattle.std.proofs.Common.{◌≡◌, ◌-◌, ◌≤◌}
-use Rattle.line_world.specs.Boards.{KeepsBoards, KeepsPlaces}
-use Rattle.line_world.specs.Counted.{IsCounted}
-use Rattle.line_world.specs.Events.{ReachesBothSides}
 use Rattle.line_world.proofs.Keeping.{counted_moved, counted_taken, keeps_boards, reaches_both_sides}
 use Rattle.line_world.proofs.Placing.{keeps_places}
 use Rattle.line_world.proofs.floor.Floor.apply.Goals as goal

@@ -1,4 +1,4 @@
-use Rattle.std.proofs.Common.{rules, arith, ap, refl, ◌≡◌, ◌+◌, ◌-◌, ◌<◌, length}
+use Rattle.std.proofs.Common.{rules, arith, ap, refl, length}
 use Rattle.line_world.specs.FloorPlan.{FloorPlan}
 use Rattle.line_world.proofs.Counting.{counted_set}
 use Rattle.line_world.proofs.floor.Floor.lie.Goals as goal

@@ -1,5 +1,5 @@
-use Rattle.std.proofs.Common.{rules, arith, ap, refl, ◌≡◌, ◌+◌, ◌-◌, ◌<◌, ◌≤◌, length, get_or}
-use Rattle.line_world.specs.FloorPlan.{AtMachine, FloorPlan}
+use Rattle.std.proofs.Common.{rules, arith, ap, ◌-◌, length}
+use Rattle.line_world.specs.FloorPlan.{FloorPlan}
 use Rattle.line_world.proofs.Counting.{along_gains, counted_set, length_lost}
 use Rattle.line_world.proofs.Placing.{gains_place}
 use Rattle.line_world.proofs.floor.Floor.place.Goals as goal

@@ -1,5 +1,5 @@
-use Rattle.std.proofs.Common.{rules, arith, ap, refl, ◌≡◌, ◌+◌, ◌-◌, ◌<◌, ◌≤◌, length, get_or}
-use Rattle.line_world.specs.FloorPlan.{AtMachine, FloorPlan}
+use Rattle.std.proofs.Common.{rules, arith, ap, refl, length}
+use Rattle.line_world.specs.FloorPlan.{FloorPlan}
 use Rattle.line_world.proofs.Counting.{counted_set}
 use Rattle.line_world.proofs.floor.Floor.read_all.Goals as goal
 

@@ -1,6 +1,6 @@
-use Rattle.std.proofs.Common.{rules, arith, ap, refl, ◌≡◌, ◌+◌, ◌-◌, ◌<◌, ◌≤◌, length, get_or}
+use Rattle.std.proofs.Common.{rules, arith, ap, ◌-◌, length}
 use Rattle.std.specs.Prelude.{slice_set}
-use Rattle.line_world.specs.FloorPlan.{AtMachine, FloorPlan}
+use Rattle.line_world.specs.FloorPlan.{FloorPlan}
 use Rattle.line_world.proofs.Counting.{counted_set}
 use Rattle.line_world.proofs.Placing.{along_changes, changes_place, on_true_then}
 use Rattle.line_world.proofs.floor.Floor.replace.Goals as goal

@@ -1,5 +1,4 @@
-use Rattle.std.proofs.Common.{rules, arith, ap, refl, ◌≡◌, ◌+◌, ◌-◌, ◌<◌, ◌≤◌, length, get_or}
-use Rattle.line_world.specs.FloorPlan.{AtMachine, FloorPlan}
+use Rattle.std.proofs.Common.{rules}
 use Rattle.line_world.proofs.Counting.{counted_set_gap}
 use Rattle.line_world.proofs.floor.Floor.set_drive.Goals as goal
 

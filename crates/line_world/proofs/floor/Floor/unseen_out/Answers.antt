@@ -1,6 +1,6 @@
-use Rattle.std.proofs.Common.{rules, arith, ap, refl, ◌≡◌, ◌+◌, ◌-◌, ◌<◌, ◌≤◌, length, get_or}
+use Rattle.std.proofs.Common.{rules, arith, ap, ◌-◌, length}
 use Rattle.std.specs.Prelude.{slice_set}
-use Rattle.line_world.specs.FloorPlan.{AtMachine, FloorPlan}
+use Rattle.line_world.specs.FloorPlan.{FloorPlan}
 use Rattle.line_world.proofs.Counting.{along_loses, counted_set, counted_within, length_lost}
 use Rattle.line_world.proofs.Placing.{loses_place}
 use Rattle.line_world.proofs.floor.Floor.unseen_out.Goals as goal
