@@ -148,7 +148,7 @@ length_taken moves.Back lies old new is h = absurd (cc)
 length_taken moves.HandIn lies old new is h = absurd (cc)
 length_taken moves.Take lies old new is h = length_lost h.2
 
-whole_after : (gap : ℕ) (step : Move) (old new : FloorPlan) → IsWhole old → floor_move gap step old ≡ Ok new → IsWhole new
+pub whole_after : (gap : ℕ) (step : Move) (old new : FloorPlan) → IsWhole old → floor_move gap step old ≡ Ok new → IsWhole new
 whole_after gap step old new whole h =
     let done = done_of gap step old new h in
     rw done.after (simp length-set whole)
