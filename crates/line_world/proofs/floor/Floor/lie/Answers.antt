@@ -1,0 +1,9 @@
+use Rattle.std.proofs.Common.{rules, arith, ap, refl, length}
+use Rattle.line_world.specs.FloorPlan.{FloorPlan}
+use Rattle.line_world.proofs.Counting.{counted_set}
+use Rattle.line_world.proofs.floor.Floor.lie.Goals as goal
+
+pub invariant_of-self : goal.invariant_of-self
+invariant_of-self c =
+    let machines = ap (λ (plan : FloorPlan). length plan.machines) c.self.view_is in
+    counted_set _ _ c.self.inside.boards _ _ c.index_mut.result.now _ c.self.invariant (omega arith) (search rules) (rw c.tell.ensures.boards refl)

@@ -1,0 +1,5 @@
+pub mod FloorPlan
+pub mod Moves
+pub mod Boards
+pub mod Counted
+pub mod Events
