@@ -1,7 +1,8 @@
 use Rattle.std.specs.Prelude.{◌≡◌, ◌≤◌, ℕ, List, [], ◌∷◌, Bool, true, false, Option, None, Some, codes}
 use Rattle.std.specs.Str.{bytes_eq}
 use Rattle.line_outside.specs.Faults.{Rose}
-use Rattle.line_outside.specs.Sink.{Grows, GrowsInPart}
+use Rattle.line_outside.specs.Sink.{Grows, GrowsInPart, PushesAll}
+use Rattle.line_outside.specs.declared.pushing.Pushed.{Pushed}
 use Rattle.line_cli.specs.Script.{Refusal, script_of}
 use Rattle.line_cli.specs.Report.{report_of}
 use Rattle.line_cli.specs.declared.status.Status.{Status}
@@ -45,16 +46,18 @@ abbrev pub Runs : Option (List ℕ) → Option (List ℕ) → Option (List ℕ) 
 Runs None left old new status = Unit {0}
 Runs (Some script) left old new status = RunsScript script left old new status
 
--- what other words do: nothing is read, and the usage text is written
-pub record Refers (left_old left_new old new : Option (List ℕ)) (status : Status) : Type 0 where
+-- what other words do: nothing is read, and the usage text is written, or a front of it where the
+-- sink failed
+pub record Refers (left_old left_new old new : Option (List ℕ)) (before now : ℕ) (status : Status) : Type 0 where
   pub usage : status ≡ statuses.Usage
   pub unread : left_new ≡ left_old
-  pub text : GrowsInPart old new usage_text
+  pub pushed : Pushed
+  pub text : PushesAll old new before now usage_text pushed
 
 -- WHAT THE PROGRAM DOES with its words
-abbrev pub DoesAs : Bool → Option (List ℕ) → Option (List ℕ) → Option (List ℕ) → Option (List ℕ) → Status → Type 0
-DoesAs true left_old left_new old new status = Runs left_old left_new old new status
-DoesAs false left_old left_new old new status = Refers left_old left_new old new status
+abbrev pub DoesAs : Bool → Option (List ℕ) → Option (List ℕ) → Option (List ℕ) → Option (List ℕ) → ℕ → ℕ → Status → Type 0
+DoesAs true left_old left_new old new before now status = Runs left_old left_new old new status
+DoesAs false left_old left_new old new before now status = Refers left_old left_new old new before now status
 
 -- no count of faults falls, and a fault comes only where the count of that object rose
 pub record HasCauses (status : Status) (reads_before reads_now writes_before writes_now : ℕ) : Type 0 where

@@ -8,3 +8,4 @@ pub mod Reader
 pub mod Command
 pub mod Ending
 pub mod Answers
+pub mod Ids

@@ -1,4 +1,5 @@
 ghost use Rattle.std.specs.Prelude.{◌≡◌};
+ghost use Rattle.line_cli.specs.Ids.{IdsStay};
 ghost use Rattle.line_cli.specs.Command.{DoesAs, HasCauses, is_run, usage_text};
 
 use crate::running::run_script;
@@ -20,8 +21,10 @@ pub fn line_main<S: Source, K: Sink>(
     script: &mut S,
     report: &mut K,
 ) -> Status
-    ensures does { DoesAs (is_run words.now) (S.left script.old) (S.left script.new) (K.contents report.old) (K.contents report.new) result }
+    ensures does { DoesAs (is_run words.now) (S.left script.old) (S.left script.new) (K.contents report.old) (K.contents report.new) (K.faults report.old) (K.faults report.new) result }
     ensures causes { HasCauses result (S.faults script.old) (S.faults script.new) (K.faults report.old) (K.faults report.new) }
+    // unique ids, and ids that stay, over the run of every script
+    ensures ids { IdsStay }
 {
     if is_run(words.list()) {
         return run_script(alloc, script, report);
