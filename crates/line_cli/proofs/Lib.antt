@@ -5,3 +5,4 @@ pub mod IdLists
 pub mod Ownership
 pub mod IdSteps
 pub mod IdLaws
+pub mod Names

@@ -146,6 +146,8 @@ fn name_of(alloc: Global, number: u32) -> Result<Text, Memory>
     }
     match Text::read(alloc, bytes.as_slice()) {
         Ok(name) => Ok(name),
-        Err(_) => Err(Memory),
+        Err(TextError::Memory) => Err(Memory),
+        Err(TextError::TooLong) => unreachable!(),
+        Err(TextError::BadChar) => unreachable!(),
     }
 }

@@ -18,7 +18,7 @@ returns-in-Err-take_piece-clause-runs g c =
 
 pub returns-in-Err-take_piece-clause-causes : goal.returns-in-Err-take_piece-clause-causes
 returns-in-Err-take_piece-clause-causes g c =
-    causes-refused c.in-Err-take_piece.error (g.K.Sink.contents c.loop-count.report) (g.K.Sink.contents c.end_refused.new.report) _ c.end_refused.result _ _ _ _ _ (omega (arith, c.loop-count.invariant.reads, c.in-Bytes.ensures.cause)) c.loop-count.invariant.writes c.end_refused.ensures
+    causes-refused c.in-Err-take_piece.error (g.K.Sink.contents c.loop-count.report) (g.K.Sink.contents c.end_refused.new.report) _ c.end_refused.result (g.S.Source.faults c.args.script.now) (g.S.Source.faults c.pull.new.self) (g.K.Sink.faults c.args.report.now) (g.K.Sink.faults c.loop-count.report) (g.K.Sink.faults c.end_refused.new.report) (omega (arith, c.loop-count.invariant.reads, c.in-Bytes.ensures.cause)) c.loop-count.invariant.writes c.end_refused.ensures
 
 pub returns-in-Failed-push_full-clause-runs : goal.returns-in-Failed-push_full-clause-runs
 returns-in-Failed-push_full-clause-runs g c =
@@ -32,7 +32,7 @@ returns-in-Failed-push_full-clause-runs g c =
 pub returns-in-Failed-push_full-clause-causes : goal.returns-in-Failed-push_full-clause-causes
 returns-in-Failed-push_full-clause-causes g c =
     let pushed = c.in-Failed-push_full.ensures in
-    causes-write_fault _ _ _ _ _ (omega (arith, c.loop-count.invariant.reads, c.in-Bytes.ensures.cause)) c.loop-count.invariant.writes pushed.0 pushed.1
+    causes-write_fault (g.S.Source.faults c.args.script.now) (g.S.Source.faults c.pull.new.self) (g.K.Sink.faults c.args.report.now) (g.K.Sink.faults c.loop-count.report) (g.K.Sink.faults c.push_full.new.report) (omega (arith, c.loop-count.invariant.reads, c.in-Bytes.ensures.cause)) c.loop-count.invariant.writes pushed.0 pushed.1
 
 pub loop-count-smaller : goal.loop-count-smaller
 loop-count-smaller g c =
@@ -68,7 +68,7 @@ returns-in-Err-finish-clause-runs g c =
 
 pub returns-in-Err-finish-clause-causes : goal.returns-in-Err-finish-clause-causes
 returns-in-Err-finish-clause-causes g c =
-    causes-refused c.in-Err-finish.error (g.K.Sink.contents c.loop-count.report) (g.K.Sink.contents c.end_refused-in-Err-finish.new.report) _ c.end_refused-in-Err-finish.result _ _ _ _ _ (omega (arith, c.loop-count.invariant.reads, c.in-End.ensures.cause)) c.loop-count.invariant.writes c.end_refused-in-Err-finish.ensures
+    causes-refused c.in-Err-finish.error (g.K.Sink.contents c.loop-count.report) (g.K.Sink.contents c.end_refused-in-Err-finish.new.report) _ c.end_refused-in-Err-finish.result (g.S.Source.faults c.args.script.now) (g.S.Source.faults c.pull.new.self) (g.K.Sink.faults c.args.report.now) (g.K.Sink.faults c.loop-count.report) (g.K.Sink.faults c.end_refused-in-Err-finish.new.report) (omega (arith, c.loop-count.invariant.reads, c.in-End.ensures.cause)) c.loop-count.invariant.writes c.end_refused-in-Err-finish.ensures
 
 pub returns-in-End-clause-runs : goal.returns-in-End-clause-runs
 returns-in-End-clause-runs g c =
@@ -77,7 +77,7 @@ returns-in-End-clause-runs g c =
 
 pub returns-in-End-clause-causes : goal.returns-in-End-clause-causes
 returns-in-End-clause-causes g c =
-    causes-whole (g.K.Sink.contents c.loop-count.report) (g.K.Sink.contents c.end_whole.new.report) _ c.end_whole.result _ _ _ _ _ (omega (arith, c.loop-count.invariant.reads, c.in-End.ensures.cause)) c.loop-count.invariant.writes c.end_whole.ensures
+    causes-whole (g.K.Sink.contents c.loop-count.report) (g.K.Sink.contents c.end_whole.new.report) _ c.end_whole.result (g.S.Source.faults c.args.script.now) (g.S.Source.faults c.pull.new.self) (g.K.Sink.faults c.args.report.now) (g.K.Sink.faults c.loop-count.report) (g.K.Sink.faults c.end_whole.new.report) (omega (arith, c.loop-count.invariant.reads, c.in-End.ensures.cause)) c.loop-count.invariant.writes c.end_whole.ensures
 
 pub returns-in-Failed-clause-runs : goal.returns-in-Failed-clause-runs
 returns-in-Failed-clause-runs g c =
