@@ -64,6 +64,14 @@ impl Name {
         }
     }
 
+    /// The name of these bytes. It takes no memory.
+    pub fn of(bytes: Vec<u8>) -> Name
+        requires { IsName bytes.items }
+        ensures { result ≡ bytes.items }
+    {
+        Name { bytes }
+    }
+
     /// Its bytes.
     pub fn bytes(&self) -> &[u8]
         ensures bytes { result.now ≡ self.now }

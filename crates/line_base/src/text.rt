@@ -75,6 +75,14 @@ impl Text {
         }
     }
 
+    /// The text of these bytes. It takes no memory.
+    pub fn of(bytes: Vec<u8>) -> Text
+        requires { IsText bytes.items }
+        ensures { result ≡ bytes.items }
+    {
+        Text { bytes }
+    }
+
     /// An equal text of its own.
     pub fn copy(&self, alloc: Global) -> Result<Text, Memory>
         ensures { IfOk result (λ text. text ≡ self.now) }
