@@ -1,0 +1,42 @@
+-- The text of an id is a text, and it is read as that id.
+use Rattle.std.proofs.Common.{◌≡◌, ◌^◌, ◌<◌, ◌≤◌, ◌==◌, ℕ, zero, suc, Bool, true, false, cond, leb, List, [], ◌∷◌, ◌++◌, Ok, length, refl, ap, ◌∙◌, sym, arith, inl}
+use Rattle.std.proofs.lemmas.Bool.{and_from}
+use Rattle.std.proofs.lemmas.Bool.Decides.{nat_tests}
+use Rattle.std.proofs.lemmas.List.Folds.{list_all-append}
+use Rattle.std.specs.Int.{w128, to_be_bytes}
+use Rattle.std.specs.List.{list_all}
+use Rattle.line_base.specs.Text.{IsText}
+use Rattle.line_base.proofs.Printable.{is_printable, IsText-from_printable}
+use Rattle.uuid.specs.Text.{by_index, hex_digit, nibble, digit_place, is_hyphen_place, hyphenated_text, lower}
+use Rattle.uuid.proofs.RoundTrips.{parses_hyphenated}
+use Rattle.uuid.proofs.TextLemmas.{by_index_length, nibble_small}
+use Rattle.uuid.proofs.OrderLemmas.{from_be_bytes-to_be_bytes_16}
+use Rattle.board_record.specs.BoardId.{id_of_bytes, id_text, read_id}
+use Rattle.board_record.proofs.Ids.{to_be_bytes_small, to_be_bytes_length}
+
+printable_hex : (d : ℕ) → d < 16 → is_printable (hex_digit lower d) ≡ true
+printable_hex d small = grind (arith, nat_tests)
+
+all_by_index : (p : ℕ → Bool) (n : ℕ) (f : ℕ → ℕ) → ((k : ℕ) → p (f k) ≡ true) → list_all p (by_index n f) ≡ true
+unfolding by_index
+all_by_index p zero f h = refl
+all_by_index p (suc n) f h = list_all-append p (by_index n f) (f n ∷ []) ∙ and_from (list_all p (by_index n f)) (list_all p (f n ∷ [])) (all_by_index p n f h) (and_from (p (f n)) true (h n) refl)
+
+hyphen_or : (b : Bool) (d : ℕ) → d < 16 → is_printable (cond b 45 (hex_digit lower d)) ≡ true
+hyphen_or true d small = refl
+hyphen_or false d small = printable_hex d small
+
+pub IsText-id : (id : ℕ) → IsText (id_text id)
+unfolding id_text
+IsText-id id =
+    let bytes = to_be_bytes w128 id in
+    let printable = all_by_index is_printable 36 (λ k. cond (is_hyphen_place k) 45 (hex_digit lower (nibble bytes (digit_place k)))) (λ k. hyphen_or (is_hyphen_place k) (nibble bytes (digit_place k)) (nibble_small bytes (digit_place k))) in
+    let long = by_index_length 36 (λ k. cond (is_hyphen_place k) 45 (hex_digit lower (nibble bytes (digit_place k)))) in
+    IsText-from_printable (id_text id) printable (omega (arith, long))
+
+-- the id that is read from its text
+pub read_id-id_text : (number : ℕ) → number < 2 ^ 128 → read_id (id_text number) ≡ Ok number
+unfolding id_text
+read_id-id_text number fits =
+    let parses = parses_hyphenated lower (to_be_bytes w128 number) (inl refl) (to_be_bytes_length number) (to_be_bytes_small number) in
+    ap id_of_bytes (sym parses) ∙ ap Ok (from_be_bytes-to_be_bytes_16 number fits)
