@@ -1,7 +1,13 @@
 //! Each row of the intake table, and each message without a row, reached from a new intake.
 
+use self::On::{
+    Back, Begun, Close, Fault, Full, Half, Left, Not, Offer, Ready, Revoke, Stand, Start, Taken,
+    Unready, Whole,
+};
+use crate::InPhase::{Idle, Stopped, Taking, Waiting};
 use crate::{InAct, InBreach, InDeed, InInput, InPhase, InSend, Intake};
 use board_record::{BoardId, Record};
+use line_base::Transfer::{Complete, Incomplete, NotStarted};
 use line_base::{Seen, SensorEvent, Text, Transfer};
 use std::alloc::Global;
 use std::test::Fail;
@@ -28,22 +34,26 @@ enum On {
     Stand,
 }
 
+const ON: Option<bool> = Some(true);
+
+const OFF: Option<bool> = Some(false);
+
 const NEW: &[On] = &[];
 
-const READY: &[On] = &[On::Ready];
+const READY: &[On] = &[Ready];
 
-const OFFERED: &[On] = &[On::Offer(1)];
+const OFFERED: &[On] = &[Offer(1)];
 
-const BOTH: &[On] = &[On::Ready, On::Offer(1)];
+const BOTH: &[On] = &[Ready, Offer(1)];
 
 /// Taking: nothing seen, begun, and both once the end was heard.
-const STARTED: &[On] = &[On::Ready, On::Offer(1), On::Start];
+const STARTED: &[On] = &[Ready, Offer(1), Start];
 
-const BEGUN: &[On] = &[On::Ready, On::Offer(1), On::Start, On::Begun];
+const BEGUN: &[On] = &[Ready, Offer(1), Start, Begun];
 
-const SOON: &[On] = &[On::Ready, On::Offer(1), On::Start, On::Whole(1)];
+const SOON: &[On] = &[Ready, Offer(1), Start, Whole(1)];
 
-const LEFT: &[On] = &[On::Ready, On::Offer(1), On::Start, On::Begun, On::Whole(1)];
+const LEFT: &[On] = &[Ready, Offer(1), Start, Begun, Whole(1)];
 
 const LEFT_OFFERED: &[On] = &[
     On::Ready,
@@ -55,18 +65,18 @@ const LEFT_OFFERED: &[On] = &[
 ];
 
 /// Stopped, no end heard: nothing seen, begun, inside, taken out.
-const HALTED: &[On] = &[On::Ready, On::Offer(1), On::Start, On::Fault];
+const HALTED: &[On] = &[Ready, Offer(1), Start, Fault];
 
-const HALTED_BEGUN: &[On] = &[On::Ready, On::Offer(1), On::Start, On::Begun, On::Fault];
+const HALTED_BEGUN: &[On] = &[Ready, Offer(1), Start, Begun, Fault];
 
-const INSIDE: &[On] = &[On::Ready, On::Offer(1), On::Start, On::Full];
+const INSIDE: &[On] = &[Ready, Offer(1), Start, Full];
 
-const STOLEN: &[On] = &[On::Ready, On::Offer(1), On::Start, On::Begun, On::Taken];
+const STOLEN: &[On] = &[Ready, Offer(1), Start, Begun, Taken];
 
 /// Stopped, an end heard: begun with each of the three, inside with the first.
-const BEGUN_NOT: &[On] = &[On::Ready, On::Offer(1), On::Start, On::Begun, On::Not(1)];
+const BEGUN_NOT: &[On] = &[Ready, Offer(1), Start, Begun, Not(1)];
 
-const BEGUN_HALF: &[On] = &[On::Ready, On::Offer(1), On::Start, On::Begun, On::Half(1)];
+const BEGUN_HALF: &[On] = &[Ready, Offer(1), Start, Begun, Half(1)];
 
 const BEGUN_WHOLE: &[On] = &[
     On::Ready,
@@ -77,7 +87,7 @@ const BEGUN_WHOLE: &[On] = &[
     On::Fault,
 ];
 
-const INSIDE_NOT: &[On] = &[On::Ready, On::Offer(1), On::Start, On::Full, On::Not(1)];
+const INSIDE_NOT: &[On] = &[Ready, Offer(1), Start, Full, Not(1)];
 
 const STOPPED_OFFERED: &[On] = &[
     On::Ready,
@@ -89,7 +99,7 @@ const STOPPED_OFFERED: &[On] = &[
 ];
 
 /// Waiting: begun, begun and heard that it has left, inside.
-const WAITING: &[On] = &[On::Ready, On::Offer(1), On::Start, On::Begun, On::Close];
+const WAITING: &[On] = &[Ready, Offer(1), Start, Begun, Close];
 
 const WAITING_LEFT: &[On] = &[
     On::Ready,
@@ -100,7 +110,7 @@ const WAITING_LEFT: &[On] = &[
     On::Close,
 ];
 
-const WAITING_INSIDE: &[On] = &[On::Ready, On::Offer(1), On::Start, On::Full, On::Close];
+const WAITING_INSIDE: &[On] = &[Ready, Offer(1), Start, Full, Close];
 
 fn record(alloc: Global, number: u128) -> Result<Record, Fail> {
     let maker = Text::read(alloc, b"M1")?;
@@ -190,12 +200,20 @@ fn done_at(alloc: Global, before: &[On], on: On) -> Result<Result<Done, InBreach
     }
 }
 
+fn starts() -> Option<InDeed> {
+    Some(InDeed::Starts(BoardId::of(1)))
+}
+
 fn settles() -> Option<InDeed> {
     Some(InDeed::Settles(BoardId::of(1)))
 }
 
 fn drops() -> Option<InDeed> {
     Some(InDeed::Drops(BoardId::of(1)))
+}
+
+fn start() -> Option<InSend> {
+    Some(InSend::Start(BoardId::of(1)))
 }
 
 fn stop(state: Transfer) -> Option<InSend> {
@@ -216,97 +234,33 @@ fn offers_and_starts(rt: HostRuntime) -> Result<(), Fail> {
     let rows = [
         (
             NEW,
-            On::Ready,
+            Ready,
             None,
             Some(InSend::MachineReady),
             None,
             false,
-            InPhase::Idle,
+            Idle,
         ),
         (
             READY,
-            On::Unready,
+            Unready,
             None,
             Some(InSend::RevokeMachineReady),
             None,
             false,
-            InPhase::Idle,
+            Idle,
         ),
-        (
-            BOTH,
-            On::Start,
-            Some(InDeed::Starts(BoardId::of(1))),
-            Some(InSend::Start(BoardId::of(1))),
-            Some(true),
-            false,
-            InPhase::Taking,
-        ),
-        (READY, On::Offer(1), None, None, None, false, InPhase::Idle),
-        (LEFT, On::Offer(2), None, None, None, false, InPhase::Taking),
-        (
-            BEGUN_NOT,
-            On::Offer(2),
-            None,
-            None,
-            None,
-            false,
-            InPhase::Stopped,
-        ),
-        (OFFERED, On::Revoke, None, None, None, false, InPhase::Idle),
-        (
-            LEFT_OFFERED,
-            On::Revoke,
-            None,
-            None,
-            None,
-            false,
-            InPhase::Taking,
-        ),
-        (
-            STOPPED_OFFERED,
-            On::Revoke,
-            None,
-            None,
-            None,
-            false,
-            InPhase::Stopped,
-        ),
-        (
-            STARTED,
-            On::Offer(2),
-            None,
-            None,
-            None,
-            false,
-            InPhase::Taking,
-        ),
-        (
-            STARTED,
-            On::Revoke,
-            None,
-            None,
-            None,
-            false,
-            InPhase::Taking,
-        ),
-        (
-            HALTED,
-            On::Offer(2),
-            None,
-            None,
-            None,
-            false,
-            InPhase::Stopped,
-        ),
-        (
-            HALTED,
-            On::Revoke,
-            None,
-            None,
-            None,
-            false,
-            InPhase::Stopped,
-        ),
+        (BOTH, Start, starts(), start(), ON, false, Taking),
+        (READY, Offer(1), None, None, None, false, Idle),
+        (LEFT, Offer(2), None, None, None, false, Taking),
+        (BEGUN_NOT, Offer(2), None, None, None, false, Stopped),
+        (OFFERED, Revoke, None, None, None, false, Idle),
+        (LEFT_OFFERED, Revoke, None, None, None, false, Taking),
+        (STOPPED_OFFERED, Revoke, None, None, None, false, Stopped),
+        (STARTED, Offer(2), None, None, None, false, Taking),
+        (STARTED, Revoke, None, None, None, false, Taking),
+        (HALTED, Offer(2), None, None, None, false, Stopped),
+        (HALTED, Revoke, None, None, None, false, Stopped),
     ];
     for (before, on, deed, send, drive, taken, phase) in rows {
         let keep = keep_of(rt.alloc(), deed)?;
@@ -330,160 +284,32 @@ fn offers_and_starts(rt: HostRuntime) -> Result<(), Fail> {
 #[test]
 fn ends_heard(rt: HostRuntime) -> Result<(), Fail> {
     let rows = [
+        (STARTED, Whole(1), None, None, None, false, Taking),
+        (BEGUN, Whole(1), None, None, None, false, Taking),
+        (STARTED, Not(1), drops(), stop(NotStarted), OFF, false, Idle),
         (
             STARTED,
-            On::Whole(1),
-            None,
-            None,
-            None,
-            false,
-            InPhase::Taking,
-        ),
-        (
-            BEGUN,
-            On::Whole(1),
-            None,
-            None,
-            None,
-            false,
-            InPhase::Taking,
-        ),
-        (
-            STARTED,
-            On::Not(1),
+            Half(1),
             drops(),
-            stop(Transfer::NotStarted),
-            Some(false),
+            stop(NotStarted),
+            OFF,
             false,
-            InPhase::Idle,
+            Idle,
         ),
-        (
-            STARTED,
-            On::Half(1),
-            drops(),
-            stop(Transfer::NotStarted),
-            Some(false),
-            false,
-            InPhase::Idle,
-        ),
-        (
-            BEGUN,
-            On::Not(1),
-            None,
-            stop(Transfer::Incomplete),
-            Some(false),
-            false,
-            InPhase::Stopped,
-        ),
-        (
-            BEGUN,
-            On::Half(1),
-            None,
-            stop(Transfer::Incomplete),
-            Some(false),
-            false,
-            InPhase::Stopped,
-        ),
-        (
-            HALTED,
-            On::Not(1),
-            drops(),
-            None,
-            None,
-            false,
-            InPhase::Idle,
-        ),
-        (
-            HALTED,
-            On::Half(1),
-            drops(),
-            None,
-            None,
-            false,
-            InPhase::Idle,
-        ),
-        (
-            HALTED,
-            On::Whole(1),
-            None,
-            None,
-            None,
-            false,
-            InPhase::Stopped,
-        ),
-        (
-            HALTED_BEGUN,
-            On::Not(1),
-            None,
-            None,
-            None,
-            false,
-            InPhase::Stopped,
-        ),
-        (
-            HALTED_BEGUN,
-            On::Half(1),
-            None,
-            None,
-            None,
-            false,
-            InPhase::Stopped,
-        ),
-        (
-            HALTED_BEGUN,
-            On::Whole(1),
-            None,
-            None,
-            None,
-            false,
-            InPhase::Stopped,
-        ),
-        (
-            INSIDE,
-            On::Not(1),
-            None,
-            None,
-            None,
-            false,
-            InPhase::Stopped,
-        ),
-        (
-            INSIDE,
-            On::Half(1),
-            settles(),
-            None,
-            None,
-            false,
-            InPhase::Idle,
-        ),
-        (
-            INSIDE,
-            On::Whole(1),
-            settles(),
-            None,
-            None,
-            false,
-            InPhase::Idle,
-        ),
-        (STOLEN, On::Not(1), drops(), None, None, true, InPhase::Idle),
-        (
-            STOLEN,
-            On::Half(1),
-            drops(),
-            None,
-            None,
-            true,
-            InPhase::Idle,
-        ),
-        (
-            STOLEN,
-            On::Whole(1),
-            drops(),
-            None,
-            None,
-            true,
-            InPhase::Idle,
-        ),
+        (BEGUN, Not(1), None, stop(Incomplete), OFF, false, Stopped),
+        (BEGUN, Half(1), None, stop(Incomplete), OFF, false, Stopped),
+        (HALTED, Not(1), drops(), None, None, false, Idle),
+        (HALTED, Half(1), drops(), None, None, false, Idle),
+        (HALTED, Whole(1), None, None, None, false, Stopped),
+        (HALTED_BEGUN, Not(1), None, None, None, false, Stopped),
+        (HALTED_BEGUN, Half(1), None, None, None, false, Stopped),
+        (HALTED_BEGUN, Whole(1), None, None, None, false, Stopped),
+        (INSIDE, Not(1), None, None, None, false, Stopped),
+        (INSIDE, Half(1), settles(), None, None, false, Idle),
+        (INSIDE, Whole(1), settles(), None, None, false, Idle),
+        (STOLEN, Not(1), drops(), None, None, true, Idle),
+        (STOLEN, Half(1), drops(), None, None, true, Idle),
+        (STOLEN, Whole(1), drops(), None, None, true, Idle),
     ];
     for (before, on, deed, send, drive, taken, phase) in rows {
         let keep = keep_of(rt.alloc(), deed)?;
@@ -507,65 +333,17 @@ fn ends_heard(rt: HostRuntime) -> Result<(), Fail> {
 #[test]
 fn events_and_faults_while_running(rt: HostRuntime) -> Result<(), Fail> {
     let rows = [
-        (STARTED, On::Begun, None, None, None, false, InPhase::Taking),
-        (BEGUN, On::Back, None, None, None, false, InPhase::Taking),
-        (BEGUN, On::Left, None, None, None, false, InPhase::Taking),
-        (
-            LEFT,
-            On::Full,
-            settles(),
-            stop(Transfer::Complete),
-            Some(false),
-            false,
-            InPhase::Idle,
-        ),
-        (
-            STARTED,
-            On::Full,
-            None,
-            stop(Transfer::Complete),
-            Some(false),
-            false,
-            InPhase::Stopped,
-        ),
-        (
-            LEFT,
-            On::Taken,
-            drops(),
-            stop(Transfer::Incomplete),
-            Some(false),
-            true,
-            InPhase::Idle,
-        ),
-        (
-            BEGUN,
-            On::Taken,
-            None,
-            stop(Transfer::Incomplete),
-            Some(false),
-            false,
-            InPhase::Stopped,
-        ),
-        (STARTED, On::Taken, None, None, None, false, InPhase::Taking),
-        (
-            STARTED,
-            On::Fault,
-            None,
-            stop(Transfer::NotStarted),
-            Some(false),
-            false,
-            InPhase::Stopped,
-        ),
-        (
-            LEFT,
-            On::Fault,
-            None,
-            stop(Transfer::Incomplete),
-            Some(false),
-            false,
-            InPhase::Stopped,
-        ),
-        (HALTED, On::Fault, None, None, None, false, InPhase::Stopped),
+        (STARTED, Begun, None, None, None, false, Taking),
+        (BEGUN, Back, None, None, None, false, Taking),
+        (BEGUN, Left, None, None, None, false, Taking),
+        (LEFT, Full, settles(), stop(Complete), OFF, false, Idle),
+        (STARTED, Full, None, stop(Complete), OFF, false, Stopped),
+        (LEFT, Taken, drops(), stop(Incomplete), OFF, true, Idle),
+        (BEGUN, Taken, None, stop(Incomplete), OFF, false, Stopped),
+        (STARTED, Taken, None, None, None, false, Taking),
+        (STARTED, Fault, None, stop(NotStarted), OFF, false, Stopped),
+        (LEFT, Fault, None, stop(Incomplete), OFF, false, Stopped),
+        (HALTED, Fault, None, None, None, false, Stopped),
     ];
     for (before, on, deed, send, drive, taken, phase) in rows {
         let keep = keep_of(rt.alloc(), deed)?;
@@ -589,202 +367,34 @@ fn events_and_faults_while_running(rt: HostRuntime) -> Result<(), Fail> {
 #[test]
 fn events_after_the_stop(rt: HostRuntime) -> Result<(), Fail> {
     let rows = [
-        (HALTED, On::Begun, None, None, None, false, InPhase::Stopped),
-        (
-            HALTED_BEGUN,
-            On::Full,
-            None,
-            None,
-            None,
-            false,
-            InPhase::Stopped,
-        ),
-        (
-            HALTED_BEGUN,
-            On::Taken,
-            None,
-            None,
-            None,
-            false,
-            InPhase::Stopped,
-        ),
-        (
-            BEGUN_NOT,
-            On::Full,
-            None,
-            None,
-            None,
-            false,
-            InPhase::Stopped,
-        ),
-        (
-            BEGUN_NOT,
-            On::Back,
-            drops(),
-            None,
-            None,
-            false,
-            InPhase::Idle,
-        ),
-        (
-            BEGUN_NOT,
-            On::Taken,
-            drops(),
-            None,
-            None,
-            true,
-            InPhase::Idle,
-        ),
-        (
-            BEGUN_HALF,
-            On::Full,
-            settles(),
-            None,
-            None,
-            false,
-            InPhase::Idle,
-        ),
-        (
-            BEGUN_HALF,
-            On::Back,
-            drops(),
-            None,
-            None,
-            false,
-            InPhase::Idle,
-        ),
-        (
-            BEGUN_WHOLE,
-            On::Full,
-            settles(),
-            None,
-            None,
-            false,
-            InPhase::Idle,
-        ),
-        (
-            BEGUN_WHOLE,
-            On::Back,
-            None,
-            None,
-            None,
-            false,
-            InPhase::Stopped,
-        ),
-        (
-            BEGUN_WHOLE,
-            On::Taken,
-            drops(),
-            None,
-            None,
-            true,
-            InPhase::Idle,
-        ),
-        (
-            BEGUN_WHOLE,
-            On::Begun,
-            None,
-            None,
-            None,
-            false,
-            InPhase::Stopped,
-        ),
-        (
-            INSIDE_NOT,
-            On::Back,
-            drops(),
-            None,
-            None,
-            false,
-            InPhase::Idle,
-        ),
-        (
-            INSIDE_NOT,
-            On::Left,
-            None,
-            None,
-            None,
-            false,
-            InPhase::Stopped,
-        ),
-        (
-            WAITING,
-            On::Back,
-            drops(),
-            None,
-            Some(false),
-            false,
-            InPhase::Idle,
-        ),
-        (
-            WAITING,
-            On::Taken,
-            drops(),
-            None,
-            Some(false),
-            true,
-            InPhase::Idle,
-        ),
-        (
-            WAITING,
-            On::Full,
-            None,
-            None,
-            Some(false),
-            false,
-            InPhase::Waiting,
-        ),
-        (
-            WAITING,
-            On::Begun,
-            None,
-            None,
-            None,
-            false,
-            InPhase::Waiting,
-        ),
-        (
-            WAITING_LEFT,
-            On::Full,
-            settles(),
-            None,
-            Some(false),
-            false,
-            InPhase::Idle,
-        ),
-        (
-            WAITING_LEFT,
-            On::Begun,
-            None,
-            None,
-            None,
-            false,
-            InPhase::Waiting,
-        ),
-        (
-            WAITING_INSIDE,
-            On::Back,
-            drops(),
-            None,
-            Some(false),
-            false,
-            InPhase::Idle,
-        ),
-        (
-            WAITING_INSIDE,
-            On::Left,
-            None,
-            None,
-            None,
-            false,
-            InPhase::Waiting,
-        ),
+        (HALTED, Begun, None, None, false, Stopped),
+        (HALTED_BEGUN, Full, None, None, false, Stopped),
+        (HALTED_BEGUN, Taken, None, None, false, Stopped),
+        (BEGUN_NOT, Full, None, None, false, Stopped),
+        (BEGUN_NOT, Back, drops(), None, false, Idle),
+        (BEGUN_NOT, Taken, drops(), None, true, Idle),
+        (BEGUN_HALF, Full, settles(), None, false, Idle),
+        (BEGUN_HALF, Back, drops(), None, false, Idle),
+        (BEGUN_WHOLE, Full, settles(), None, false, Idle),
+        (BEGUN_WHOLE, Back, None, None, false, Stopped),
+        (BEGUN_WHOLE, Taken, drops(), None, true, Idle),
+        (BEGUN_WHOLE, Begun, None, None, false, Stopped),
+        (INSIDE_NOT, Back, drops(), None, false, Idle),
+        (INSIDE_NOT, Left, None, None, false, Stopped),
+        (WAITING, Back, drops(), OFF, false, Idle),
+        (WAITING, Taken, drops(), OFF, true, Idle),
+        (WAITING, Full, None, OFF, false, Waiting),
+        (WAITING, Begun, None, None, false, Waiting),
+        (WAITING_LEFT, Full, settles(), OFF, false, Idle),
+        (WAITING_LEFT, Begun, None, None, false, Waiting),
+        (WAITING_INSIDE, Back, drops(), OFF, false, Idle),
+        (WAITING_INSIDE, Left, None, None, false, Waiting),
     ];
-    for (before, on, deed, send, drive, taken, phase) in rows {
+    for (before, on, deed, drive, taken, phase) in rows {
         let keep = keep_of(rt.alloc(), deed)?;
         let want = Done {
             deed,
-            send,
+            send: None,
             drive,
             keep,
             taken,
@@ -802,90 +412,26 @@ fn events_after_the_stop(rt: HostRuntime) -> Result<(), Fail> {
 #[test]
 fn closes_and_new_connections(rt: HostRuntime) -> Result<(), Fail> {
     let rows = [
-        (BOTH, On::Close, None, None, None, false, InPhase::Idle),
-        (
-            STARTED,
-            On::Close,
-            drops(),
-            None,
-            Some(false),
-            false,
-            InPhase::Idle,
-        ),
-        (
-            SOON,
-            On::Close,
-            drops(),
-            None,
-            Some(false),
-            false,
-            InPhase::Idle,
-        ),
-        (
-            BEGUN,
-            On::Close,
-            None,
-            None,
-            Some(false),
-            false,
-            InPhase::Waiting,
-        ),
-        (LEFT, On::Close, None, None, None, false, InPhase::Waiting),
-        (HALTED, On::Close, drops(), None, None, false, InPhase::Idle),
-        (STOLEN, On::Close, drops(), None, None, true, InPhase::Idle),
-        (
-            HALTED_BEGUN,
-            On::Close,
-            None,
-            None,
-            None,
-            false,
-            InPhase::Waiting,
-        ),
-        (INSIDE, On::Close, None, None, None, false, InPhase::Waiting),
-        (
-            WAITING,
-            On::Close,
-            None,
-            None,
-            None,
-            false,
-            InPhase::Waiting,
-        ),
-        (
-            WAITING_INSIDE,
-            On::Stand,
-            settles(),
-            None,
-            None,
-            false,
-            InPhase::Idle,
-        ),
-        (
-            WAITING,
-            On::Stand,
-            None,
-            None,
-            None,
-            false,
-            InPhase::Waiting,
-        ),
-        (
-            WAITING_LEFT,
-            On::Stand,
-            None,
-            None,
-            None,
-            false,
-            InPhase::Waiting,
-        ),
-        (NEW, On::Stand, None, None, None, false, InPhase::Idle),
+        (BOTH, Close, None, None, false, Idle),
+        (STARTED, Close, drops(), OFF, false, Idle),
+        (SOON, Close, drops(), OFF, false, Idle),
+        (BEGUN, Close, None, OFF, false, Waiting),
+        (LEFT, Close, None, None, false, Waiting),
+        (HALTED, Close, drops(), None, false, Idle),
+        (STOLEN, Close, drops(), None, true, Idle),
+        (HALTED_BEGUN, Close, None, None, false, Waiting),
+        (INSIDE, Close, None, None, false, Waiting),
+        (WAITING, Close, None, None, false, Waiting),
+        (WAITING_INSIDE, Stand, settles(), None, false, Idle),
+        (WAITING, Stand, None, None, false, Waiting),
+        (WAITING_LEFT, Stand, None, None, false, Waiting),
+        (NEW, Stand, None, None, false, Idle),
     ];
-    for (before, on, deed, send, drive, taken, phase) in rows {
+    for (before, on, deed, drive, taken, phase) in rows {
         let keep = keep_of(rt.alloc(), deed)?;
         let want = Done {
             deed,
-            send,
+            send: None,
             drive,
             keep,
             taken,
@@ -903,21 +449,21 @@ fn closes_and_new_connections(rt: HostRuntime) -> Result<(), Fail> {
 #[test]
 fn messages_without_a_row(rt: HostRuntime) -> Result<(), Fail> {
     let rows = [
-        (OFFERED, On::Offer(2), InBreach::BoardAvailable),
-        (LEFT_OFFERED, On::Offer(3), InBreach::BoardAvailable),
-        (STOPPED_OFFERED, On::Offer(3), InBreach::BoardAvailable),
-        (WAITING, On::Offer(2), InBreach::BoardAvailable),
-        (NEW, On::Revoke, InBreach::RevokeBoardAvailable),
-        (LEFT, On::Revoke, InBreach::RevokeBoardAvailable),
-        (BEGUN_NOT, On::Revoke, InBreach::RevokeBoardAvailable),
-        (WAITING, On::Revoke, InBreach::RevokeBoardAvailable),
-        (NEW, On::Not(1), InBreach::TransportFinished),
-        (STARTED, On::Not(2), InBreach::TransportFinished),
-        (BEGUN, On::Whole(2), InBreach::TransportFinished),
-        (LEFT, On::Whole(1), InBreach::TransportFinished),
-        (HALTED, On::Half(2), InBreach::TransportFinished),
-        (BEGUN_NOT, On::Whole(1), InBreach::TransportFinished),
-        (WAITING, On::Whole(1), InBreach::TransportFinished),
+        (OFFERED, Offer(2), InBreach::BoardAvailable),
+        (LEFT_OFFERED, Offer(3), InBreach::BoardAvailable),
+        (STOPPED_OFFERED, Offer(3), InBreach::BoardAvailable),
+        (WAITING, Offer(2), InBreach::BoardAvailable),
+        (NEW, Revoke, InBreach::RevokeBoardAvailable),
+        (LEFT, Revoke, InBreach::RevokeBoardAvailable),
+        (BEGUN_NOT, Revoke, InBreach::RevokeBoardAvailable),
+        (WAITING, Revoke, InBreach::RevokeBoardAvailable),
+        (NEW, Not(1), InBreach::TransportFinished),
+        (STARTED, Not(2), InBreach::TransportFinished),
+        (BEGUN, Whole(2), InBreach::TransportFinished),
+        (LEFT, Whole(1), InBreach::TransportFinished),
+        (HALTED, Half(2), InBreach::TransportFinished),
+        (BEGUN_NOT, Whole(1), InBreach::TransportFinished),
+        (WAITING, Whole(1), InBreach::TransportFinished),
     ];
     for (before, on, breach) in rows {
         assert_eq!(rt;

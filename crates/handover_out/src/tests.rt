@@ -3,8 +3,13 @@
 ghost use Rattle.std.specs.Prelude.{◌≡◌, ◌↔◌, IfOk, IfSome, IsSome, IsTrue};
 ghost use Rattle.handover_out.specs.State.{would_open};
 
+use self::On::{
+    Back, Begun, Close, Fault, Left, Offer, Ready, Revoke, Start, Stop, Taken, Unready,
+};
+use crate::OutPhase::{Ended, Idle, Moving, Stuck};
 use crate::{OutAct, OutBreach, OutDeed, OutInput, OutPhase, OutSend, Outlet};
 use board_record::{BoardId, Record};
+use line_base::Transfer::{Complete, Incomplete, NotStarted};
 use line_base::{SensorEvent, Text, Transfer};
 use std::alloc::Global;
 use std::test::Fail;
@@ -26,29 +31,33 @@ enum On {
     Close,
 }
 
+const ON: Option<bool> = Some(true);
+
+const OFF: Option<bool> = Some(false);
+
 const NEW: &[On] = &[];
 
-const OFFERED: &[On] = &[On::Offer];
+const OFFERED: &[On] = &[Offer];
 
-const READY: &[On] = &[On::Ready];
+const READY: &[On] = &[Ready];
 
-const BOTH: &[On] = &[On::Offer, On::Ready];
+const BOTH: &[On] = &[Offer, Ready];
 
-const REVOKED: &[On] = &[On::Offer, On::Ready, On::Revoke];
+const REVOKED: &[On] = &[Offer, Ready, Revoke];
 
-const OPEN: &[On] = &[On::Offer, On::Ready, On::Start(1)];
+const OPEN: &[On] = &[Offer, Ready, Start(1)];
 
-const BEGUN: &[On] = &[On::Offer, On::Ready, On::Start(1), On::Begun];
+const BEGUN: &[On] = &[Offer, Ready, Start(1), Begun];
 
-const CAME_BACK: &[On] = &[On::Offer, On::Ready, On::Start(1), On::Begun, On::Back];
+const CAME_BACK: &[On] = &[Offer, Ready, Start(1), Begun, Back];
 
-const STUCK: &[On] = &[On::Offer, On::Ready, On::Start(1), On::Begun, On::Fault];
+const STUCK: &[On] = &[Offer, Ready, Start(1), Begun, Fault];
 
-const STOPPED: &[On] = &[On::Offer, On::Ready, On::Start(1), On::Begun, On::Stop(1)];
+const STOPPED: &[On] = &[Offer, Ready, Start(1), Begun, Stop(1)];
 
-const UNLINKED: &[On] = &[On::Offer, On::Ready, On::Start(1), On::Begun, On::Close];
+const UNLINKED: &[On] = &[Offer, Ready, Start(1), Begun, Close];
 
-const ENDED: &[On] = &[On::Offer, On::Ready, On::Start(1), On::Left];
+const ENDED: &[On] = &[Offer, Ready, Start(1), Left];
 
 fn record(alloc: Global, number: u128) -> Result<Record, Fail>
     ensures { IfOk result (λ board. board.id ≡ number) }
@@ -144,6 +153,14 @@ fn one() -> Option<BoardId> {
     Some(BoardId::of(1))
 }
 
+fn opens() -> Option<OutDeed> {
+    Some(OutDeed::Opens(BoardId::of(1)))
+}
+
+fn refuses(number: u128) -> Option<OutDeed> {
+    Some(OutDeed::Refuses(BoardId::of(number)))
+}
+
 fn leaves() -> Option<OutDeed> {
     Some(OutDeed::Leaves(BoardId::of(1)))
 }
@@ -167,67 +184,46 @@ fn back_of(alloc: Global, deed: Option<OutDeed>) -> Result<Option<Record>, Fail>
 #[test]
 fn offers_starts_and_stops(rt: HostRuntime) -> Result<(), Fail> {
     let rows = [
-        (
-            NEW,
-            On::Offer,
-            None,
-            Some(OutSend::BoardAvailable),
-            None,
-            OutPhase::Idle,
-        ),
+        (NEW, Offer, None, Some(OutSend::BoardAvailable), None, Idle),
         (
             OFFERED,
-            On::Revoke,
+            Revoke,
             None,
             Some(OutSend::RevokeBoardAvailable),
             None,
-            OutPhase::Idle,
+            Idle,
         ),
-        (OFFERED, On::Ready, None, None, None, OutPhase::Idle),
-        (BOTH, On::Unready, None, None, None, OutPhase::Idle),
-        (
-            BOTH,
-            On::Start(1),
-            Some(OutDeed::Opens(BoardId::of(1))),
-            None,
-            Some(true),
-            OutPhase::Moving,
-        ),
+        (OFFERED, Ready, None, None, None, Idle),
+        (BOTH, Unready, None, None, None, Idle),
+        (BOTH, Start(1), opens(), None, ON, Moving),
         (
             READY,
-            On::Start(1),
-            Some(OutDeed::Refuses(BoardId::of(1))),
-            finished(Transfer::NotStarted, 1),
+            Start(1),
+            refuses(1),
+            finished(NotStarted, 1),
             None,
-            OutPhase::Ended,
+            Ended,
         ),
         (
             BOTH,
-            On::Start(2),
-            Some(OutDeed::Refuses(BoardId::of(2))),
-            finished(Transfer::NotStarted, 2),
+            Start(2),
+            refuses(2),
+            finished(NotStarted, 2),
             None,
-            OutPhase::Ended,
+            Ended,
         ),
         (
             REVOKED,
-            On::Start(1),
-            Some(OutDeed::Refuses(BoardId::of(1))),
-            finished(Transfer::NotStarted, 1),
+            Start(1),
+            refuses(1),
+            finished(NotStarted, 1),
             None,
-            OutPhase::Ended,
+            Ended,
         ),
-        (
-            OPEN,
-            On::Stop(1),
-            returns(),
-            finished(Transfer::NotStarted, 1),
-            Some(false),
-            OutPhase::Idle,
-        ),
-        (BEGUN, On::Stop(1), None, None, Some(false), OutPhase::Stuck),
-        (STUCK, On::Stop(1), None, None, None, OutPhase::Stuck),
-        (ENDED, On::Stop(1), None, None, None, OutPhase::Idle),
+        (OPEN, Stop(1), returns(), finished(NotStarted, 1), OFF, Idle),
+        (BEGUN, Stop(1), None, None, OFF, Stuck),
+        (STUCK, Stop(1), None, None, None, Stuck),
+        (ENDED, Stop(1), None, None, None, Idle),
     ];
     for (before, on, deed, send, drive, phase) in rows {
         let back = back_of(rt.alloc(), deed)?;
@@ -250,93 +246,37 @@ fn offers_starts_and_stops(rt: HostRuntime) -> Result<(), Fail> {
 #[test]
 fn sensors(rt: HostRuntime) -> Result<(), Fail> {
     let rows = [
-        (OPEN, On::Begun, None, None, None, OutPhase::Moving),
-        (
-            OPEN,
-            On::Left,
-            leaves(),
-            finished(Transfer::Complete, 1),
-            Some(false),
-            OutPhase::Ended,
-        ),
-        (
-            BEGUN,
-            On::Left,
-            leaves(),
-            finished(Transfer::Complete, 1),
-            Some(false),
-            OutPhase::Ended,
-        ),
-        (BEGUN, On::Back, None, None, None, OutPhase::Moving),
+        (OPEN, Begun, None, None, None, Moving),
+        (OPEN, Left, leaves(), finished(Complete, 1), OFF, Ended),
+        (BEGUN, Left, leaves(), finished(Complete, 1), OFF, Ended),
+        (BEGUN, Back, None, None, None, Moving),
         (
             CAME_BACK,
-            On::Stop(1),
+            Stop(1),
             returns(),
-            finished(Transfer::NotStarted, 1),
-            Some(false),
-            OutPhase::Idle,
+            finished(NotStarted, 1),
+            OFF,
+            Idle,
         ),
-        (OPEN, On::Taken, None, None, None, OutPhase::Moving),
-        (
-            BEGUN,
-            On::Taken,
-            loses(),
-            finished(Transfer::Incomplete, 1),
-            Some(false),
-            OutPhase::Ended,
-        ),
-        (
-            STUCK,
-            On::Left,
-            leaves(),
-            finished(Transfer::Complete, 1),
-            None,
-            OutPhase::Ended,
-        ),
+        (OPEN, Taken, None, None, None, Moving),
+        (BEGUN, Taken, loses(), finished(Incomplete, 1), OFF, Ended),
+        (STUCK, Left, leaves(), finished(Complete, 1), None, Ended),
+        (STOPPED, Left, leaves(), finished(Complete, 1), None, Idle),
+        (UNLINKED, Left, leaves(), None, None, Idle),
+        (STUCK, Back, returns(), finished(NotStarted, 1), None, Ended),
         (
             STOPPED,
-            On::Left,
-            leaves(),
-            finished(Transfer::Complete, 1),
-            None,
-            OutPhase::Idle,
-        ),
-        (UNLINKED, On::Left, leaves(), None, None, OutPhase::Idle),
-        (
-            STUCK,
-            On::Back,
+            Back,
             returns(),
-            finished(Transfer::NotStarted, 1),
+            finished(NotStarted, 1),
             None,
-            OutPhase::Ended,
+            Idle,
         ),
-        (
-            STOPPED,
-            On::Back,
-            returns(),
-            finished(Transfer::NotStarted, 1),
-            None,
-            OutPhase::Idle,
-        ),
-        (UNLINKED, On::Back, returns(), None, None, OutPhase::Idle),
-        (
-            STUCK,
-            On::Taken,
-            loses(),
-            finished(Transfer::Incomplete, 1),
-            None,
-            OutPhase::Ended,
-        ),
-        (
-            STOPPED,
-            On::Taken,
-            loses(),
-            finished(Transfer::Incomplete, 1),
-            None,
-            OutPhase::Idle,
-        ),
-        (UNLINKED, On::Taken, loses(), None, None, OutPhase::Idle),
-        (OFFERED, On::Left, None, None, None, OutPhase::Idle),
+        (UNLINKED, Back, returns(), None, None, Idle),
+        (STUCK, Taken, loses(), finished(Incomplete, 1), None, Ended),
+        (STOPPED, Taken, loses(), finished(Incomplete, 1), None, Idle),
+        (UNLINKED, Taken, loses(), None, None, Idle),
+        (OFFERED, Left, None, None, None, Idle),
     ];
     for (before, on, deed, send, drive, phase) in rows {
         let back = back_of(rt.alloc(), deed)?;
@@ -359,28 +299,14 @@ fn sensors(rt: HostRuntime) -> Result<(), Fail> {
 #[test]
 fn faults_and_closes(rt: HostRuntime) -> Result<(), Fail> {
     let rows = [
-        (
-            OPEN,
-            On::Fault,
-            returns(),
-            finished(Transfer::NotStarted, 1),
-            Some(false),
-            OutPhase::Ended,
-        ),
-        (BEGUN, On::Fault, None, None, Some(false), OutPhase::Stuck),
-        (STOPPED, On::Fault, None, None, None, OutPhase::Stuck),
-        (BOTH, On::Close, None, None, None, OutPhase::Idle),
-        (ENDED, On::Close, None, None, None, OutPhase::Idle),
-        (
-            OPEN,
-            On::Close,
-            returns(),
-            None,
-            Some(false),
-            OutPhase::Idle,
-        ),
-        (BEGUN, On::Close, None, None, Some(false), OutPhase::Stuck),
-        (STOPPED, On::Close, None, None, None, OutPhase::Stuck),
+        (OPEN, Fault, returns(), finished(NotStarted, 1), OFF, Ended),
+        (BEGUN, Fault, None, None, OFF, Stuck),
+        (STOPPED, Fault, None, None, None, Stuck),
+        (BOTH, Close, None, None, None, Idle),
+        (ENDED, Close, None, None, None, Idle),
+        (OPEN, Close, returns(), None, OFF, Idle),
+        (BEGUN, Close, None, None, OFF, Stuck),
+        (STOPPED, Close, None, None, None, Stuck),
     ];
     for (before, on, deed, send, drive, phase) in rows {
         let back = back_of(rt.alloc(), deed)?;
@@ -403,20 +329,20 @@ fn faults_and_closes(rt: HostRuntime) -> Result<(), Fail> {
 #[test]
 fn messages_without_a_row(rt: HostRuntime) -> Result<(), Fail> {
     let rows = [
-        (READY, On::Ready, OutBreach::MachineReady),
-        (OPEN, On::Ready, OutBreach::MachineReady),
-        (NEW, On::Unready, OutBreach::RevokeMachineReady),
-        (STUCK, On::Unready, OutBreach::RevokeMachineReady),
-        (OFFERED, On::Start(1), OutBreach::StartTransport),
-        (OPEN, On::Start(1), OutBreach::StartTransport),
-        (ENDED, On::Start(1), OutBreach::StartTransport),
-        (BOTH, On::Stop(1), OutBreach::StopTransport),
-        (OPEN, On::Stop(2), OutBreach::StopTransport),
-        (BEGUN, On::Stop(2), OutBreach::StopTransport),
-        (STUCK, On::Stop(2), OutBreach::StopTransport),
-        (STOPPED, On::Stop(1), OutBreach::StopTransport),
-        (UNLINKED, On::Stop(1), OutBreach::StopTransport),
-        (ENDED, On::Stop(2), OutBreach::StopTransport),
+        (READY, Ready, OutBreach::MachineReady),
+        (OPEN, Ready, OutBreach::MachineReady),
+        (NEW, Unready, OutBreach::RevokeMachineReady),
+        (STUCK, Unready, OutBreach::RevokeMachineReady),
+        (OFFERED, Start(1), OutBreach::StartTransport),
+        (OPEN, Start(1), OutBreach::StartTransport),
+        (ENDED, Start(1), OutBreach::StartTransport),
+        (BOTH, Stop(1), OutBreach::StopTransport),
+        (OPEN, Stop(2), OutBreach::StopTransport),
+        (BEGUN, Stop(2), OutBreach::StopTransport),
+        (STUCK, Stop(2), OutBreach::StopTransport),
+        (STOPPED, Stop(1), OutBreach::StopTransport),
+        (UNLINKED, Stop(1), OutBreach::StopTransport),
+        (ENDED, Stop(2), OutBreach::StopTransport),
     ];
     for (before, on, breach) in rows {
         assert_eq!(rt;
@@ -431,18 +357,18 @@ fn messages_without_a_row(rt: HostRuntime) -> Result<(), Fail> {
 #[test]
 fn flags_beside_the_phase(rt: HostRuntime) -> Result<(), Fail> {
     let rows = [
-        (NEW, On::Offer, one(), one(), false, false),
-        (BOTH, On::Revoke, None, one(), true, false),
-        (BOTH, On::Unready, one(), one(), false, false),
-        (BOTH, On::Start(1), None, one(), false, false),
-        (BOTH, On::Start(2), None, one(), false, false),
-        (OPEN, On::Stop(1), None, None, false, false),
-        (OPEN, On::Left, None, one(), false, false),
-        (ENDED, On::Stop(1), None, None, false, false),
-        (BEGUN, On::Stop(1), None, one(), false, true),
-        (STOPPED, On::Back, None, None, false, false),
-        (STOPPED, On::Close, None, None, false, false),
-        (BOTH, On::Close, None, None, false, false),
+        (NEW, Offer, one(), one(), false, false),
+        (BOTH, Revoke, None, one(), true, false),
+        (BOTH, Unready, one(), one(), false, false),
+        (BOTH, Start(1), None, one(), false, false),
+        (BOTH, Start(2), None, one(), false, false),
+        (OPEN, Stop(1), None, None, false, false),
+        (OPEN, Left, None, one(), false, false),
+        (ENDED, Stop(1), None, None, false, false),
+        (BEGUN, Stop(1), None, one(), false, true),
+        (STOPPED, Back, None, None, false, false),
+        (STOPPED, Close, None, None, false, false),
+        (BOTH, Close, None, None, false, false),
     ];
     for (before, on, offered, touched, ready, stopped) in rows {
         let mut outlet = outlet_after(rt.alloc(), before)?;
