@@ -9,6 +9,8 @@ mod script_reader;
 mod script_run;
 mod status;
 mod step;
+#[cfg(test)]
+mod tests;
 
 pub use command::line_main;
 pub use status::{InputWhy, Status};
