@@ -1,0 +1,29 @@
+use Rattle.std.proofs.Common.{◌≡◌, ◌≢◌, ◌⊎◌, inl, inr, ◌+◌, ◌-◌, ◌<◌, ◌≤◌, ℕ, ◌++◌, ◌∷◌, [], length, get_or, Option, Some, None, Result, Ok, Err, Bool, true, false, ap, sym, ◌∙◌, arith, List, rules, take, drop, subst, refl, append-nil, length-append}
+use Rattle.std.specs.Prelude.{slice_range}
+use Rattle.std.specs.Str.{bytes_eq}
+use Rattle.line_base.specs.Name.{IsName, is_name_start, is_name_byte}
+use Rattle.hermes_element.specs.Plain.{is_blank}
+use Rattle.hermes_element.specs.Element.{Forest, none, Tree, add}
+use Rattle.hermes_element.specs.Machine.{Build, Outcome, in_tag, between, outcome, after_element, ended, add_last, innermost, outer}
+use Rattle.hermes_element.specs.Steps.{run_at, Meets, beginning, in_content, in_close, tag_ended, as_forest, ReadsProlog, ReadsBegin, ReadsMarkup, ReadsClose, ReadsRoot}
+use Rattle.hermes_element.specs.declared.place.Place.{Place}
+use Rattle.hermes_element.specs.declared.place.Place.TheVariants as places
+use Rattle.hermes_element.specs.declared.stop.Stop.TheVariants as stops
+use Rattle.hermes_element.proofs.Roots.{closing, again, length-add_last}
+use Rattle.std.proofs.lemmas.Bool.{eqb-false}
+use Rattle.hermes_element.proofs.document.read_close.Goals as goal
+
+pub returns-in-Err-clause-reads : goal.returns-in-Err-clause-reads
+returns-in-Err-clause-reads c =
+    subst (λ o. Meets o c.in-Err.stop) (sym (closing c.args.stack.now.items c.pop.new.self.items c.in-Some.top c.args.at c.args.bytes.now c.in-Some.ensures.items)) (c.in-Err.ensures.reads (length c.pop.new.self.items) none c.pop.new.self.items)
+
+pub returns-in-Ok-add_last-clause-reads : goal.returns-in-Ok-add_last-clause-reads
+returns-in-Ok-add_last-clause-reads c =
+    let not_empty = eqb-false (length c.as_slice.result.now) 0 (sym c.is_empty.ensures ∙ c.if-is_empty.false) in
+    let some : 0 < length c.pop.new.self.items = omega (arith, ap length c.as_slice.ensures.value, not_empty) in (
+      closing c.args.stack.now.items c.pop.new.self.items c.in-Some.top c.args.at c.args.bytes.now c.in-Some.ensures.items
+          ∙ c.in-Ok.ensures.reads (length c.pop.new.self.items) none c.pop.new.self.items
+          ∙ again c.pop.new.self.items c.in-Some.top c.in-Ok.end c.args.bytes.now some
+          ∙ ap (λ s. in_content s c.in-Ok.end c.args.bytes.now) (sym c.in-Ok-add_last.ensures),
+      omega (arith, some, length-add_last c.pop.new.self.items c.in-Some.top, ap length c.in-Ok-add_last.ensures),
+    )

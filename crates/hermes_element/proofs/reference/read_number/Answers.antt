@@ -1,0 +1,28 @@
+use Rattle.std.proofs.Common.{◌≡◌, ◌≢◌, ◌+◌, ◌<◌, ◌≤◌, ℕ, length, get_or, Option, Some, None, Bool, true, false, ap, sym, ◌∙◌, arith, List, min, rules}
+use Rattle.std.specs.Prelude.{slice_range}
+use Rattle.std.proofs.lemmas.Grind.{common_steps}
+use Rattle.hermes_element.specs.Plain.{is_digit, is_hex_digit, is_letter, named, decimal, hexadecimal}
+use Rattle.hermes_element.specs.Checks.{allowed, named_char, number_of, digit_of, character_of}
+use Rattle.hermes_element.specs.Steps.{ReadsReference, IsGood}
+use Rattle.hermes_element.proofs.Numbers.{allowed-min}
+use Rattle.hermes_element.proofs.Escapes.{reads_decimal, faults_decimal, breaks_decimal}
+use Rattle.hermes_element.proofs.reference.read_number.Goals as goal
+use Rattle.hermes_element.proofs.reference.read_number.Goals.{else-start-bytes-via-then-start-bytes+else-bytes-start-eq120, else-start-bytes-via-else-start-bytes}
+
+pub returns-then-not-is_escape_end-clause-reads : goal.returns-then-not-is_escape_end-clause-reads
+returns-then-not-is_escape_end-clause-reads c =
+    let bad : IsGood c.args.bytes.now (c.args.at + 2) c.digits_end-end.result → ⊥ = λ good. let yes = c.is_escape_end.ensures.1 good in cc (yes, c.if-not-is_escape_end.true) in
+    breaks_decimal c.args.bytes.now c.args.at c.digits_end-end.result c.requires.here c.requires.escape c.requires.number c.digits_end-end.ensures
+    (λ here e. elim c.else-start-bytes.branch [ else-start-bytes-via-then-start-bytes+else-bytes-start-eq120 w ↦ w.if-bytes-start-eq120.false e | else-start-bytes-via-else-start-bytes w ↦ omega arith ]) bad
+
+pub returns-in-Some-clause-reads : goal.returns-in-Some-clause-reads
+returns-in-Some-clause-reads c =
+    let good : IsGood c.args.bytes.now (c.args.at + 2) c.digits_end-end.result = c.is_escape_end.ensures.0 c.if-not-is_escape_end.false in
+    let char : character_of (decimal (slice_range c.args.bytes.now (c.args.at + 2) c.digits_end-end.result)) ≡ Some c.in-Some.found = sym (ap allowed c.capped_number.ensures ∙ allowed-min (number_of 10 digit_of 0 (slice_range c.args.bytes.now (c.args.at + 2) c.digits_end-end.result))) ∙ sym c.in-Some.ensures in
+    reads_decimal c.args.bytes.now c.args.at c.digits_end-end.result c.in-Some.found c.requires.here c.requires.escape c.requires.number c.digits_end-end.ensures good char
+
+pub returns-in-None-clause-reads : goal.returns-in-None-clause-reads
+returns-in-None-clause-reads c =
+    let good : IsGood c.args.bytes.now (c.args.at + 2) c.digits_end-end.result = c.is_escape_end.ensures.0 c.if-not-is_escape_end.false in
+    let char : character_of (decimal (slice_range c.args.bytes.now (c.args.at + 2) c.digits_end-end.result)) ≡ None = sym (ap allowed c.capped_number.ensures ∙ allowed-min (number_of 10 digit_of 0 (slice_range c.args.bytes.now (c.args.at + 2) c.digits_end-end.result))) ∙ sym c.in-None.ensures in
+    faults_decimal c.args.bytes.now c.args.at c.digits_end-end.result c.requires.here c.requires.escape c.requires.number c.digits_end-end.ensures good char

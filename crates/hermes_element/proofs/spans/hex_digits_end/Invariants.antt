@@ -1,0 +1,13 @@
+use Rattle.std.proofs.Common.{◌≡◌, ℕ, ◌<◌, ◌≤◌, ◌-◌, length, true, get_or}
+use Rattle.hermes_element.specs.Plain.{is_hex_digit}
+use Rattle.hermes_element.proofs.spans.hex_digits_end.Given as goal
+
+abbrev pub invariant-loop-end : goal.invariant-loop-end
+invariant-loop-end l = record {
+  low : l.at ≤ l.end;
+  high : l.end ≤ length l.bytes;
+  each : (k : ℕ) → l.at ≤ k → k < l.end → is_hex_digit (get_or l.bytes k 0) ≡ true;
+}
+
+abbrev pub decreases-loop-end : goal.decreases-loop-end
+decreases-loop-end l = length l.bytes - l.end

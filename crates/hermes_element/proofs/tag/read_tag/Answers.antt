@@ -1,0 +1,34 @@
+use Rattle.std.proofs.Common.{◌≡◌, ◌≢◌, ◌⊎◌, inl, inr, ◌+◌, ◌-◌, ◌<◌, ◌≤◌, ℕ, ◌++◌, ◌∷◌, [], length, get_or, Option, Some, None, Result, Ok, Err, Bool, true, false, ap, sym, ◌∙◌, arith, List, rules, take, drop, subst, refl, append-nil}
+use Rattle.std.specs.Prelude.{slice_range}
+use Rattle.std.specs.List.{list_any}
+use Rattle.std.specs.Str.{bytes_eq}
+use Rattle.line_base.specs.Name.{IsName, is_name_start, is_name_byte}
+use Rattle.hermes_element.specs.Plain.{is_quote, is_blank}
+use Rattle.hermes_element.specs.Element.{Forest, none, Tree}
+use Rattle.hermes_element.specs.Machine.{Build, in_tag, between, with_attribute, names_of}
+use Rattle.hermes_element.specs.Steps.{run_at, valuing, Meets, ReadsAttribute, ReadsAttributes, ReadsTag, ReadsValue}
+use Rattle.hermes_element.specs.declared.place.Place.{Place}
+use Rattle.hermes_element.specs.declared.place.Place.TheVariants as places
+use Rattle.hermes_element.specs.declared.stop.Stop.TheVariants as stops
+use Rattle.hermes_element.proofs.Tags.{tag_deep, tag_named, tag_breaks, range_name}
+use Rattle.hermes_element.proofs.tag.read_tag.Goals as goal
+
+pub returns-then-open_count-eq-MOST_OPEN-clause-reads : goal.returns-then-open_count-eq-MOST_OPEN-clause-reads
+returns-then-open_count-eq-MOST_OPEN-clause-reads c = λ roots stack many.
+    tag_deep c.args.bytes.now c.args.at c.args.open_count roots stack (omega (arith, c.requires.here, c.if-at-bytes.false)) (sym c.is_name_start.ensures ∙ c.if-not-is_name_start.false) (many ∙ c.if-open_count-eq-MOST_OPEN.true)
+
+pub copy_name-requires : goal.copy_name-requires
+copy_name-requires c = range_name c.args.bytes.now c.args.at c.name_end-name_end.result (omega (arith, c.requires.here, c.if-at-bytes.false)) (sym c.is_name_start.ensures ∙ c.if-not-is_name_start.false) c.name_end-name_end.ensures
+
+pub returns-in-Ok-read_attributes-clause-reads : goal.returns-in-Ok-read_attributes-clause-reads
+returns-in-Ok-read_attributes-clause-reads c = λ roots stack many.
+    tag_named c.args.bytes.now c.args.at c.name_end-name_end.result c.args.open_count roots stack (omega (arith, c.requires.here, c.if-at-bytes.false)) (sym c.is_name_start.ensures ∙ c.if-not-is_name_start.false) c.name_end-name_end.ensures (λ e. c.if-open_count-eq-MOST_OPEN.false (sym many ∙ e))
+    ∙ c.in-Ok-read_attributes.ensures.reads c.args.open_count roots stack (record { name = slice_range c.args.bytes.now c.args.at c.name_end-name_end.result; at = c.args.at - 1; attributes = []; children = none }) refl
+    ∙ ap (λ n. run_at places.Quoted c.args.open_count (in_tag roots stack (record { name = n; at = c.args.at - 1; attributes = c.in-Ok-read_attributes.attributes; children = none })) c.in-Ok-read_attributes.end c.args.bytes.now) (sym c.in-Ok.ensures)
+    ∙ ap (λ f. run_at places.Quoted c.args.open_count (in_tag roots stack (record { name = c.in-Ok.name; at = c.args.at - 1; attributes = c.in-Ok-read_attributes.attributes; children = f })) c.in-Ok-read_attributes.end c.args.bytes.now) (sym c.new.ensures)
+
+pub returns-in-Err-read_attributes-clause-reads : goal.returns-in-Err-read_attributes-clause-reads
+returns-in-Err-read_attributes-clause-reads c = λ roots stack many.
+    subst (λ o. Meets o c.in-Err-read_attributes.stop)
+    (sym (tag_named c.args.bytes.now c.args.at c.name_end-name_end.result c.args.open_count roots stack (omega (arith, c.requires.here, c.if-at-bytes.false)) (sym c.is_name_start.ensures ∙ c.if-not-is_name_start.false) c.name_end-name_end.ensures (λ e. c.if-open_count-eq-MOST_OPEN.false (sym many ∙ e))))
+    (c.in-Err-read_attributes.ensures.reads c.args.open_count roots stack (record { name = slice_range c.args.bytes.now c.args.at c.name_end-name_end.result; at = c.args.at - 1; attributes = []; children = none }) refl)

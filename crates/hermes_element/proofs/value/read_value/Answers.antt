@@ -1,0 +1,36 @@
+use Rattle.std.proofs.Common.{◌≡◌, ◌≢◌, ◌+◌, ◌-◌, ◌<◌, ◌≤◌, ℕ, ◌++◌, ◌∷◌, [], length, get_or, Option, Some, None, Ok, Err, Bool, true, false, ap, sym, ◌∙◌, arith, List, rules, take, drop, subst, refl, append-nil}
+use Rattle.std.specs.Prelude.{slice_range}
+use Rattle.line_base.specs.Text.{IsAllowed}
+use Rattle.hermes_element.specs.Machine.{Build, in_tag, with_attribute, wide_start, wide_next}
+use Rattle.hermes_element.specs.Steps.{run_at, valuing, AtPlace, IsPart, IsOne, Meets, ReadsPart, ReadsValue}
+use Rattle.hermes_element.specs.declared.place.Place.{Place}
+use Rattle.hermes_element.specs.declared.place.Place.TheVariants as places
+use Rattle.hermes_element.specs.declared.stop.Stop.TheVariants as stops
+use Rattle.line_base.specs.Text.{IsText}
+use Rattle.hermes_element.proofs.Running.{length_range}
+use Rattle.hermes_element.proofs.Values.{plain_span, closes, closes_long}
+use Rattle.hermes_element.proofs.Texts.{allowed_span}
+use Rattle.hermes_element.proofs.value.read_value.Goals as goal
+use Rattle.hermes_element.proofs.value.read_value.Goals.{in-Ok, in-Err}
+
+pub returns-then-end-at-gt-MOST_VALUE_BYTES-clause-reads : goal.returns-then-end-at-gt-MOST_VALUE_BYTES-clause-reads
+returns-then-end-at-gt-MOST_VALUE_BYTES-clause-reads c = λ depth key b.
+    let to = c.plain_end-end.result in
+    ap (λ o. o.built) (plain_span c.args.quote depth c.args.at c.args.at to key c.args.bytes.now b c.plain_end-end.ensures)
+    ∙ closes_long c.args.quote depth c.args.at to key (slice_range c.args.bytes.now c.args.at to) c.args.bytes.now false b c.if-end-bytes.true c.if-bytes-end.true (omega (arith, length_range c.args.bytes.now c.args.at to c.plain_end-end.ensures.low c.plain_end-end.ensures.high, c.if-end-at-gt-MOST_VALUE_BYTES.true))
+
+pub of-requires : goal.of-requires
+of-requires c = record { short = omega (arith, ap length c.in-Ok.ensures.items, length_range c.args.bytes.now c.args.at c.plain_end-end.result c.plain_end-end.ensures.low c.plain_end-end.ensures.high, c.if-end-at-gt-MOST_VALUE_BYTES.false); allowed = subst IsAllowed (sym c.in-Ok.ensures.items) (allowed_span c.args.quote c.args.bytes.now c.args.at c.plain_end-end.result c.plain_end-end.ensures) }
+
+pub returns-then-bytes-end-clause-reads : goal.returns-then-bytes-end-clause-reads
+returns-then-bytes-end-clause-reads c =
+    elim c.match-from_slice.branch [
+      | in-Ok w ↦ subst (λ r. ReadsValue c.args.bytes.now c.args.quote c.args.at r) (sym w.result-is) (λ depth key b.
+          let to = c.plain_end-end.result in
+          let text : w.of.result ≡ slice_range c.args.bytes.now c.args.at to = w.of.ensures ∙ w.in-Ok.ensures.items in
+          plain_span c.args.quote depth c.args.at c.args.at to key c.args.bytes.now b c.plain_end-end.ensures
+          ∙ closes c.args.quote depth c.args.at to key (slice_range c.args.bytes.now c.args.at to) c.args.bytes.now false b c.if-end-bytes.true c.if-bytes-end.true
+          (omega (arith, length_range c.args.bytes.now c.args.at to c.plain_end-end.ensures.low c.plain_end-end.ensures.high, c.if-end-at-gt-MOST_VALUE_BYTES.false))
+          ∙ ap (λ v. run_at places.Quoted depth (in_tag b.roots b.stack (with_attribute b.tag key v c.args.at)) (to + 1) c.args.bytes.now) (sym text))
+      | in-Err w ↦ subst (λ r. ReadsValue c.args.bytes.now c.args.quote c.args.at r) (sym w.result-is) (λ depth key b. tt)
+    ]

@@ -1,0 +1,57 @@
+use Rattle.std.proofs.Common.{◌≡◌, ◌≢◌, ◌+◌, ◌-◌, ◌<◌, ◌≤◌, ℕ, ◌++◌, ◌∷◌, [], length, get_or, Option, Some, None, Ok, Err, Bool, true, false, ap, sym, ◌∙◌, arith, List, rules, take, drop, subst, refl, append-nil}
+use Rattle.std.specs.Prelude.{slice_range}
+use Rattle.line_base.specs.Text.{IsAllowed}
+use Rattle.hermes_element.specs.Machine.{Build, wide_start, wide_next}
+use Rattle.hermes_element.specs.Steps.{run_at, valuing, AtPlace, IsPart, IsOne, Meets, ReadsPart, ReadsValue}
+use Rattle.hermes_element.specs.declared.place.Place.{Place}
+use Rattle.hermes_element.specs.declared.place.Place.TheVariants as places
+use Rattle.hermes_element.specs.declared.stop.Stop.TheVariants as stops
+use Rattle.hermes_element.proofs.Running.{range_one, range_more}
+use Rattle.hermes_element.proofs.Wide.{start_part, next_part}
+use Rattle.hermes_element.proofs.Values.{wide_first, wide_stuck, wide_later, wide_bars, wide_over}
+use Rattle.hermes_element.proofs.value.read_wide.Goals as goal
+
+pub loop-place-init : goal.loop-place-init
+loop-place-init c =
+    let bytes = c.args.bytes.now in
+    let starts : wide_start c.args.quote (get_or bytes c.args.at 0) ≡ Some c.in-Some.place = sym c.in-Some.ensures in
+    record {
+      run = λ depth start key value after_cr b. wide_first c.args.quote c.args.at depth start key value bytes after_cr b c.in-Some.place c.requires.quote c.requires.here c.requires.first starts;
+      part = subst (λ l. AtPlace c.in-Some.place c.args.quote l) (sym (range_one bytes c.args.at c.requires.here)) (start_part c.args.quote (get_or bytes c.args.at 0) c.in-Some.place c.requires.first starts);
+      low = omega arith;
+      high = omega (arith, c.requires.here);
+    }
+
+pub loop-place-preserved : goal.loop-place-preserved
+loop-place-preserved c =
+    let bytes = c.args.bytes.now in
+    let quote = c.args.quote in
+    let to = c.loop-place.end in
+    let so_far = slice_range bytes c.args.at to in
+    let w = c.in-Wide in
+    let stands : AtPlace (places.Wide w.field-0 w.floor w.bits w.left) quote so_far = subst (λ p. AtPlace p quote so_far) w.is c.loop-place.invariant.part in
+    let here : to < length bytes = omega (arith, c.loop-place.invariant.high, c.if-end-bytes.false) in
+    let low : c.args.at ≤ to = omega (arith, c.loop-place.invariant.low) in
+    let goes_on : wide_next quote w.floor w.bits w.left (get_or bytes to 0) ≡ Some c.in-Some-wide_next.next = sym c.in-Some-wide_next.ensures in
+    let place_is : c.loop-place.place ≡ places.Wide quote w.floor w.bits w.left = w.is ∙ ap (λ q. places.Wide q w.floor w.bits w.left) stands.0 in
+    record {
+      run = λ depth start key value after_cr b.
+          c.loop-place.invariant.run depth start key value after_cr b
+          ∙ ap (λ p. run_at p depth (valuing b key start (value ++ so_far) false) to bytes) place_is
+          ∙ wide_later quote w.floor w.bits w.left c.args.at to depth start key value bytes b c.in-Some-wide_next.next low here goes_on;
+      part = subst (λ l. AtPlace c.in-Some-wide_next.next quote l) (range_more bytes c.args.at to low here)
+          (next_part quote w.floor w.bits w.left (get_or bytes to 0) so_far c.in-Some-wide_next.next stands.2 stands.3 stands.1 goes_on);
+      low = omega (arith, low);
+      high = omega (arith, here);
+    }
+
+pub returns : goal.returns
+returns c =
+    let bytes = c.args.bytes.now in
+    let done = wide_over c.loop-place.place c.args.quote (slice_range bytes c.args.at c.loop-place.end) c.loop-place.invariant.part (λ q f b l e. c.in_default.not-Wide q f b l e) in
+    record {
+      reads = λ depth start key value after_cr b. c.loop-place.invariant.run depth start key value after_cr b
+          ∙ ap (λ p. run_at p depth (valuing b key start (value ++ slice_range bytes c.args.at c.loop-place.end) false) c.loop-place.end bytes) done.0;
+      within = (c.loop-place.invariant.low, c.loop-place.invariant.high);
+      one = done.1;
+    }

@@ -1,0 +1,75 @@
+-- The one written spelling of an element, and which elements are writable.
+use Rattle.std.specs.Prelude.{◌≡◌, ℕ, suc, ◌≤◌, ◌==◌, Bool, cond, List, [], ◌∷◌, ◌++◌, codes, length, map, max}
+use Rattle.std.specs.List.{flat_map, AllByRecursion, IsDistinct}
+use Rattle.std.specs.Str.{bytes_eq}
+use Rattle.line_base.specs.Text.{IsText}
+use Rattle.line_base.specs.Name.{IsName}
+use Rattle.hermes_element.specs.Element.{Forest, none, more, Tree}
+use Rattle.hermes_element.specs.declared.attribute.Attribute.{Attribute}
+
+-- `&`, `<`, `>`, `"`, LF, CR and tab by their escapes, and every other byte as itself
+abbrev pub escaped_byte : ℕ → List ℕ
+escaped_byte b =
+    cond (b == 38) (codes "&amp;") (cond (b == 60) (codes "&lt;") (cond (b == 62) (codes "&gt;") (cond (b == 34) (codes "&quot;")
+    (cond (b == 10) (codes "&#10;") (cond (b == 13) (codes "&#13;") (cond (b == 9) (codes "&#9;") (b ∷ [])))))))
+
+-- a space, the name, `="`, the value, and `"`
+abbrev pub canonical_attribute : Attribute → List ℕ
+canonical_attribute a = (32 ∷ a.name) ++ (61 ∷ 34 ∷ []) ++ flat_map escaped_byte a.value ++ (34 ∷ [])
+
+-- `/>` where there are no children; else `>`, the children's spelling, and the end tag
+abbrev pub canonical_rest : List ℕ → Forest → List ℕ → List ℕ
+canonical_rest name none inside = 47 ∷ 62 ∷ []
+canonical_rest name (more _ _ _ _ _) inside = (62 ∷ []) ++ inside ++ (60 ∷ 47 ∷ []) ++ name ++ (62 ∷ [])
+
+abbrev pub canonical_front : List ℕ → List Attribute → List ℕ
+canonical_front name attributes = (60 ∷ name) ++ flat_map canonical_attribute attributes
+
+abbrev pub canonical_forest : Forest → List ℕ
+canonical_forest none = []
+canonical_forest (more name at attributes children rest) =
+    canonical_front name attributes ++ canonical_rest name children (canonical_forest children) ++ canonical_forest rest
+
+abbrev pub canonical : Tree → List ℕ
+canonical tree = canonical_front tree.name tree.attributes ++ canonical_rest tree.name tree.children (canonical_forest tree.children)
+
+-- ---- writable elements
+
+-- how many levels of elements there are
+abbrev pub depth_of : Forest → ℕ
+depth_of none = 0
+depth_of (more name at attributes children rest) = max (suc (depth_of children)) (depth_of rest)
+
+pub record IsWritableAttribute (a : Attribute) : Type 0 where
+  pub name : IsName a.name
+  pub value : IsText a.value
+
+-- a name, at most 64 attributes, and none that repeats
+pub record HasGoodTag (name : List ℕ) (attributes : List Attribute) : Type 0 where
+  pub named : IsName name
+  pub few : length attributes ≤ 64
+  pub distinct : IsDistinct bytes_eq (map (λ a. a.name) attributes)
+  pub each : AllByRecursion IsWritableAttribute attributes
+
+abbrev pub HasGoodTags : Forest → Type 0
+HasGoodTags none = Unit {0}
+HasGoodTags (more name at attributes children rest) = HasGoodTag name attributes × HasGoodTags children × HasGoodTags rest
+
+-- depth at most 4, and in each element at most 64 attributes of which none repeats. That names are names and
+-- values are texts holds of every element of the program
+pub record IsWritable (tree : Tree) : Type 0 where
+  pub tag : HasGoodTag tree.name tree.attributes
+  pub tags : HasGoodTags tree.children
+  pub depth : depth_of tree.children ≤ 3
+
+-- ---- equal up to the places
+
+abbrev pub unplaced_attribute : Attribute → Attribute
+unplaced_attribute a = record { name = a.name; value = a.value; at = 0 }
+
+abbrev pub unplaced_forest : Forest → Forest
+unplaced_forest none = none
+unplaced_forest (more name at attributes children rest) = more name 0 (map unplaced_attribute attributes) (unplaced_forest children) (unplaced_forest rest)
+
+abbrev pub unplaced : Tree → Tree
+unplaced tree = record { name = tree.name; at = 0; attributes = map unplaced_attribute tree.attributes; children = unplaced_forest tree.children }

@@ -1,0 +1,10 @@
+pub mod Element
+pub mod Falls
+pub mod Plain
+pub mod Checks
+pub mod Spelling
+pub mod Refusal
+pub mod Canonical
+pub mod Texts
+pub mod Machine
+pub mod Steps

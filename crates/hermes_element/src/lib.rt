@@ -1,0 +1,29 @@
+//! The element form: elements read exactly from bytes, refused with a place and a reason, and
+//! written in their one canonical spelling.
+#![tactic(auto)]
+
+mod attribute;
+mod bytes;
+mod document;
+mod element;
+mod laws;
+mod place;
+mod read;
+mod reference;
+mod refusal;
+mod shape;
+mod spans;
+mod stop;
+mod tag;
+mod value;
+mod write;
+
+pub use attribute::{Attribute, Attributes};
+pub use element::{Children, Element};
+pub use laws::{one_spelling, spelled_once, written_is_read};
+pub use read::read_element;
+pub use refusal::{ElementError, Why};
+pub use write::write_element;
+
+#[cfg(test)]
+mod tests;

@@ -1,0 +1,80 @@
+ghost use Rattle.std.specs.Prelude.{◌≡◌, ℕ, IfOk};
+ghost use Rattle.hermes_element.specs.Element.{Tree};
+ghost use Rattle.hermes_element.specs.Spelling.{ReadsElement, Spells, AnswersElement, AnswersRefusal};
+ghost use Rattle.hermes_element.specs.Refusal.{IsRefused, shape_reason, markup_reason};
+ghost use Rattle.hermes_element.specs.Steps.{ReadsOutcome};
+ghost use Rattle.hermes_element.specs.declared.refusal.ElementError.TheVariants as errors;
+ghost use Rattle.hermes_element.specs.declared.refusal.Why.{Why};
+
+use crate::document::read_document;
+use crate::element::Element;
+use crate::refusal::{ElementError, Why};
+use crate::shape::shape_stop;
+use crate::stop::Stop;
+use std::alloc::Global;
+
+/// Reads the bytes of a document as an element.
+///
+/// `Refused` says at which index, and why, the bytes spell none. It takes the memory of the
+/// element alone.
+pub fn read_element(alloc: Global, bytes: &[u8]) -> Result<Element, ElementError>
+    ensures answer { ReadsElement bytes.now result }
+    ensures spelled { (tree : Tree) → Spells bytes.now tree → AnswersElement result tree }
+    ensures refused { (at : ℕ) (reason : Why) → IsRefused bytes.now at reason → AnswersRefusal result at reason }
+{
+    read_by_outcome(alloc, bytes)
+}
+
+/// The same, as its outcome says.
+fn read_by_outcome(alloc: Global, bytes: &[u8]) -> Result<Element, ElementError>
+    ensures { ReadsOutcome bytes.now result }
+{
+    match read_document(alloc, bytes) {
+        Ok(element) => Ok(element),
+        Err(Stop::Shape(at)) => Err(shape_refusal(bytes, at)),
+        Err(Stop::Fault(at, why)) => match shape_stop(bytes) {
+            Some(stop) => Err(shape_refusal(bytes, stop)),
+            None => Err(ElementError::Refused { at, why }),
+        },
+        Err(Stop::Memory) => Err(ElementError::Memory),
+    }
+}
+
+/// The refusal where the bytes leave the plain form at this index.
+fn shape_refusal(bytes: &[u8], at: usize) -> ElementError
+    ensures { result ≡ errors.Refused at (shape_reason bytes.now at) }
+{
+    let why = shape_reason(bytes, at);
+    ElementError::Refused { at, why }
+}
+
+fn shape_reason(bytes: &[u8], at: usize) -> Why
+    ensures { result ≡ shape_reason bytes.now at }
+{
+    if at == bytes.len() {
+        return Why::Unended;
+    }
+    if at == 0 || at > bytes.len() || bytes[at - 1] != b'<' {
+        return Why::Character;
+    }
+    markup_reason(&bytes[at..])
+}
+
+/// What stands behind a `<`, where no name does.
+fn markup_reason(rest: &[u8]) -> Why
+    ensures { result ≡ markup_reason rest.now }
+{
+    if rest.starts_with(b"!--") {
+        return Why::Comment;
+    }
+    if rest.starts_with(b"![CDATA[") {
+        return Why::CData;
+    }
+    if rest.starts_with(b"!DOCTYPE") {
+        return Why::Doctype;
+    }
+    if rest.starts_with(b"?") {
+        return Why::Instruction;
+    }
+    Why::Character
+}

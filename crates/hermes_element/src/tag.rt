@@ -1,0 +1,155 @@
+ghost use Rattle.std.specs.Prelude.{◌≡◌, ◌+◌, ◌<◌, ◌≤◌, ℕ, IfOk, length, slice_index, true, false};
+ghost use Rattle.std.specs.List.{list_any};
+ghost use Rattle.std.specs.Str.{bytes_eq};
+ghost use Rattle.line_base.specs.Name.{IsName, is_name_start, is_name_byte};
+ghost use Rattle.hermes_element.specs.Machine.{names_of};
+ghost use Rattle.hermes_element.specs.Steps.{ReadsAttribute, ReadsAttributes, ReadsTag, CopiesName, IsNoBlank};
+
+use crate::attribute::{Attribute, Attributes};
+use crate::bytes::is_quote;
+use crate::element::{Children, Element};
+use crate::refusal::Why;
+use crate::spans::{blanks_end, name_end};
+use crate::stop::Stop;
+use crate::value::read_value;
+use line_base::{Name, is_name_start};
+use std::alloc::Global;
+
+/// The most attributes that an element may have.
+const MOST_ATTRIBUTES: usize = 64;
+
+/// The most elements that are open where another one begins.
+const MOST_OPEN: usize = 4;
+
+/// Reads a start tag from its name on, where so many elements are open. Answers its element without
+/// children, and the index where its attributes and the blanks behind them end.
+pub(crate) fn read_tag(
+    alloc: Global,
+    bytes: &[u8],
+    at: usize,
+    open_count: usize,
+) -> Result<(Element, usize), Stop>
+    requires here { at ≤ length bytes.now }
+    requires behind { 0 < at }
+    requires start { at < length bytes.now → slice_index bytes.now at ≡ 47 → open_count ≡ 0 }
+    ensures reads { ReadsTag bytes.now open_count at result }
+    ensures within { IfOk result (λ read. (at < read.1) × (read.1 ≤ length bytes.now)) }
+    ensures over { IfOk result (λ read. IsNoBlank bytes.now read.1) }
+{
+    if at == bytes.len() || !is_name_start(bytes[at]) {
+        return Err(Stop::Shape(at));
+    }
+    if open_count == MOST_OPEN {
+        return Err(Stop::Fault(at - 1, Why::Deep));
+    }
+    let name_end = name_end(bytes, at);
+    let name = match copy_name(alloc, &bytes[at..name_end]) {
+        Ok(name) => name,
+        Err(stop) => return Err(stop),
+    };
+    match read_attributes(alloc, bytes, name_end) {
+        Ok((attributes, end)) => Ok((
+            Element {
+                name,
+                at: at - 1,
+                attributes,
+                children: Children::new(alloc),
+            },
+            end,
+        )),
+        Err(stop) => Err(stop),
+    }
+}
+
+fn copy_name(alloc: Global, bytes: &[u8]) -> Result<Name, Stop>
+    requires { IsName bytes.now }
+    ensures { CopiesName bytes.now result }
+{
+    match Vec::from_slice(alloc, bytes) {
+        Ok(name) => Ok(Name::of(name)),
+        Err(_) => Err(Stop::Memory),
+    }
+}
+
+/// Reads the attributes of a start tag from behind its name. Answers them, and the index where they
+/// and the blanks behind them end.
+fn read_attributes(alloc: Global, bytes: &[u8], at: usize) -> Result<(Attributes, usize), Stop>
+    requires here { at ≤ length bytes.now }
+    ensures reads { ReadsAttributes bytes.now at result }
+    ensures within { IfOk result (λ read. (at ≤ read.1) × (read.1 ≤ length bytes.now)) }
+    ensures over { IfOk result (λ read. IsNoBlank bytes.now read.1) }
+{
+    let mut attributes = Attributes::new(alloc);
+    let mut end = at;
+    loop {
+        let next = blanks_end(bytes, end);
+        if next == end || next == bytes.len() || !is_name_start(bytes[next]) {
+            return Ok((attributes, next));
+        }
+        match read_attribute(alloc, bytes, next, &attributes) {
+            Ok((attribute, behind)) => match attributes.push(attribute) {
+                Ok(()) => end = behind,
+                Err(_) => return Err(Stop::Memory),
+            },
+            Err(stop) => return Err(stop),
+        }
+    }
+}
+
+/// Reads an attribute from its name on, behind those of its element that were read before. Answers
+/// it and the index behind its value.
+fn read_attribute(
+    alloc: Global,
+    bytes: &[u8],
+    at: usize,
+    before: &Attributes,
+) -> Result<(Attribute, usize), Stop>
+    requires here { at < length bytes.now }
+    requires name { is_name_start (slice_index bytes.now at) ≡ true }
+    ensures reads { ReadsAttribute bytes.now before.now at result }
+    ensures within { IfOk result (λ read. (at < read.1) × (read.1 ≤ length bytes.now)) }
+{
+    if before.list().len() == MOST_ATTRIBUTES {
+        return Err(Stop::Fault(at, Why::Many));
+    }
+    let name_end = name_end(bytes, at);
+    let equals = blanks_end(bytes, name_end);
+    if equals == bytes.len() || bytes[equals] != b'=' {
+        return Err(Stop::Shape(equals));
+    }
+    if has_name(before.list(), &bytes[at..name_end]) {
+        return Err(Stop::Fault(name_end, Why::Repeated));
+    }
+    let quote_at = blanks_end(bytes, equals + 1);
+    if quote_at == bytes.len() || !is_quote(bytes[quote_at]) {
+        return Err(Stop::Shape(quote_at));
+    }
+    let name = match copy_name(alloc, &bytes[at..name_end]) {
+        Ok(name) => name,
+        Err(stop) => return Err(stop),
+    };
+    let start = quote_at + 1;
+    match read_value(alloc, bytes, start, bytes[quote_at]) {
+        Ok((value, end)) => Ok((
+            Attribute {
+                name,
+                value,
+                at: start,
+            },
+            end,
+        )),
+        Err(stop) => Err(stop),
+    }
+}
+
+/// Whether some attribute has this name.
+fn has_name(attributes: &[Attribute], name: &[u8]) -> bool
+    ensures { result ≡ list_any (bytes_eq name.now) (names_of attributes.now) }
+{
+    for attribute in attributes {
+        if name == attribute.name.bytes() {
+            return true;
+        }
+    }
+    false
+}

@@ -1,0 +1,83 @@
+ghost use Rattle.std.specs.Prelude.{◌≡◌, ◌++◌, OnOk, OnErr};
+ghost use Rattle.std.specs.List.{flat_map};
+ghost use Rattle.hermes_element.specs.Canonical.{canonical, canonical_attribute, escaped_byte};
+
+use crate::attribute::Attribute;
+use crate::element::Element;
+use line_base::Memory;
+
+/// Appends the canonical spelling of an element.
+pub fn write_element(element: &Element, to: &mut Vec<u8>) -> Result<(), Memory>
+    ensures written { OnOk result (to.new.items ≡ to.old.items ++ canonical element.now) }
+    ensures unchanged { OnErr result (to.new.items ≡ to.old.items) }
+{
+    let mut spelling = Vec::new(*to.allocator());
+    append_element(element, &mut spelling)?;
+    append(to, spelling.as_slice())
+}
+
+fn append_element(element: &Element, to: &mut Vec<u8>) -> Result<(), Memory>
+    ensures { OnOk result (to.new.items ≡ to.old.items ++ canonical element.now) }
+{
+    append(to, b"<")?;
+    append(to, element.name.bytes())?;
+    append_attributes(element.attributes.list(), to)?;
+    let children = element.children.list();
+    if children.is_empty() {
+        return append(to, b"/>");
+    }
+    append(to, b">")?;
+    for child in children {
+        append_element(child, to)?;
+    }
+    append(to, b"</")?;
+    append(to, element.name.bytes())?;
+    append(to, b">")
+}
+
+fn append_attributes(attributes: &[Attribute], to: &mut Vec<u8>) -> Result<(), Memory>
+    ensures { OnOk result (to.new.items ≡ to.old.items ++ flat_map canonical_attribute attributes.now) }
+{
+    for attribute in attributes {
+        append(to, b" ")?;
+        append(to, attribute.name.bytes())?;
+        append(to, b"=\"")?;
+        append_value(attribute.value.bytes(), to)?;
+        append(to, b"\"")?;
+    }
+    Ok(())
+}
+
+fn append_value(value: &[u8], to: &mut Vec<u8>) -> Result<(), Memory>
+    ensures { OnOk result (to.new.items ≡ to.old.items ++ flat_map escaped_byte value.now) }
+{
+    for byte in value {
+        append_byte(*byte, to)?;
+    }
+    Ok(())
+}
+
+fn append_byte(byte: u8, to: &mut Vec<u8>) -> Result<(), Memory>
+    ensures { OnOk result (to.new.items ≡ to.old.items ++ escaped_byte byte) }
+{
+    match byte {
+        b'&' => append(to, b"&amp;"),
+        b'<' => append(to, b"&lt;"),
+        b'>' => append(to, b"&gt;"),
+        b'"' => append(to, b"&quot;"),
+        b'\n' => append(to, b"&#10;"),
+        b'\r' => append(to, b"&#13;"),
+        b'\t' => append(to, b"&#9;"),
+        _ => append(to, &[byte]),
+    }
+}
+
+fn append(to: &mut Vec<u8>, bytes: &[u8]) -> Result<(), Memory>
+    ensures written { OnOk result (to.new.items ≡ to.old.items ++ bytes.now) }
+    ensures unchanged { OnErr result (to.new.items ≡ to.old.items) }
+{
+    match to.extend_from_slice(bytes) {
+        Ok(()) => Ok(()),
+        Err(_) => Err(Memory),
+    }
+}
