@@ -1,0 +1,67 @@
+-- What reading answers follows from what reading the element answers and from what its root says.
+use Rattle.std.proofs.Common.{◌≡◌, ◌⊎◌, ℕ, List, Option, Some, None, Result, Ok, Err, refl, sym, ap, subst, ◌∙◌, inl, inr}
+use Rattle.hermes_element.specs.Element.{Tree}
+use Rattle.hermes_element.specs.Spelling as form
+use Rattle.hermes_element.specs.Refusal as form_refusal
+use Rattle.hermes_element.specs.declared.refusal.Why.{Why}
+use Rattle.hermes_horizontal.specs.declared.fault.Fault.{Fault}
+use Rattle.hermes_horizontal.specs.declared.fault.Fault.TheVariants as faults
+use Rattle.hermes_horizontal.specs.declared.fault.Refusal.{Refusal}
+use Rattle.hermes_horizontal.specs.declared.message.Message.{Message}
+use Rattle.hermes_horizontal.specs.Spelling.{Spells, Says, IsRefused, IsFormless, SaysNothing, refusal_of}
+use Rattle.hermes_horizontal.proofs.Messages.{same_message, not_refused}
+
+-- the bytes spell this element alone
+abbrev pub SpellsOnly : List ℕ → Tree → Type 0
+SpellsOnly bytes root = (tree : Tree) → form.Spells bytes tree → root ≡ tree
+
+-- and no element is refused
+abbrev pub IsFormed : List ℕ → Type 0
+IsFormed bytes = (at : ℕ) (reason : Why) → form_refusal.IsRefused bytes at reason → ⊥
+
+some_none : (refusal : Refusal) (o : Option Refusal) → o ≡ Some refusal → o ≡ None → ⊥
+some_none refusal o e d = absurd cc
+
+some_same : (a b : Refusal) (o : Option Refusal) → o ≡ Some a → o ≡ Some b → a ≡ b
+some_same a b o e d = cc
+
+-- ---- a root that says a message
+
+pub said_once : (bytes : List ℕ) (root : Tree) (message wanted : Message) → SpellsOnly bytes root → Says root message → Spells bytes wanted → message ≡ wanted
+said_once bytes root message wanted only says spells =
+    same_message root message wanted says (subst (λ (t : Tree). Says t wanted) (sym (only spells.tree spells.element)) spells.says)
+
+pub said_unrefused : (bytes : List ℕ) (root : Tree) (message : Message) (at : ℕ) (why : Fault) → SpellsOnly bytes root → IsFormed bytes → Says root message → IsRefused bytes at why → ⊥
+said_unrefused bytes root message at why only formed says (inl formless) = formed at formless.reason formless.refused
+said_unrefused bytes root message at why only formed says (inr nothing) =
+    some_none (record { at = at; why = why }) (refusal_of root) (ap refusal_of (only nothing.tree nothing.element) ∙ nothing.refused) (not_refused root message says)
+
+-- ---- a root that says none
+
+pub refused_so : (bytes : List ℕ) (root : Tree) (refusal : Refusal) → form.Spells bytes root → refusal_of root ≡ Some refusal → IsRefused bytes refusal.at refusal.why
+refused_so bytes root refusal spells refused = inr (record { tree = root; element = spells; refused = refused })
+
+pub refused_unsaid : (bytes : List ℕ) (root : Tree) (refusal : Refusal) → SpellsOnly bytes root → refusal_of root ≡ Some refusal → (message : Message) → Spells bytes message → ⊥
+refused_unsaid bytes root refusal only refused message spells =
+    some_none refusal (refusal_of root) refused (ap refusal_of (only spells.tree spells.element) ∙ not_refused spells.tree message spells.says)
+
+pub refused_once : (bytes : List ℕ) (root : Tree) (refusal : Refusal) (at : ℕ) (why : Fault) → SpellsOnly bytes root → IsFormed bytes → refusal_of root ≡ Some refusal → IsRefused bytes at why → (refusal.at ≡ at) × (refusal.why ≡ why)
+refused_once bytes root refusal at why only formed refused (inl formless) = absurd (formed at formless.reason formless.refused)
+refused_once bytes root refusal at why only formed refused (inr nothing) =
+    let same = some_same refusal (record { at = at; why = why }) (refusal_of root) refused (ap refusal_of (only nothing.tree nothing.element) ∙ nothing.refused) in
+    (ap (λ (r : Refusal). r.at) same, ap (λ (r : Refusal). r.why) same)
+
+-- ---- bytes that spell no element
+
+pub formless_so : (bytes : List ℕ) (at : ℕ) (reason : Why) → form_refusal.IsRefused bytes at reason → IsRefused bytes at (faults.Form reason)
+formless_so bytes at reason refused = inl (record { reason = reason; fault = refl; refused = refused })
+
+pub formless_unsaid : (bytes : List ℕ) → ((tree : Tree) → form.Spells bytes tree → ⊥) → (message : Message) → Spells bytes message → ⊥
+formless_unsaid bytes none message spells = none spells.tree spells.element
+
+pub formless_once : (bytes : List ℕ) (place : ℕ) (reason : Why) (at : ℕ) (why : Fault) → ((tree : Tree) → form.Spells bytes tree → ⊥)
+    → ((a : ℕ) (r : Why) → form_refusal.IsRefused bytes a r → (place ≡ a) × (reason ≡ r)) → IsRefused bytes at why → (place ≡ at) × (faults.Form reason ≡ why)
+formless_once bytes place reason at why none once (inl formless) =
+    let same = once at formless.reason formless.refused in
+    (same.0, ap faults.Form same.1 ∙ sym formless.fault)
+formless_once bytes place reason at why none once (inr nothing) = absurd (none nothing.tree nothing.element)

@@ -1,0 +1,10 @@
+pub mod Finding
+pub mod Writing
+pub mod Joining
+pub mod Bodies
+pub mod Messages
+pub mod Answering
+pub mod Again
+pub mod Fitting
+pub mod Returning
+pub mod Writable

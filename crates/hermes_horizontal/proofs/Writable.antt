@@ -1,0 +1,175 @@
+-- The element of a writable message is a writable element.
+use Rattle.std.proofs.Common.{◌≡◌, ℕ, ℤ, suc, ◌+◌, ◌≤◌, ◌<◌, ◌&&◌, not, max, Bool, true, false, cond, List, [], ◌∷◌, ◌++◌, map, length, Option, Some, None, option_map, codes, refl, sym, ap, subst, ◌∙◌, arith, lit≤}
+use Rattle.std.specs.List.{AllByRecursion, IsDistinct, list_any}
+use Rattle.std.specs.Str.{bytes_eq}
+use Rattle.std.proofs.lemmas.Bool.{and_parts, or_parts, not-true, false_from_ne_true, false≢true}
+use Rattle.std.proofs.lemmas.Map.Keys.{IsDistinct-cons}
+use Rattle.std.proofs.lemmas.Slice.Eq.{bytes_eq-Decides}
+use Rattle.line_base.specs.Name.{IsName}
+use Rattle.line_base.specs.Moment.{IsMomentMillis}
+use Rattle.line_base.proofs.Printable.{IsText-moment}
+use Rattle.hermes_element.specs.Element.{Tree, Forest, none, more}
+use Rattle.hermes_element.specs.Canonical as form
+use Rattle.hermes_element.specs.Canonical.{IsWritableAttribute, HasGoodTag, HasGoodTags, depth_of}
+use Rattle.hermes_element.specs.declared.attribute.Attribute.{Attribute}
+use Rattle.hermes_horizontal.specs.declared.attr.Attr.{Attr}
+use Rattle.hermes_horizontal.specs.declared.attr.Attr.TheVariants as attrs
+use Rattle.hermes_horizontal.specs.declared.kind.Kind.{Kind}
+use Rattle.hermes_horizontal.specs.declared.kind.Kind.TheVariants as kinds
+use Rattle.hermes_horizontal.specs.declared.message.Features.{Features}
+use Rattle.hermes_horizontal.specs.declared.message.Message.{Message}
+use Rattle.hermes_horizontal.specs.Attrs.{attr_text}
+use Rattle.hermes_horizontal.specs.Values.{Value, timed, value_text}
+use Rattle.hermes_horizontal.specs.Rows.{Column, columns_of, stamp_column}
+use Rattle.hermes_horizontal.specs.Parts.{parts, features_of, kind_of, name_of}
+use Rattle.hermes_horizontal.specs.Canonical.{attribute_of, attribute_if, attributes_of, child_if, feature_children, children_of, body_tree, tree_of, IsProper, IsProperIf, IsWritable, IsProperMessage}
+use Rattle.hermes_horizontal.proofs.Again.{is_named, columns_apart}
+use Rattle.hermes_horizontal.proofs.Fitting.{IsFit, AreFit, IsOfKind, fit_parts, rows_apart, text_of_value}
+
+attr_is_name : (attr : Attr) → IsName (attr_text attr)
+attr_is_name attrs.Timestamp = refl
+attr_is_name attrs.AliveType = refl
+attr_is_name attrs.Id = refl
+attr_is_name attrs.MachineId = refl
+attr_is_name attrs.LaneId = refl
+attr_is_name attrs.InterfaceId = refl
+attr_is_name attrs.Version = refl
+attr_is_name attrs.NotificationCode = refl
+attr_is_name attrs.Severity = refl
+attr_is_name attrs.Description = refl
+attr_is_name attrs.BoardId = refl
+attr_is_name attrs.BoardIdCreatedBy = refl
+attr_is_name attrs.FailedBoard = refl
+attr_is_name attrs.FlippedBoard = refl
+attr_is_name attrs.ProductTypeId = refl
+attr_is_name attrs.TopBarcode = refl
+attr_is_name attrs.BottomBarcode = refl
+attr_is_name attrs.Length = refl
+attr_is_name attrs.Width = refl
+attr_is_name attrs.Thickness = refl
+attr_is_name attrs.ConveyorSpeed = refl
+attr_is_name attrs.TopClearanceHeight = refl
+attr_is_name attrs.BottomClearanceHeight = refl
+attr_is_name attrs.Weight = refl
+attr_is_name attrs.WorkOrderId = refl
+attr_is_name attrs.BatchId = refl
+attr_is_name attrs.TransferState = refl
+attr_is_name attrs.SystemId = refl
+attr_is_name attrs.BoardTransfer = refl
+attr_is_name attrs.QueryId = refl
+attr_is_name attrs.Barcode = refl
+attr_is_name attrs.MagazineId = refl
+attr_is_name attrs.SlotId = refl
+
+-- ---- the attributes of a row
+
+few : (columns : List Column) (values : List (Option Value)) → length (attributes_of columns values) ≤ length columns
+few [] values = omega arith
+few (column ∷ columns) [] = omega arith
+few (column ∷ columns) (None ∷ values) = let h = few columns values in omega (arith, h)
+few (column ∷ columns) (Some value ∷ values) = let h = few columns values in omega (arith, h)
+
+written_attribute : (attr : Attr) (column : Column) (value : Value) → IsOfKind column.kind value → IsProper value → IsWritableAttribute (attribute_of attr value)
+written_attribute attr column value fit proper = record { name = attr_is_name attr; value = text_of_value column.kind value fit proper }
+
+each_written : (columns : List Column) (values : List (Option Value)) → AreFit columns values → AllByRecursion IsProperIf values → AllByRecursion IsWritableAttribute (attributes_of columns values)
+each_written [] values fit proper = tt
+each_written (column ∷ columns) [] fit proper = tt
+each_written (column ∷ columns) (None ∷ values) fit proper = each_written columns values fit.1 proper.1
+each_written (column ∷ columns) (Some value ∷ values) fit proper = (written_attribute column.attr column value fit.0 proper.0, each_written columns values fit.1 proper.1)
+
+names_of : List Attribute → List (List ℕ)
+names_of attributes = map (λ (a : Attribute). a.name) attributes
+
+bytes_other : (a b : List ℕ) → bytes_eq a b ≡ false → bytes_eq b a ≡ false
+bytes_other a b e = false_from_ne_true (bytes_eq b a) (λ t. false≢true (sym e ∙ (bytes_eq-Decides a b).1 (sym ((bytes_eq-Decides b a).0 t))))
+
+others_named : (name : List ℕ) (columns : List Column) (values : List (Option Value)) → list_any (is_named name) columns ≡ false → AllByRecursion (λ other. bytes_eq name other ≡ false) (map (λ (a : Attribute). a.name) (attributes_of columns values))
+others_named name [] values e = tt
+others_named name (column ∷ columns) [] e = tt
+others_named name (column ∷ columns) (None ∷ values) e = others_named name columns values (or_parts (is_named name column) (list_any (is_named name) columns) e).1
+others_named name (column ∷ columns) (Some value ∷ values) e =
+    let p = or_parts (is_named name column) (list_any (is_named name) columns) e in
+    (bytes_other (attr_text column.attr) name p.0, others_named name columns values p.1)
+
+all_distinct : (columns : List Column) (values : List (Option Value)) → columns_apart columns ≡ true → IsDistinct bytes_eq (map (λ (a : Attribute). a.name) (attributes_of columns values))
+unfolding IsDistinct
+all_distinct [] values apart = tt
+all_distinct (column ∷ columns) [] apart = tt
+all_distinct (column ∷ columns) (None ∷ values) apart = all_distinct columns values (and_parts (not (list_any (is_named (attr_text column.attr)) columns)) (columns_apart columns) apart).1
+all_distinct (column ∷ columns) (Some value ∷ values) apart =
+    let p = and_parts (not (list_any (is_named (attr_text column.attr)) columns)) (columns_apart columns) apart in
+    (others_named (attr_text column.attr) columns values (not-true (list_any (is_named (attr_text column.attr)) columns) p.0), all_distinct columns values p.1)
+
+short_row : (kind : Kind) → length (columns_of kind) ≤ 16
+short_row kinds.CheckAlive = lit≤ tt
+short_row kinds.ServiceDescription = lit≤ tt
+short_row kinds.Notification = lit≤ tt
+short_row kinds.BoardAvailable = lit≤ tt
+short_row kinds.RevokeBoardAvailable = lit≤ tt
+short_row kinds.MachineReady = lit≤ tt
+short_row kinds.RevokeMachineReady = lit≤ tt
+short_row kinds.StartTransport = lit≤ tt
+short_row kinds.StopTransport = lit≤ tt
+short_row kinds.TransportFinished = lit≤ tt
+short_row kinds.BoardForecast = lit≤ tt
+short_row kinds.QueryBoardInfo = lit≤ tt
+short_row kinds.SendBoardInfo = lit≤ tt
+short_row kinds.Other = lit≤ tt
+
+row_tag : (name : List ℕ) (kind : Kind) (values : List (Option Value)) → IsName name → AreFit (columns_of kind) values → AllByRecursion IsProperIf values → HasGoodTag name (attributes_of (columns_of kind) values)
+row_tag name kind values named fit proper = record {
+  named = named;
+  few = (let h = few (columns_of kind) values in let k = short_row kind in omega (arith, h, k));
+  distinct = all_distinct (columns_of kind) values (rows_apart kind);
+  each = each_written (columns_of kind) values fit proper;
+}
+
+root_tag : (stamp : Option ℤ) → HasGoodTag (codes "Hermes") (attribute_if stamp_column.attr (option_map timed stamp))
+unfolding IsDistinct
+root_tag None = record { named = refl; few = lit≤ tt; distinct = tt; each = tt }
+root_tag (Some millis) = record { named = refl; few = lit≤ tt; distinct = (tt, tt); each = (record { name = attr_is_name stamp_column.attr; value = IsText-moment millis }, tt) }
+
+empty_tag : (name : List ℕ) → IsName name → HasGoodTag name []
+unfolding IsDistinct
+empty_tag name named = record { named = named; few = lit≤ tt; distinct = tt; each = tt }
+
+-- ---- features
+
+if_tags : (test : Bool) (name : List ℕ) (rest : Forest) → IsName name → HasGoodTags rest → HasGoodTags (child_if test name rest)
+if_tags true name rest named h = (empty_tag name named, tt, h)
+if_tags false name rest named h = h
+
+feature_tags : (features : Features) → HasGoodTags (feature_children features)
+feature_tags features =
+    if_tags features.check_alive (codes "FeatureCheckAliveResponse") _ refl (if_tags features.forecast (codes "FeatureBoardForecast") _ refl
+    (if_tags features.query (codes "FeatureQueryBoardInfo") _ refl (if_tags features.send (codes "FeatureSendBoardInfo") none refl tt)))
+
+children_tags : (features : Option Features) → HasGoodTags (children_of features)
+children_tags None = tt
+children_tags (Some features) = (empty_tag (codes "SupportedFeatures") refl, feature_tags features, tt)
+
+if_depth : (test : Bool) (name : List ℕ) (rest : Forest) → depth_of rest ≤ 1 → depth_of (child_if test name rest) ≤ 1
+if_depth true name rest h = omega (arith, h)
+if_depth false name rest h = h
+
+feature_depth : (features : Features) → depth_of (feature_children features) ≤ 1
+feature_depth features =
+    let d = child_if features.send (codes "FeatureSendBoardInfo") none in
+    let c = child_if features.query (codes "FeatureQueryBoardInfo") d in
+    let b = child_if features.forecast (codes "FeatureBoardForecast") c in
+    if_depth features.check_alive (codes "FeatureCheckAliveResponse") b (if_depth features.forecast (codes "FeatureBoardForecast") c
+    (if_depth features.query (codes "FeatureQueryBoardInfo") d (if_depth features.send (codes "FeatureSendBoardInfo") none (omega arith))))
+
+children_depth : (features : Option Features) → depth_of (children_of features) ≤ 2
+children_depth None = omega arith
+children_depth (Some features) = let h = feature_depth features in omega (arith, h)
+
+-- ---- the whole element
+
+pub tree_writable : (message : Message) → IsProperMessage message → IsWritable message → form.IsWritable (tree_of message)
+tree_writable message proper writable = record {
+  tag = root_tag message.stamp;
+  tags = (row_tag (name_of message.body) (kind_of message.body) (parts message.body) proper.name (fit_parts message.body writable.numbers) proper.values, children_tags (features_of message.body), tt);
+  depth = (let h = children_depth (features_of message.body) in omega (arith, h));
+}

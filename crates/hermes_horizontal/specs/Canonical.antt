@@ -1,0 +1,112 @@
+-- The one written spelling of a message, and which messages are writable.
+use Rattle.std.specs.Prelude.{◌≡◌, ℕ, ◌≤◌, ◌<◌, ◌^◌, Bool, cond, List, [], ◌∷◌, ◌++◌, Option, Some, None, codes, option_map}
+use Rattle.std.specs.List.{AllByRecursion}
+use Rattle.line_base.specs.Text.{IsText}
+use Rattle.line_base.specs.Name.{IsName}
+use Rattle.line_base.specs.Moment.{IsMomentMillis}
+use Rattle.hermes_element.specs.Element.{Tree, Forest, none, more}
+use Rattle.hermes_element.specs.Canonical as form
+use Rattle.hermes_element.specs.declared.attribute.Attribute.{Attribute}
+use Rattle.hermes_horizontal.specs.declared.attr.Attr.{Attr}
+use Rattle.hermes_horizontal.specs.declared.message.Features.{Features}
+use Rattle.hermes_horizontal.specs.declared.message.Horizontal.{Horizontal}
+use Rattle.hermes_horizontal.specs.declared.message.Horizontal.TheVariants as bodies
+use Rattle.hermes_horizontal.specs.declared.message.Message.{Message}
+use Rattle.hermes_horizontal.specs.Attrs.{attr_text}
+use Rattle.hermes_horizontal.specs.Values.{Value, worded, numbered, identified, measured, timed, value_text}
+use Rattle.hermes_horizontal.specs.Rows.{Column, columns_of, stamp_column, kind_named}
+use Rattle.hermes_horizontal.specs.Parts.{parts, features_of, kind_of, name_of}
+
+-- ---- a message as an element; its places are all 0
+
+abbrev pub attribute_of : Attr → Value → Attribute
+attribute_of attr value = record { name = attr_text attr; value = value_text value; at = 0 }
+
+abbrev pub attribute_if : Attr → Option Value → List Attribute
+attribute_if attr None = []
+attribute_if attr (Some value) = attribute_of attr value ∷ []
+
+-- the attributes of a row of the table that have these values
+abbrev pub attributes_of : List Column → List (Option Value) → List Attribute
+attributes_of [] values = []
+attributes_of (column ∷ columns) [] = []
+attributes_of (column ∷ columns) (value ∷ values) = attribute_if column.attr value ++ attributes_of columns values
+
+-- an empty element where the test holds, before others
+abbrev pub child_if : Bool → List ℕ → Forest → Forest
+child_if test name rest = cond test (more name 0 [] none rest) rest
+
+abbrev pub feature_children : Features → Forest
+feature_children features =
+    child_if features.check_alive (codes "FeatureCheckAliveResponse") (child_if features.forecast (codes "FeatureBoardForecast")
+    (child_if features.query (codes "FeatureQueryBoardInfo") (child_if features.send (codes "FeatureSendBoardInfo") none)))
+
+-- SupportedFeatures is always written in a service description
+abbrev pub children_of : Option Features → Forest
+children_of None = none
+children_of (Some features) = more (codes "SupportedFeatures") 0 [] (feature_children features) none
+
+abbrev pub body_tree : Horizontal → Tree
+body_tree body = record { name = name_of body; at = 0; attributes = attributes_of (columns_of (kind_of body)) (parts body); children = children_of (features_of body) }
+
+abbrev pub root_of : List Attribute → Tree → Tree
+root_of attributes child =
+    record { name = codes "Hermes"; at = 0; attributes = attributes; children = more child.name child.at child.attributes child.children none }
+
+abbrev pub tree_of : Message → Tree
+tree_of message = root_of (attribute_if stamp_column.attr (option_map timed message.stamp)) (body_tree message.body)
+
+abbrev pub canonical : Message → List ℕ
+canonical message = form.canonical (tree_of message)
+
+-- ---- the same piece by piece
+
+abbrev pub assignment : Attr → Value → List ℕ
+assignment attr value = form.canonical_attribute (attribute_of attr value)
+
+abbrev pub assignment_if : Attr → Option Value → List ℕ
+assignment_if attr None = []
+assignment_if attr (Some value) = assignment attr value
+
+-- with the attributes of a row behind these bytes
+abbrev pub assigned : List ℕ → List Column → List (Option Value) → List ℕ
+assigned front [] values = front
+assigned front (column ∷ columns) [] = front
+assigned front (column ∷ columns) (value ∷ values) = assigned (front ++ assignment_if column.attr value) columns values
+
+-- the end of a message's start tag, and what follows it
+abbrev pub children_spelling : Horizontal → List ℕ
+children_spelling body = form.canonical_rest (name_of body) (children_of (features_of body)) (form.canonical_forest (children_of (features_of body)))
+
+abbrev pub body_spelling : Horizontal → List ℕ
+body_spelling body = form.canonical (body_tree body)
+
+-- ---- writable messages
+
+-- the lane and the code are numbers of at most 9 digits, and the name in Other is none of the thirteen
+abbrev pub HasShortNumbers : Horizontal → Type 0
+HasShortNumbers (bodies.ServiceDescription service) = service.lane ≤ 999_999_999
+HasShortNumbers (bodies.Notification code severity text) = code.number ≤ 999_999_999
+HasShortNumbers _ = Unit {0}
+
+pub record IsWritable (message : Message) : Type 0 where
+  pub numbers : HasShortNumbers message.body
+  pub named : kind_named (name_of message.body) ≡ kind_of message.body
+
+-- ---- what holds of every message of a program, by the types of its parts
+
+abbrev pub IsProper : Value → Type 0
+IsProper (worded bytes) = IsText bytes
+IsProper (numbered n) = Unit {0}
+IsProper (identified id) = id < 2 ^ 128
+IsProper (measured millionths) = millionths < 1_000_000_000_000
+IsProper (timed millis) = IsMomentMillis millis
+
+abbrev pub IsProperIf : Option Value → Type 0
+IsProperIf None = Unit {0}
+IsProperIf (Some value) = IsProper value
+
+pub record IsProperMessage (message : Message) : Type 0 where
+  pub stamp : IsProperIf (option_map timed message.stamp)
+  pub name : IsName (name_of message.body)
+  pub values : AllByRecursion IsProperIf (parts message.body)

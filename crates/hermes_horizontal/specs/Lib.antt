@@ -1,0 +1,10 @@
+pub mod Attrs
+pub mod Values
+pub mod Rows
+pub mod Parts
+pub mod Spelling
+pub mod Canonical
+pub mod Texts
+pub mod Fields
+pub mod Reading
+pub mod Boards

@@ -1,0 +1,44 @@
+-- What reading answers of an element, and of the parts of a message.
+use Rattle.std.specs.Prelude.{◌≡◌, ℕ, Bool, List, [], ◌∷◌, Option, Some, None, IsSome, Result, Ok, Err}
+use Rattle.hermes_element.specs.Element.{Tree, Forest}
+use Rattle.hermes_element.specs.declared.attribute.Attribute.{Attribute}
+use Rattle.hermes_horizontal.specs.declared.fault.Fault.TheVariants as faults
+use Rattle.hermes_horizontal.specs.declared.fault.Refusal.{Refusal}
+use Rattle.hermes_horizontal.specs.declared.kind.Kind.{Kind}
+use Rattle.hermes_horizontal.specs.declared.message.Info.{Info}
+use Rattle.hermes_horizontal.specs.declared.message.Horizontal.{Horizontal}
+use Rattle.hermes_horizontal.specs.declared.message.Message.{Message}
+use Rattle.hermes_horizontal.specs.Rows.{columns_of}
+use Rattle.hermes_horizontal.specs.Parts.{parts, kind_of, features_of}
+use Rattle.hermes_horizontal.specs.Spelling.{values_of, features_said, SaysBody, body_refusal, Says, refusal_of, children_refusal}
+
+-- a body of this kind, made of what its row of the table says of the attributes
+pub record FitsRow (kind : Kind) (at : ℕ) (attributes : List Attribute) (children : Forest) (body : Horizontal) : Type 0 where
+  pub of_kind : kind_of body ≡ kind
+  pub values : values_of at attributes (columns_of kind) ≡ Ok (parts body)
+  pub features : features_said kind children ≡ features_of body
+
+-- such a body, or the first refusal of the row
+abbrev pub ReadsRow : Kind → ℕ → List Attribute → Forest → Result Horizontal Refusal → Type 0
+ReadsRow kind at attributes children (Ok body) = FitsRow kind at attributes children body
+ReadsRow kind at attributes children (Err refusal) = values_of at attributes (columns_of kind) ≡ Err refusal
+
+abbrev pub ReadsBody : Tree → Result Horizontal Refusal → Type 0
+ReadsBody child (Ok body) = SaysBody child body
+ReadsBody child (Err refusal) = body_refusal child ≡ Some refusal
+
+abbrev pub ReadsTree : Tree → Result Message Refusal → Type 0
+ReadsTree tree (Ok message) = Says tree message
+ReadsTree tree (Err refusal) = refusal_of tree ≡ Some refusal
+
+-- what an available board must tell
+pub record IsWhole (info : Info) : Type 0 where
+  pub id : IsSome info.id
+  pub created_by : IsSome info.created_by
+  pub quality : IsSome info.quality
+  pub flip : IsSome info.flip
+
+-- the one tree of a list, or None where there isn't exactly one
+abbrev pub HasOnly : List Tree → Option Tree → Type 0
+HasOnly trees (Some child) = trees ≡ child ∷ []
+HasOnly trees None = (at : ℕ) → children_refusal at trees ≡ Some (record { at = at; why = faults.Count })

@@ -1,0 +1,110 @@
+//! Attributes, written one by one.
+
+ghost use Rattle.std.specs.Prelude.{◌≡◌, ◌++◌, OnOk, OnErr, option_map};
+ghost use Rattle.hermes_horizontal.specs.Canonical.{assignment, assignment_if};
+ghost use Rattle.hermes_horizontal.specs.Values.{worded, numbered, identified, measured, timed};
+
+use crate::attr::Attr;
+use board_record::BoardId;
+use hermes_element::write_attribute;
+use line_base::{Decimal, Memory, Moment, Text};
+use std::io::Write;
+
+pub fn append(to: &mut Vec<u8>, bytes: &[u8]) -> Result<(), Memory>
+    ensures written { OnOk result (to.new.items ≡ to.old.items ++ bytes.now) }
+    ensures unchanged { OnErr result (to.new.items ≡ to.old.items) }
+{
+    match to.extend_from_slice(bytes) {
+        Ok(()) => Ok(()),
+        Err(_) => Err(Memory),
+    }
+}
+
+pub fn append_text(attr: Attr, text: &Text, to: &mut Vec<u8>) -> Result<(), Memory>
+    ensures { OnOk result (to.new.items ≡ to.old.items ++ assignment attr (worded text.now)) }
+{
+    write_attribute(attr.text().as_bytes(), text.bytes(), to)
+}
+
+pub fn append_optional_text(attr: Attr, text: Option<&Text>, to: &mut Vec<u8>) -> Result<(), Memory>
+    ensures { OnOk result (to.new.items ≡ to.old.items ++ assignment_if attr (option_map (λ text. worded text.now) text.entry)) }
+{
+    match text {
+        Some(text) => append_text(attr, text, to),
+        None => Ok(()),
+    }
+}
+
+pub fn append_number(attr: Attr, number: u32, to: &mut Vec<u8>) -> Result<(), Memory>
+    ensures { OnOk result (to.new.items ≡ to.old.items ++ assignment attr (numbered number)) }
+{
+    let mut text = Vec::new(*to.allocator());
+    match write!(text, "{number}") {
+        Ok(()) => write_attribute(attr.text().as_bytes(), text.as_slice(), to),
+        Err(_) => Err(Memory),
+    }
+}
+
+pub fn append_optional_number(
+    attr: Attr,
+    number: Option<u32>,
+    to: &mut Vec<u8>,
+) -> Result<(), Memory>
+    ensures { OnOk result (to.new.items ≡ to.old.items ++ assignment_if attr (option_map numbered number)) }
+{
+    match number {
+        Some(number) => append_number(attr, number, to),
+        None => Ok(()),
+    }
+}
+
+pub fn append_id(attr: Attr, id: BoardId, to: &mut Vec<u8>) -> Result<(), Memory>
+    ensures { OnOk result (to.new.items ≡ to.old.items ++ assignment attr (identified id)) }
+{
+    let mut text = Vec::new(*to.allocator());
+    id.write(&mut text)?;
+    write_attribute(attr.text().as_bytes(), text.as_slice(), to)
+}
+
+pub fn append_optional_id(attr: Attr, id: Option<BoardId>, to: &mut Vec<u8>) -> Result<(), Memory>
+    ensures { OnOk result (to.new.items ≡ to.old.items ++ assignment_if attr (option_map identified id)) }
+{
+    match id {
+        Some(id) => append_id(attr, id, to),
+        None => Ok(()),
+    }
+}
+
+pub fn append_optional_decimal(
+    attr: Attr,
+    decimal: Option<Decimal>,
+    to: &mut Vec<u8>,
+) -> Result<(), Memory>
+    ensures { OnOk result (to.new.items ≡ to.old.items ++ assignment_if attr (option_map measured decimal)) }
+{
+    match decimal {
+        Some(decimal) => {
+            let mut text = Vec::new(*to.allocator());
+            decimal.write(&mut text)?;
+            write_attribute(attr.text().as_bytes(), text.as_slice(), to)
+        }
+        None => Ok(()),
+    }
+}
+
+pub fn append_optional_moment(
+    attr: Attr,
+    moment: Option<Moment>,
+    to: &mut Vec<u8>,
+) -> Result<(), Memory>
+    ensures { OnOk result (to.new.items ≡ to.old.items ++ assignment_if attr (option_map timed moment)) }
+{
+    match moment {
+        Some(moment) => {
+            let mut text = Vec::new(*to.allocator());
+            moment.write(&mut text)?;
+            write_attribute(attr.text().as_bytes(), text.as_slice(), to)
+        }
+        None => Ok(()),
+    }
+}

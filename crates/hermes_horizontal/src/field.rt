@@ -1,0 +1,268 @@
+//! An attribute that a message may have, and its value.
+
+ghost use Rattle.std.specs.Prelude.{◌≡◌, ◌≤◌, ℕ, Some, Ok, IfOk, option_map};
+ghost use Rattle.hermes_horizontal.specs.Fields.{Gives, LeftOut, fresh};
+ghost use Rattle.hermes_horizontal.specs.Spelling.{value_at, value_or_bad};
+ghost use Rattle.hermes_horizontal.specs.Values as values;
+ghost use Rattle.hermes_horizontal.specs.Rows as rows;
+ghost use Rattle.hermes_horizontal.specs.Parts.{of_ping, of_severity, of_quality, of_flip, of_transfer};
+ghost use Rattle.line_base.specs.Number.{number_of};
+
+use crate::attr::Attr;
+use crate::fault::{Fault, Refusal};
+use crate::message::Ping;
+use board_record::BoardId;
+use hermes_element::Attribute;
+use line_base::{Decimal, Flip, Moment, Quality, Severity, Text, Transfer, read_number};
+
+/// An attribute that a message may have, and the first of its name that an element has.
+#[derive(Drop)]
+pub struct Field {
+    pub attr: Attr,
+    pub found: Option<Attribute>,
+}
+
+impl Field {
+    /// Nothing found yet.
+    pub fn of(attr: Attr) -> Field
+        ensures { result ≡ fresh attr }
+    {
+        Field { attr, found: None }
+    }
+
+    /// A text that must be there.
+    pub fn text(self, at: usize) -> Result<Text, Refusal>
+        ensures { Gives (λ text. Some (values.worded text)) result (value_at at (rows.required self.attr values.text) self.found) }
+    {
+        let Field { attr, found } = self;
+        match found {
+            Some(attribute) => Ok(attribute.value),
+            None => Err(missing(attr, at)),
+        }
+    }
+
+    /// A text that must be there where it is required.
+    pub fn text_if(self, at: usize, required: bool) -> Result<Option<Text>, Refusal>
+        ensures { Gives (option_map values.worded) result (value_at at (rows.required_if required self.attr values.text) self.found) }
+    {
+        let Field { attr, found } = self;
+        match found {
+            Some(attribute) => Ok(Some(attribute.value)),
+            None => left_out(attr, at, required),
+        }
+    }
+
+    /// A text that may be left out.
+    pub fn optional_text(self) -> Option<Text>
+        ensures { (at : ℕ) → value_at at (rows.optional self.attr values.text) self.found ≡ Ok (option_map values.worded result) }
+    {
+        match self.found {
+            Some(attribute) => Some(attribute.value),
+            None => None,
+        }
+    }
+
+    /// A number that must be there.
+    pub fn number(self, at: usize) -> Result<u32, Refusal>
+        ensures { Gives (λ number. Some (values.numbered number)) result (value_at at (rows.required self.attr values.number) self.found) }
+    {
+        let Field { attr, found } = self;
+        match found {
+            Some(attribute) => match read_number(attribute.value.bytes()) {
+                Some(number) => Ok(number),
+                None => Err(bad(attr, &attribute)),
+            },
+            None => Err(missing(attr, at)),
+        }
+    }
+
+    /// An id that must be there.
+    pub fn id(self, at: usize) -> Result<BoardId, Refusal>
+        ensures { Gives (λ id. Some (values.identified id)) result (value_at at (rows.required self.attr values.identity) self.found) }
+    {
+        let Field { attr, found } = self;
+        match found {
+            Some(attribute) => id_in(attr, &attribute),
+            None => Err(missing(attr, at)),
+        }
+    }
+
+    /// An id that must be there where it is required.
+    pub fn id_if(self, at: usize, required: bool) -> Result<Option<BoardId>, Refusal>
+        ensures { Gives (option_map values.identified) result (value_at at (rows.required_if required self.attr values.identity) self.found) }
+    {
+        let Field { attr, found } = self;
+        match found {
+            Some(attribute) => Ok(Some(id_in(attr, &attribute)?)),
+            None => left_out(attr, at, required),
+        }
+    }
+
+    /// A decimal that may be left out.
+    pub fn optional_decimal(self) -> Result<Option<Decimal>, Refusal>
+        ensures { (at : ℕ) → Gives (option_map values.measured) result (value_at at (rows.optional self.attr values.decimal) self.found) }
+    {
+        let Field { attr, found } = self;
+        match found {
+            Some(attribute) => match Decimal::read(attribute.value.bytes()) {
+                Ok(decimal) => Ok(Some(decimal)),
+                Err(_) => Err(bad(attr, &attribute)),
+            },
+            None => Ok(None),
+        }
+    }
+
+    /// A moment that may be left out.
+    pub fn optional_moment(self) -> Result<Option<Moment>, Refusal>
+        ensures { (at : ℕ) → Gives (option_map values.timed) result (value_at at (rows.optional self.attr values.moment) self.found) }
+    {
+        let Field { attr, found } = self;
+        match found {
+            Some(attribute) => match Moment::read(attribute.value.bytes()) {
+                Ok(moment) => Ok(Some(moment)),
+                Err(_) => Err(bad(attr, &attribute)),
+            },
+            None => Ok(None),
+        }
+    }
+
+    /// The type of a CheckAlive, which may be left out.
+    pub fn optional_ping(self) -> Result<Option<Ping>, Refusal>
+        ensures { (at : ℕ) → Gives (option_map of_ping) result (value_at at (rows.optional self.attr rows.ping) self.found) }
+    {
+        let Field { attr, found } = self;
+        match found {
+            Some(attribute) => match number_in(attr, &attribute, 1, 2)? {
+                1 => Ok(Some(Ping::Ask)),
+                _ => Ok(Some(Ping::Answer)),
+            },
+            None => Ok(None),
+        }
+    }
+
+    /// A severity, which must be there.
+    pub fn severity(self, at: usize) -> Result<Severity, Refusal>
+        ensures { Gives (λ severity. Some (of_severity severity)) result (value_at at (rows.required self.attr rows.severity) self.found) }
+    {
+        let Field { attr, found } = self;
+        match found {
+            Some(attribute) => match number_in(attr, &attribute, 1, 4)? {
+                1 => Ok(Severity::Fatal),
+                2 => Ok(Severity::Error),
+                3 => Ok(Severity::Warning),
+                _ => Ok(Severity::Info),
+            },
+            None => Err(missing(attr, at)),
+        }
+    }
+
+    /// A state of a transfer, which must be there.
+    pub fn transfer(self, at: usize) -> Result<Transfer, Refusal>
+        ensures { Gives (λ state. Some (of_transfer state)) result (value_at at (rows.required self.attr rows.transfer) self.found) }
+    {
+        let Field { attr, found } = self;
+        match found {
+            Some(attribute) => match number_in(attr, &attribute, 1, 3)? {
+                1 => Ok(Transfer::NotStarted),
+                2 => Ok(Transfer::Incomplete),
+                _ => Ok(Transfer::Complete),
+            },
+            None => Err(missing(attr, at)),
+        }
+    }
+
+    /// A quality that must be there.
+    pub fn quality(self, at: usize) -> Result<Quality, Refusal>
+        ensures { Gives (λ quality. Some (of_quality quality)) result (value_at at (rows.required self.attr rows.quality) self.found) }
+    {
+        let Field { attr, found } = self;
+        match found {
+            Some(attribute) => quality_in(attr, &attribute),
+            None => Err(missing(attr, at)),
+        }
+    }
+
+    /// A quality that must be there where it is required.
+    pub fn quality_if(self, at: usize, required: bool) -> Result<Option<Quality>, Refusal>
+        ensures { Gives (option_map of_quality) result (value_at at (rows.required_if required self.attr rows.quality) self.found) }
+    {
+        let Field { attr, found } = self;
+        match found {
+            Some(attribute) => Ok(Some(quality_in(attr, &attribute)?)),
+            None => left_out(attr, at, required),
+        }
+    }
+
+    /// Which side is up; it must be there where it is required.
+    pub fn flip_if(self, at: usize, required: bool) -> Result<Option<Flip>, Refusal>
+        ensures { Gives (option_map of_flip) result (value_at at (rows.required_if required self.attr rows.flip) self.found) }
+    {
+        let Field { attr, found } = self;
+        match found {
+            Some(attribute) => match number_in(attr, &attribute, 0, 2)? {
+                0 => Ok(Some(Flip::Unknown)),
+                1 => Ok(Some(Flip::TopUp)),
+                _ => Ok(Some(Flip::BottomUp)),
+            },
+            None => left_out(attr, at, required),
+        }
+    }
+}
+
+fn missing(attr: Attr, at: usize) -> Refusal
+    ensures { result ≡ record { at = at; why = Fault.Missing attr } }
+{
+    Refusal {
+        at,
+        why: Fault::Missing(attr),
+    }
+}
+
+fn bad(attr: Attr, attribute: &Attribute) -> Refusal
+    ensures { result ≡ record { at = attribute.now.at; why = Fault.BadValue attr } }
+{
+    Refusal {
+        at: attribute.at,
+        why: Fault::BadValue(attr),
+    }
+}
+
+/// No value, or a refusal where one is required.
+fn left_out<T>(attr: Attr, at: usize, required: bool) -> Result<Option<T>, Refusal>
+    ensures { LeftOut result at attr required }
+{
+    if required {
+        return Err(missing(attr, at));
+    }
+    Ok(None)
+}
+
+fn id_in(attr: Attr, attribute: &Attribute) -> Result<BoardId, Refusal>
+    ensures { Gives (λ id. Some (values.identified id)) result (value_or_bad attribute.now.at attr (values.read_as values.identity attribute.now.value)) }
+{
+    match BoardId::read(attribute.value.bytes()) {
+        Ok(id) => Ok(id),
+        Err(_) => Err(bad(attr, attribute)),
+    }
+}
+
+fn quality_in(attr: Attr, attribute: &Attribute) -> Result<Quality, Refusal>
+    ensures { Gives (λ quality. Some (of_quality quality)) result (value_or_bad attribute.now.at attr (values.read_as rows.quality attribute.now.value)) }
+{
+    match number_in(attr, attribute, 0, 2)? {
+        0 => Ok(Quality::Unknown),
+        1 => Ok(Quality::Good),
+        _ => Ok(Quality::Failed),
+    }
+}
+
+/// A number from `low` to `high`.
+fn number_in(attr: Attr, attribute: &Attribute, low: u32, high: u32) -> Result<u32, Refusal>
+    ensures value { Gives (λ number. Some (values.numbered number)) result (value_or_bad attribute.now.at attr (values.read_as (values.choice low high) attribute.now.value)) }
+    ensures within { IfOk result (λ number. (low ≤ number) × (number ≤ high)) }
+{
+    match read_number(attribute.value.bytes()) {
+        Some(number) if low <= number && number <= high => Ok(number),
+        _ => Err(bad(attr, attribute)),
+    }
+}

@@ -1,0 +1,30 @@
+//! Horizontal messages: read exactly from the bytes of one element, refused with a place and a reason, and written in
+//! their one canonical spelling.
+#![tactic(auto)]
+
+mod assign;
+mod attr;
+mod attributes;
+mod board;
+mod children;
+mod fault;
+mod field;
+mod find;
+mod kind;
+mod laws;
+mod message;
+mod numbers;
+mod read;
+mod rows;
+mod write;
+
+pub use attr::Attr;
+pub use fault::{Fault, MessageError};
+pub use kind::Kind;
+pub use laws::message_from_its_element;
+pub use message::{Features, Horizontal, Info, Message, Ping, Service};
+pub use read::read_horizontal;
+pub use write::write_horizontal;
+
+#[cfg(test)]
+mod tests;

@@ -1,0 +1,41 @@
+ghost use Rattle.std.specs.Prelude.{◌≡◌, ◌++◌, OnOk, OnErr};
+ghost use Rattle.hermes_horizontal.specs.Canonical.{canonical, body_spelling};
+
+use crate::assign::{append, append_optional_moment};
+use crate::attr::Attr;
+use crate::attributes::append_attributes;
+use crate::children::append_children;
+use crate::message::{Horizontal, Message};
+use line_base::Memory;
+
+/// Appends the canonical spelling of a message, or leaves `to` as it was where memory is wanting.
+///
+/// The name in `Other` is none of the thirteen names, else what is written is read as another
+/// message.
+pub fn write_horizontal(message: &Message, to: &mut Vec<u8>) -> Result<(), Memory>
+    ensures written { OnOk result (to.new.items ≡ to.old.items ++ canonical message.now) }
+    ensures unchanged { OnErr result (to.new.items ≡ to.old.items) }
+{
+    let mut spelling = Vec::new(*to.allocator());
+    append_message(message, &mut spelling)?;
+    append(to, spelling.as_slice())
+}
+
+fn append_message(message: &Message, to: &mut Vec<u8>) -> Result<(), Memory>
+    ensures { OnOk result (to.new.items ≡ to.old.items ++ canonical message.now) }
+{
+    append(to, b"<Hermes")?;
+    append_optional_moment(Attr::Timestamp, message.stamp, to)?;
+    append(to, b">")?;
+    append_body(&message.body, to)?;
+    append(to, b"</Hermes>")
+}
+
+fn append_body(body: &Horizontal, to: &mut Vec<u8>) -> Result<(), Memory>
+    ensures { OnOk result (to.new.items ≡ to.old.items ++ body_spelling body.now) }
+{
+    append(to, b"<")?;
+    append(to, body.name())?;
+    append_attributes(body, to)?;
+    append_children(body, to)
+}

@@ -1,0 +1,12 @@
+pub mod End
+pub mod Acts
+pub mod Breach
+pub mod Handling
+pub mod Input
+pub mod Row
+pub mod Table
+pub mod Given
+pub mod Passing
+pub mod Alive
+pub mod Standing
+pub mod Run

@@ -1,0 +1,25 @@
+use Rattle.std.specs.Prelude.{Bool, true, false, ◌||◌, Option, Some, None}
+use Rattle.hermes_horizontal.specs.Parts.{features_of}
+use Rattle.hermes_horizontal.specs.declared.message.Features.{Features}
+use Rattle.session_core.specs.declared.actions.Actions.{Actions}
+use Rattle.session_core.specs.declared.actions.Action.{Action}
+use Rattle.session_core.specs.declared.actions.Action.TheVariants as act
+use Rattle.session_core.specs.Input.{Input, heard}
+
+-- the features that the peer lists, where it is a description that is heard
+abbrev pub described : Input → Option Features
+described (heard message _) = features_of message
+described _ = None
+
+-- a message is heard while the outlet holds a board
+abbrev pub comes_unsettled : Input → Bool
+comes_unsettled (heard _ unsettled) = unsettled
+comes_unsettled _ = false
+
+abbrev pub describes_by : Option Action → Bool
+describes_by (Some act.SendService) = true
+describes_by _ = false
+
+-- the machine's own description is sent
+abbrev pub describes : Actions → Bool
+describes actions = describes_by actions.first || (describes_by actions.second || describes_by actions.third)

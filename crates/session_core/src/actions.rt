@@ -1,0 +1,75 @@
+ghost use Rattle.std.specs.Prelude.{◌≡◌};
+ghost use Rattle.session_core.specs.Acts.{nothing, one, two};
+
+use hermes_horizontal::Horizontal;
+use line_base::Text;
+
+/// What a machine is to do for a session, in this order.
+#[derive(Debug, PartialEq, Eq, Drop)]
+pub struct Actions {
+    pub first: Option<Action>,
+    pub second: Option<Action>,
+    pub third: Option<Action>,
+}
+
+/// One thing that a machine is to do for a session.
+#[derive(Debug, PartialEq, Eq, Drop)]
+pub enum Action {
+    /// Send the machine's own ServiceDescription.
+    SendService,
+    /// Send the CheckAlive that answers a ping, with the ping's Id.
+    Pong(Option<Text>),
+    /// Send a ping, a CheckAlive that asks for an answer, with this number as its Id.
+    Ping(u64),
+    /// Send a Notification.
+    Tell(Tell),
+    /// Close the connection.
+    Close,
+    /// Tell the intake that the session stands.
+    Stand,
+    /// Give this message to the half of the handover, or to the board information.
+    Pass(Horizontal),
+}
+
+/// The Notifications of a session.
+#[derive(Clone, Copy, Debug, PartialEq, Eq)]
+pub enum Tell {
+    /// To a second connection, which is then closed: there is a connection already.
+    AlreadyConnected,
+    /// The outlet still holds the board of an earlier connection.
+    Unsettled,
+    /// The machine shuts down.
+    Shutdown,
+}
+
+impl Actions {
+    pub(crate) fn nothing() -> Actions
+        ensures { result ≡ nothing }
+    {
+        Actions {
+            first: None,
+            second: None,
+            third: None,
+        }
+    }
+
+    pub(crate) fn one(action: Action) -> Actions
+        ensures { result ≡ one action }
+    {
+        Actions {
+            first: Some(action),
+            second: None,
+            third: None,
+        }
+    }
+
+    pub(crate) fn two(first: Action, second: Action) -> Actions
+        ensures { result ≡ two first second }
+    {
+        Actions {
+            first: Some(first),
+            second: Some(second),
+            third: None,
+        }
+    }
+}

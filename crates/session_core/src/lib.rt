@@ -1,0 +1,21 @@
+//! The two ends of a session: the handshake, the signs of life, and which messages a standing
+//! session passes on.
+//!
+//! A session takes what comes in on a connection and answers what its machine is to do. Messages
+//! are moved, and no call takes memory.
+#![tactic(auto)]
+
+mod actions;
+mod breach;
+mod handling;
+pub mod laws;
+mod message;
+mod session;
+mod state;
+#[cfg(test)]
+mod tests;
+
+pub use actions::{Action, Actions, Tell};
+pub use breach::Breach;
+pub use session::Session;
+pub use state::SessionState;
