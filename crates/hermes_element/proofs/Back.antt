@@ -1,23 +1,21 @@
 -- The canonical spelling of a writable element spells it.
-use Rattle.std.proofs.Common.{◌≡◌, ◌⊎◌, inl, inr, ℕ, zero, suc, ◌+◌, ◌-◌, ◌<◌, ◌≤◌, Bool, true, false, cond, not, List, [], ◌∷◌, ◌++◌, Option, Some, None, Result, Ok, Err, ◌↔◌, map, max, length, refl, ap, sym, ◌∙◌, append_assoc, append-nil, add-zero, arith, subst, length-append}
-use Rattle.std.specs.Prelude.{◌==◌, ◌&&◌, ◌||◌, nat_lt, nat_le, codes}
+use Rattle.std.proofs.Common.{◌≡◌, inl, inr, ℕ, ◌+◌, ◌<◌, ◌≤◌, Bool, true, false, cond, List, [], ◌∷◌, ◌++◌, Some, None, Result, Ok, ◌↔◌, map, length, refl, ap, sym, ◌∙◌, append_assoc, append-nil, arith, subst, length-append}
+use Rattle.std.specs.Prelude.{◌==◌, ◌||◌, nat_lt}
 use Rattle.std.specs.List.{list_any, list_all, flat_map, AllByRecursion, IsDistinct}
 use Rattle.std.specs.Str.{bytes_eq, chars, encode_utf8_all}
 use Rattle.std.specs.Char.{encode_utf8}
 use Rattle.std.proofs.lemmas.Str.{encode_ascii, encodes-chars}
-use Rattle.std.proofs.lemmas.Bool.{cases_lt, cases_Bool, eqb-true, eq-eqb, ne_eqb, lt-ltb, le-ltb, ltb-true, leb-true, le-leb, eqb-false}
+use Rattle.std.proofs.lemmas.Bool.{cases_lt, cases_Bool, eqb-true, ne_eqb, le-ltb}
 use Rattle.std.proofs.lemmas.Bool.Decides.{nat_tests}
-use Rattle.line_base.specs.Text.{is_allowed_char, IsText, IsAllowed}
-use Rattle.line_base.specs.Name.{IsName}
-use Rattle.hermes_element.specs.Plain.{Escape, named, decimal, Piece, plain, escaped, piece_text, is_piece, value_text, Assignment, assignment_front, assignment_text, IsAssignment, AreAssignments, Tag, tag_text, IsTag, EndTag, end_text, Content, last, empty, full, content_text, IsContent, Root, lone, holding, root_text, IsRoot, Document, document_text, IsPlain, IsSpelledBy}
-use Rattle.hermes_element.specs.Checks.{Fault, character_of, encoded, spaced, value_from, value_of, reference_faults, value_faults, assignment_faults, assignments_faults, tag_faults, content_faults, root_faults, faults_of, attribute_of, attributes_of, tag_attributes, forest_in, element_of}
+use Rattle.line_base.specs.Text.{is_allowed_char}
+use Rattle.hermes_element.specs.Plain.{Escape, named, decimal, Piece, plain, escaped, piece_text, is_piece, value_text, Assignment, assignment_front, assignment_text, IsAssignment, AreAssignments, Tag, tag_text, IsTag, EndTag, end_text, Content, last, empty, full, content_text, IsContent, Root, lone, holding, root_text, IsRoot, Document}
+use Rattle.hermes_element.specs.Checks.{Fault, character_of, encoded, spaced, value_from, value_of, reference_faults, value_faults, assignments_faults, tag_faults, content_faults, root_faults, attributes_of, forest_in, element_of}
 use Rattle.hermes_element.specs.Element.{Forest, none, more, Tree}
 use Rattle.hermes_element.specs.Canonical.{escaped_byte, canonical_attribute, canonical_rest, canonical_front, canonical_forest, canonical, depth_of, IsWritableAttribute, HasGoodTag, HasGoodTags, IsWritable, unplaced_attribute, unplaced_forest, unplaced}
 use Rattle.hermes_element.specs.Spelling.{Spells}
 use Rattle.std.proofs.lemmas.Slice.Eq.{bytes_eq-Decides}
 use Rattle.std.proofs.lemmas.List.Folds.{list_any-append}
 use Rattle.hermes_element.specs.declared.attribute.Attribute.{Attribute}
-use Rattle.hermes_element.proofs.Running.{yes, no}
 use Rattle.hermes_element.proofs.Complete.{and_both, both_true}
 use Rattle.hermes_element.proofs.Wide.{encode_2, encode_3, encode_4}
 use Rattle.hermes_element.proofs.Exact.{spelled_outcome, one_tree}

@@ -1,24 +1,23 @@
 -- What the effects of a document's parts come to: the first check that fails, or the element.
-use Rattle.std.proofs.Common.{◌≡◌, ◌≢◌, ◌⊎◌, inl, inr, ℕ, zero, suc, ◌+◌, ◌-◌, ◌*◌, ◌<◌, ◌≤◌, Bool, true, false, cond, not, List, [], ◌∷◌, ◌++◌, Option, Some, None, is_some, Result, Ok, Err, length, map, refl, ap, sym, ◌∙◌, append_assoc, append-nil, add-zero, arith, subst, length-append}
-use Rattle.std.specs.Prelude.{◌==◌, ◌&&◌, ◌||◌, nat_lt, nat_le}
-use Rattle.std.specs.List.{list_any, list_all, flat_map}
+use Rattle.std.proofs.Common.{◌≡◌, ℕ, suc, ◌+◌, ◌-◌, ◌<◌, Bool, true, false, cond, not, List, [], ◌∷◌, ◌++◌, Some, None, is_some, Result, Ok, Err, length, refl, ap, sym, ◌∙◌, append_assoc, append-nil, arith, length-append}
+use Rattle.std.specs.Prelude.{◌==◌, ◌&&◌, nat_lt}
+use Rattle.std.specs.List.{list_any}
 use Rattle.std.specs.Str.{bytes_eq}
 use Rattle.std.specs.Char.{encode_utf8}
-use Rattle.std.proofs.lemmas.Bool.{cases_lt, cases_Bool, eqb-true, eq-eqb, ne_eqb, eqb-false}
 use Rattle.std.proofs.lemmas.Bool.Decides.{nat_tests}
-use Rattle.line_base.specs.Name.{is_name_start, is_name_byte, IsName}
-use Rattle.hermes_element.specs.Plain.{Piece, plain, escaped, piece_text, Assignment, assignment_front, assignment_text, IsAssignment, AreAssignments, Tag, tag_text, IsTag, EndTag, end_text, IsEndTag, Content, last, empty, full, content_text, IsContent, Root, lone, holding, IsRoot}
-use Rattle.hermes_element.specs.Checks.{Fault, fault_if, character_of, encoded, spaced, value_from, value_of, reference_faults, long_if_good, value_faults, assignment_faults, assignments_faults, tag_faults, end_faults, content_faults, root_faults, attribute_of, attributes_of, tag_attributes, forest_in, root_children, root_tag}
+use Rattle.line_base.specs.Name.{IsName}
+use Rattle.hermes_element.specs.Plain.{Piece, plain, escaped, piece_text, Assignment, assignment_front, assignment_text, IsAssignment, AreAssignments, Tag, tag_text, IsTag, EndTag, IsEndTag, Content, last, empty, full, content_text, IsContent, Root, lone, holding, IsRoot}
+use Rattle.hermes_element.specs.Checks.{Fault, fault_if, character_of, encoded, spaced, value_from, reference_faults, long_if_good, value_faults, assignment_faults, assignments_faults, tag_faults, end_faults, content_faults, root_faults, attribute_of, attributes_of, tag_attributes, forest_in, root_children, root_tag}
 use Rattle.hermes_element.specs.Element.{Forest, none, more, Tree, add}
-use Rattle.hermes_element.specs.Machine.{Build, ◌>>=◌, check, in_tag, between, with_attribute, names_of, end_value, end_key, begin_value, refer, no_tag, no_scratch, ended, add_last, is_none, innermost, outer, close, with_word, begin_end}
+use Rattle.hermes_element.specs.Machine.{Build, ◌>>=◌, check, in_tag, between, with_attribute, names_of, end_value, end_key, begin_value, refer, ended, add_last, is_none, innermost, outer, close, begin_end}
 use Rattle.hermes_element.specs.Steps.{valuing}
 use Rattle.hermes_element.specs.declared.attribute.Attribute.{Attribute}
 use Rattle.hermes_element.specs.declared.refusal.Why.{Why}
 use Rattle.hermes_element.specs.declared.refusal.Why.TheVariants as why
 use Rattle.hermes_element.proofs.Tags.{keying}
 use Rattle.hermes_element.proofs.Roots.{innermost-push, outer-push, add_last-push}
-use Rattle.hermes_element.proofs.Complete.{folded, words, plain_effect}
-use Rattle.hermes_element.proofs.Parts.{piece_effect, pieces_effect, key_effect, add_key, keys, assignment_effect, assignments_effect, name_effect, add_name, names, tag_effect}
+use Rattle.hermes_element.proofs.Complete.{folded, words}
+use Rattle.hermes_element.proofs.Parts.{pieces_effect, key_effect, add_key, keys, assignment_effect, assignments_effect, name_effect, add_name, names, tag_effect}
 use Rattle.hermes_element.proofs.Whole.{word_effect, match_effect, end_effect, push_tag, end_empty, content_effect, root_effect}
 
 -- the first fault, or what was made

@@ -1,18 +1,13 @@
 -- The documents that the reading machine accepts, and that it always can come to one.
-use Rattle.std.proofs.Common.{◌≡◌, ◌≢◌, ◌⊎◌, inl, inr, ℕ, zero, suc, ◌+◌, ◌-◌, ◌*◌, ◌/◌, ◌%◌, ◌<◌, ◌≤◌, Bool, true, false, cond, not, List, [], ◌∷◌, ◌++◌, Option, Some, None, Result, Ok, Err, length, refl, ap, sym, ◌∙◌, append_assoc, append-nil, add-zero, arith, subst, length-append, max}
-use Rattle.std.specs.Prelude.{◌==◌, ◌&&◌, ◌||◌, nat_lt, nat_le}
-use Rattle.std.specs.List.{list_any, list_all, flat_map}
-use Rattle.std.proofs.lemmas.Bool.{cases_lt, cases_Bool, eqb-true, eq-eqb, ne_eqb, lt-ltb, le-ltb, ltb-true, leb-true, le-leb, eqb-false}
+use Rattle.std.proofs.Common.{◌≡◌, inl, inr, ℕ, ◌+◌, true, false, List, [], ◌∷◌, ◌++◌, Some, None, length, refl, ap, sym, ◌∙◌, append_assoc, append-nil, arith, subst}
+use Rattle.std.specs.Prelude.{◌==◌}
+use Rattle.std.proofs.lemmas.Bool.{cases_Bool, eqb-true}
 use Rattle.std.proofs.lemmas.Bool.Decides.{nat_tests}
-use Rattle.line_base.specs.Text.{is_allowed_char}
-use Rattle.line_base.specs.Name.{is_name_start, is_name_byte, IsName}
-use Rattle.hermes_element.specs.Plain.{is_blank, is_quote, is_letter, is_digit, is_hex_digit, is_declared, AreBlanks, Tag, tag_text, IsTag, EndTag, end_text, Content, content_text, Root, lone, holding, root_text, IsRoot, Declaration, declaration_text, IsDeclaration, Document, document_text, IsPlain, IsSpelledBy, IsDocument}
-use Rattle.hermes_element.specs.Machine.{Stand, step, is_end, to_if, step_tag, step_equals, step_end, step_value, step_escape, only_if, with_open, share, least_wide, is_wide_begun, wide, wide_start, wide_next, after_element}
-use Rattle.hermes_element.specs.Steps.{tail_of}
-use Rattle.hermes_element.specs.declared.place.Place.{Place}
+use Rattle.line_base.specs.Name.{is_name_start}
+use Rattle.hermes_element.specs.Plain.{is_blank, is_declared, AreBlanks, end_text, content_text, Root, lone, holding, root_text, IsRoot, Declaration, Document, document_text, IsPlain, IsDocument}
+use Rattle.hermes_element.specs.Machine.{to_if}
 use Rattle.hermes_element.specs.declared.place.Place.TheVariants as places
 use Rattle.hermes_element.proofs.Running.{yes, no}
-use Rattle.hermes_element.proofs.Complete.{and_both, both_true}
 use Rattle.hermes_element.proofs.Parts.{tag_rest}
 use Rattle.hermes_element.proofs.Whole.{root_rest}
 use Rattle.hermes_element.proofs.Sound as sound

@@ -1,18 +1,18 @@
 -- How the reading machine goes over an escape.
-use Rattle.std.proofs.Common.{◌≡◌, ◌≢◌, ◌⊎◌, inl, inr, ℕ, zero, suc, ◌+◌, ◌-◌, ◌<◌, ◌≤◌, Bool, true, false, cond, List, [], ◌∷◌, ◌++◌, Option, Some, None, Result, Ok, Err, length, take, drop, get_or, refl, ap, sym, ◌∙◌, append_assoc, append-nil, arith, eqb}
-use Rattle.std.proofs.lemmas.Bool.{cases_lt, cases_Bool}
+use Rattle.std.proofs.Common.{◌≡◌, ◌≢◌, inl, inr, ℕ, ◌+◌, ◌<◌, Bool, true, false, List, [], ◌∷◌, ◌++◌, Some, None, Ok, Err, length, get_or, refl, ap, sym, ◌∙◌, arith}
+use Rattle.std.proofs.lemmas.Bool.{cases_lt}
 use Rattle.std.proofs.lemmas.Bool.Decides.{nat_tests}
-use Rattle.std.specs.Prelude.{slice_range, ◌==◌, ◌&&◌, ◌||◌, nat_le}
+use Rattle.std.specs.Prelude.{slice_range, ◌==◌}
 use Rattle.std.specs.Char.{encode_utf8}
 use Rattle.hermes_element.specs.Plain.{is_letter, is_digit, is_hex_digit, Escape, named, decimal, hexadecimal}
-use Rattle.hermes_element.specs.Checks.{Fault, character_of}
-use Rattle.hermes_element.specs.Machine.{Build, Stand, run, step, act, is_end, with_word, refer}
+use Rattle.hermes_element.specs.Checks.{character_of}
+use Rattle.hermes_element.specs.Machine.{Build, step, act, is_end, with_word, refer}
 use Rattle.hermes_element.specs.Steps.{run_at, IsSpan, valuing, IsGood, ReadsReference}
 use Rattle.hermes_element.specs.declared.stop.Stop.TheVariants as stops
 use Rattle.hermes_element.specs.declared.refusal.Why.TheVariants as why
 use Rattle.hermes_element.specs.declared.place.Place.{Place}
 use Rattle.hermes_element.specs.declared.place.Place.TheVariants as places
-use Rattle.hermes_element.proofs.Running.{yes, no, goes, goes_over, stops as stops_at, stops_over, ends, faults_over, spans, range_first, IsSpan-rest}
+use Rattle.hermes_element.proofs.Running.{goes, goes_over, stops as stops_at, ends, faults_over, spans, range_first, IsSpan-rest}
 
 -- in an escape
 abbrev pub escaping : Build → List ℕ → ℕ → List ℕ → ℕ → List ℕ → Build

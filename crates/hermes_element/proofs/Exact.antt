@@ -1,10 +1,10 @@
 -- What the machine's outcome says of the bytes: the element that they spell, or where and why they are refused.
-use Rattle.std.proofs.Common.{◌≡◌, ◌⊎◌, inl, inr, ℕ, zero, suc, ◌+◌, ◌-◌, ◌<◌, ◌≤◌, Bool, true, false, cond, List, [], ◌∷◌, ◌++◌, Option, Some, None, Result, Ok, Err, length, take, drop, refl, ap, sym, ◌∙◌, append_assoc, add-one, arith, subst}
+use Rattle.std.proofs.Common.{◌≡◌, inl, inr, ℕ, zero, suc, ◌+◌, ◌<◌, ◌≤◌, Bool, true, false, cond, List, [], ◌∷◌, ◌++◌, Option, Some, None, Result, Ok, Err, length, take, drop, refl, ap, sym, ◌∙◌, append_assoc, arith, subst}
 use Rattle.std.proofs.lemmas.Bool.{cases_lt}
 use Rattle.std.proofs.lemmas.List.{take-append-drop}
-use Rattle.hermes_element.specs.Plain.{Document, document_text, IsPlain, IsSpelledBy, IsDocument}
+use Rattle.hermes_element.specs.Plain.{Document, IsSpelledBy, IsDocument}
 use Rattle.hermes_element.specs.Checks.{Fault, faults_of, element_of, root_place}
-use Rattle.hermes_element.specs.Element.{Forest, none, more, Tree, add}
+use Rattle.hermes_element.specs.Element.{Forest, none, more, Tree}
 use Rattle.hermes_element.specs.Refusal.{IsBegun, FailsAt, IsUnplain, IsLeast, FailsCheck, IsRefused, shape_reason}
 use Rattle.hermes_element.specs.Spelling.{Spells, ReadsElement, AnswersElement, AnswersRefusal}
 use Rattle.hermes_element.specs.Machine.{Build, Stand, Outcome, run, step, act, moved, ◌>>=◌, between, outcome, stop_of, stop_if, is_end}
@@ -14,12 +14,11 @@ use Rattle.hermes_element.specs.declared.refusal.ElementError.{ElementError}
 use Rattle.hermes_element.specs.declared.refusal.ElementError.TheVariants as errors
 use Rattle.hermes_element.specs.declared.place.Place.{Place}
 use Rattle.hermes_element.specs.declared.place.Place.TheVariants as places
-use Rattle.hermes_element.proofs.Running.{yes, no}
-use Rattle.hermes_element.proofs.Sound.{accepts, accept_if, accepts_stop, stop_accepts, back, stuck}
+use Rattle.hermes_element.proofs.Sound.{accepts, accept_if, accepts_stop, back, stuck}
 use Rattle.hermes_element.proofs.Ends.{document_end}
 use Rattle.hermes_element.proofs.Living.{Lives, leads, lives_on}
 use Rattle.hermes_element.proofs.Whole.{over_document, over_done}
-use Rattle.hermes_element.proofs.Effects.{settle, root_settle, root_tree}
+use Rattle.hermes_element.proofs.Effects.{settle, root_settle}
 use Rattle.hermes_element.proofs.Rising.{Rising, root_rising, first_least, least_first}
 
 -- ---- pass 1

@@ -1,17 +1,16 @@
 -- From each place that the reading machine comes to, some bytes lead to the end of a document.
-use Rattle.std.proofs.Common.{◌≡◌, ◌≢◌, ◌⊎◌, inl, inr, ℕ, zero, suc, ◌+◌, ◌-◌, ◌*◌, ◌/◌, ◌%◌, ◌<◌, ◌≤◌, Bool, true, false, cond, not, List, [], ◌∷◌, ◌++◌, Option, Some, None, Result, Ok, Err, length, refl, ap, sym, ◌∙◌, arith, subst, max}
-use Rattle.std.specs.Prelude.{◌==◌, ◌&&◌, ◌||◌, nat_lt, nat_le}
-use Rattle.std.proofs.lemmas.Bool.{cases_lt, cases_Bool, eqb-true, eq-eqb, ne_eqb, lt-ltb, le-ltb, ltb-true, leb-true, le-leb, eqb-false}
+use Rattle.std.proofs.Common.{◌≡◌, ◌⊎◌, inl, inr, ℕ, zero, suc, ◌+◌, ◌-◌, ◌*◌, ◌/◌, ◌%◌, ◌<◌, ◌≤◌, Bool, true, false, cond, List, [], ◌∷◌, Option, Some, None, refl, ap, sym, ◌∙◌, arith, subst, max}
+use Rattle.std.specs.Prelude.{◌==◌, ◌&&◌, nat_lt, nat_le}
+use Rattle.std.proofs.lemmas.Bool.{cases_Bool, eq-eqb, ne_eqb, lt-ltb, ltb-true, eqb-false}
 use Rattle.std.proofs.lemmas.Bool.Decides.{nat_tests}
 use Rattle.line_base.specs.Text.{is_allowed_char}
 use Rattle.line_base.specs.Name.{is_name_start, is_name_byte}
 use Rattle.hermes_element.specs.Plain.{is_blank, is_quote, is_letter, is_digit, is_hex_digit, is_declared}
-use Rattle.hermes_element.specs.Machine.{Stand, step, is_end, to_if, step_tag, step_equals, step_end, step_value, step_escape, only_if, with_open, share, least_wide, is_wide_begun, wide, wide_start, wide_next, after_element}
-use Rattle.hermes_element.specs.Steps.{tail_of}
+use Rattle.hermes_element.specs.Machine.{Stand, step, to_if, step_tag, step_equals, step_end, step_value, step_escape, only_if, with_open, is_wide_begun, wide, wide_start, wide_next, after_element}
 use Rattle.hermes_element.specs.declared.place.Place.{Place}
 use Rattle.hermes_element.specs.declared.place.Place.TheVariants as places
 use Rattle.hermes_element.proofs.Running.{yes, no}
-use Rattle.hermes_element.proofs.Complete.{and_both, both_true, wide_goes, wide_ends, next_is, begun_0, begun_1, begun_2, begun_3}
+use Rattle.hermes_element.proofs.Complete.{and_both, wide_goes, wide_ends, next_is, begun_0, begun_1, begun_2}
 use Rattle.hermes_element.proofs.Sound.{accepts, accept_if}
 
 -- some bytes lead from the place to the end

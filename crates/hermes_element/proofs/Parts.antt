@@ -1,21 +1,17 @@
 -- The reading machine goes over values, attributes, tags, content and documents of the plain form, and does to what
 -- was said so far what the effect of each says.
-use Rattle.std.proofs.Common.{◌≡◌, ◌≢◌, ◌⊎◌, inl, inr, ℕ, zero, suc, ◌+◌, ◌-◌, ◌*◌, ◌<◌, ◌≤◌, Bool, true, false, cond, not, List, [], ◌∷◌, ◌++◌, Option, Some, None, Result, Ok, Err, length, refl, ap, sym, ◌∙◌, append_assoc, append-nil, add-zero, arith, subst, length-append}
-use Rattle.std.specs.Prelude.{◌==◌, ◌&&◌, ◌||◌, nat_lt, nat_le}
-use Rattle.std.specs.List.{list_any, list_all, flat_map}
-use Rattle.std.specs.Str.{bytes_eq}
-use Rattle.std.proofs.lemmas.Bool.{cases_lt, cases_Bool, eqb-true, eq-eqb, ne_eqb, lt-ltb, le-ltb, ltb-true, leb-true, le-leb}
+use Rattle.std.proofs.Common.{◌≡◌, inl, inr, ℕ, suc, ◌+◌, ◌-◌, ◌<◌, ◌≤◌, true, false, List, [], ◌∷◌, ◌++◌, Result, Ok, Err, length, refl, ap, sym, ◌∙◌, append_assoc, append-nil, add-zero, arith, length-append}
+use Rattle.std.specs.Prelude.{◌==◌}
+use Rattle.std.specs.List.{list_all, flat_map}
+use Rattle.std.proofs.lemmas.Bool.{cases_lt, eq-eqb}
 use Rattle.std.proofs.lemmas.Bool.Decides.{nat_tests}
 use Rattle.line_base.specs.Name.{is_name_start, is_name_byte, IsName}
-use Rattle.hermes_element.specs.Plain.{is_blank, is_quote, AreBlanks, Piece, plain, escaped, piece_text, is_piece, value_text, Assignment, assignment_front, assignment_text, IsAssignment, AreAssignments, Tag, tag_text, IsTag, EndTag, end_text, IsEndTag, Content, last, empty, full, content_text, IsContent}
+use Rattle.hermes_element.specs.Plain.{is_blank, is_quote, AreBlanks, Piece, plain, escaped, piece_text, is_piece, value_text, Assignment, assignment_front, assignment_text, IsAssignment, AreAssignments, Tag, tag_text, IsTag}
 use Rattle.hermes_element.specs.Checks.{Fault, character_of}
-use Rattle.hermes_element.specs.Element.{Forest, none, more, Tree, add}
-use Rattle.hermes_element.specs.Machine.{Build, Stand, Outcome, Scratch, run, step, act, ◌>>=◌, with_word, refer, begin_key, end_key, begin_value, end_value, begin_tag, begin_end, check, close, between, ended, innermost, after_element, act_end}
-use Rattle.hermes_element.specs.declared.refusal.Why.TheVariants as why
+use Rattle.hermes_element.specs.Machine.{Build, run, ◌>>=◌, refer, begin_key, end_key, begin_value, end_value, begin_tag, between, ended, after_element}
 use Rattle.hermes_element.specs.declared.place.Place.{Place}
 use Rattle.hermes_element.specs.declared.place.Place.TheVariants as places
-use Rattle.hermes_element.proofs.Running.{yes, no}
-use Rattle.hermes_element.proofs.Complete.{and_both, both_true, bind_same, bind_ok, bind_assoc, over, passes, folded, over_all, over_idle, plain_effect, over_char, over_escape}
+use Rattle.hermes_element.proofs.Complete.{and_both, bind_ok, bind_assoc, over, passes, folded, over_all, over_idle, plain_effect, over_char, over_escape}
 
 no_bytes : (xs : List ℕ) → length xs ≤ 0 → xs ≡ []
 no_bytes [] h = refl

@@ -1,10 +1,10 @@
 -- The checks that fail in a document come in the order of their places, no two at one place.
-use Rattle.std.proofs.Common.{◌≡◌, ◌⊎◌, inl, inr, ℕ, zero, suc, ◌+◌, ◌-◌, ◌<◌, ◌≤◌, Bool, true, false, cond, List, [], ◌∷◌, ◌++◌, Option, Some, None, is_some, length, refl, ap, sym, ◌∙◌, arith, subst, length-append}
+use Rattle.std.proofs.Common.{◌≡◌, inl, inr, ℕ, ◌+◌, ◌<◌, ◌≤◌, Bool, true, false, cond, List, [], ◌∷◌, ◌++◌, Option, Some, None, is_some, length, refl, ap, arith, length-append}
 use Rattle.std.specs.Prelude.{◌==◌, nat_lt}
 use Rattle.std.specs.List.{list_any, flat_map, AllByRecursion}
 use Rattle.std.specs.Str.{bytes_eq}
 use Rattle.line_base.specs.Name.{IsName}
-use Rattle.hermes_element.specs.Plain.{Piece, plain, escaped, piece_text, value_text, Escape, named, decimal, hexadecimal, escape_text, Assignment, assignment_front, assignment_text, IsAssignment, AreAssignments, Tag, tag_text, IsTag, EndTag, end_text, IsEndTag, Content, last, empty, full, content_text, IsContent, Root, lone, holding, root_text, IsRoot}
+use Rattle.hermes_element.specs.Plain.{Piece, plain, escaped, piece_text, value_text, Escape, named, decimal, hexadecimal, escape_text, Assignment, assignment_front, assignment_text, IsAssignment, AreAssignments, Tag, tag_text, IsTag, EndTag, end_text, Content, last, empty, full, content_text, IsContent, Root, lone, holding, IsRoot}
 use Rattle.hermes_element.specs.Checks.{Fault, fault_if, character_of, reference_faults, long_if_good, value_of, value_faults, assignment_faults, assignments_faults, tag_faults, end_faults, content_faults, root_faults}
 use Rattle.hermes_element.specs.Refusal.{IsLeast, IsAmong}
 use Rattle.hermes_element.specs.declared.refusal.Why.{Why}

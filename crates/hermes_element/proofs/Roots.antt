@@ -1,24 +1,20 @@
 -- How the reading machine goes over what stands around the root, over end tags, and from tag to tag.
-use Rattle.std.proofs.Common.{◌≡◌, ◌≢◌, ◌⊎◌, inl, inr, ℕ, zero, suc, ◌+◌, ◌-◌, ◌<◌, ◌≤◌, Bool, true, false, cond, not, List, [], ◌∷◌, ◌++◌, Option, Some, None, Result, Ok, Err, length, take, drop, get_or, refl, ap, sym, ◌∙◌, append_assoc, append-nil, arith, subst, length-append}
-use Rattle.std.specs.Prelude.{◌==◌, ◌&&◌, ◌||◌, nat_lt, nat_le, slice_range}
-use Rattle.std.specs.List.{list_any, list_all}
+use Rattle.std.proofs.Common.{◌≡◌, ◌⊎◌, inl, inr, ℕ, suc, ◌+◌, ◌-◌, ◌<◌, Bool, true, false, cond, List, [], ◌∷◌, ◌++◌, Option, Some, None, Result, Ok, Err, length, drop, get_or, refl, ap, sym, ◌∙◌, arith, subst, length-append}
+use Rattle.std.specs.Prelude.{◌==◌, ◌&&◌, nat_lt, slice_range}
 use Rattle.std.specs.Str.{bytes_eq}
 use Rattle.std.proofs.lemmas.List.{drop_all}
-use Rattle.std.proofs.lemmas.Bool.{cases_lt, cases_Bool, eqb-true, eq-eqb, ne_eqb, lt-ltb, le-ltb, ltb-true, leb-true}
+use Rattle.std.proofs.lemmas.Bool.{cases_lt, cases_Bool, ne_eqb, lt-ltb}
 use Rattle.std.proofs.lemmas.Bool.Decides.{nat_tests}
-use Rattle.line_base.specs.Name.{is_name_start, is_name_byte, IsName, is_name}
+use Rattle.line_base.specs.Name.{is_name_start, is_name_byte}
 use Rattle.hermes_element.specs.Plain.{is_blank, is_declared}
-use Rattle.hermes_element.specs.Checks.{Fault}
-use Rattle.hermes_element.specs.Element.{Forest, none, more, Tree, add}
-use Rattle.hermes_element.specs.Machine.{Build, Stand, Outcome, Scratch, run, step, act, is_end, moved, ◌>>=◌, between, in_tag, no_scratch, no_tag, names_of, with_attribute, ended, after_element, add_last, innermost, outer, close, is_none, step_end}
-use Rattle.hermes_element.specs.Steps.{run_at, IsSpan, Meets, beginning, in_content, in_close, tag_ended, as_forest, ReadsClose, ReadsMarkup}
-use Rattle.hermes_element.specs.declared.attribute.Attribute.{Attribute}
+use Rattle.hermes_element.specs.Element.{Forest, none, Tree, add}
+use Rattle.hermes_element.specs.Machine.{Build, Stand, Outcome, run, step, act, moved, between, no_scratch, no_tag, ended, after_element, add_last, innermost, outer, step_end}
+use Rattle.hermes_element.specs.Steps.{run_at, IsSpan, Meets, beginning, in_content, in_close, as_forest, ReadsClose, ReadsMarkup}
 use Rattle.hermes_element.specs.declared.refusal.Why.TheVariants as why
 use Rattle.hermes_element.specs.declared.stop.Stop.{Stop}
-use Rattle.hermes_element.specs.declared.stop.Stop.TheVariants as stops
 use Rattle.hermes_element.specs.declared.place.Place.{Place}
 use Rattle.hermes_element.specs.declared.place.Place.TheVariants as places
-use Rattle.hermes_element.proofs.Running.{yes, no, over, goes, goes_over, stops as stops_at, stops_over, ends, faults, faults_over, spans, skips, range_first, range_one, range_more, IsSpan-rest}
+use Rattle.hermes_element.proofs.Running.{yes, no, over, goes, goes_over, stops as stops_at, ends, faults, faults_over, spans, skips, range_first, IsSpan-rest}
 use Rattle.hermes_element.proofs.Tags.{stop_same, name_has_bytes}
 
 both_true : (a b : Bool) → a ≡ true → b ≡ true → (a && b) ≡ true

@@ -1,8 +1,8 @@
 -- How the reading machine goes on from an index.
-use Rattle.std.proofs.Common.{◌≡◌, ℕ, zero, suc, ◌+◌, ◌<◌, ◌≤◌, Bool, true, false, cond, List, [], ◌∷◌, ◌++◌, Option, Some, None, Result, Ok, Err, length, take, drop, get_or, refl, ap, sym, ◌∙◌, append_assoc, append-nil, add-zero, add-one, ◌-◌, drop-cons, arith}
+use Rattle.std.proofs.Common.{◌≡◌, ℕ, zero, suc, ◌+◌, ◌<◌, ◌≤◌, Bool, true, false, cond, List, [], ◌∷◌, ◌++◌, Some, None, Ok, Err, length, take, drop, get_or, refl, ap, sym, ◌∙◌, append_assoc, append-nil, add-zero, add-one, ◌-◌, drop-cons, arith}
 use Rattle.std.proofs.lemmas.List.{drop_all, length-drop, length-take}
 use Rattle.hermes_element.specs.Checks.{Fault}
-use Rattle.hermes_element.specs.Machine.{Build, Outcome, Stand, run, step, act, moved, is_end, ◌>>=◌, step_tag}
+use Rattle.hermes_element.specs.Machine.{Build, run, step, act, moved, is_end, step_tag}
 use Rattle.hermes_element.specs.Steps.{run_at, IsSpan}
 use Rattle.std.specs.Prelude.{slice_range}
 use Rattle.line_base.specs.Name.{is_name_byte}

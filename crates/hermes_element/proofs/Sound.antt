@@ -1,24 +1,23 @@
 -- What the reading machine accepts has the plain form.
-use Rattle.std.proofs.Common.{◌≡◌, ◌≢◌, ◌⊎◌, inl, inr, ℕ, zero, suc, ◌+◌, ◌-◌, ◌*◌, ◌<◌, ◌≤◌, Bool, true, false, cond, not, List, [], ◌∷◌, ◌++◌, Option, Some, None, Result, Ok, Err, length, refl, ap, sym, ◌∙◌, append_assoc, append-nil, add-zero, arith, subst, length-append}
-use Rattle.std.specs.Prelude.{◌==◌, ◌&&◌, ◌||◌, nat_lt, nat_le}
-use Rattle.std.specs.List.{list_any, list_all, flat_map}
+use Rattle.std.proofs.Common.{◌≡◌, ◌⊎◌, inl, inr, ℕ, zero, suc, ◌+◌, ◌-◌, ◌<◌, ◌≤◌, Bool, true, false, cond, List, [], ◌∷◌, ◌++◌, Option, Some, None, length, refl, ap, sym, ◌∙◌, append_assoc, append-nil, arith, subst, length-append}
+use Rattle.std.specs.Prelude.{◌==◌, nat_lt}
+use Rattle.std.specs.List.{list_all, flat_map}
 use Rattle.std.specs.Char.{encode_utf8}
 use Rattle.std.proofs.lemmas.Str.{encode_ascii}
-use Rattle.std.proofs.lemmas.Bool.{cases_lt, cases_Bool, eqb-true, eq-eqb, ne_eqb, lt-ltb, le-ltb, ltb-true, leb-true, le-leb, eqb-false}
+use Rattle.std.proofs.lemmas.Bool.{cases_lt, cases_Bool, eqb-true, ne_eqb, lt-ltb, le-ltb}
 use Rattle.std.proofs.lemmas.Bool.Decides.{nat_tests}
 use Rattle.line_base.specs.Text.{is_allowed_char}
-use Rattle.line_base.specs.Name.{is_name_start, is_name_byte, IsName}
+use Rattle.line_base.specs.Name.{is_name_start, is_name_byte}
 use Rattle.hermes_element.specs.Plain as form
 use Rattle.hermes_element.specs.Plain.{is_blank, is_quote, is_letter, is_digit, is_hex_digit, is_declared, AreBlanks, Escape, named, decimal, hexadecimal, escape_text, is_escape, Piece, plain, escaped, piece_text, is_piece, value_text, Assignment, assignment_text, IsAssignment, AreAssignments, Tag, tag_text, IsTag, EndTag, end_text, IsEndTag, Content, last, empty, full, content_text, IsContent, Root, lone, holding, root_text, IsRoot, Declaration, declaration_text, IsDeclaration, Document, document_text, IsPlain, IsSpelledBy, IsDocument}
-use Rattle.hermes_element.specs.Machine.{Stand, step, is_end, to_if, step_tag, step_equals, step_end, step_value, with_open, wide_start, wide_next, after_element, stop_of, stop_if}
-use Rattle.hermes_element.specs.Steps.{AtPlace, IsOne, IsPart}
+use Rattle.hermes_element.specs.Machine.{Stand, step, is_end, to_if, step_tag, step_equals, step_end, with_open, wide_start, wide_next, after_element, stop_of, stop_if}
+use Rattle.hermes_element.specs.Steps.{AtPlace, IsOne}
 use Rattle.hermes_element.specs.declared.place.Place.{Place}
 use Rattle.hermes_element.specs.declared.place.Place.TheVariants as places
 use Rattle.hermes_element.proofs.Running.{yes, no}
 use Rattle.hermes_element.proofs.Wide.{start_part, next_part}
-use Rattle.hermes_element.proofs.Complete.{and_both, both_true, not_true}
+use Rattle.hermes_element.proofs.Complete.{both_true}
 use Rattle.hermes_element.proofs.Parts.{tag_rest}
-use Rattle.hermes_element.proofs.Whole.{root_rest}
 
 abbrev pub accept_if : Option Stand → (Place → ℕ → Bool) → Bool
 accept_if None go = false

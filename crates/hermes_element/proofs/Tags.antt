@@ -1,24 +1,21 @@
 -- How the reading machine goes over a start tag.
-use Rattle.std.proofs.Common.{◌≡◌, ◌≢◌, ◌⊎◌, inl, inr, ℕ, zero, suc, ◌+◌, ◌-◌, ◌<◌, ◌≤◌, Bool, true, false, cond, not, List, [], ◌∷◌, ◌++◌, Option, Some, None, Result, Ok, Err, length, take, drop, get_or, refl, ap, sym, ◌∙◌, append_assoc, append-nil, arith, subst}
-use Rattle.std.specs.Prelude.{◌==◌, ◌&&◌, ◌||◌, nat_lt, nat_le, slice_range}
+use Rattle.std.proofs.Common.{◌≡◌, inl, inr, ℕ, zero, suc, ◌+◌, ◌-◌, ◌<◌, ◌≤◌, Bool, true, false, List, [], ◌∷◌, Some, None, Result, Ok, Err, length, take, drop, get_or, refl, ap, sym, ◌∙◌, arith}
+use Rattle.std.specs.Prelude.{◌==◌, ◌&&◌, slice_range}
 use Rattle.std.specs.List.{list_any, list_all}
 use Rattle.std.specs.Str.{bytes_eq}
 use Rattle.std.proofs.lemmas.List.{drop_all}
-use Rattle.std.proofs.lemmas.Bool.{cases_lt, cases_Bool, eqb-true, eq-eqb, ne_eqb, lt-ltb, le-ltb, ltb-true, leb-true}
+use Rattle.std.proofs.lemmas.Bool.{cases_lt, cases_Bool, eqb-true, eq-eqb, ne_eqb}
 use Rattle.std.proofs.lemmas.Bool.Decides.{nat_tests}
 use Rattle.line_base.specs.Name.{is_name_start, is_name_byte, IsName, is_name}
 use Rattle.hermes_element.specs.Plain.{is_blank, is_quote}
 use Rattle.hermes_element.specs.Checks.{Fault}
 use Rattle.hermes_element.specs.Element.{Forest, none, Tree}
-use Rattle.hermes_element.specs.Machine.{Build, Stand, Outcome, Scratch, run, step, act, is_end, moved, ◌>>=◌, between, in_tag, no_scratch, no_tag, names_of, with_attribute}
-use Rattle.hermes_element.specs.Steps.{run_at, IsSpan, valuing, ReadsAttribute, ReadsAttributes, ReadsTag, ReadsValue, Meets}
-use Rattle.hermes_element.specs.declared.attribute.Attribute.{Attribute}
+use Rattle.hermes_element.specs.Machine.{Build, run, step, act, moved, ◌>>=◌, between, in_tag, no_scratch, no_tag, names_of}
+use Rattle.hermes_element.specs.Steps.{run_at, IsSpan, valuing}
 use Rattle.hermes_element.specs.declared.refusal.Why.TheVariants as why
-use Rattle.hermes_element.specs.declared.stop.Stop.{Stop}
-use Rattle.hermes_element.specs.declared.stop.Stop.TheVariants as stops
 use Rattle.hermes_element.specs.declared.place.Place.{Place}
 use Rattle.hermes_element.specs.declared.place.Place.TheVariants as places
-use Rattle.hermes_element.proofs.Running.{yes, no, over, goes, goes_over, stops as stops_at, stops_over, ends, faults, faults_over, spans, skips, range_first, range_one, range_more, IsSpan-rest}
+use Rattle.hermes_element.proofs.Running.{over, goes, goes_over, stops as stops_at, ends, faults, faults_over, spans, skips, range_first, IsSpan-rest}
 
 -- where the machine stops doesn't hang on what was said
 pub stop_same : (from : Place) (depth : ℕ) (c d : Result Build Fault) (place : ℕ) (bytes : List ℕ) → (run from depth c place bytes).stop ≡ (run from depth d place bytes).stop

@@ -1,14 +1,13 @@
 -- Bytes that are UTF-8 of allowed characters, one after another.
-use Rattle.std.proofs.Common.{◌≡◌, ◌⊎◌, inl, inr, ℕ, zero, suc, ◌+◌, ◌-◌, ◌<◌, ◌≤◌, Bool, true, false, List, [], ◌∷◌, ◌++◌, length, take, drop, get_or, refl, ap, sym, ◌∙◌, append-nil, arith, subst}
-use Rattle.std.specs.Prelude.{slice_range, ◌&&◌, nat_lt}
+use Rattle.std.proofs.Common.{◌≡◌, ℕ, zero, suc, ◌+◌, ◌-◌, ◌<◌, ◌≤◌, Bool, true, false, List, [], ◌∷◌, ◌++◌, length, take, drop, get_or, refl, ap, sym, ◌∙◌, append-nil, arith, subst}
+use Rattle.std.specs.Prelude.{slice_range, ◌&&◌}
 use Rattle.std.specs.Char.{encode_utf8, IsScalar}
-use Rattle.std.specs.Str.{chars, IsUtf8}
+use Rattle.std.specs.Str.{chars}
 use Rattle.std.specs.List.{list_all}
 use Rattle.std.proofs.lemmas.Str.{IsUtf8-append, IsUtf8-nil, IsUtf8-encode, chars-append, chars-encodes, chars-nil, encode_ascii}
 use Rattle.std.proofs.lemmas.List.Folds.{list_all-append}
-use Rattle.std.proofs.lemmas.Bool.{cases_lt}
 use Rattle.std.proofs.lemmas.Bool.Decides.{nat_tests}
-use Rattle.line_base.specs.Text.{is_allowed_char, IsAllowed, IsText}
+use Rattle.line_base.specs.Text.{is_allowed_char, IsAllowed}
 use Rattle.hermes_element.specs.Machine.{is_plain}
 use Rattle.hermes_element.specs.Steps.{IsOne, IsSpan}
 use Rattle.hermes_element.proofs.Running.{over}

@@ -1,18 +1,16 @@
 -- How the reading machine goes over a value.
-use Rattle.std.proofs.Common.{◌≡◌, ◌≢◌, ◌⊎◌, inl, inr, ℕ, zero, suc, ◌+◌, ◌-◌, ◌<◌, ◌≤◌, Bool, true, false, cond, not, List, [], ◌∷◌, ◌++◌, Option, Some, None, Result, Ok, Err, length, take, drop, get_or, refl, ap, sym, ◌∙◌, append_assoc, append-nil, arith}
-use Rattle.std.specs.Prelude.{◌==◌, ◌&&◌, ◌||◌, nat_lt, nat_le, slice_range}
-use Rattle.std.proofs.lemmas.Bool.{cases_lt, cases_Bool, eqb-true, eq-eqb, ne_eqb, lt-ltb, le-ltb, ltb-true, leb-true}
+use Rattle.std.proofs.Common.{◌≡◌, ◌⊎◌, inl, inr, ℕ, ◌+◌, ◌<◌, ◌≤◌, Bool, true, false, not, List, [], ◌∷◌, ◌++◌, Some, None, Ok, Err, length, get_or, refl, ap, sym, ◌∙◌, append_assoc, arith}
+use Rattle.std.specs.Prelude.{◌==◌, ◌&&◌, nat_lt, nat_le, slice_range}
+use Rattle.std.proofs.lemmas.Bool.{eq-eqb, ne_eqb, lt-ltb, le-ltb, leb-true}
 use Rattle.std.proofs.lemmas.Bool.Decides.{nat_tests}
 use Rattle.line_base.specs.Text.{is_allowed_char}
 use Rattle.hermes_element.specs.Plain.{is_quote}
-use Rattle.hermes_element.specs.Machine.{Build, Stand, Outcome, run, step, act, act_char, step_value, is_plain, is_end, with_open, wide_start, wide_next, with_attribute, in_tag}
-use Rattle.hermes_element.specs.Steps.{run_at, IsSpan, valuing, Puts, ReadsPart, ReadsValue, Meets, AtPlace, IsOne}
+use Rattle.hermes_element.specs.Machine.{Build, step, act, is_plain, with_open, wide_start, wide_next, with_attribute, in_tag}
+use Rattle.hermes_element.specs.Steps.{run_at, IsSpan, valuing, AtPlace, IsOne}
 use Rattle.hermes_element.specs.declared.refusal.Why.TheVariants as why
-use Rattle.hermes_element.specs.declared.stop.Stop.{Stop}
-use Rattle.hermes_element.specs.declared.stop.Stop.TheVariants as stops
 use Rattle.hermes_element.specs.declared.place.Place.{Place}
 use Rattle.hermes_element.specs.declared.place.Place.TheVariants as places
-use Rattle.hermes_element.proofs.Running.{yes, no, goes, goes_over, stops as stops_at, stops_over, ends, faults_over, spans, range_first, range_one, range_more, IsSpan-rest}
+use Rattle.hermes_element.proofs.Running.{goes, goes_over, stops as stops_at, faults_over, spans, range_one, range_more}
 
 -- ---- bytes that stand for themselves
 

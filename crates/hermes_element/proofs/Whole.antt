@@ -1,21 +1,19 @@
 -- The reading machine goes over content, the root and whole documents of the plain form.
-use Rattle.std.proofs.Common.{◌≡◌, ◌≢◌, ◌⊎◌, inl, inr, ℕ, zero, suc, ◌+◌, ◌-◌, ◌*◌, ◌<◌, ◌≤◌, Bool, true, false, cond, not, List, [], ◌∷◌, ◌++◌, Option, Some, None, Result, Ok, Err, length, refl, ap, sym, ◌∙◌, append_assoc, append-nil, add-zero, arith, subst, length-append}
-use Rattle.std.specs.Prelude.{◌==◌, ◌&&◌, ◌||◌, nat_lt, nat_le}
-use Rattle.std.specs.List.{list_any, list_all, flat_map}
+use Rattle.std.proofs.Common.{◌≡◌, ℕ, suc, ◌+◌, ◌-◌, Bool, true, false, cond, not, List, [], ◌∷◌, ◌++◌, Option, Some, None, Result, Ok, Err, length, refl, ap, sym, ◌∙◌, append_assoc, append-nil, add-zero, arith, length-append}
+use Rattle.std.specs.Prelude.{◌==◌, nat_lt}
+use Rattle.std.specs.List.{list_all, flat_map}
 use Rattle.std.specs.Str.{bytes_eq}
-use Rattle.std.proofs.lemmas.Bool.{cases_lt, cases_Bool, eqb-true, eq-eqb, ne_eqb, lt-ltb, le-ltb, ltb-true, leb-true, le-leb}
+use Rattle.std.proofs.lemmas.Bool.{ne_eqb, lt-ltb}
 use Rattle.std.proofs.lemmas.Bool.Decides.{nat_tests}
 use Rattle.line_base.specs.Name.{is_name_start, is_name_byte, IsName}
 use Rattle.hermes_element.specs.Plain.{is_blank, AreBlanks, is_declared, assignment_text, Tag, tag_text, IsTag, EndTag, end_text, IsEndTag, Content, last, empty, full, content_text, IsContent, Root, lone, holding, root_text, IsRoot, Declaration, declaration_text, IsDeclaration, Document, document_text, IsPlain}
 use Rattle.hermes_element.specs.Checks.{Fault, root_place, root_tag}
-use Rattle.hermes_element.specs.Element.{Forest, none, more, Tree, add}
-use Rattle.hermes_element.specs.Machine.{Build, Stand, Outcome, Scratch, run, step, act, ◌>>=◌, with_word, begin_end, check, close, between, ended, innermost, after_element, act_end, end_name, step_end}
+use Rattle.hermes_element.specs.Machine.{Build, Outcome, run, step, ◌>>=◌, with_word, begin_end, check, close, between, ended, innermost, after_element}
 use Rattle.hermes_element.specs.declared.refusal.Why.TheVariants as why
-use Rattle.hermes_element.specs.declared.place.Place.{Place}
 use Rattle.hermes_element.specs.declared.place.Place.TheVariants as places
 use Rattle.hermes_element.proofs.Running.{yes, no}
-use Rattle.hermes_element.proofs.Complete.{and_both, both_true, bind_same, bind_ok, bind_assoc, over, passes, folded, over_all, over_idle, words}
-use Rattle.hermes_element.proofs.Parts.{TagPlace, place_of, tag_effect, tag_rest, OverTag, over_tag, over_open, over_empty, first_name}
+use Rattle.hermes_element.proofs.Complete.{and_both, bind_same, bind_ok, bind_assoc, over, passes, folded, over_all, over_idle}
+use Rattle.hermes_element.proofs.Parts.{tag_effect, tag_rest, OverTag, over_tag, over_open, over_empty, first_name}
 
 -- ---- end tags
 

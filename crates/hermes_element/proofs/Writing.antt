@@ -1,9 +1,8 @@
 -- What is appended one after another is the canonical spelling.
-use Rattle.std.proofs.Common.{◌≡◌, ℕ, ◌<◌, List, [], ◌∷◌, ◌++◌, length, refl, ap, sym, ◌∙◌, append_assoc, append-nil, arith}
+use Rattle.std.proofs.Common.{◌≡◌, ℕ, ◌<◌, List, [], ◌∷◌, ◌++◌, length, refl, ap, sym, ◌∙◌, append_assoc, arith}
 use Rattle.std.specs.List.{flat_map}
 use Rattle.hermes_element.specs.Element.{Tree, Forest, none, more, trees_of, forest_of}
-use Rattle.hermes_element.specs.Canonical.{canonical, canonical_attribute, canonical_forest, canonical_rest, canonical_front}
-use Rattle.hermes_element.specs.declared.attribute.Attribute.{Attribute}
+use Rattle.hermes_element.specs.Canonical.{canonical, canonical_attribute, canonical_forest, canonical_rest}
 
 forest_of-trees_of : (forest : Forest) → forest_of (trees_of forest) ≡ forest
 forest_of-trees_of none = refl

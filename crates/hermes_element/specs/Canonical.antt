@@ -1,5 +1,5 @@
 -- The one written spelling of an element, and which elements are writable.
-use Rattle.std.specs.Prelude.{◌≡◌, ℕ, suc, ◌≤◌, ◌==◌, Bool, cond, List, [], ◌∷◌, ◌++◌, codes, length, map, max}
+use Rattle.std.specs.Prelude.{ℕ, suc, ◌≤◌, ◌==◌, cond, List, [], ◌∷◌, ◌++◌, codes, length, map, max}
 use Rattle.std.specs.List.{flat_map, AllByRecursion, IsDistinct}
 use Rattle.std.specs.Str.{bytes_eq}
 use Rattle.line_base.specs.Text.{IsText}

@@ -1,10 +1,10 @@
 -- What a document of the plain form says: its element with all places, and every check that fails in it.
-use Rattle.std.specs.Prelude.{◌≡◌, ℕ, ◌+◌, ◌*◌, ◌-◌, ◌==◌, ◌||◌, ◌&&◌, Bool, true, false, cond, List, [], ◌∷◌, ◌++◌, Option, Some, None, is_some, length, nat_lt, nat_le, map}
+use Rattle.std.specs.Prelude.{ℕ, ◌+◌, ◌*◌, ◌-◌, ◌==◌, ◌||◌, ◌&&◌, Bool, false, cond, List, [], ◌∷◌, ◌++◌, Option, Some, None, is_some, length, nat_lt, nat_le}
 use Rattle.std.specs.List.{list_any}
 use Rattle.std.specs.Char.{encode_utf8}
 use Rattle.std.specs.Str.{bytes_eq}
 use Rattle.line_base.specs.Text.{is_allowed_char}
-use Rattle.hermes_element.specs.Plain.{is_digit, Escape, named, decimal, hexadecimal, Piece, plain, escaped, piece_text, Assignment, assignment_front, assignment_text, Tag, tag_text, EndTag, Content, last, empty, full, content_text, Root, lone, holding, Document, declaration_text}
+use Rattle.hermes_element.specs.Plain.{Escape, named, decimal, hexadecimal, Piece, plain, escaped, piece_text, Assignment, assignment_front, assignment_text, Tag, tag_text, EndTag, Content, last, empty, full, content_text, Root, lone, holding, Document, declaration_text}
 use Rattle.hermes_element.specs.Element.{Forest, none, more, Tree}
 use Rattle.hermes_element.specs.declared.attribute.Attribute.{Attribute}
 use Rattle.hermes_element.specs.declared.refusal.Why.{Why}

@@ -1,6 +1,6 @@
 -- What an element is: its name, its place, its attributes in order, and its children in order.
-use Rattle.std.specs.Prelude.{◌≡◌, ℕ, ◌+◌, List, [], ◌∷◌, ◌++◌, Option, Some, None, refl}
-use Rattle.std.proofs.Common.{ap, append_assoc}
+use Rattle.std.specs.Prelude.{◌≡◌, ℕ, ◌+◌, List, [], ◌∷◌, Option, Some, None, refl}
+use Rattle.std.proofs.Common.{ap}
 use Rattle.std.specs.Coded.{Coded, code_by, coded×, coded_ℕ, coded_list, coded_option}
 use Rattle.hermes_element.specs.declared.attribute.Attribute.{Attribute}
 

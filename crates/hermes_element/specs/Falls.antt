@@ -1,5 +1,5 @@
 -- Each element is smaller than the list of elements that holds it.
-use Rattle.std.specs.Prelude.{ℕ, ◌+◌, ◌≤◌, List, [], ◌∷◌}
+use Rattle.std.specs.Prelude.{◌+◌, ◌≤◌, List, [], ◌∷◌}
 use Rattle.std.proofs.Common.{arith}
 use denote.Param.Weighed.{most}
 use Rattle.hermes_element.specs.Element.{Tree, tree_size, forest_of, forest_size}

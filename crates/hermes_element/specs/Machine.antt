@@ -1,5 +1,5 @@
 -- Reading from the left, byte by byte: where the bytes stand in the plain form, and what they have said so far.
-use Rattle.std.specs.Prelude.{◌≡◌, ℕ, ◌+◌, ◌-◌, ◌*◌, ◌^◌, ◌<◌, ◌==◌, ◌||◌, ◌&&◌, not, Bool, true, false, cond, List, [], ◌∷◌, ◌++◌, Option, Some, None, Result, Ok, Err, length, nat_lt, nat_le, map, max}
+use Rattle.std.specs.Prelude.{ℕ, ◌+◌, ◌-◌, ◌*◌, ◌==◌, ◌||◌, ◌&&◌, not, Bool, true, false, cond, List, [], ◌∷◌, ◌++◌, Option, Some, None, Result, Ok, Err, length, nat_lt, nat_le, map, max}
 use Rattle.std.specs.List.{list_any}
 use Rattle.std.specs.Char.{encode_utf8}
 use Rattle.std.specs.Str.{bytes_eq}
@@ -7,9 +7,8 @@ use Rattle.line_base.specs.Text.{is_allowed_char}
 use Rattle.line_base.specs.Name.{is_name_start, is_name_byte}
 use Rattle.hermes_element.specs.Plain.{is_blank, is_digit, is_letter, is_hex_digit, is_quote, is_declared, Escape, named, decimal, hexadecimal}
 use Rattle.hermes_element.specs.Checks.{Fault, character_of}
-use Rattle.hermes_element.specs.Element.{Forest, none, more, Tree, add}
+use Rattle.hermes_element.specs.Element.{Forest, none, Tree, add}
 use Rattle.hermes_element.specs.declared.attribute.Attribute.{Attribute}
-use Rattle.hermes_element.specs.declared.refusal.Why.{Why}
 use Rattle.hermes_element.specs.declared.refusal.Why.TheVariants as why
 use Rattle.hermes_element.specs.declared.place.Place.{Place}
 use Rattle.hermes_element.specs.declared.place.Place.TheVariants as at

@@ -1,5 +1,5 @@
 -- The plain form of a document, by cases: what a document is made of, its bytes, and what each part may hold.
-use Rattle.std.specs.Prelude.{◌≡◌, ◌⊎◌, ℕ, ◌<◌, ◌==◌, ◌||◌, ◌&&◌, not, Bool, true, List, [], ◌∷◌, ◌++◌, Option, Some, None, IsTrue, length, nat_le, nat_lt, codes}
+use Rattle.std.specs.Prelude.{◌≡◌, ℕ, ◌<◌, ◌==◌, ◌||◌, ◌&&◌, not, Bool, true, List, [], ◌∷◌, ◌++◌, Option, Some, None, length, nat_le, nat_lt}
 use Rattle.std.specs.List.{list_all, flat_map}
 use Rattle.std.specs.Char.{encode_utf8}
 use Rattle.line_base.specs.Text.{is_allowed_char}

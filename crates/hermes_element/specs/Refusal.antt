@@ -1,8 +1,7 @@
 -- Which bytes are refused, where, and why.
-use Rattle.std.specs.Prelude.{◌≡◌, ◌⊎◌, ℕ, ◌+◌, ◌-◌, ◌<◌, ◌≤◌, ◌==◌, ◌&&◌, Bool, true, false, cond, List, [], ◌∷◌, ◌++◌, Result, Ok, Err, length, take, drop, nat_lt, nat_eq, slice_index, codes}
+use Rattle.std.specs.Prelude.{◌≡◌, ◌⊎◌, ℕ, ◌+◌, ◌-◌, ◌<◌, ◌≤◌, ◌==◌, ◌&&◌, Bool, cond, List, [], ◌∷◌, ◌++◌, length, take, drop, nat_lt, nat_eq, slice_index, codes}
 use Rattle.std.specs.List.{AllByRecursion, starts_with}
 use Rattle.std.specs.Fmt.{decimal}
-use Rattle.hermes_element.specs.Element.{Tree}
 use Rattle.hermes_element.specs.Plain.{Document, IsSpelledBy, IsDocument}
 use Rattle.hermes_element.specs.Checks.{Fault, faults_of}
 use Rattle.hermes_element.specs.declared.refusal.Why.{Why}

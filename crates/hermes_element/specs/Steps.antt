@@ -1,14 +1,13 @@
 -- What the parts of the reader answer: each goes on with the reading machine from where it is called to where it ends.
-use Rattle.std.specs.Prelude.{◌≡◌, ◌≢◌, ◌⊎◌, ℕ, zero, suc, ◌+◌, ◌*◌, ◌/◌, ◌%◌, ◌<◌, ◌≤◌, Bool, true, false, List, [], ◌∷◌, ◌++◌, Option, Some, None, Result, Ok, Err, length, drop, slice_index, slice_range}
+use Rattle.std.specs.Prelude.{◌≡◌, ◌≢◌, ◌⊎◌, ℕ, zero, suc, ◌+◌, ◌/◌, ◌%◌, ◌<◌, ◌≤◌, Bool, true, false, List, [], ◌∷◌, ◌++◌, Option, Some, None, Result, Ok, Err, length, drop, slice_index, slice_range}
 use Rattle.std.specs.Char.{encode_utf8}
 use Rattle.line_base.specs.Text.{is_allowed_char}
 use Rattle.hermes_element.specs.Plain.{is_blank}
 use Rattle.hermes_element.specs.Element.{Forest, none, more, Tree, add}
-use Rattle.hermes_element.specs.Checks.{Fault}
 use Rattle.hermes_element.specs.Refusal.{shape_reason}
 use Rattle.hermes_element.specs.declared.refusal.ElementError.{ElementError}
 use Rattle.hermes_element.specs.declared.refusal.ElementError.TheVariants as errors
-use Rattle.hermes_element.specs.Machine.{Build, Scratch, Outcome, run, between, in_tag, with_attribute, ended, share, after_element, add_last, outcome, stop_of}
+use Rattle.hermes_element.specs.Machine.{Build, Outcome, run, between, in_tag, with_attribute, ended, share, after_element, add_last, outcome, stop_of}
 use Rattle.hermes_element.specs.declared.attribute.Attribute.{Attribute}
 use Rattle.hermes_element.specs.declared.place.Place.{Place}
 use Rattle.hermes_element.specs.declared.place.Place.TheVariants as places

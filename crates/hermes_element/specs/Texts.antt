@@ -1,5 +1,5 @@
 -- The texts of the reasons and of the errors.
-use Rattle.std.specs.Prelude.{ℕ, List, ◌++◌, codes}
+use Rattle.std.specs.Prelude.{ℕ, List, codes}
 use Rattle.hermes_element.specs.Refusal.{refusal_text}
 use Rattle.hermes_element.specs.declared.refusal.ElementError.{ElementError}
 use Rattle.hermes_element.specs.declared.refusal.ElementError.TheVariants as errors

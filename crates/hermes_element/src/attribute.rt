@@ -58,4 +58,11 @@ impl Attributes {
     {
         self.list.as_slice()
     }
+
+    /// The attributes themselves.
+    pub fn into_list(self) -> Vec<Attribute>
+        ensures { result.items ≡ self }
+    {
+        self.list
+    }
 }

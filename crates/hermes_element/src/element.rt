@@ -82,4 +82,11 @@ impl Children {
     {
         self.list.as_slice()
     }
+
+    /// The children themselves.
+    pub fn into_list(self) -> Vec<Element>
+        ensures { result.items ≡ trees_of self }
+    {
+        self.list
+    }
 }

@@ -23,7 +23,7 @@ pub use element::{Children, Element};
 pub use laws::{one_spelling, spelled_once, written_is_read};
 pub use read::read_element;
 pub use refusal::{ElementError, Why};
-pub use write::write_element;
+pub use write::{write_attribute, write_element};
 
 #[cfg(test)]
 mod tests;

@@ -39,13 +39,21 @@ fn append_attributes(attributes: &[Attribute], to: &mut Vec<u8>) -> Result<(), M
     ensures { OnOk result (to.new.items ≡ to.old.items ++ flat_map canonical_attribute attributes.now) }
 {
     for attribute in attributes {
-        append(to, b" ")?;
-        append(to, attribute.name.bytes())?;
-        append(to, b"=\"")?;
-        append_value(attribute.value.bytes(), to)?;
-        append(to, b"\"")?;
+        write_attribute(attribute.name.bytes(), attribute.value.bytes(), to)?;
     }
     Ok(())
+}
+
+/// Appends the canonical spelling of one attribute: a space, its name and its value. Where memory
+/// is wanting, a part of it may stand there.
+pub fn write_attribute(name: &[u8], value: &[u8], to: &mut Vec<u8>) -> Result<(), Memory>
+    ensures { OnOk result (to.new.items ≡ to.old.items ++ canonical_attribute (record { name = name.now; value = value.now; at = 0 })) }
+{
+    append(to, b" ")?;
+    append(to, name)?;
+    append(to, b"=\"")?;
+    append_value(value, to)?;
+    append(to, b"\"")
 }
 
 fn append_value(value: &[u8], to: &mut Vec<u8>) -> Result<(), Memory>

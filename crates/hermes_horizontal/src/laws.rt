@@ -1,16 +1,28 @@
-//! The laws of messages and of the elements that say them.
+//! The laws of messages and their spellings.
 
-ghost use Rattle.std.specs.Prelude.{◌≡◌};
-ghost use Rattle.hermes_element.specs.Canonical as form;
-ghost use Rattle.hermes_element.specs.Element.{Tree};
-ghost use Rattle.hermes_horizontal.specs.Canonical.{tree_of, IsProperMessage, IsWritable};
-ghost use Rattle.hermes_horizontal.specs.Spelling.{Says};
+ghost use Rattle.std.specs.Prelude.{◌≡◌, ◌↔◌, ℕ, List};
+ghost use Rattle.hermes_horizontal.specs.Canonical.{canonical, IsProperMessage, IsWritable};
+ghost use Rattle.hermes_horizontal.specs.Spelling.{Spells};
 ghost use Rattle.hermes_horizontal.specs.declared.message.Message.{Message};
 
-/// A writable message has a writable element; that element says the message, wherever its parts
-/// stand; and an element says one message at most.
-pub fn message_from_its_element()
-    ensures writable { (message : Message) → IsProperMessage message → IsWritable message → form.IsWritable (tree_of message) }
-    ensures says { (message : Message) (tree : Tree) → IsProperMessage message → IsWritable message → form.unplaced tree ≡ form.unplaced (tree_of message) → Says tree message }
-    ensures once { (tree : Tree) (a b : Message) → Says tree a → Says tree b → a ≡ b }
-{}
+/// What is written of a writable message is read again as that message.
+pub fn written_is_read()
+    ensures { (message : Message) → IsProperMessage message → IsWritable message → Spells (canonical message) message }
+{
+    hermes_element::written_is_read();
+}
+
+/// Bytes spell one message at most.
+pub fn spelled_once()
+    ensures { (bytes : List ℕ) (a b : Message) → Spells bytes a → Spells bytes b → a ≡ b }
+{
+    hermes_element::spelled_once();
+}
+
+/// Two writable messages are equal exactly where their canonical spellings are.
+pub fn one_spelling()
+    ensures { (a b : Message) → IsProperMessage a → IsWritable a → IsProperMessage b → IsWritable b → (canonical a ≡ canonical b) ↔ (a ≡ b) }
+{
+    written_is_read();
+    spelled_once();
+}

@@ -21,7 +21,7 @@ mod write;
 pub use attr::Attr;
 pub use fault::{Fault, MessageError};
 pub use kind::Kind;
-pub use laws::message_from_its_element;
+pub use laws::{one_spelling, spelled_once, written_is_read};
 pub use message::{Features, Horizontal, Info, Message, Ping, Service};
 pub use read::read_horizontal;
 pub use write::write_horizontal;

@@ -1,14 +1,8 @@
-use Rattle.std.proofs.Common.{◌≡◌, ◌≢◌, ◌⊎◌, inl, inr, ◌+◌, ◌-◌, ◌<◌, ◌≤◌, ℕ, ◌++◌, ◌∷◌, [], length, get_or, Option, Some, None, Result, Ok, Err, Bool, true, false, ap, sym, ◌∙◌, arith, List, rules, take, drop, subst, refl, append-nil, length-append}
-use Rattle.std.specs.Prelude.{slice_range}
-use Rattle.std.specs.Str.{bytes_eq}
-use Rattle.line_base.specs.Name.{IsName, is_name_start, is_name_byte}
-use Rattle.hermes_element.specs.Plain.{is_blank}
-use Rattle.hermes_element.specs.Element.{Forest, none, Tree, add}
-use Rattle.hermes_element.specs.Machine.{Build, Outcome, in_tag, between, outcome, after_element, ended, add_last, innermost, outer}
-use Rattle.hermes_element.specs.Steps.{run_at, Meets, beginning, in_content, in_close, tag_ended, as_forest, ReadsProlog, ReadsBegin, ReadsMarkup, ReadsClose, ReadsRoot}
-use Rattle.hermes_element.specs.declared.place.Place.{Place}
+use Rattle.std.proofs.Common.{◌+◌, ◌++◌, ◌∷◌, [], length, ap, sym, ◌∙◌, arith, subst, length-append}
+use Rattle.hermes_element.specs.Element.{none}
+use Rattle.hermes_element.specs.Machine.{between, after_element, ended}
+use Rattle.hermes_element.specs.Steps.{run_at, Meets, in_content, tag_ended, ReadsMarkup}
 use Rattle.hermes_element.specs.declared.place.Place.TheVariants as places
-use Rattle.hermes_element.specs.declared.stop.Stop.TheVariants as stops
 use Rattle.hermes_element.proofs.Roots.{content_breaks, content_open, content_close, markup_close, again, opened, length-add_last}
 use Rattle.hermes_element.proofs.document.read_markup.Goals as goal
 use Rattle.hermes_element.proofs.document.read_markup.Goals.{then-open_at-bytes-via-then-open_at-bytes, then-open_at-bytes-via-else-open_at-bytes+then-bytes-open_at-ne60, in-Ok-push, in-Err-push}

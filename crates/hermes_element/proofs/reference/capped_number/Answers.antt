@@ -1,4 +1,4 @@
-use Rattle.std.proofs.Common.{◌≡◌, ◌+◌, ◌*◌, min, ℕ, ap, sym, ◌∙◌, get_or, drop, arith}
+use Rattle.std.proofs.Common.{◌≡◌, ◌+◌, ◌*◌, min, ap, sym, ◌∙◌, get_or, drop, arith}
 use Rattle.hermes_element.specs.Checks.{number_of, digit_of}
 use Rattle.hermes_element.proofs.Running.{over}
 use Rattle.hermes_element.proofs.Numbers.{number_of-min}

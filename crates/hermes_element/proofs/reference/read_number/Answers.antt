@@ -1,9 +1,8 @@
-use Rattle.std.proofs.Common.{◌≡◌, ◌≢◌, ◌+◌, ◌<◌, ◌≤◌, ℕ, length, get_or, Option, Some, None, Bool, true, false, ap, sym, ◌∙◌, arith, List, min, rules}
+use Rattle.std.proofs.Common.{◌≡◌, ◌+◌, Some, None, ap, sym, ◌∙◌, arith}
 use Rattle.std.specs.Prelude.{slice_range}
-use Rattle.std.proofs.lemmas.Grind.{common_steps}
-use Rattle.hermes_element.specs.Plain.{is_digit, is_hex_digit, is_letter, named, decimal, hexadecimal}
-use Rattle.hermes_element.specs.Checks.{allowed, named_char, number_of, digit_of, character_of}
-use Rattle.hermes_element.specs.Steps.{ReadsReference, IsGood}
+use Rattle.hermes_element.specs.Plain.{decimal}
+use Rattle.hermes_element.specs.Checks.{allowed, number_of, digit_of, character_of}
+use Rattle.hermes_element.specs.Steps.{IsGood}
 use Rattle.hermes_element.proofs.Numbers.{allowed-min}
 use Rattle.hermes_element.proofs.Escapes.{reads_decimal, faults_decimal, breaks_decimal}
 use Rattle.hermes_element.proofs.reference.read_number.Goals as goal

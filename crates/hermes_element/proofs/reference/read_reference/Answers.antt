@@ -1,10 +1,8 @@
-use Rattle.std.proofs.Common.{◌≡◌, ◌≢◌, ◌+◌, ◌<◌, ◌≤◌, ℕ, length, get_or, Option, Some, None, Bool, true, false, ap, sym, ◌∙◌, arith, List, min, rules}
+use Rattle.std.proofs.Common.{◌≡◌, ◌+◌, Some, None, sym, arith}
 use Rattle.std.specs.Prelude.{slice_range}
-use Rattle.std.proofs.lemmas.Grind.{common_steps}
-use Rattle.hermes_element.specs.Plain.{is_digit, is_hex_digit, is_letter, named, decimal, hexadecimal}
-use Rattle.hermes_element.specs.Checks.{allowed, named_char, number_of, digit_of, character_of}
-use Rattle.hermes_element.specs.Steps.{ReadsReference, IsGood}
-use Rattle.hermes_element.proofs.Numbers.{allowed-min}
+use Rattle.hermes_element.specs.Plain.{named}
+use Rattle.hermes_element.specs.Checks.{character_of}
+use Rattle.hermes_element.specs.Steps.{IsGood}
 use Rattle.hermes_element.proofs.Escapes.{reads_named, faults_named, breaks_named}
 use Rattle.hermes_element.proofs.reference.read_reference.Goals as goal
 use Rattle.hermes_element.proofs.reference.read_reference.Goals.{else-start-bytes-via-then-start-bytes+else-bytes-start-eq35, else-start-bytes-via-else-start-bytes}

@@ -1,15 +1,10 @@
-use Rattle.std.proofs.Common.{◌≡◌, ◌≢◌, ◌⊎◌, inl, inr, ◌+◌, ◌-◌, ◌<◌, ◌≤◌, ℕ, ◌++◌, ◌∷◌, [], length, get_or, Option, Some, None, Result, Ok, Err, Bool, true, false, ap, sym, ◌∙◌, arith, List, rules, take, drop, subst, refl, append-nil}
+use Rattle.std.proofs.Common.{◌≡◌, ◌+◌, length, get_or, ap, sym, ◌∙◌, arith, subst}
 use Rattle.std.specs.Prelude.{slice_range}
 use Rattle.std.specs.List.{list_any}
 use Rattle.std.specs.Str.{bytes_eq}
-use Rattle.line_base.specs.Name.{IsName, is_name_start, is_name_byte}
-use Rattle.hermes_element.specs.Plain.{is_quote, is_blank}
-use Rattle.hermes_element.specs.Element.{Forest, none, Tree}
-use Rattle.hermes_element.specs.Machine.{Build, in_tag, between, with_attribute, names_of}
-use Rattle.hermes_element.specs.Steps.{run_at, valuing, Meets, ReadsAttribute, ReadsAttributes, ReadsTag, ReadsValue}
-use Rattle.hermes_element.specs.declared.place.Place.{Place}
+use Rattle.hermes_element.specs.Machine.{in_tag, with_attribute, names_of}
+use Rattle.hermes_element.specs.Steps.{run_at, Meets}
 use Rattle.hermes_element.specs.declared.place.Place.TheVariants as places
-use Rattle.hermes_element.specs.declared.stop.Stop.TheVariants as stops
 use Rattle.hermes_element.proofs.Tags.{key_many_at, key_repeated, key_breaks, value_breaks, in_value, range_name}
 use Rattle.hermes_element.proofs.tag.read_attribute.Goals as goal
 use Rattle.hermes_element.proofs.tag.read_attribute.Goals.{then-equals-bytes-via-then-equals-bytes, then-equals-bytes-via-else-equals-bytes+then-bytes-equals-ne61, then-quote_at-bytes-via-then-quote_at-bytes, then-quote_at-bytes-via-else-quote_at-bytes+then-not-is_quote}

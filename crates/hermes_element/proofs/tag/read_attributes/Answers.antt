@@ -1,15 +1,7 @@
-use Rattle.std.proofs.Common.{◌≡◌, ◌≢◌, ◌⊎◌, inl, inr, ◌+◌, ◌-◌, ◌<◌, ◌≤◌, ℕ, ◌++◌, ◌∷◌, [], length, get_or, Option, Some, None, Result, Ok, Err, Bool, true, false, ap, sym, ◌∙◌, arith, List, rules, take, drop, subst, refl, append-nil}
-use Rattle.std.specs.Prelude.{slice_range}
-use Rattle.std.specs.List.{list_any}
-use Rattle.std.specs.Str.{bytes_eq}
-use Rattle.line_base.specs.Name.{IsName, is_name_start, is_name_byte}
-use Rattle.hermes_element.specs.Plain.{is_quote, is_blank}
-use Rattle.hermes_element.specs.Element.{Forest, none, Tree}
-use Rattle.hermes_element.specs.Machine.{Build, in_tag, between, with_attribute, names_of}
-use Rattle.hermes_element.specs.Steps.{run_at, valuing, Meets, ReadsAttribute, ReadsAttributes, ReadsTag, ReadsValue}
-use Rattle.hermes_element.specs.declared.place.Place.{Place}
+use Rattle.std.proofs.Common.{◌<◌, ap, sym, ◌∙◌, arith, subst, refl}
+use Rattle.hermes_element.specs.Machine.{in_tag}
+use Rattle.hermes_element.specs.Steps.{run_at, Meets}
 use Rattle.hermes_element.specs.declared.place.Place.TheVariants as places
-use Rattle.hermes_element.specs.declared.stop.Stop.TheVariants as stops
 use Rattle.hermes_element.proofs.Tags.{quoted_blanks, gap_over}
 use Rattle.hermes_element.proofs.tag.read_attributes.Goals as goal
 use Rattle.hermes_element.proofs.tag.read_attributes.Goals.{then-next-end-via-then-next-end, then-next-end-via-else-next-end+then-next-bytes, then-next-end-via-else-next-end+else-next-bytes+then-not-is_name_start}

@@ -1,11 +1,8 @@
-use Rattle.std.proofs.Common.{◌≡◌, ◌≢◌, ◌+◌, ◌-◌, ◌<◌, ◌≤◌, ℕ, ◌++◌, ◌∷◌, [], length, get_or, Option, Some, None, Ok, Err, Bool, true, false, ap, sym, ◌∙◌, arith, List, rules, take, drop, subst, refl, append-nil}
-use Rattle.std.specs.Prelude.{slice_range}
+use Rattle.std.proofs.Common.{◌≡◌, ◌+◌, ◌<◌, length, get_or, false, ap, sym, ◌∙◌, arith, subst}
 use Rattle.line_base.specs.Text.{IsAllowed}
-use Rattle.hermes_element.specs.Machine.{Build, in_tag, with_attribute, wide_start, wide_next}
-use Rattle.hermes_element.specs.Steps.{run_at, valuing, AtPlace, IsPart, IsOne, Meets, ReadsPart, ReadsValue}
-use Rattle.hermes_element.specs.declared.place.Place.{Place}
+use Rattle.hermes_element.specs.Machine.{in_tag, with_attribute}
+use Rattle.hermes_element.specs.Steps.{run_at, valuing, Meets}
 use Rattle.hermes_element.specs.declared.place.Place.TheVariants as places
-use Rattle.hermes_element.specs.declared.stop.Stop.TheVariants as stops
 use Rattle.hermes_element.proofs.Values.{closes, closes_long}
 use Rattle.hermes_element.proofs.Texts.{allowed_nil}
 use Rattle.hermes_element.proofs.value.read_mixed_value.Goals as goal

@@ -1,4 +1,4 @@
-use Rattle.std.proofs.Common.{◌≡◌, ◌++◌, ℕ, ◌-◌, ◌<◌, ◌≤◌, Bool, false, List, [], length}
+use Rattle.std.proofs.Common.{◌≡◌, ℕ, ◌-◌, ◌≤◌, false, List, [], length}
 use Rattle.line_base.specs.Text.{IsAllowed}
 use Rattle.hermes_element.specs.Machine.{Build}
 use Rattle.hermes_element.specs.Steps.{run_at, valuing}

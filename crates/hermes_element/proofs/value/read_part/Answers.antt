@@ -1,13 +1,10 @@
-use Rattle.std.proofs.Common.{◌≡◌, ◌≢◌, ◌+◌, ◌-◌, ◌<◌, ◌≤◌, ℕ, ◌++◌, ◌∷◌, [], length, get_or, Option, Some, None, Ok, Err, Bool, true, false, ap, sym, ◌∙◌, arith, List, rules, take, drop, subst, refl, append-nil}
+use Rattle.std.proofs.Common.{◌+◌, ◌∷◌, [], get_or, true, false, ap, sym, ◌∙◌, arith, subst}
 use Rattle.std.specs.Prelude.{slice_range}
 use Rattle.line_base.specs.Text.{IsAllowed}
-use Rattle.hermes_element.specs.Machine.{Build, wide_start, wide_next}
-use Rattle.hermes_element.specs.Steps.{run_at, valuing, AtPlace, IsPart, IsOne, Meets, ReadsPart, ReadsValue}
-use Rattle.hermes_element.specs.declared.place.Place.{Place}
+use Rattle.hermes_element.specs.Steps.{run_at, valuing}
 use Rattle.hermes_element.specs.declared.place.Place.TheVariants as places
-use Rattle.hermes_element.specs.declared.stop.Stop.TheVariants as stops
 use Rattle.hermes_element.proofs.Values.{part_plain, part_lf, part_first_lf, part_cr, part_tab}
-use Rattle.hermes_element.proofs.Texts.{allowed_char, allowed_one, allowed_plain, allowed_byte, allowed_nil}
+use Rattle.hermes_element.proofs.Texts.{allowed_char, allowed_one, allowed_plain, allowed_byte}
 use Rattle.hermes_element.proofs.Puts.{puts_part, puts_allowed}
 use Rattle.hermes_element.proofs.value.read_part.Goals as goal
 

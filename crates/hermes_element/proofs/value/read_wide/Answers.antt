@@ -1,14 +1,11 @@
-use Rattle.std.proofs.Common.{◌≡◌, ◌≢◌, ◌+◌, ◌-◌, ◌<◌, ◌≤◌, ℕ, ◌++◌, ◌∷◌, [], length, get_or, Option, Some, None, Ok, Err, Bool, true, false, ap, sym, ◌∙◌, arith, List, rules, take, drop, subst, refl, append-nil}
+use Rattle.std.proofs.Common.{◌≡◌, ◌<◌, ◌≤◌, ◌++◌, length, get_or, Some, false, ap, sym, ◌∙◌, arith, subst}
 use Rattle.std.specs.Prelude.{slice_range}
-use Rattle.line_base.specs.Text.{IsAllowed}
-use Rattle.hermes_element.specs.Machine.{Build, wide_start, wide_next}
-use Rattle.hermes_element.specs.Steps.{run_at, valuing, AtPlace, IsPart, IsOne, Meets, ReadsPart, ReadsValue}
-use Rattle.hermes_element.specs.declared.place.Place.{Place}
+use Rattle.hermes_element.specs.Machine.{wide_start, wide_next}
+use Rattle.hermes_element.specs.Steps.{run_at, valuing, AtPlace}
 use Rattle.hermes_element.specs.declared.place.Place.TheVariants as places
-use Rattle.hermes_element.specs.declared.stop.Stop.TheVariants as stops
 use Rattle.hermes_element.proofs.Running.{range_one, range_more}
 use Rattle.hermes_element.proofs.Wide.{start_part, next_part}
-use Rattle.hermes_element.proofs.Values.{wide_first, wide_stuck, wide_later, wide_bars, wide_over}
+use Rattle.hermes_element.proofs.Values.{wide_first, wide_later, wide_over}
 use Rattle.hermes_element.proofs.value.read_wide.Goals as goal
 
 pub loop-place-init : goal.loop-place-init

@@ -1,5 +1,5 @@
 use Rattle.std.specs.List.{flat_map}
-use Rattle.std.proofs.Common.{rules, List, [], ◌≡◌, ◌++◌, OnOk, OnErr, ℕ, ◌+◌, ◌<◌, ◌≤◌, length, sym, ◌∙◌, ap, arith, drop, subst, append-nil, get_or}
+use Rattle.std.proofs.Common.{[], ◌≡◌, ◌++◌, ◌+◌, ◌<◌, length, sym, ◌∙◌, ap, arith, drop, append-nil, get_or}
 use Rattle.std.proofs.lemmas.Grind.{common_steps}
 use Rattle.std.proofs.lemmas.Bool.Decides.{nat_tests}
 use Rattle.std.proofs.lemmas.List.{drop_all}
