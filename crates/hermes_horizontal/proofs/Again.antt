@@ -1,20 +1,20 @@
 -- What was written of the values of a row is what is read of them, wherever it stands.
-use Rattle.std.proofs.Common.{◌≡◌, ℕ, ℤ, ◌+◌, ◌≤◌, ◌<◌, ◌&&◌, ◌||◌, not, Bool, true, false, cond, List, [], ◌∷◌, ◌++◌, map, Option, Some, None, Result, Ok, Err, option_map, codes, refl, sym, ap, subst, ◌∙◌, append_assoc, append-nil, arith}
+use Rattle.std.proofs.Common.{◌≡◌, ℕ, ◌&&◌, ◌||◌, not, Bool, true, false, cond, List, [], ◌∷◌, ◌++◌, map, Option, Some, None, Result, Ok, Err, option_map, codes, refl, sym, ap, subst, ◌∙◌, append_assoc}
 use Rattle.std.specs.List.{list_any}
 use Rattle.std.specs.Str.{bytes_eq}
-use Rattle.std.proofs.lemmas.Bool.{and_parts, and_from, or_parts, or_from, not-true, not_from_false, false_from_ne_true, false≢true, true≢false}
+use Rattle.std.proofs.lemmas.Bool.{and_parts, and_from, or_parts, or_from, not-true, not_from_false, false_from_ne_true, false≢true}
 use Rattle.std.proofs.lemmas.Slice.Eq.{bytes_eq-Decides}
-use Rattle.hermes_element.specs.Element.{Tree, Forest, none, more, trees_of}
-use Rattle.hermes_element.specs.Canonical.{unplaced_attribute, unplaced_forest, unplaced}
+use Rattle.hermes_element.specs.Element.{Forest, none, more, trees_of}
+use Rattle.hermes_element.specs.Canonical.{unplaced_attribute, unplaced_forest}
 use Rattle.hermes_element.specs.declared.attribute.Attribute.{Attribute}
 use Rattle.hermes_horizontal.specs.declared.attr.Attr.{Attr}
 use Rattle.hermes_horizontal.specs.declared.fault.Refusal.{Refusal}
 use Rattle.hermes_horizontal.specs.declared.message.Features.{Features}
 use Rattle.hermes_horizontal.specs.Attrs.{attr_text}
-use Rattle.hermes_horizontal.specs.Values.{ValueKind, Value, read_as, value_text}
+use Rattle.hermes_horizontal.specs.Values.{Value, read_as, value_text}
 use Rattle.hermes_horizontal.specs.Rows.{Column}
 use Rattle.hermes_horizontal.specs.Spelling.{values_of, value_at, value_or_bad, left_out, first_named, then_ok, mapped_ok, has_child, features_listed, features_in}
-use Rattle.hermes_horizontal.specs.Canonical.{attribute_of, attribute_if, attributes_of, child_if, feature_children}
+use Rattle.hermes_horizontal.specs.Canonical.{attribute_of, attribute_if, attributes_of, feature_children}
 
 -- ---- places change nothing that is read
 

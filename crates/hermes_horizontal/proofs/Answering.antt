@@ -1,5 +1,5 @@
 -- What reading answers follows from what reading the element answers and from what its root says.
-use Rattle.std.proofs.Common.{◌≡◌, ◌⊎◌, ℕ, List, Option, Some, None, Result, Ok, Err, refl, sym, ap, subst, ◌∙◌, inl, inr}
+use Rattle.std.proofs.Common.{◌≡◌, ℕ, List, Option, Some, None, refl, sym, ap, subst, ◌∙◌, inl, inr}
 use Rattle.hermes_element.specs.Element.{Tree}
 use Rattle.hermes_element.specs.Spelling as form
 use Rattle.hermes_element.specs.Refusal as form_refusal
@@ -8,7 +8,7 @@ use Rattle.hermes_horizontal.specs.declared.fault.Fault.{Fault}
 use Rattle.hermes_horizontal.specs.declared.fault.Fault.TheVariants as faults
 use Rattle.hermes_horizontal.specs.declared.fault.Refusal.{Refusal}
 use Rattle.hermes_horizontal.specs.declared.message.Message.{Message}
-use Rattle.hermes_horizontal.specs.Spelling.{Spells, Says, IsRefused, IsFormless, SaysNothing, refusal_of}
+use Rattle.hermes_horizontal.specs.Spelling.{Spells, Says, IsRefused, refusal_of}
 use Rattle.hermes_horizontal.proofs.Messages.{same_message, not_refused}
 
 -- the bytes spell this element alone

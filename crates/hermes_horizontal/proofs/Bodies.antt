@@ -1,9 +1,9 @@
 -- What a row of the table says is what the element of that name says.
 use Rattle.std.proofs.Common.{◌≡◌, ℕ, Bool, true, false, cond, List, [], ◌∷◌, Option, Some, None, Result, Ok, Err, option_map, refl, sym, ap, subst, ◌∙◌}
-use Rattle.std.specs.Option.{IsSome, is_some}
+use Rattle.std.specs.Option.{is_some}
 use Rattle.std.specs.Str.{bytes_eq}
 use Rattle.std.proofs.lemmas.Bool.{false≢true}
-use Rattle.hermes_element.specs.Element.{Tree, Forest}
+use Rattle.hermes_element.specs.Element.{Tree}
 use Rattle.hermes_element.specs.declared.attribute.Attribute.{Attribute}
 use Rattle.hermes_horizontal.specs.declared.attr.Attr.{Attr}
 use Rattle.hermes_horizontal.specs.declared.attr.Attr.TheVariants as attrs
@@ -15,10 +15,10 @@ use Rattle.hermes_horizontal.specs.declared.message.Horizontal.{Horizontal}
 use Rattle.hermes_horizontal.specs.declared.message.Horizontal.TheVariants as bodies
 use Rattle.hermes_horizontal.specs.Attrs.{attr_text}
 use Rattle.hermes_horizontal.specs.Values.{ValueKind, Value, read_as, identity, text}
-use Rattle.hermes_horizontal.specs.Rows.{Column, quality, flip, required_if, columns_of, board_columns, kind_text, kind_among, kind_named, message_kinds}
+use Rattle.hermes_horizontal.specs.Rows.{quality, flip, required_if, columns_of, board_columns, kind_text, kind_among, kind_named, message_kinds}
 use Rattle.hermes_horizontal.specs.Parts.{parts, info_parts, features_of, kind_of, name_of}
-use Rattle.hermes_horizontal.specs.Spelling.{values_of, value_at, value_or_bad, first_named, then_ok, mapped_ok, features_said, SaysBody, body_refusal, refusal_of_result}
-use Rattle.hermes_horizontal.specs.Reading.{FitsRow, ReadsRow, ReadsBody, IsWhole}
+use Rattle.hermes_horizontal.specs.Spelling.{values_of, value_at, value_or_bad, first_named, then_ok, mapped_ok, features_said, refusal_of_result}
+use Rattle.hermes_horizontal.specs.Reading.{ReadsRow, ReadsBody, IsWhole}
 use Rattle.hermes_horizontal.proofs.Finding.{same_bytes}
 
 -- ---- names and kinds

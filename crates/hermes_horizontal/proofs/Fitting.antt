@@ -1,9 +1,8 @@
 -- The values of messages fit their columns: they are read from the texts that are written of them, and those are texts.
-use Rattle.std.proofs.Common.{◌≡◌, ℕ, ℤ, ◌^◌, ◌≤◌, ◌<◌, ◌&&◌, leb, Bool, true, false, cond, List, [], ◌∷◌, Option, Some, None, option_map, refl, ap, ◌∙◌, arith, lit≤}
+use Rattle.std.proofs.Common.{◌≡◌, ℕ, ◌≤◌, leb, Bool, true, false, cond, List, [], ◌∷◌, Option, Some, None, option_map, refl, ap, ◌∙◌}
 use Rattle.std.proofs.lemmas.Bool.{and_from, le-leb, leb-true}
 use Rattle.std.specs.List.{AllByRecursion}
 use Rattle.line_base.specs.Text.{IsText}
-use Rattle.line_base.specs.Number.{number_of}
 use Rattle.line_base.specs.declared.states.Quality.{Quality}
 use Rattle.line_base.specs.declared.states.Quality.TheVariants as qualities
 use Rattle.line_base.specs.declared.states.Flip.{Flip}
@@ -30,7 +29,7 @@ use Rattle.hermes_horizontal.specs.Rows as rows
 use Rattle.hermes_horizontal.specs.Rows.{Column, columns_of, board_columns}
 use Rattle.hermes_horizontal.specs.Parts.{parts, info_of, info_parts, kind_of, of_ping, of_severity, of_quality, of_flip, of_transfer}
 use Rattle.hermes_horizontal.specs.Canonical.{IsProper, IsProperIf, HasShortNumbers}
-use Rattle.hermes_horizontal.proofs.Again.{Suits, AreSuited, columns_apart}
+use Rattle.hermes_horizontal.proofs.Again.{AreSuited, columns_apart}
 
 -- a value is of this kind, and small enough to be written in nine digits
 pub record IsShortNumber (low high n : ℕ) : Type 0 where

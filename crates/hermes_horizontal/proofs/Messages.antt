@@ -1,5 +1,5 @@
 -- An element says at most one message, and none where it is refused.
-use Rattle.std.proofs.Common.{◌≡◌, ℕ, ℤ, ◌==◌, Bool, true, false, cond, List, [], ◌∷◌, Option, Some, None, Result, Ok, Err, option_map, codes, get_or, refl, sym, ap, subst, ◌∙◌, inl, inr, ◌⊎◌}
+use Rattle.std.proofs.Common.{◌≡◌, ℕ, ℤ, ◌==◌, Bool, true, cond, List, [], ◌∷◌, Option, Some, None, Result, Ok, option_map, codes, get_or, refl, sym, ap, subst, ◌∙◌}
 use Rattle.std.specs.Str.{bytes_eq}
 use Rattle.std.proofs.lemmas.Slice.Eq.{bytes_eq-Decides}
 use Rattle.line_base.specs.declared.states.Quality.{Quality}
@@ -11,8 +11,7 @@ use Rattle.line_base.specs.declared.states.Severity.TheVariants as severities
 use Rattle.line_base.specs.declared.states.Transfer.{Transfer}
 use Rattle.line_base.specs.declared.states.Transfer.TheVariants as transfers
 use Rattle.board_record.specs.declared.record.Record.{Record}
-use Rattle.hermes_element.specs.Element.{Tree, Forest, trees_of}
-use Rattle.hermes_horizontal.specs.declared.fault.Fault.{Fault}
+use Rattle.hermes_element.specs.Element.{Tree, trees_of}
 use Rattle.hermes_horizontal.specs.declared.fault.Fault.TheVariants as faults
 use Rattle.hermes_horizontal.specs.declared.fault.Refusal.{Refusal}
 use Rattle.hermes_horizontal.specs.declared.kind.Kind.{Kind}

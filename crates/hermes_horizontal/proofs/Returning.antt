@@ -1,6 +1,5 @@
 -- An element that is a message's own but for its places says that message.
-use Rattle.std.proofs.Common.{◌≡◌, ℕ, ℤ, Bool, true, false, cond, List, [], ◌∷◌, map, Option, Some, None, Result, Ok, Err, option_map, codes, refl, sym, ap, subst, ◌∙◌}
-use Rattle.line_base.specs.Moment.{IsMomentMillis}
+use Rattle.std.proofs.Common.{◌≡◌, ℕ, ℤ, List, [], ◌∷◌, map, Option, Some, None, Ok, option_map, refl, sym, ap, ◌∙◌}
 use Rattle.line_base.proofs.MomentTexts.{moment_of-moment_text}
 use Rattle.hermes_element.specs.Element.{Tree, Forest, none, more, trees_of}
 use Rattle.hermes_element.specs.Canonical.{unplaced_attribute, unplaced_forest, unplaced}
@@ -9,11 +8,11 @@ use Rattle.hermes_horizontal.specs.declared.message.Horizontal.{Horizontal}
 use Rattle.hermes_horizontal.specs.declared.message.Horizontal.TheVariants as bodies
 use Rattle.hermes_horizontal.specs.declared.message.Message.{Message}
 use Rattle.hermes_horizontal.specs.Attrs.{attr_text}
-use Rattle.hermes_horizontal.specs.Values.{Value, timed, value_in}
+use Rattle.hermes_horizontal.specs.Values.{timed, value_in}
 use Rattle.hermes_horizontal.specs.Rows.{columns_of, stamp_column, kind_named}
 use Rattle.hermes_horizontal.specs.Parts.{parts, features_of, kind_of, name_of}
-use Rattle.hermes_horizontal.specs.Spelling.{value_at, value_or_bad, first_named, stamp_in, features_said, SaysBody, Says}
-use Rattle.hermes_horizontal.specs.Canonical.{attribute_if, attributes_of, children_of, body_tree, tree_of, IsProperIf, IsWritable, IsProperMessage}
+use Rattle.hermes_horizontal.specs.Spelling.{value_at, value_or_bad, first_named, features_said, SaysBody, Says}
+use Rattle.hermes_horizontal.specs.Canonical.{attribute_if, children_of, body_tree, tree_of, IsProperIf, IsWritable, IsProperMessage}
 use Rattle.hermes_horizontal.proofs.Again.{named_moved, row_read, features_again}
 use Rattle.hermes_horizontal.proofs.Fitting.{fit_parts, suited, rows_apart}
 

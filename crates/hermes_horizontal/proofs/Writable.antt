@@ -1,14 +1,12 @@
 -- The element of a writable message is a writable element.
-use Rattle.std.proofs.Common.{◌≡◌, ℕ, ℤ, suc, ◌+◌, ◌≤◌, ◌<◌, ◌&&◌, not, max, Bool, true, false, cond, List, [], ◌∷◌, ◌++◌, map, length, Option, Some, None, option_map, codes, refl, sym, ap, subst, ◌∙◌, arith, lit≤}
+use Rattle.std.proofs.Common.{◌≡◌, ℕ, ℤ, ◌≤◌, not, Bool, true, false, List, [], ◌∷◌, map, length, Option, Some, None, option_map, codes, refl, sym, ◌∙◌, arith, lit≤}
 use Rattle.std.specs.List.{AllByRecursion, IsDistinct, list_any}
 use Rattle.std.specs.Str.{bytes_eq}
 use Rattle.std.proofs.lemmas.Bool.{and_parts, or_parts, not-true, false_from_ne_true, false≢true}
-use Rattle.std.proofs.lemmas.Map.Keys.{IsDistinct-cons}
 use Rattle.std.proofs.lemmas.Slice.Eq.{bytes_eq-Decides}
 use Rattle.line_base.specs.Name.{IsName}
-use Rattle.line_base.specs.Moment.{IsMomentMillis}
 use Rattle.line_base.proofs.Printable.{IsText-moment}
-use Rattle.hermes_element.specs.Element.{Tree, Forest, none, more}
+use Rattle.hermes_element.specs.Element.{Forest, none}
 use Rattle.hermes_element.specs.Canonical as form
 use Rattle.hermes_element.specs.Canonical.{IsWritableAttribute, HasGoodTag, HasGoodTags, depth_of}
 use Rattle.hermes_element.specs.declared.attribute.Attribute.{Attribute}
@@ -19,12 +17,12 @@ use Rattle.hermes_horizontal.specs.declared.kind.Kind.TheVariants as kinds
 use Rattle.hermes_horizontal.specs.declared.message.Features.{Features}
 use Rattle.hermes_horizontal.specs.declared.message.Message.{Message}
 use Rattle.hermes_horizontal.specs.Attrs.{attr_text}
-use Rattle.hermes_horizontal.specs.Values.{Value, timed, value_text}
+use Rattle.hermes_horizontal.specs.Values.{Value, timed}
 use Rattle.hermes_horizontal.specs.Rows.{Column, columns_of, stamp_column}
 use Rattle.hermes_horizontal.specs.Parts.{parts, features_of, kind_of, name_of}
-use Rattle.hermes_horizontal.specs.Canonical.{attribute_of, attribute_if, attributes_of, child_if, feature_children, children_of, body_tree, tree_of, IsProper, IsProperIf, IsWritable, IsProperMessage}
+use Rattle.hermes_horizontal.specs.Canonical.{attribute_of, attribute_if, attributes_of, child_if, feature_children, children_of, tree_of, IsProper, IsProperIf, IsWritable, IsProperMessage}
 use Rattle.hermes_horizontal.proofs.Again.{is_named, columns_apart}
-use Rattle.hermes_horizontal.proofs.Fitting.{IsFit, AreFit, IsOfKind, fit_parts, rows_apart, text_of_value}
+use Rattle.hermes_horizontal.proofs.Fitting.{AreFit, IsOfKind, fit_parts, rows_apart, text_of_value}
 
 attr_is_name : (attr : Attr) → IsName (attr_text attr)
 attr_is_name attrs.Timestamp = refl

@@ -3,7 +3,7 @@ use Rattle.std.proofs.Common.{◌≡◌, ℕ, Bool, true, false, cond, ◌||◌,
 use Rattle.std.specs.List.{flat_map}
 use Rattle.std.proofs.lemmas.Bool.{false≢true}
 use Rattle.std.proofs.lemmas.List.Concat.{flat_map-cons}
-use Rattle.hermes_element.specs.Element.{Forest, none, more}
+use Rattle.hermes_element.specs.Element.{Forest, none}
 use Rattle.hermes_element.specs.Canonical.{canonical_attribute, canonical_forest, canonical_rest, canonical_front}
 use Rattle.hermes_horizontal.specs.declared.message.Features.{Features}
 use Rattle.hermes_horizontal.specs.declared.attr.Attr.{Attr}

@@ -1,5 +1,5 @@
 -- What reading answers of an element, and of the parts of a message.
-use Rattle.std.specs.Prelude.{◌≡◌, ℕ, Bool, List, [], ◌∷◌, Option, Some, None, IsSome, Result, Ok, Err}
+use Rattle.std.specs.Prelude.{◌≡◌, ℕ, List, [], ◌∷◌, Option, Some, None, IsSome, Result, Ok, Err}
 use Rattle.hermes_element.specs.Element.{Tree, Forest}
 use Rattle.hermes_element.specs.declared.attribute.Attribute.{Attribute}
 use Rattle.hermes_horizontal.specs.declared.fault.Fault.TheVariants as faults

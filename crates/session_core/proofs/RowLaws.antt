@@ -11,7 +11,7 @@ use Rattle.session_core.specs.declared.actions.Action.TheVariants.{Tell, Close}
 use Rattle.session_core.specs.declared.actions.Tell.TheVariants.{Unsettled}
 use Rattle.session_core.specs.End.{SessionEnd, at_rest, no_features}
 use Rattle.session_core.specs.Acts.{two}
-use Rattle.session_core.specs.Input.{Input, opened, second, heard, tick, shutdown, closed}
+use Rattle.session_core.specs.Input.{Input, opened, second, heard}
 use Rattle.session_core.specs.Row.{SessionRow, session_row, row}
 use Rattle.session_core.specs.Given.{IsGiven, IsNoMessage}
 use Rattle.session_core.specs.Passing.{passed, passing, passing_at}
@@ -23,7 +23,7 @@ use Rattle.hermes_horizontal.specs.declared.message.Horizontal.{Horizontal}
 use Rattle.session_core.specs.Alive.{pongs, asked}
 use Rattle.session_core.specs.Standing.{described, comes_unsettled, describes}
 use Rattle.session_core.specs.Run.{after_row, step, after_all, is_heard, is_described, is_described_after}
-use Rattle.session_core.specs.Table.{end_of, IsConnected, in_handshake, in_standing, IsSessionRow, opens_downstream, opens_upstream, refuses_second, stands_upstream, is_unsettled, stands_downstream, answers, is_answered, is_alive, is_notified, passes_over, asks, gives_up_handshake, gives_up_standing, waits_in_handshake, waits_standing, shuts_down, is_closed}
+use Rattle.session_core.specs.Table.{end_of, IsConnected, in_handshake, in_standing, IsSessionRow, opens_downstream, opens_upstream, refuses_second, stands_upstream, is_unsettled, stands_downstream, answers, is_answered, is_alive, is_notified, passes_over, asks, gives_up_handshake, gives_up_standing, waits_in_handshake, shuts_down, is_closed}
 use Rattle.session_core.proofs.Rows.{row_is}
 
 -- what is passed on

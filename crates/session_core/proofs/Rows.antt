@@ -1,5 +1,5 @@
 -- The plain program computes exactly the rows of the table.
-use Rattle.std.proofs.Common.{◌≡◌, ◌≢◌, ◌≤◌, ◌+◌, ◌&&◌, ◌↔◌, ℕ, Bool, true, false, cond, List, Option, Some, None, IfSome, refl, subst, arith, nat_eq, nat_lt}
+use Rattle.std.proofs.Common.{◌≡◌, ◌≢◌, ◌≤◌, ◌&&◌, ◌↔◌, ℕ, Bool, true, false, cond, Option, Some, None, IfSome, refl, subst, arith, nat_eq, nat_lt}
 use Rattle.std.proofs.lemmas.Bool.Decides.{nat_tests}
 use Rattle.line_base.specs.declared.states.Role.{Role}
 use Rattle.line_base.specs.declared.states.Role.TheVariants.{Upstream, Downstream}

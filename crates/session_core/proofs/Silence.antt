@@ -1,15 +1,15 @@
 -- Laws on silent ticks.
-use Rattle.std.proofs.Common.{◌≡◌, ◌≢◌, ◌≤◌, ◌&&◌, ℕ, zero, suc, Bool, true, false, cond, List, [], ◌∷◌, Option, Some, None, refl, sym, subst, nat_eq, arith}
+use Rattle.std.proofs.Common.{◌≡◌, ◌≤◌, ◌&&◌, ℕ, zero, suc, Bool, true, false, cond, List, [], ◌∷◌, Option, Some, None, refl, sym, subst, nat_eq, arith}
 use Rattle.line_base.specs.declared.states.Role.{Role}
 use Rattle.hermes_horizontal.specs.declared.message.Features.{Features}
 use Rattle.hermes_horizontal.specs.declared.message.Horizontal.{Horizontal}
 use Rattle.session_core.specs.declared.state.SessionState.{SessionState}
 use Rattle.session_core.specs.declared.state.SessionState.TheVariants.{NotConnected, Handshake, Standing}
 use Rattle.session_core.specs.End.{SessionEnd, at_rest, raised, grown}
-use Rattle.session_core.specs.Input.{Input, heard, tick}
+use Rattle.session_core.specs.Input.{Input, heard}
 use Rattle.session_core.specs.Row.{SessionRow, session_row, ticked}
 use Rattle.session_core.specs.Run.{after_row, step, after_all, after_ticks}
-use Rattle.session_core.specs.Table.{end_of, IsSessionRow, opens_downstream, opens_upstream, refuses_second, is_unsettled, asks, waits_in_handshake, waits_standing}
+use Rattle.session_core.specs.Table.{end_of, IsSessionRow, refuses_second, is_unsettled, asks, waits_in_handshake, waits_standing}
 use Rattle.session_core.proofs.Rows.{row_is, raised_most}
 use Rattle.session_core.proofs.RowLaws.{connected, shakes_apart, stands_apart}
 

@@ -7,9 +7,8 @@ use Rattle.hermes_horizontal.specs.declared.message.Features.{Features}
 use Rattle.hermes_horizontal.specs.declared.message.Horizontal.{Horizontal}
 use Rattle.hermes_horizontal.specs.declared.message.Horizontal.TheVariants as messages
 use Rattle.hermes_horizontal.specs.declared.message.Ping.{Ping}
-use Rattle.hermes_horizontal.specs.declared.message.Ping.TheVariants.{Ask, Answer}
+use Rattle.hermes_horizontal.specs.declared.message.Ping.TheVariants.{Ask}
 use Rattle.session_core.specs.declared.actions.Actions.{Actions}
-use Rattle.session_core.specs.declared.actions.Action.{Action}
 use Rattle.session_core.specs.declared.actions.Action.TheVariants as act
 use Rattle.session_core.specs.declared.actions.Tell.TheVariants.{AlreadyConnected, Unsettled, Shutdown}
 use Rattle.session_core.specs.declared.handling.Handling.{Handling}

@@ -2,7 +2,7 @@ use Rattle.std.specs.Prelude.{ℕ, zero, suc, Bool, true, false, List, [], ◌�
 use Rattle.session_core.specs.declared.state.SessionState.{SessionState}
 use Rattle.session_core.specs.declared.state.SessionState.TheVariants.{NotConnected}
 use Rattle.session_core.specs.End.{SessionEnd}
-use Rattle.session_core.specs.Input.{Input, opened, heard, tick}
+use Rattle.session_core.specs.Input.{Input, tick}
 use Rattle.session_core.specs.Row.{SessionRow, session_row}
 use Rattle.session_core.specs.Standing.{described}
 

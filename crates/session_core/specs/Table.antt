@@ -8,7 +8,6 @@ use Rattle.line_base.specs.declared.states.Severity.{Severity}
 use Rattle.line_base.specs.declared.states.Transfer.{Transfer}
 use Rattle.board_record.specs.declared.record.Record.{Record}
 use Rattle.hermes_horizontal.specs.declared.message.Features.{Features}
-use Rattle.hermes_horizontal.specs.declared.message.Horizontal.{Horizontal}
 use Rattle.hermes_horizontal.specs.declared.message.Horizontal.TheVariants.{CheckAlive, ServiceDescription, Notification, BoardAvailable, RevokeBoardAvailable, MachineReady, RevokeMachineReady, StartTransport, StopTransport, TransportFinished, BoardForecast, QueryBoardInfo, SendBoardInfo, Other}
 use Rattle.hermes_horizontal.specs.declared.message.Info.{Info}
 use Rattle.hermes_horizontal.specs.declared.message.Ping.TheVariants as ping

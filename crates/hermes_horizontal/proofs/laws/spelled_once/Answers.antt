@@ -1,4 +1,4 @@
-use Rattle.std.proofs.Common.{sym, subst}
+use Rattle.std.proofs.Common.{subst}
 use Rattle.hermes_element.specs.Element.{Tree}
 use Rattle.hermes_horizontal.specs.Spelling.{Says}
 use Rattle.hermes_horizontal.proofs.Messages.{same_message}

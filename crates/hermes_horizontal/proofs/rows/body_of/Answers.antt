@@ -1,10 +1,8 @@
-use Rattle.std.proofs.Common.{◌≡◌, ◌∙◌, Ok, Result, sym, subst}
+use Rattle.std.proofs.Common.{◌≡◌, Ok, subst}
 use Rattle.hermes_element.specs.Element.{Tree}
-use Rattle.hermes_horizontal.specs.declared.fault.Refusal.{Refusal}
-use Rattle.hermes_horizontal.specs.declared.message.Horizontal.{Horizontal}
 use Rattle.hermes_horizontal.specs.declared.kind.Kind.TheVariants as kinds
 use Rattle.hermes_horizontal.specs.Rows.{kind_named}
-use Rattle.hermes_horizontal.specs.Reading.{ReadsRow, ReadsBody}
+use Rattle.hermes_horizontal.specs.Reading.{ReadsBody}
 use Rattle.hermes_horizontal.proofs.Bodies.{row_reads}
 use Rattle.hermes_horizontal.proofs.rows.body_of.Goals as goal
 
