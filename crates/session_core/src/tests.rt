@@ -229,24 +229,56 @@ fn hear(
     Ok(session.on_message(message, unsettled))
 }
 
+/// Whether a session answers so at a message.
+fn hears(
+    session: &mut Session,
+    message: Horizontal,
+    unsettled: bool,
+    wanted: Result<Actions, Breach>,
+) -> Result<bool, Fail> {
+    Ok(hear(session, message, unsettled)? == wanted)
+}
+
 fn opened(role: Role) -> Session {
     let mut session = Session::new(role);
     let _actions = session.on_open();
     session
 }
 
-fn standing(alloc: Global, role: Role, check_alive: bool) -> Result<Session, Fail> {
+fn session_with(
+    alloc: Global,
+    role: Role,
+    state: SessionState,
+    check_alive: bool,
+) -> Result<Session, Fail> {
     let mut session = opened(role);
-    let _answer = hear(&mut session, service(alloc, check_alive)?, false)?;
+    if state == SessionState::Standing {
+        let _answer = hear(&mut session, service(alloc, check_alive)?, false)?;
+    }
     Ok(session)
 }
 
 fn session_in(alloc: Global, role: Role, state: SessionState) -> Result<Session, Fail> {
-    if state == SessionState::Standing {
-        standing(alloc, role, true)
-    } else {
-        Ok(opened(role))
+    session_with(alloc, role, state, true)
+}
+
+/// Whether a session in this state does so at a message of this kind, and stands after a
+/// handshake.
+fn does_at(
+    alloc: Global,
+    role: Role,
+    state: SessionState,
+    kind: Kind,
+    does: Does,
+) -> Result<bool, Fail> {
+    let mut session = session_in(alloc, role, state)?;
+    let wanted = answer(alloc, kind, does)?;
+    if session.state() != state || !hears(&mut session, message(alloc, kind)?, false, wanted)? {
+        return Ok(false);
     }
+    let shook = does == Does::Describes || does == Does::Stands;
+    let after = if shook { SessionState::Standing } else { state };
+    Ok(session.state() == after)
 }
 
 fn answer(alloc: Global, kind: Kind, does: Does) -> Result<Result<Actions, Breach>, Fail> {
@@ -260,21 +292,21 @@ fn answer(alloc: Global, kind: Kind, does: Does) -> Result<Result<Actions, Breac
     })
 }
 
-fn second_at(session: &mut Session) -> Result<Actions, Fail> {
+fn refuses_second(session: &mut Session) -> Result<bool, Fail> {
     if session.role() != Role::Upstream || session.state() == SessionState::NotConnected {
         Err("not connected")?;
     }
-    Ok(session.on_second())
+    Ok(session.on_second() == only(Some(Action::Tell(Tell::AlreadyConnected))))
 }
 
-fn shutdown_at(session: &mut Session) -> Result<Actions, Fail> {
+fn shuts_down(session: &mut Session) -> Result<bool, Fail> {
     if session.state() == SessionState::NotConnected {
         Err("not connected")?;
     }
-    Ok(session.on_shutdown())
+    Ok(session.on_shutdown() == told(Tell::Shutdown))
 }
 
-fn close_at(session: &mut Session) -> Result<(), Fail> {
+fn close(session: &mut Session) -> Result<(), Fail> {
     if session.state() == SessionState::NotConnected {
         Err("not connected")?;
     }
@@ -282,11 +314,27 @@ fn close_at(session: &mut Session) -> Result<(), Fail> {
     Ok(())
 }
 
-fn tick_at(session: &mut Session) -> Result<Actions, Fail> {
+/// Whether a tick brings this action alone.
+fn ticks(session: &mut Session, action: Option<Action>) -> Result<bool, Fail> {
     if session.state() == SessionState::NotConnected {
         Err("not connected")?;
     }
-    Ok(session.on_tick())
+    Ok(session.on_tick() == only(action))
+}
+
+/// Whether the second silent tick brings this ping, and the first four nothing else.
+fn asks(session: &mut Session, ping: u64) -> Result<bool, Fail> {
+    Ok(
+        ticks(session, None)?
+            && ticks(session, Some(Action::Ping(ping)))?
+            && ticks(session, None)?
+            && ticks(session, None)?,
+    )
+}
+
+/// Whether a CheckAlive that is no ping is taken, and brings nothing.
+fn takes_alive(alloc: Global, session: &mut Session, ping: Option<Ping>) -> Result<bool, Fail> {
+    hears(session, alive(alloc, ping)?, false, Ok(only(None)))
 }
 
 #[test]
@@ -299,17 +347,10 @@ fn messages(rt: HostRuntime) -> Result<(), Fail> {
             (Role::Downstream, SessionState::Standing, *down_standing),
         ];
         for (role, state, does) in columns {
-            let mut session = session_in(rt.alloc(), role, state)?;
-            assert_eq!(rt; session.state(), state);
-            let got = hear(&mut session, message(rt.alloc(), *kind)?, false)?;
-            assert_eq!(rt;
-                got,
-                answer(rt.alloc(), *kind, does)?,
+            assert!(rt;
+                does_at(rt.alloc(), role, state, *kind, does)?,
                 "{role:?} {state:?} {kind:?}"
             );
-            let shook = does == Does::Describes || does == Does::Stands;
-            let after = if shook { SessionState::Standing } else { state };
-            assert_eq!(rt; session.state(), after, "{role:?} {state:?} {kind:?}");
         }
     }
     Ok(())
@@ -319,50 +360,55 @@ fn messages(rt: HostRuntime) -> Result<(), Fail> {
 fn handshakes(rt: HostRuntime) -> Result<(), Fail> {
     let mut down = Session::new(Role::Downstream);
     assert_eq!(rt; down.state(), SessionState::NotConnected);
-    assert_eq!(rt; down.on_open(), only(Some(Action::SendService)));
+    assert!(rt; down.on_open() == only(Some(Action::SendService)));
     assert_eq!(rt; down.state(), SessionState::Handshake);
-    let mut up = Session::new(Role::Upstream);
-    assert_eq!(rt; up.on_open(), only(None));
-    let got = hear(&mut up, service(rt.alloc(), true)?, true)?;
-    assert_eq!(rt; got, Ok(told(Tell::Unsettled)));
-    assert_eq!(rt; up.state(), SessionState::NotConnected);
-    let got = hear(&mut down, service(rt.alloc(), true)?, true)?;
-    assert_eq!(rt; got, Ok(only(Some(Action::Stand))));
+    assert!(rt;
+        hears(
+            &mut down,
+            service(rt.alloc(), true)?,
+            true,
+            Ok(only(Some(Action::Stand)))
+        )?
+    );
     assert_eq!(rt; down.peer(), features(true));
-    let got = hear(&mut down, alive(rt.alloc(), Some(Ping::Answer))?, false)?;
-    assert_eq!(rt; got, Ok(only(None)));
-    let got = hear(&mut down, alive(rt.alloc(), None)?, false)?;
-    assert_eq!(rt; got, Ok(only(None)));
-    let breach = Breach {
-        kind: Kind::StartTransport,
-    };
-    let said = format!(in rt.alloc(); "{breach}")?;
-    assert_eq!(rt; said.as_str(), "unexpected StartTransport");
+    assert!(rt; takes_alive(rt.alloc(), &mut down, Some(Ping::Answer))?);
+    assert!(rt; takes_alive(rt.alloc(), &mut down, None)?);
+    Ok(())
+}
+
+#[test]
+fn handshakes_while_the_outlet_holds(rt: HostRuntime) -> Result<(), Fail> {
+    let mut up = Session::new(Role::Upstream);
+    assert!(rt; up.on_open() == only(None));
+    assert!(rt;
+        hears(
+            &mut up,
+            service(rt.alloc(), true)?,
+            true,
+            Ok(told(Tell::Unsettled))
+        )?
+    );
+    assert_eq!(rt; up, Session::new(Role::Upstream));
     Ok(())
 }
 
 #[test]
 fn ends_and_second_connections(rt: HostRuntime) -> Result<(), Fail> {
     for state in [SessionState::Handshake, SessionState::Standing] {
-        let mut session = session_in(rt.alloc(), Role::Upstream, state)?;
-        let refused = only(Some(Action::Tell(Tell::AlreadyConnected)));
-        assert_eq!(rt; second_at(&mut session)?, refused, "{state:?}");
-        assert_eq!(rt; session.state(), state);
-        assert_eq!(rt;
-            shutdown_at(&mut session)?,
-            told(Tell::Shutdown),
-            "{state:?}"
-        );
-        assert_eq!(rt; session, Session::new(Role::Upstream));
-        let mut session = session_in(rt.alloc(), Role::Downstream, state)?;
-        close_at(&mut session)?;
-        assert_eq!(rt; session, Session::new(Role::Downstream));
+        let mut up = session_in(rt.alloc(), Role::Upstream, state)?;
+        assert!(rt; refuses_second(&mut up)?, "{state:?}");
+        assert_eq!(rt; up.state(), state);
+        assert!(rt; shuts_down(&mut up)?, "{state:?}");
+        assert_eq!(rt; up, Session::new(Role::Upstream));
+        let mut down = session_in(rt.alloc(), Role::Downstream, state)?;
+        close(&mut down)?;
+        assert_eq!(rt; down, Session::new(Role::Downstream));
     }
     Ok(())
 }
 
 #[test]
-fn ticks(rt: HostRuntime) -> Result<(), Fail> {
+fn silent_peers(rt: HostRuntime) -> Result<(), Fail> {
     let rows = [
         (Role::Upstream, SessionState::Handshake, true, true),
         (Role::Downstream, SessionState::Handshake, false, true),
@@ -370,27 +416,22 @@ fn ticks(rt: HostRuntime) -> Result<(), Fail> {
         (Role::Downstream, SessionState::Standing, false, false),
     ];
     for (role, state, check_alive, closes) in rows {
-        let mut session = if state == SessionState::Standing {
-            standing(rt.alloc(), role, check_alive)?
-        } else {
-            opened(role)
-        };
-        for ping in [1, 2] {
-            let wanted = [None, Some(Action::Ping(ping)), None, None];
-            for action in wanted {
-                assert_eq!(rt; tick_at(&mut session)?, only(action), "{role:?} {state:?}");
-                assert_eq!(rt; session.state(), state);
-            }
-            let got = hear(&mut session, alive(rt.alloc(), Some(Ping::Answer))?, false)?;
-            assert_eq!(rt; got, Ok(only(None)), "{role:?} {state:?}");
-        }
-        let wanted = [None, Some(Action::Ping(3)), None, None];
-        for action in wanted {
-            assert_eq!(rt; tick_at(&mut session)?, only(action), "{role:?} {state:?}");
-        }
+        let mut session = session_with(rt.alloc(), role, state, check_alive)?;
+        assert!(rt; asks(&mut session, 1)?, "{role:?} {state:?}");
+        assert!(rt; takes_alive(rt.alloc(), &mut session, Some(Ping::Answer))?);
+        assert!(rt; asks(&mut session, 2)?, "{role:?} {state:?}");
+        assert_eq!(rt; session.state(), state);
         let last = if closes { Some(Action::Close) } else { None };
-        assert_eq!(rt; tick_at(&mut session)?, only(last), "{role:?} {state:?}");
+        assert!(rt; ticks(&mut session, last)?, "{role:?} {state:?}");
         assert_eq!(rt; session.state() == SessionState::NotConnected, closes);
     }
+    Ok(())
+}
+
+#[test]
+fn breaches_are_told(rt: HostRuntime) -> Result<(), Fail> {
+    let kind = Kind::StartTransport;
+    let told = format!(in rt.alloc(); "{}", Breach { kind })?;
+    assert_eq!(rt; told.as_str(), "unexpected StartTransport");
     Ok(())
 }
