@@ -26,4 +26,6 @@ pub use refusal::{ElementError, Why};
 pub use write::{write_attribute, write_element};
 
 #[cfg(test)]
+mod slow;
+#[cfg(test)]
 mod tests;

@@ -1,4 +1,5 @@
-use crate::{read_element, write_element};
+use crate::slow::{is_begun, tell};
+use crate::{ElementError, read_element, write_element};
 use std::alloc::{AllocError, Global};
 
 /// The canonical spelling of what is read, or the text of the refusal.
@@ -100,6 +101,8 @@ fn answers_as_the_form_says(rt: HostRuntime) -> Result<(), AllocError> {
     for (bytes, wanted) in cases {
         let found = answer(alloc, bytes)?;
         assert_eq!(rt; found.as_str(), wanted);
+        let slow = slow_answer(alloc, bytes)?;
+        assert_eq!(rt; slow.as_str(), wanted);
     }
     Ok(())
 }
@@ -175,4 +178,47 @@ fn counts_attributes(rt: HostRuntime) -> Result<(), AllocError> {
         "many attributes at 2339"
     );
     Ok(())
+}
+
+/// The text that the definitions give, computed slowly. Where the bytes have no plain form, the
+/// place is taken from the reader, and looked at by what documents can go on from.
+fn slow_answer(alloc: Global, bytes: &[u8]) -> Result<String, AllocError> {
+    if let Some(told) = tell(alloc, bytes)? {
+        return match told.faults.iter().min_by_key(|fault| fault.0) {
+            Some(fault) => format!(in alloc; "{} at {}", fault.1, fault.0),
+            None => Ok(told.text),
+        };
+    }
+    let at = match read_element(alloc, bytes) {
+        Err(ElementError::Refused { at, .. }) => at,
+        _ => return format!(in alloc; "not told"),
+    };
+    let (front, rest) = match (bytes.get(..at), bytes.get(at..)) {
+        (Some(front), Some(rest)) => (front, rest),
+        _ => return format!(in alloc; "past the end"),
+    };
+    if !is_begun(alloc, front)? {
+        return format!(in alloc; "not begun");
+    }
+    let Some(next) = rest.first() else {
+        return format!(in alloc; "unended at {at}");
+    };
+    let mut longer = Vec::from_slice(alloc, front)?;
+    longer.push(*next)?;
+    if is_begun(alloc, longer.as_slice())? {
+        return format!(in alloc; "begun");
+    }
+    let is_after_open = front.ends_with(b"<");
+    let why = if is_after_open && rest.starts_with(b"!--") {
+        "comment"
+    } else if is_after_open && rest.starts_with(b"![CDATA[") {
+        "cdata"
+    } else if is_after_open && rest.starts_with(b"!DOCTYPE") {
+        "doctype"
+    } else if is_after_open && rest.starts_with(b"?") {
+        "instruction"
+    } else {
+        "character"
+    };
+    format!(in alloc; "{why} at {at}")
 }
