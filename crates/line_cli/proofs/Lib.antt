@@ -6,3 +6,5 @@ pub mod Ownership
 pub mod IdSteps
 pub mod IdLaws
 pub mod Names
+pub mod ReadFrames
+pub mod ReadSteps

@@ -5,6 +5,7 @@ use Rattle.line_outside.specs.Sink.{Grows, GrowsInPart, PushesAll}
 use Rattle.line_outside.specs.declared.pushing.Pushed.{Pushed}
 use Rattle.line_cli.specs.Script.{Refusal, script_of}
 use Rattle.line_cli.specs.Report.{report_of}
+use Rattle.line_cli.specs.Stream.{Reads}
 use Rattle.line_cli.specs.declared.status.Status.{Status}
 use Rattle.line_cli.specs.declared.status.Status.TheVariants as statuses
 use Rattle.line_cli.specs.declared.status.InputWhy.TheVariants as inputs
@@ -21,11 +22,17 @@ exit_number statuses.Memory = 6
 abbrev pub usage_text : List ℕ
 usage_text = codes "usage: line run | line read | line make <number>\n"
 
--- whether the words are `run`
+-- whether the words are this word alone
+abbrev pub is_word : List ℕ → List (List ℕ) → Bool
+is_word asked [] = false
+is_word asked (word ∷ []) = bytes_eq word asked
+is_word asked (word ∷ other ∷ others) = false
+
 abbrev pub is_run : List (List ℕ) → Bool
-is_run [] = false
-is_run (word ∷ []) = bytes_eq word (codes "run")
-is_run (word ∷ other ∷ others) = false
+is_run words = is_word (codes "run") words
+
+abbrev pub is_read : List (List ℕ) → Bool
+is_read words = is_word (codes "read") words
 
 -- the status that a script's first refusal gives
 abbrev pub status_of : Option Refusal → Status
@@ -54,10 +61,11 @@ pub record Refers (left_old left_new old new : Option (List ℕ)) (before now : 
   pub pushed : Pushed
   pub text : PushesAll old new before now usage_text pushed
 
--- WHAT THE PROGRAM DOES with its words
-abbrev pub DoesAs : Bool → Option (List ℕ) → Option (List ℕ) → Option (List ℕ) → Option (List ℕ) → ℕ → ℕ → Status → Type 0
-DoesAs true left_old left_new old new before now status = Runs left_old left_new old new status
-DoesAs false left_old left_new old new before now status = Refers left_old left_new old new before now status
+-- WHAT THE PROGRAM DOES with its words: whether they are `run`, and whether they are `read`
+abbrev pub DoesAs : Bool → Bool → Option (List ℕ) → Option (List ℕ) → Option (List ℕ) → Option (List ℕ) → ℕ → ℕ → Status → Type 0
+DoesAs true reads left_old left_new old new before now status = Runs left_old left_new old new status
+DoesAs false true left_old left_new old new before now status = Reads left_old left_new old new status
+DoesAs false false left_old left_new old new before now status = Refers left_old left_new old new before now status
 
 -- no count of faults falls, and a fault comes only where the count of that object rose
 pub record HasCauses (status : Status) (reads_before reads_now writes_before writes_now : ℕ) : Type 0 where

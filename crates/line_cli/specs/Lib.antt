@@ -9,3 +9,6 @@ pub mod Command
 pub mod Ending
 pub mod Answers
 pub mod Ids
+pub mod ReadText
+pub mod Stream
+pub mod StreamReader

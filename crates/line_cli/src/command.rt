@@ -1,7 +1,8 @@
 ghost use Rattle.std.specs.Prelude.{◌≡◌};
 ghost use Rattle.line_cli.specs.Ids.{IdsStay};
-ghost use Rattle.line_cli.specs.Command.{DoesAs, HasCauses, is_run, usage_text};
+ghost use Rattle.line_cli.specs.Command.{DoesAs, HasCauses, is_word, is_run, is_read, usage_text};
 
+use crate::reading::read_stream;
 use crate::running::run_script;
 use crate::status::Status;
 use line_base::{Word, Words};
@@ -13,32 +14,38 @@ const USAGE: &str = "usage: line run | line read | line make <number>\n";
 
 /// The program `line`: does what the words behind its name ask for.
 ///
-/// With `run` it reads a script from `script` and writes its report to `report`. Other words are
-/// answered by `Usage` and the usage text, and nothing is read.
+/// With `run` it reads a script from `script` and writes its report to `report`. With `read` it
+/// reads a stream of messages from `script` and writes a line for each to `report`; a stream of more
+/// than 1,073,741,824 bytes is `ScriptRefused` as `TooLarge`, with line 0, behind the lines of what
+/// stands in its first 1,073,741,824. Other words are answered by `Usage` and the usage text, and
+/// nothing is read.
 pub fn line_main<S: Source, K: Sink>(
     alloc: Global,
     words: &Words,
     script: &mut S,
     report: &mut K,
 ) -> Status
-    ensures does { DoesAs (is_run words.now) (S.left script.old) (S.left script.new) (K.contents report.old) (K.contents report.new) (K.faults report.old) (K.faults report.new) result }
+    ensures does { DoesAs (is_run words.now) (is_read words.now) (S.left script.old) (S.left script.new) (K.contents report.old) (K.contents report.new) (K.faults report.old) (K.faults report.new) result }
     ensures causes { HasCauses result (S.faults script.old) (S.faults script.new) (K.faults report.old) (K.faults report.new) }
     // unique ids, and ids that stay, over the run of every script
     ensures ids { IdsStay }
 {
-    if is_run(words.list()) {
+    if is_word(words.list(), b"run") {
         return run_script(alloc, script, report);
+    }
+    if is_word(words.list(), b"read") {
+        return read_stream(alloc, script, report);
     }
     let _pushed = push_all(report, USAGE.as_bytes());
     Status::Usage
 }
 
-/// Whether the words are `run`.
-fn is_run(words: &[Word]) -> bool
-    ensures { result ≡ is_run words.now }
+/// Whether the words are this word alone.
+fn is_word(words: &[Word], asked: &[u8]) -> bool
+    ensures { result ≡ is_word asked.now words.now }
 {
     match words {
-        [word] => word.bytes() == &b"run"[..],
+        [word] => word.bytes() == asked,
         _ => false,
     }
 }

@@ -4,11 +4,13 @@
 mod command;
 mod happening;
 mod machine;
+mod reading;
 mod running;
 mod script_reader;
 mod script_run;
 mod status;
 mod step;
+mod stream_reader;
 #[cfg(test)]
 mod tests;
 

@@ -9,7 +9,7 @@ use line_outside::{Pull, Pushed, Sink, Source, push_all};
 use std::alloc::Global;
 
 /// How many bytes of the script are pulled at a time, and of how many the report is pushed.
-const PIECE_BYTES: usize = 65_536;
+pub(crate) const PIECE_BYTES: usize = 65_536;
 
 /// Runs the script that the source has, and writes its report.
 pub fn run_script<S: Source, K: Sink>(alloc: Global, script: &mut S, report: &mut K) -> Status
@@ -47,7 +47,7 @@ pub fn run_script<S: Source, K: Sink>(alloc: Global, script: &mut S, report: &mu
 }
 
 /// The first bytes of a room.
-fn front(room: &[u8], count: usize) -> &[u8]
+pub(crate) fn front(room: &[u8], count: usize) -> &[u8]
     requires { count ≤ length room.now }
     ensures { result.now ≡ take count room.now }
 {
@@ -55,7 +55,7 @@ fn front(room: &[u8], count: usize) -> &[u8]
 }
 
 /// Pushes what waits to be written, if there is a big piece of it.
-fn push_full<K: Sink>(text: &mut Vec<u8>, report: &mut K) -> Pushed
+pub(crate) fn push_full<K: Sink>(text: &mut Vec<u8>, report: &mut K) -> Pushed
     ensures { PushesFull result (K.contents report.old) (K.contents report.new) (K.faults report.old) (K.faults report.new) text.old.items text.new.items }
 {
     if text.len() < PIECE_BYTES {

@@ -8,6 +8,8 @@ use line_script::LineWhy;
 pub enum InputWhy {
     /// A line of a script is refused.
     Line(LineWhy),
+    /// A stream has more than 1,073,741,824 bytes.
+    TooLarge,
 }
 
 /// How a call of the program ended.

@@ -58,6 +58,31 @@ const SCRIPTS: [(&[u8], &[u8], Option<(u64, LineWhy)>); 10] = [
     ),
 ];
 
+/// Streams of messages, and what is written of them.
+const STREAMS: [(&[u8], &[u8]); 6] = [
+    (
+        b"<?xml version='1.0' encoding='UTF-8'?>\n<Hermes Timestamp='2024-03-05T07:08:09.5'> <BoardAvailable BoardId='00000001-0000-8000-8000-00000000000A' Vendor='x' FailedBoard='1' FlippedBoard='0' BoardIdCreatedBy='M&#49;' Length='120.50' /></Hermes>",
+        b"1 <Hermes Timestamp=\"2024-03-05T07:08:09.500\"><BoardAvailable BoardId=\"00000001-0000-8000-8000-00000000000a\" BoardIdCreatedBy=\"M1\" FailedBoard=\"1\" FlippedBoard=\"0\" Length=\"120.5\"/></Hermes>\nend messages=1 rest=0\n",
+    ),
+    (
+        b"<Hermes><StartTransport BoardId=\"x\" BoardId=\"y\"/></Hermes>",
+        b"1 refused: repeated at 43\nend messages=1 rest=0\n",
+    ),
+    (
+        b"<Hermes><CheckAlive/></Hermes><Hermes><Stop",
+        b"1 <Hermes><CheckAlive/></Hermes>\nend messages=1 rest=13\n",
+    ),
+    (
+        b"<Hermes><CheckAlive Id='7' Type='2'/></Hermes>",
+        b"1 <Hermes><CheckAlive Type=\"2\" Id=\"7\"/></Hermes>\nend messages=1 rest=0\n",
+    ),
+    (
+        b"<Hermes><Ping/></Hermes>",
+        b"1 other Ping\nend messages=1 rest=0\n",
+    ),
+    (b"", b"end messages=0 rest=0\n"),
+];
+
 fn words_of(alloc: Global, list: &[&[u8]]) -> Result<Words, Memory> {
     let mut words = Words::new(alloc);
     for word in list {
@@ -194,6 +219,19 @@ fn faults_and_usage(rt: HostRuntime) -> Result<(), Fail> {
         );
         let mut room = [0u8; 100];
         assert_eq!(rt; source.pull(room.as_mut_slice()), Pull::Bytes(script.len()));
+    }
+    Ok(())
+}
+
+#[test]
+fn streams_and_what_is_written(rt: HostRuntime) -> Result<(), Fail> {
+    let words = words_of(rt.alloc(), &[b"read"])?;
+    for (stream, written) in STREAMS {
+        let mut source = SteadySource::new(rt.alloc(), stream)?;
+        let mut sink = SteadySink::new(rt.alloc(), 1000)?;
+        let status = line_main(rt.alloc(), &words, &mut source, &mut sink);
+        assert_eq!(rt; status, Status::Done);
+        assert!(rt; sink.contents() == Some(written));
     }
     Ok(())
 }

@@ -1,0 +1,89 @@
+ghost use Rattle.std.specs.Prelude.{◌≡◌, ◌≤◌, ◌<◌, ◌^◌, ◌++◌};
+ghost use Rattle.line_cli.specs.Command.{HasCauses};
+ghost use Rattle.line_cli.specs.Stream.{Reads, EndsRead};
+
+use crate::running::{PIECE_BYTES, front, push_full};
+use crate::status::{InputWhy, Status};
+use crate::stream_reader::{Progress, take_some, write_ending};
+use hermes_stream::Cutter;
+use line_outside::{Pull, Pushed, Sink, Source, push_all};
+use std::alloc::Global;
+
+/// How many bytes of a stream are read at most.
+const MOST_READ: u64 = 1_073_741_824;
+
+/// Reads the stream of messages that the source has, and writes its read text.
+pub fn read_stream<S: Source, K: Sink>(alloc: Global, stream: &mut S, text_to: &mut K) -> Status
+    ensures reads { Reads (S.left stream.old) (S.left stream.new) (K.contents text_to.old) (K.contents text_to.new) result }
+    ensures causes { HasCauses result (S.faults stream.old) (S.faults stream.new) (K.faults text_to.old) (K.faults text_to.new) }
+{
+    let mut room = match vec![in alloc; 0u8; PIECE_BYTES] {
+        Ok(room) => room,
+        Err(_) => return Status::Memory,
+    };
+    let mut cutter = match Cutter::new(alloc) {
+        Ok(cutter) => cutter,
+        Err(_) => return Status::Memory,
+    };
+    let mut text = Vec::new(alloc);
+    let mut far = Progress::start();
+    loop {
+        match stream.pull(room.as_mut_slice()) {
+            Pull::Bytes(count) => {
+                let piece = front(room.as_slice(), count);
+                let space = MOST_READ - far.taken;
+                if count as u64 > space {
+                    let part = front(piece, space as usize);
+                    match take_some(alloc, &mut cutter, far, part, &mut text) {
+                        Ok(now) => {
+                            return end_read(now, cutter.waiting(), true, &mut text, text_to);
+                        }
+                        Err(_) => return Status::Memory,
+                    }
+                }
+                match take_some(alloc, &mut cutter, far, piece, &mut text) {
+                    Ok(now) => far = now,
+                    Err(_) => return Status::Memory,
+                }
+                if let Pushed::Failed = push_full(&mut text, text_to) {
+                    return Status::WriteFault;
+                }
+            }
+            Pull::End => {
+                return end_read(far, cutter.waiting(), false, &mut text, text_to);
+            }
+            Pull::Failed => {
+                let _pushed = push_all(text_to, text.as_slice());
+                return Status::ReadFault;
+            }
+        }
+    }
+}
+
+/// Ends a reading: writes what waits, and what stands behind it.
+fn end_read<K: Sink>(
+    far: Progress,
+    waiting: usize,
+    large: bool,
+    text: &mut Vec<u8>,
+    text_to: &mut K,
+) -> Status
+    requires { far.done < 2 ^ 40 }
+    ensures { EndsRead far waiting large (K.contents text_to.old) (K.contents text_to.new) (K.faults text_to.old) (K.faults text_to.new) text.old.items result }
+{
+    if write_ending(far, waiting, large, text).is_err() {
+        return Status::Memory;
+    }
+    match push_all(text_to, text.as_slice()) {
+        Pushed::Failed => Status::WriteFault,
+        Pushed::Whole => {
+            if large {
+                return Status::ScriptRefused {
+                    line: 0,
+                    why: InputWhy::TooLarge,
+                };
+            }
+            Status::Done
+        }
+    }
+}
