@@ -65,8 +65,8 @@ fn copy_name(alloc: Global, bytes: &[u8]) -> Result<Name, Stop>
     requires { IsName bytes.now }
     ensures { CopiesName bytes.now result }
 {
-    match Vec::from_slice(alloc, bytes) {
-        Ok(name) => Ok(Name::of(name)),
+    match Name::of(alloc, bytes) {
+        Ok(name) => Ok(name),
         Err(_) => Err(Stop::Memory),
     }
 }

@@ -20,7 +20,7 @@ pub use decimal::{BadDecimal, Decimal};
 pub use memory::Memory;
 pub use moment::{BadMoment, Moment};
 pub use name::{Name, NameError, is_name_byte, is_name_start};
-pub use number::read_number;
+pub use number::{digits_value, is_digits, read_number};
 pub use states::{Code, Flip, Quality, Role, Seen, SensorEvent, Severity, Side, Transfer};
 pub use text::{Text, TextError, is_allowed_char};
 pub use word::{Word, Words};

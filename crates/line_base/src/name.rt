@@ -1,17 +1,23 @@
 ghost use Rattle.std.specs.Str.{bytes_eq};
-ghost use Rattle.std.specs.Prelude.{◌≡◌, List, ℕ};
+ghost use Rattle.std.specs.Prelude.{◌≡◌, List, ℕ, IfOk};
 ghost use Rattle.std.specs.List.{list_all};
 ghost use Rattle.line_base.specs.Name.{IsName, ReadsName, is_name, is_name_start, is_name_byte};
 
+use crate::memory::Memory;
+use smallvec::SmallVec;
 use std::alloc::Global;
 use std::marker::Model;
 use thiserror::Error;
+
+/// A name of at most so many bytes takes no memory. None of the standard's messages and only few
+/// of its attributes have longer ones.
+const INLINE_BYTES: usize = 24;
 
 /// The name of an element or attribute: an ASCII letter or `_`, and then ASCII letters, digits,
 /// `_`, `-`, `.` and `:`.
 #[derive(Debug, Drop)]
 pub struct Name {
-    bytes: Vec<u8>,
+    bytes: SmallVec<u8, INLINE_BYTES>,
 }
 
 impl Model for Name {
@@ -58,18 +64,21 @@ impl Name {
         if !is_name(bytes) {
             return Err(NameError::BadName);
         }
-        match Vec::from_slice(alloc, bytes) {
+        match SmallVec::from_slice(alloc, bytes) {
             Ok(bytes) => Ok(Name { bytes }),
             Err(_) => Err(NameError::Memory),
         }
     }
 
-    /// The name of these bytes. It takes no memory.
-    pub fn of(bytes: Vec<u8>) -> Name
-        requires { IsName bytes.items }
-        ensures { result ≡ bytes.items }
+    /// The name that these bytes are.
+    pub fn of(alloc: Global, bytes: &[u8]) -> Result<Name, Memory>
+        requires { IsName bytes.now }
+        ensures { IfOk result (λ name. name ≡ bytes.now) }
     {
-        Name { bytes }
+        match SmallVec::from_slice(alloc, bytes) {
+            Ok(bytes) => Ok(Name { bytes }),
+            Err(_) => Err(Memory),
+        }
     }
 
     /// Its bytes.
