@@ -1,4 +1,4 @@
-ghost use Rattle.std.specs.Prelude.{◌≤◌, IfSome, None, length};
+ghost use Rattle.std.specs.Prelude.{◌≡◌, ◌≤◌, IfSome, None, length};
 
 use crate::source::{Pull, Source};
 use std::io::{ErrorKind, Read};
@@ -15,7 +15,9 @@ pub struct ReaderSource<R: Read> {
 
 impl<R: Read> ReaderSource<R> {
     /// A source over this reader, with no faults yet.
-    pub fn new(reader: R) -> ReaderSource<R> {
+    pub fn new(reader: R) -> ReaderSource<R>
+        ensures { result.faults ≡ 0 }
+    {
         ReaderSource { reader, faults: 0 }
     }
 }
@@ -44,11 +46,8 @@ fn read_some<R: Read>(reader: &mut R, room: &mut [u8]) -> Option<usize>
     for _ in 0..INTERRUPTIONS {
         match reader.read(room) {
             Ok(count) => return Some(count),
-            Err(error) => {
-                if error.kind() != ErrorKind::Interrupted {
-                    return None;
-                }
-            }
+            Err(error) if error.kind() == ErrorKind::Interrupted => {}
+            Err(_) => return None,
         }
     }
     None

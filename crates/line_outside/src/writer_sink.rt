@@ -1,4 +1,4 @@
-ghost use Rattle.std.specs.Prelude.{◌≤◌, IfSome, None, length};
+ghost use Rattle.std.specs.Prelude.{◌≡◌, ◌≤◌, IfSome, None, length};
 
 use crate::sink::{Push, Sink};
 use std::io::{ErrorKind, Write};
@@ -17,7 +17,9 @@ pub struct WriterSink<W: Write> {
 
 impl<W: Write> WriterSink<W> {
     /// A sink over this writer, with no faults yet.
-    pub fn new(writer: W) -> WriterSink<W> {
+    pub fn new(writer: W) -> WriterSink<W>
+        ensures { result.faults ≡ 0 }
+    {
         WriterSink { writer, faults: 0 }
     }
 }
@@ -45,11 +47,8 @@ fn write_some<W: Write>(writer: &mut W, piece: &[u8]) -> Option<usize>
     for _ in 0..INTERRUPTIONS {
         match writer.write(piece) {
             Ok(count) => return Some(count),
-            Err(error) => {
-                if error.kind() != ErrorKind::Interrupted {
-                    return None;
-                }
-            }
+            Err(error) if error.kind() == ErrorKind::Interrupted => {}
+            Err(_) => return None,
         }
     }
     None
