@@ -32,6 +32,10 @@ pub record Form : Type 0 where
 abbrev pub machine_number : Kind
 machine_number = number 1 64
 
+-- gap k, between the machines k and k + 1, is numbered 1 to 63
+abbrev pub gap_number : Kind
+gap_number = number 1 63
+
 abbrev pub made_machine : List Value → Option ScriptLine
 made_machine (numeral capacity ∷ []) = Some (lines.Machine capacity 0)
 made_machine (numeral capacity ∷ spelled used ∷ numeral count ∷ []) = Some (lines.Machine capacity count)
@@ -50,11 +54,40 @@ abbrev pub made_replace : List Value → Option ScriptLine
 made_replace (numeral machine ∷ board id ∷ []) = Some (lines.Replace machine id)
 made_replace _ = None
 
+abbrev pub made_sense : List Value → Option ScriptLine
+made_sense (numeral machine ∷ []) = Some (lines.Sense machine)
+made_sense _ = None
+
+abbrev pub made_begin : List Value → Option ScriptLine
+made_begin (numeral gap ∷ []) = Some (lines.Begin gap)
+made_begin _ = None
+
+abbrev pub made_left : List Value → Option ScriptLine
+made_left (numeral gap ∷ []) = Some (lines.Left gap)
+made_left _ = None
+
+abbrev pub made_enter : List Value → Option ScriptLine
+made_enter (numeral gap ∷ []) = Some (lines.Enter gap)
+made_enter _ = None
+
+abbrev pub made_back : List Value → Option ScriptLine
+made_back (numeral gap ∷ []) = Some (lines.Back gap)
+made_back _ = None
+
+abbrev pub made_hand_in : List Value → Option ScriptLine
+made_hand_in (numeral gap ∷ []) = Some (lines.HandIn gap)
+made_hand_in _ = None
+
+abbrev pub made_take : List Value → Option ScriptLine
+made_take (numeral gap ∷ []) = Some (lines.Take gap)
+made_take _ = None
+
 abbrev pub made_show : List Value → Option ScriptLine
 made_show [] = Some lines.Show
 made_show _ = None
 
--- THE TABLE: `machine c [used u]`, `insert m [barcode]`, `remove m id`, `replace m id`, `show`
+-- THE TABLE: `machine c [used u]`, `insert m [barcode]`, `remove m id`, `replace m id`, `sense m`,
+-- `begin k`, `left k`, `in k`, `back k`, `hand-in k`, `take k`, `show`
 abbrev pub machine_form : Form
 machine_form = record { word = codes "machine"; counts = 1 ∷ 3 ∷ []; arguments = number 1 1024 ∷ literal (codes "used") ∷ number 0 281474976710655 ∷ []; made = made_machine }
 
@@ -67,11 +100,39 @@ remove_form = record { word = codes "remove"; counts = 2 ∷ []; arguments = mac
 abbrev pub replace_form : Form
 replace_form = record { word = codes "replace"; counts = 2 ∷ []; arguments = machine_number ∷ identity ∷ []; made = made_replace }
 
+abbrev pub sense_form : Form
+sense_form = record { word = codes "sense"; counts = 1 ∷ []; arguments = machine_number ∷ []; made = made_sense }
+
+abbrev pub begin_form : Form
+begin_form = record { word = codes "begin"; counts = 1 ∷ []; arguments = gap_number ∷ []; made = made_begin }
+
+abbrev pub left_form : Form
+left_form = record { word = codes "left"; counts = 1 ∷ []; arguments = gap_number ∷ []; made = made_left }
+
+abbrev pub enter_form : Form
+enter_form = record { word = codes "in"; counts = 1 ∷ []; arguments = gap_number ∷ []; made = made_enter }
+
+abbrev pub back_form : Form
+back_form = record { word = codes "back"; counts = 1 ∷ []; arguments = gap_number ∷ []; made = made_back }
+
+abbrev pub hand_in_form : Form
+hand_in_form = record { word = codes "hand-in"; counts = 1 ∷ []; arguments = gap_number ∷ []; made = made_hand_in }
+
+abbrev pub take_form : Form
+take_form = record { word = codes "take"; counts = 1 ∷ []; arguments = gap_number ∷ []; made = made_take }
+
 abbrev pub show_form : Form
 show_form = record { word = codes "show"; counts = 0 ∷ []; arguments = []; made = made_show }
 
+-- the rows of reports, with those of the floor before them, and all rows
+abbrev pub report_forms : List Form
+report_forms = show_form ∷ []
+
+abbrev pub floor_forms : List Form
+floor_forms = sense_form ∷ begin_form ∷ left_form ∷ enter_form ∷ back_form ∷ hand_in_form ∷ take_form ∷ report_forms
+
 abbrev pub forms : List Form
-forms = machine_form ∷ insert_form ∷ remove_form ∷ replace_form ∷ show_form ∷ []
+forms = machine_form ∷ insert_form ∷ remove_form ∷ replace_form ∷ floor_forms
 
 -- the first words of the forms that aren't built yet: those of machines and links, those of the
 -- floor and its sensors, and those of supervisors and neighbours
@@ -79,7 +140,7 @@ abbrev pub later_machine_words : List (List ℕ)
 later_machine_words = codes "bridge" ∷ codes "mark" ∷ codes "hold" ∷ codes "go" ∷ codes "signal" ∷ codes "connect" ∷ codes "flow" ∷ codes "notice" ∷ codes "cut" ∷ []
 
 abbrev pub later_floor_words : List (List ℕ)
-later_floor_words = codes "sense" ∷ codes "begin" ∷ codes "left" ∷ codes "in" ∷ codes "back" ∷ codes "hand-in" ∷ codes "take" ∷ codes "lie" ∷ codes "unseen" ∷ []
+later_floor_words = codes "lie" ∷ codes "unseen" ∷ []
 
 abbrev pub later_other_words : List (List ℕ)
 later_other_words = codes "spoil" ∷ codes "shutdown" ∷ codes "tick" ∷ codes "fault" ∷ codes "supervise" ∷ codes "ask" ∷ codes "answer" ∷ codes "forecast" ∷ codes "query" ∷ []
@@ -112,9 +173,13 @@ abbrev pub made_line : Option ScriptLine → Result ScriptLine LineWhy
 made_line None = Err whys.WrongCount
 made_line (Some line) = Ok line
 
+-- the same, if there are as many words as there may be
+abbrev pub arguments_as : List ℕ → List Kind → List (List ℕ) → Result (List Value) LineWhy
+arguments_as counts kinds words = if list_any (nat_eq (length words)) counts then values_as kinds words else Err whys.WrongCount
+
 -- the line that the arguments of a form make, or the first refusal
 abbrev pub line_as : Form → List (List ℕ) → Result ScriptLine LineWhy
-line_as form words = if list_any (nat_eq (length words)) form.counts then then_ok (values_as form.arguments words) (λ values. made_line (form.made values)) else Err whys.WrongCount
+line_as form words = then_ok (arguments_as form.counts form.arguments words) (λ values. made_line (form.made values))
 
 -- the same, for the form that has this first word
 abbrev pub line_among : List Form → List ℕ → List (List ℕ) → Result ScriptLine LineWhy

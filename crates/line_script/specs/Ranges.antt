@@ -1,4 +1,4 @@
-use Rattle.std.specs.Prelude.{ℕ, ◌≤◌, ◌<◌, ◌^◌}
+use Rattle.std.specs.Prelude.{ℕ, ◌≤◌}
 use Rattle.line_script.specs.declared.line.ScriptLine.{ScriptLine}
 use Rattle.line_script.specs.declared.line.ScriptLine.TheVariants as lines
 
@@ -14,4 +14,11 @@ IsWithin (lines.Machine capacity used) = IsBetween 1 1024 capacity × IsBetween 
 IsWithin (lines.Insert machine barcode) = IsBetween 1 64 machine
 IsWithin (lines.Remove machine id) = IsBetween 1 64 machine
 IsWithin (lines.Replace machine id) = IsBetween 1 64 machine
+IsWithin (lines.Sense machine) = IsBetween 1 64 machine
+IsWithin (lines.Begin gap) = IsBetween 1 63 gap
+IsWithin (lines.Left gap) = IsBetween 1 63 gap
+IsWithin (lines.Enter gap) = IsBetween 1 63 gap
+IsWithin (lines.Back gap) = IsBetween 1 63 gap
+IsWithin (lines.HandIn gap) = IsBetween 1 63 gap
+IsWithin (lines.Take gap) = IsBetween 1 63 gap
 IsWithin lines.Show = Unit {0}

@@ -1,7 +1,7 @@
-use Rattle.std.specs.Prelude.{◌≡◌, ◌==◌, ◌||◌, ◌&&◌, ◌+◌, ◌-◌, ◌*◌, ℕ, Option, Some, None, Bool, List, [], ◌∷◌, Result, Ok, Err, codes, filter, length, nat_le, nat_lt, if◌then◌else◌}
+use Rattle.std.specs.Prelude.{◌≡◌, ◌==◌, ◌||◌, ◌&&◌, ℕ, Bool, List, Result, Ok, Err, codes, filter, length, nat_le, nat_lt, if◌then◌else◌}
 use Rattle.std.specs.List.{list_all, slice_split}
-use Rattle.std.specs.Char.{is_ascii_digit}
 use Rattle.std.specs.Str.{bytes_eq}
+use Rattle.line_base.specs.Number.{is_digits, value_of}
 use Rattle.board_record.specs.BoardId.{read_id}
 use Rattle.board_record.specs.declared.id.BadId.{BadId}
 use Rattle.line_script.specs.declared.line.LineWhy.{LineWhy}
@@ -21,18 +21,12 @@ is_text_byte b = (nat_le 32 b && nat_le b 126) || b == 9
 abbrev pub words_of : List ℕ → List (List ℕ)
 words_of bytes = filter (λ word. nat_lt 0 (length word)) (slice_split is_blank bytes)
 
--- the number that digits spell behind those of `value`, or none where a byte is no digit
-abbrev pub value_from : ℕ → List ℕ → Option ℕ
-value_from value [] = Some value
-value_from value (b ∷ bs) = if is_ascii_digit b then value_from (value * 10 + (b - 48)) bs else None
-
-abbrev pub number_between : ℕ → ℕ → Option ℕ → Result ℕ LineWhy
-number_between low high None = Err whys.BadNumber
-number_between low high (Some value) = if nat_le low value && nat_le value high then Ok value else Err whys.BadNumber
+abbrev pub number_between : ℕ → ℕ → ℕ → Result ℕ LineWhy
+number_between low high value = if nat_le low value && nat_le value high then Ok value else Err whys.BadNumber
 
 -- a number is 1 to 15 digits whose value stands between two bounds
 abbrev pub number_in : ℕ → ℕ → List ℕ → Result ℕ LineWhy
-number_in low high word = if nat_lt 0 (length word) && nat_le (length word) 15 then number_between low high (value_from 0 word) else Err whys.BadNumber
+number_in low high word = if is_digits 1 15 word then number_between low high (value_of word) else Err whys.BadNumber
 
 -- this word and no other
 abbrev pub literal_of : List ℕ → List ℕ → Result (Unit {0}) LineWhy

@@ -1,11 +1,11 @@
 //! One reader for each form of line.
 
-ghost use Rattle.std.specs.Prelude.{◌≡◌, IfOk, [], ◌∷◌, map};
+ghost use Rattle.std.specs.Prelude.{◌≡◌, ◌≤◌, IfOk, [], ◌∷◌, map};
 ghost use Rattle.std.specs.List.{list_any};
 ghost use Rattle.std.specs.Str.{bytes_eq};
-ghost use Rattle.line_script.specs.Ranges.{IsWithin};
+ghost use Rattle.line_script.specs.Ranges.{IsBetween, IsWithin};
 ghost use Rattle.line_script.specs.Words.{Reads};
-ghost use Rattle.line_script.specs.Grammar.{line_as, line_among, forms, is_later, later_machine_words, later_floor_words, later_other_words, machine_form, insert_form, remove_form, replace_form, show_form};
+ghost use Rattle.line_script.specs.Grammar.{number, numeral, mapped_ok, arguments_as, line_as, line_among, forms, floor_forms, report_forms, is_later, later_machine_words, later_floor_words, later_other_words, machine_form, insert_form, remove_form, replace_form, sense_form, begin_form, left_form, enter_form, back_form, hand_in_form, take_form, show_form};
 
 use crate::line::{LineError, LineWhy, ScriptLine};
 use crate::words::{identity, literal, number, token};
@@ -13,6 +13,9 @@ use std::alloc::Global;
 
 /// The most machines of a line.
 const MOST_MACHINES: u64 = 64;
+
+/// The most gaps between them.
+const MOST_GAPS: u64 = 63;
 
 /// The most boards that a machine may have room for.
 const MOST_CAPACITY: u64 = 1024;
@@ -37,13 +40,48 @@ pub fn line_of(alloc: Global, first: &[u8], words: &[&[u8]]) -> Result<ScriptLin
     if first == &b"replace"[..] {
         return refused(replace(words));
     }
+    refused(floor_line(first, words))
+}
+
+fn floor_line(first: &[u8], words: &[&[u8]]) -> Result<ScriptLine, LineWhy>
+    ensures answer { result ≡ line_among floor_forms first.now (map (λ word. word.now) words.now) }
+    ensures within { IfOk result IsWithin }
+{
+    if first == &b"sense"[..] {
+        return sense(words);
+    }
+    if first == &b"begin"[..] {
+        return begin(words);
+    }
+    if first == &b"left"[..] {
+        return left(words);
+    }
+    if first == &b"in"[..] {
+        return enter(words);
+    }
+    if first == &b"back"[..] {
+        return back(words);
+    }
+    if first == &b"hand-in"[..] {
+        return hand_in(words);
+    }
+    if first == &b"take"[..] {
+        return take(words);
+    }
+    report_line(first, words)
+}
+
+fn report_line(first: &[u8], words: &[&[u8]]) -> Result<ScriptLine, LineWhy>
+    ensures answer { result ≡ line_among report_forms first.now (map (λ word. word.now) words.now) }
+    ensures within { IfOk result IsWithin }
+{
     if first == &b"show"[..] {
-        return refused(show(words));
+        return show(words);
     }
     if is_later(first) {
-        return Err(LineError::Refused(LineWhy::NotYet));
+        return Err(LineWhy::NotYet);
     }
-    Err(LineError::Refused(LineWhy::UnknownWord))
+    Err(LineWhy::UnknownWord)
 }
 
 fn refused(line: Result<ScriptLine, LineWhy>) -> Result<ScriptLine, LineError>
@@ -79,15 +117,7 @@ fn is_later_machine_word(first: &[u8]) -> bool
 fn is_later_floor_word(first: &[u8]) -> bool
     ensures { result ≡ list_any (bytes_eq first.now) later_floor_words }
 {
-    first == &b"sense"[..]
-        || first == &b"begin"[..]
-        || first == &b"left"[..]
-        || first == &b"in"[..]
-        || first == &b"back"[..]
-        || first == &b"hand-in"[..]
-        || first == &b"take"[..]
-        || first == &b"lie"[..]
-        || first == &b"unseen"[..]
+    first == &b"lie"[..] || first == &b"unseen"[..]
 }
 
 fn is_later_other_word(first: &[u8]) -> bool
@@ -186,6 +216,74 @@ fn replace(words: &[&[u8]]) -> Result<ScriptLine, LineWhy>
             let id = identity(id)?;
             Ok(ScriptLine::Replace { machine, id })
         }
+        _ => Err(LineWhy::WrongCount),
+    }
+}
+
+fn sense(words: &[&[u8]]) -> Result<ScriptLine, LineWhy>
+    ensures answer { result ≡ line_as sense_form (map (λ word. word.now) words.now) }
+    ensures within { IfOk result IsWithin }
+{
+    let machine = only_number(words, MOST_MACHINES)?;
+    Ok(ScriptLine::Sense { machine })
+}
+
+fn begin(words: &[&[u8]]) -> Result<ScriptLine, LineWhy>
+    ensures answer { result ≡ line_as begin_form (map (λ word. word.now) words.now) }
+    ensures within { IfOk result IsWithin }
+{
+    let gap = only_number(words, MOST_GAPS)?;
+    Ok(ScriptLine::Begin { gap })
+}
+
+fn left(words: &[&[u8]]) -> Result<ScriptLine, LineWhy>
+    ensures answer { result ≡ line_as left_form (map (λ word. word.now) words.now) }
+    ensures within { IfOk result IsWithin }
+{
+    let gap = only_number(words, MOST_GAPS)?;
+    Ok(ScriptLine::Left { gap })
+}
+
+fn enter(words: &[&[u8]]) -> Result<ScriptLine, LineWhy>
+    ensures answer { result ≡ line_as enter_form (map (λ word. word.now) words.now) }
+    ensures within { IfOk result IsWithin }
+{
+    let gap = only_number(words, MOST_GAPS)?;
+    Ok(ScriptLine::Enter { gap })
+}
+
+fn back(words: &[&[u8]]) -> Result<ScriptLine, LineWhy>
+    ensures answer { result ≡ line_as back_form (map (λ word. word.now) words.now) }
+    ensures within { IfOk result IsWithin }
+{
+    let gap = only_number(words, MOST_GAPS)?;
+    Ok(ScriptLine::Back { gap })
+}
+
+fn hand_in(words: &[&[u8]]) -> Result<ScriptLine, LineWhy>
+    ensures answer { result ≡ line_as hand_in_form (map (λ word. word.now) words.now) }
+    ensures within { IfOk result IsWithin }
+{
+    let gap = only_number(words, MOST_GAPS)?;
+    Ok(ScriptLine::HandIn { gap })
+}
+
+fn take(words: &[&[u8]]) -> Result<ScriptLine, LineWhy>
+    ensures answer { result ≡ line_as take_form (map (λ word. word.now) words.now) }
+    ensures within { IfOk result IsWithin }
+{
+    let gap = only_number(words, MOST_GAPS)?;
+    Ok(ScriptLine::Take { gap })
+}
+
+/// The one number of a line, from 1 to `most`.
+fn only_number(words: &[&[u8]], most: u64) -> Result<u32, LineWhy>
+    requires { most ≤ 64 }
+    ensures answer { mapped_ok (λ value. numeral value ∷ []) result ≡ arguments_as (1 ∷ []) (number 1 most ∷ []) (map (λ word. word.now) words.now) }
+    ensures within { IfOk result (IsBetween 1 most) }
+{
+    match words {
+        [word] => Ok(number(word, 1, most)? as u32),
         _ => Err(LineWhy::WrongCount),
     }
 }

@@ -3,7 +3,8 @@ use line_base::Text;
 use std::fmt;
 use thiserror::Error;
 
-/// What one line of a script asks for. Machines are numbered from 1 in downstream direction.
+/// What one line of a script asks for. Machines are numbered from 1 in downstream direction, and a
+/// gap has the number of the machine above it.
 #[derive(Debug, PartialEq, Eq, Drop)]
 pub enum ScriptLine {
     /// Nothing: an empty line, or a comment.
@@ -16,6 +17,20 @@ pub enum ScriptLine {
     Remove { machine: u32, id: BoardId },
     /// A new board in the place of another.
     Replace { machine: u32, id: BoardId },
+    /// A machine reads what its sensors saw.
+    Sense { machine: u32 },
+    /// The front board of the machine above the gap begins to leave it.
+    Begin { gap: u32 },
+    /// The board in the gap has wholly left the upstream machine.
+    Left { gap: u32 },
+    /// The board in the gap is wholly inside the downstream machine.
+    Enter { gap: u32 },
+    /// The board in the gap goes back to the upstream machine.
+    Back { gap: u32 },
+    /// The board in the gap is put into the downstream machine by hand.
+    HandIn { gap: u32 },
+    /// The board in the gap is taken off the line by hand.
+    Take { gap: u32 },
     /// What every machine keeps, in the report.
     Show,
 }

@@ -17,6 +17,13 @@ enum Asked {
     Barcode(u32, &'static [u8]),
     Remove(u32),
     Replace(u32),
+    Sense(u32),
+    Begin(u32),
+    Left(u32),
+    Enter(u32),
+    Back(u32),
+    HandIn(u32),
+    Take(u32),
     Show,
 }
 
@@ -35,13 +42,20 @@ fn line_of(rt: &HostRuntime, asked: Asked) -> Result<ScriptLine, Fail> {
         },
         Asked::Remove(machine) => ScriptLine::Remove { machine, id },
         Asked::Replace(machine) => ScriptLine::Replace { machine, id },
+        Asked::Sense(machine) => ScriptLine::Sense { machine },
+        Asked::Begin(gap) => ScriptLine::Begin { gap },
+        Asked::Left(gap) => ScriptLine::Left { gap },
+        Asked::Enter(gap) => ScriptLine::Enter { gap },
+        Asked::Back(gap) => ScriptLine::Back { gap },
+        Asked::HandIn(gap) => ScriptLine::HandIn { gap },
+        Asked::Take(gap) => ScriptLine::Take { gap },
         Asked::Show => ScriptLine::Show,
     })
 }
 
 #[test]
 fn accepted_lines(rt: HostRuntime) -> Result<(), Fail> {
-    let cases: [(&[u8], Asked); 24] = [
+    let cases: [(&[u8], Asked); 32] = [
         (b"", Asked::Blank),
         (b" \t ", Asked::Blank),
         (b"# machine 0", Asked::Blank),
@@ -91,6 +105,14 @@ fn accepted_lines(rt: HostRuntime) -> Result<(), Fail> {
             b"replace 64 00000001-0000-8000-8000-000000000001",
             Asked::Replace(64),
         ),
+        (b"sense 64", Asked::Sense(64)),
+        (b"begin 1", Asked::Begin(1)),
+        (b"left 63", Asked::Left(63)),
+        (b"in 2", Asked::Enter(2)),
+        (b"back\t03", Asked::Back(3)),
+        (b"hand-in 63", Asked::HandIn(63)),
+        (b"hand-in 1", Asked::HandIn(1)),
+        (b"take 7", Asked::Take(7)),
         (b"show", Asked::Show),
         (b" show ", Asked::Show),
     ];
@@ -103,7 +125,7 @@ fn accepted_lines(rt: HostRuntime) -> Result<(), Fail> {
 
 #[test]
 fn refused_lines(rt: HostRuntime) -> Result<(), Fail> {
-    let cases: [(&[u8], LineWhy); 48] = [
+    let cases: [(&[u8], LineWhy); 60] = [
         (b"#\xC3\xA4", LineWhy::NotText),
         (b"# \x1F", LineWhy::NotText),
         (b"show\r", LineWhy::NotText),
@@ -115,8 +137,10 @@ fn refused_lines(rt: HostRuntime) -> Result<(), Fail> {
         (b"sho", LineWhy::UnknownWord),
         (b"x # show", LineWhy::UnknownWord),
         (b"stop 1", LineWhy::UnknownWord),
+        (b"handin 1", LineWhy::UnknownWord),
         (b"connect", LineWhy::NotYet),
-        (b"begin 1", LineWhy::NotYet),
+        (b"lie 1", LineWhy::NotYet),
+        (b"unseen", LineWhy::NotYet),
         (b"query x", LineWhy::NotYet),
         (b"machine", LineWhy::WrongCount),
         (b"machine 0 used", LineWhy::WrongCount),
@@ -127,6 +151,9 @@ fn refused_lines(rt: HostRuntime) -> Result<(), Fail> {
         (b"remove 0 x y", LineWhy::WrongCount),
         (b"replace", LineWhy::WrongCount),
         (b"replace 0 x y", LineWhy::WrongCount),
+        (b"begin", LineWhy::WrongCount),
+        (b"in 0 x", LineWhy::WrongCount),
+        (b"sense 0 1", LineWhy::WrongCount),
         (b"show 1", LineWhy::WrongCount),
         (b"machine 0", LineWhy::BadNumber),
         (b"machine 1025", LineWhy::BadNumber),
@@ -140,6 +167,13 @@ fn refused_lines(rt: HostRuntime) -> Result<(), Fail> {
         (b"insert 0", LineWhy::BadNumber),
         (b"insert 65", LineWhy::BadNumber),
         (b"insert x b", LineWhy::BadNumber),
+        (b"sense 0", LineWhy::BadNumber),
+        (b"sense 65", LineWhy::BadNumber),
+        (b"begin 64", LineWhy::BadNumber),
+        (b"left x", LineWhy::BadNumber),
+        (b"back 0", LineWhy::BadNumber),
+        (b"hand-in 64", LineWhy::BadNumber),
+        (b"take -1", LineWhy::BadNumber),
         (b"remove 0 x", LineWhy::BadNumber),
         (
             b"remove 65 00000001-0000-8000-8000-000000000001",

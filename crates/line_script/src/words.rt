@@ -1,13 +1,13 @@
 //! The words of a line, and the values that they spell.
 
-ghost use Rattle.std.specs.Prelude.{◌≡◌, ◌≤◌, IfOk, length, map};
+ghost use Rattle.std.specs.Prelude.{◌≡◌, IfOk, map};
 ghost use Rattle.std.specs.List.{list_all};
 ghost use Rattle.line_script.specs.Ranges.{IsBetween};
-ghost use Rattle.line_script.specs.Words.{is_blank, is_text_byte, number_in, value_from, words_of, ReadsToken, identity_of, literal_of};
+ghost use Rattle.line_script.specs.Words.{is_blank, is_text_byte, number_in, words_of, ReadsToken, identity_of, literal_of};
 
 use crate::line::{LineError, LineWhy};
 use board_record::BoardId;
-use line_base::{Text, TextError};
+use line_base::{Text, TextError, digits_value, is_digits};
 use std::alloc::{AllocError, Global};
 
 /// The most bytes of a text word.
@@ -47,27 +47,14 @@ pub fn number(word: &[u8], low: u64, high: u64) -> Result<u64, LineWhy>
     ensures value { result ≡ number_in low high word.now }
     ensures within { IfOk result (IsBetween low high) }
 {
-    if word.is_empty() || word.len() > MOST_DIGITS {
+    if !is_digits(word, 1, MOST_DIGITS) {
         return Err(LineWhy::BadNumber);
     }
-    match value_of(word) {
-        Some(value) if low <= value && value <= high => Ok(value),
-        _ => Err(LineWhy::BadNumber),
+    let value = digits_value(word) as u64;
+    if value < low || high < value {
+        return Err(LineWhy::BadNumber);
     }
-}
-
-fn value_of(word: &[u8]) -> Option<u64>
-    requires { length word.now ≤ 15 }
-    ensures { result ≡ value_from 0 word.now }
-{
-    let mut value = 0u64;
-    for byte in word {
-        if !byte.is_ascii_digit() {
-            return None;
-        }
-        value = value * 10 + u64::from(*byte - b'0');
-    }
-    Some(value)
+    Ok(value)
 }
 
 /// This word and no other. `BadWord` else.
