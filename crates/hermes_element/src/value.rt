@@ -32,8 +32,8 @@ pub(crate) fn read_value(
         if end - at > MOST_VALUE_BYTES {
             return Err(Stop::Fault(at, Why::LongValue));
         }
-        return match Vec::from_slice(alloc, &bytes[at..end]) {
-            Ok(value) => Ok((Text::of(value), end + 1)),
+        return match Text::of(alloc, &bytes[at..end]) {
+            Ok(value) => Ok((value, end + 1)),
             Err(_) => Err(Stop::Memory),
         };
     }
@@ -70,7 +70,10 @@ fn read_mixed_value(
     if value.as_slice().len() > MOST_VALUE_BYTES {
         return Err(Stop::Fault(at, Why::LongValue));
     }
-    Ok((Text::of(value), end + 1))
+    match Text::of(alloc, value.as_slice()) {
+        Ok(text) => Ok((text, end + 1)),
+        Err(_) => Err(Stop::Memory),
+    }
 }
 
 /// Reads one character or escape of a value, behind a raw CR or not, and appends what it stands

@@ -4,6 +4,7 @@ ghost use Rattle.std.specs.Str.{bytes_eq, chars};
 ghost use Rattle.line_base.specs.Text.{IsAllowed, IsText, ReadsText, is_allowed_char};
 
 use crate::memory::Memory;
+use smallvec::SmallVec;
 use std::alloc::Global;
 use std::marker::Model;
 use std::str;
@@ -12,10 +13,13 @@ use thiserror::Error;
 /// The most bytes that a text may have.
 pub const MOST_TEXT_BYTES: usize = 1024;
 
+/// A text of at most so many bytes takes no memory. An id has 36.
+const INLINE_BYTES: usize = 40;
+
 /// Text of allowed characters, in UTF-8, of at most 1,024 bytes.
 #[derive(Debug, Drop)]
 pub struct Text {
-    bytes: Vec<u8>,
+    bytes: SmallVec<u8, INLINE_BYTES>,
 }
 
 impl Model for Text {
@@ -69,25 +73,28 @@ impl Text {
         if !is_allowed_text(bytes) {
             return Err(TextError::BadChar);
         }
-        match Vec::from_slice(alloc, bytes) {
+        match SmallVec::from_slice(alloc, bytes) {
             Ok(bytes) => Ok(Text { bytes }),
             Err(_) => Err(TextError::Memory),
         }
     }
 
-    /// The text of these bytes. It takes no memory.
-    pub fn of(bytes: Vec<u8>) -> Text
-        requires { IsText bytes.items }
-        ensures { result ≡ bytes.items }
+    /// The text that these bytes are.
+    pub fn of(alloc: Global, bytes: &[u8]) -> Result<Text, Memory>
+        requires { IsText bytes.now }
+        ensures { IfOk result (λ text. text ≡ bytes.now) }
     {
-        Text { bytes }
+        match SmallVec::from_slice(alloc, bytes) {
+            Ok(bytes) => Ok(Text { bytes }),
+            Err(_) => Err(Memory),
+        }
     }
 
     /// An equal text of its own.
     pub fn copy(&self, alloc: Global) -> Result<Text, Memory>
         ensures { IfOk result (λ text. text ≡ self.now) }
     {
-        match Vec::from_slice(alloc, self.bytes.as_slice()) {
+        match SmallVec::from_slice(alloc, self.bytes.as_slice()) {
             Ok(bytes) => Ok(Text { bytes }),
             Err(_) => Err(Memory),
         }
