@@ -1,6 +1,5 @@
 use Rattle.std.proofs.Common.{◌≡◌, ◌+◌, length, false, ap, sym, ◌∙◌, arith, subst}
 use Rattle.std.specs.Prelude.{slice_range}
-use Rattle.line_base.specs.Text.{IsAllowed}
 use Rattle.hermes_element.specs.Machine.{in_tag, with_attribute}
 use Rattle.hermes_element.specs.Steps.{run_at, ReadsValue}
 use Rattle.hermes_element.specs.declared.place.Place.TheVariants as places
@@ -17,17 +16,16 @@ returns-then-end-at-gt-MOST_VALUE_BYTES-clause-reads c = λ depth key b.
     ∙ closes_long c.args.quote depth c.args.at to key (slice_range c.args.bytes.now c.args.at to) c.args.bytes.now false b c.if-end-bytes.true c.if-bytes-end.true (omega (arith, length_range c.args.bytes.now c.args.at to c.plain_end-end.ensures.low c.plain_end-end.ensures.high, c.if-end-at-gt-MOST_VALUE_BYTES.true))
 
 pub of-requires : goal.of-requires
-of-requires c = record { short = omega (arith, ap length c.in-Ok.ensures.items, length_range c.args.bytes.now c.args.at c.plain_end-end.result c.plain_end-end.ensures.low c.plain_end-end.ensures.high, c.if-end-at-gt-MOST_VALUE_BYTES.false); allowed = subst IsAllowed (sym c.in-Ok.ensures.items) (allowed_span c.args.quote c.args.bytes.now c.args.at c.plain_end-end.result c.plain_end-end.ensures) }
+of-requires c = record { short = omega (arith, length_range c.args.bytes.now c.args.at c.plain_end-end.result c.plain_end-end.ensures.low c.plain_end-end.ensures.high, c.if-end-at-gt-MOST_VALUE_BYTES.false); allowed = allowed_span c.args.quote c.args.bytes.now c.args.at c.plain_end-end.result c.plain_end-end.ensures }
 
 pub returns-then-bytes-end-clause-reads : goal.returns-then-bytes-end-clause-reads
 returns-then-bytes-end-clause-reads c =
-    elim c.match-from_slice.branch [
+    elim c.match-of.branch [
       | in-Ok w ↦ subst (λ r. ReadsValue c.args.bytes.now c.args.quote c.args.at r) (sym w.result-is) (λ depth key b.
           let to = c.plain_end-end.result in
-          let text : w.of.result ≡ slice_range c.args.bytes.now c.args.at to = w.of.ensures ∙ w.in-Ok.ensures.items in
           plain_span c.args.quote depth c.args.at c.args.at to key c.args.bytes.now b c.plain_end-end.ensures
           ∙ closes c.args.quote depth c.args.at to key (slice_range c.args.bytes.now c.args.at to) c.args.bytes.now false b c.if-end-bytes.true c.if-bytes-end.true
           (omega (arith, length_range c.args.bytes.now c.args.at to c.plain_end-end.ensures.low c.plain_end-end.ensures.high, c.if-end-at-gt-MOST_VALUE_BYTES.false))
-          ∙ ap (λ v. run_at places.Quoted depth (in_tag b.roots b.stack (with_attribute b.tag key v c.args.at)) (to + 1) c.args.bytes.now) (sym text))
+          ∙ ap (λ v. run_at places.Quoted depth (in_tag b.roots b.stack (with_attribute b.tag key v c.args.at)) (to + 1) c.args.bytes.now) (sym w.in-Ok.ensures))
       | in-Err w ↦ subst (λ r. ReadsValue c.args.bytes.now c.args.quote c.args.at r) (sym w.result-is) (λ depth key b. tt)
     ]
