@@ -9,6 +9,7 @@ use Rattle.line_outside.proofs.Growing.{grows_none, grows_more, grows_part, rose
 use Rattle.line_script.specs.declared.line.LineWhy.{LineWhy}
 use Rattle.line_cli.specs.Script.{script_of}
 use Rattle.line_cli.specs.Report.{report_of}
+use Rattle.line_cli.specs.Stand.{no_line}
 use Rattle.line_cli.specs.Reader.{Place, Advances, Takes, Finishes, report_from, refusal_from}
 use Rattle.line_cli.specs.Command.{Runs, RunsScript, HasCauses}
 use Rattle.line_cli.specs.Ending.{IsGoing, GoesOn, HasPushed, EndsWhole, EndsRefused}
@@ -18,7 +19,7 @@ use Rattle.line_cli.specs.declared.status.Status.{Status}
 use Rattle.line_cli.specs.declared.status.Status.TheVariants as statuses
 
 abbrev pub start : Place
-start = record { point = record { done = 0; stands = [] }; pending = [] }
+start = record { point = record { done = 0; layout = no_line }; pending = [] }
 
 -- at first nothing was pushed and nothing waits
 pub goes-first : (left old : Option (List ℕ)) → GoesOn left left old old start []

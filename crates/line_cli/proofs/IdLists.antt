@@ -1,8 +1,9 @@
 -- Lists of ids: what is true of each, and that they differ.
-use Rattle.std.proofs.Common.{◌≡◌, ◌≢◌, ◌+◌, ℕ, zero, suc, List, [], ◌∷◌, ◌++◌, Some, Bool, true, false, map, slice_get, slice_set, nat_eq, remove, refl, sym, ap, subst, ◌∙◌, append_assoc, arith, if◌then◌else◌, eqb-true}
+use Rattle.std.proofs.Common.{◌≡◌, ◌≢◌, ◌<◌, ℕ, zero, suc, List, [], ◌∷◌, ◌++◌, None, Some, true, get_or, length, map, slice_get, slice_set, nat_eq, remove, refl, sym, ap, ◌∙◌, append_assoc, arith, eqb-true}
+use Rattle.std.proofs.lemmas.List.Quantifiers.{position-Some}
 use Rattle.std.specs.List.{AllByRecursion}
 use Rattle.board_record.specs.declared.record.Record.{Record}
-use Rattle.line_cli.specs.Stand.{Stand, ids_at, ids_of, place_from, place_of}
+use Rattle.line_cli.specs.Stand.{Stand, ids_at, ids_of, place_of}
 use Rattle.line_cli.specs.Ids.{IsNoneOf, AllDiffer}
 
 -- EACH OF A LIST
@@ -92,27 +93,14 @@ found-cons board boards place id inner = record {
 found-first : (board : Record) (boards : List Record) (id : ℕ) → board.id ≡ id → Found (board ∷ boards) zero id
 found-first board boards id same = record { front = []; back = ids_in boards; was = ap (λ t. t ∷ ids_in boards) same; taken = refl; put = λ other. refl }
 
--- at a place counted on from a number
-pub record FoundFrom (start : ℕ) (boards : List Record) (id place : ℕ) : Type 0 where
-  pub offset : ℕ
-  pub counted : place ≡ offset + start
-  pub here : Found boards offset id
-
-found_by : (t : Bool) (start : ℕ) (board : Record) (boards : List Record) (id place : ℕ) → nat_eq board.id id ≡ t → (if t then Some start else place_from (start + 1) boards id) ≡ Some place → (place_from (start + 1) boards id ≡ Some place → FoundFrom (start + 1) boards id place) → FoundFrom start (board ∷ boards) id place
-found_by true start board boards id place test is later =
-    let first : start ≡ place = cc in
-    record { offset = zero; counted = omega arith; here = found-first board boards id (eqb-true board.id id test) }
-found_by false start board boards id place test is later =
-    let inner = later is in
-    record { offset = suc inner.offset; counted = omega (arith, inner.counted); here = found-cons board boards inner.offset id inner.here }
-
-found_from : (start : ℕ) (boards : List Record) (id place : ℕ) → place_from start boards id ≡ Some place → FoundFrom start boards id place
-found_from start [] id place is = cc
-found_from start (board ∷ boards) id place is = found_by (nat_eq board.id id) start board boards id place refl is (found_from (start + 1) boards id place)
+found-at : (boards : List Record) (place id : ℕ) (d : Record) → place < length boards → nat_eq (get_or boards place d).id id ≡ true → Found boards place id
+found-at [] place id d small same = let never : ⊥ = omega arith in absurd never
+found-at (board ∷ boards) zero id d small same = found-first board boards id (eqb-true board.id id same)
+found-at (board ∷ boards) (suc place) id d small same = found-cons board boards place id (found-at boards place id d (omega arith) same)
 
 pub found : (boards : List Record) (id place : ℕ) → place_of boards id ≡ Some place → Found boards place id
-found boards id place is =
-    let at = found_from 0 boards id place is in
-    let same : at.offset ≡ place = omega (arith, at.counted) in
-    let P : ℕ → Type 0 = λ p. Found boards p id in
-    subst P same at.here
+unfolding place_of
+found [] id place is = let none : None ≡ Some place = is in cc
+found (board ∷ boards) id place is =
+    let at = position-Some (λ (b : Record). nat_eq b.id id) (board ∷ boards) place board is in
+    found-at (board ∷ boards) place id board at.0 at.1

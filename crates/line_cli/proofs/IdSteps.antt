@@ -1,22 +1,19 @@
--- What each line of a script does to the ids.
+-- What an insertion, a removal, a replacement and a show do to the ids.
 use Rattle.std.proofs.Common.{◌≡◌, ◌≢◌, ◌+◌, ◌-◌, ◌<◌, ℕ, zero, suc, List, [], ◌∷◌, ◌++◌, Option, None, Some, Result, Ok, Err, Bool, true, false, length, slice_get, slice_set, nat_le, nat_lt, remove, refl, sym, ap, subst, ◌∙◌, append_assoc, append-nil, arith, inl, inr, if◌then◌else◌, leb-false}
-use Rattle.std.proofs.lemmas.Grind.{flat_map-append}
 use Rattle.std.proofs.lemmas.List.{map-append}
 use Rattle.std.specs.List.{AllByRecursion}
 use Rattle.board_record.specs.declared.record.Record.{Record}
 use Rattle.board_record.specs.Maker.{Maker, made_id, after_next}
 use Rattle.board_record.specs.Record.{plain_record}
-use Rattle.line_script.specs.declared.line.ScriptLine.{ScriptLine}
-use Rattle.line_script.specs.declared.line.ScriptLine.TheVariants as lines
 use Rattle.line_cli.specs.Stand.{Stand, ids_at, ids_of, stand_at, place_of, machine_text}
-use Rattle.line_cli.specs.Step.{new_id, insert_of, remove_of, replace_of, answer_at, inserted, removed, replaced, changed_at, refusal_told, insert_told, remove_told, replace_told, shown_at, shown_from, happened, after}
+use Rattle.line_cli.specs.Step.{new_id, insert_of, remove_of, replace_of, answer_at, inserted, removed, replaced, changed_at, refusal_told, insert_told, remove_told, replace_told, shown_at, shown_from}
 use Rattle.line_cli.specs.Ids.{AllDiffer, made_by, named_by, ChangesIds, Adds, Takes, Puts}
 use Rattle.line_cli.specs.declared.happening.Happening.{Happening}
 use Rattle.line_cli.specs.declared.happening.Happening.TheVariants as happenings
 use Rattle.line_cli.specs.declared.happening.Reason.{Reason}
 use Rattle.line_cli.specs.declared.happening.Reason.TheVariants as reasons
 use Rattle.line_cli.proofs.IdLists.{each-back, each-weaker, each-drop, each-add, differ-drop, differ-add, around, ids_in, found}
-use Rattle.line_cli.proofs.Ownership.{IsMadeBy, IsOwn, AreOwn, IsOld, own-at, own-set, own-last, old-set, old-at, old-last, old-apart, new-apart, made-more}
+use Rattle.line_cli.proofs.Ownership.{IsMadeBy, IsOwn, AreOwn, IsOld, own-at, own-set, old-set, old-at, old-apart, new-apart, made-more}
 
 -- what a line keeps and changes of the ids
 pub record Keeps (stands new : List Stand) (told : List Happening) : Type 0 where
@@ -27,10 +24,10 @@ pub record Keeps (stands new : List Stand) (told : List Happening) : Type 0 wher
   pub olds : (id : ℕ) → IsOld 1 stands id → IsOld 1 new id
 
 -- a line that can't be done changes nothing
-refused : (stands : List Stand) (reason : Reason) → AreOwn 1 stands → Keeps stands stands (refusal_told reason)
+pub refused : (stands : List Stand) (reason : Reason) → AreOwn 1 stands → Keeps stands stands (refusal_told reason)
 refused stands reason own = record { own = own; change = refl; fresh = tt; named = tt; olds = λ id old. old }
 
-set-same : (stands : List Stand) (place : ℕ) (stand : Stand) → slice_get stands place ≡ Some stand → slice_set stands place stand ≡ stands
+pub set-same : (stands : List Stand) (place : ℕ) (stand : Stand) → slice_get stands place ≡ Some stand → slice_set stands place stand ≡ stands
 set-same [] place stand found = refl
 set-same (s ∷ ss) zero stand found = let same : s ≡ stand = cc in ap (λ x. x ∷ ss) (sym same)
 set-same (s ∷ ss) (suc place) stand found = ap (λ t. s ∷ t) (set-same ss place stand found)
@@ -133,7 +130,7 @@ insert-keeps_by (Err reason) stands machine place stand barcode own found is =
     let P : List Stand → Type 0 = λ new. Keeps stands new (refusal_told reason) in
     subst P (sym (ap (slice_set stands place) same ∙ set-same stands place stand found)) (refused stands reason own)
 
-insert-keeps : (o : Option Stand) (stands : List Stand) (machine : ℕ) (barcode : Option (List ℕ)) → stand_at stands machine ≡ o → AreOwn 1 stands → Keeps stands (changed_at stands machine (inserted barcode)) (insert_told machine (answer_at stands machine insert_of))
+pub insert-keeps : (o : Option Stand) (stands : List Stand) (machine : ℕ) (barcode : Option (List ℕ)) → stand_at stands machine ≡ o → AreOwn 1 stands → Keeps stands (changed_at stands machine (inserted barcode)) (insert_told machine (answer_at stands machine insert_of))
 insert-keeps None stands machine barcode at own = rw (at, changed_at, answer_at) (refused stands reasons.NoSuchMachine own)
 insert-keeps (Some stand) stands machine barcode at own = rw (at, changed_at, answer_at) (insert-keeps_by (insert_of stand) stands machine (machine - 1) stand barcode own at refl)
 
@@ -183,7 +180,7 @@ remove-keeps_by None stands machine place stand id own at is =
     let P : List Stand → Type 0 = λ new. Keeps stands new (refusal_told reasons.NotKept) in
     rw answer (subst P (sym (ap (slice_set stands place) same ∙ set-same stands place stand at)) (refused stands reasons.NotKept own))
 
-remove-keeps : (o : Option Stand) (stands : List Stand) (machine id : ℕ) → stand_at stands machine ≡ o → AreOwn 1 stands → Keeps stands (changed_at stands machine (removed id)) (remove_told machine id (answer_at stands machine (remove_of id)))
+pub remove-keeps : (o : Option Stand) (stands : List Stand) (machine id : ℕ) → stand_at stands machine ≡ o → AreOwn 1 stands → Keeps stands (changed_at stands machine (removed id)) (remove_told machine id (answer_at stands machine (remove_of id)))
 remove-keeps None stands machine id at own = rw (at, changed_at, answer_at) (refused stands reasons.NoSuchMachine own)
 remove-keeps (Some stand) stands machine id at own = rw (at, changed_at, answer_at) (remove-keeps_by (place_of stand.boards id) stands machine (machine - 1) stand id own at refl)
 
@@ -240,25 +237,9 @@ replace-keeps_by : (o : Option ℕ) (stands : List Stand) (machine place : ℕ) 
 replace-keeps_by (Some spot) stands machine place stand out own at is = replace-keeps_of (new_id stand.maker) stands machine place stand out spot own at is refl
 replace-keeps_by None stands machine place stand out own at is = replace-refused stands machine place stand out reasons.NotKept own at (rw (is, replace_of) refl) (rw (is, replaced) refl)
 
-replace-keeps : (o : Option Stand) (stands : List Stand) (machine id : ℕ) → stand_at stands machine ≡ o → AreOwn 1 stands → Keeps stands (changed_at stands machine (replaced id)) (replace_told machine id (answer_at stands machine (replace_of id)))
+pub replace-keeps : (o : Option Stand) (stands : List Stand) (machine id : ℕ) → stand_at stands machine ≡ o → AreOwn 1 stands → Keeps stands (changed_at stands machine (replaced id)) (replace_told machine id (answer_at stands machine (replace_of id)))
 replace-keeps None stands machine id at own = rw (at, changed_at, answer_at) (refused stands reasons.NoSuchMachine own)
 replace-keeps (Some stand) stands machine id at own = rw (at, changed_at, answer_at) (replace-keeps_by (place_of stand.boards id) stands machine (machine - 1) stand id own at refl)
-
--- ANOTHER MACHINE
-
-machine-keeps : (t : Bool) (stands : List Stand) (capacity used : ℕ) → AreOwn 1 stands → nat_le 64 (length stands) ≡ t → Keeps stands (after stands (lines.Machine capacity used)) (happened stands (lines.Machine capacity used))
-machine-keeps true stands capacity used own test = rw (test, after, happened) (refused stands reasons.LineFull own)
-machine-keeps false stands capacity used own test =
-    let new : Stand = record { capacity = capacity; boards = []; maker = record { machine = length stands + 1; used = used } } in
-    let own_new : IsOwn (1 + length stands) new = record { machine = omega arith; made = tt; differ = tt } in
-    let kept : Keeps stands (stands ++ new ∷ []) (happenings.Machine (length stands + 1) capacity ∷ []) = record {
-      own = own-last 1 stands new own own_new;
-      change = flat_map-append ids_at stands (new ∷ []) ∙ append-nil (ids_of stands);
-      fresh = tt;
-      named = tt;
-      olds = λ id old. old-last 1 stands new id old;
-    } in
-    rw (test, after, happened) kept
 
 -- A SHOW
 
@@ -289,16 +270,7 @@ shown-change : (number : ℕ) (stands : List Stand) (ids : List ℕ) → Changes
 shown-change number [] ids = refl
 shown-change number (stand ∷ stands) ids = shown-change_at number stand.boards (shown_from (number + 1) stands) ids (shown-change (number + 1) stands ids)
 
-show-keeps : (stands : List Stand) → AreOwn 1 stands → Keeps stands stands (shown_from 1 stands)
+pub show-keeps : (stands : List Stand) → AreOwn 1 stands → Keeps stands stands (shown_from 1 stands)
 show-keeps stands own =
     let P : List ℕ → Type 0 = λ ids. AllByRecursion (λ id. (other : ℕ) → IsOld 1 stands other → other ≢ id) ids in
     record { own = own; change = shown-change 1 stands (ids_of stands); fresh = subst P (sym (shown-made 1 stands)) tt; named = shown-named 1 1 stands own; olds = λ id old. old }
-
--- EACH LINE
-pub keeps : (stands : List Stand) (line : ScriptLine) → AreOwn 1 stands → Keeps stands (after stands line) (happened stands line)
-keeps stands lines.Blank own = record { own = own; change = refl; fresh = tt; named = tt; olds = λ id old. old }
-keeps stands (lines.Machine capacity used) own = machine-keeps (nat_le 64 (length stands)) stands capacity used own refl
-keeps stands (lines.Insert machine barcode) own = insert-keeps (stand_at stands machine) stands machine barcode refl own
-keeps stands (lines.Remove machine id) own = remove-keeps (stand_at stands machine) stands machine id refl own
-keeps stands (lines.Replace machine id) own = replace-keeps (stand_at stands machine) stands machine id refl own
-keeps stands lines.Show own = show-keeps stands own

@@ -4,6 +4,8 @@ pub mod Going
 pub mod IdLists
 pub mod Ownership
 pub mod IdSteps
+pub mod IdLines
+pub mod LineSteps
 pub mod IdLaws
 pub mod Names
 pub mod ReadFrames

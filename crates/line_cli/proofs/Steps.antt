@@ -13,14 +13,14 @@ use Rattle.line_cli.specs.declared.script_run.RunError.TheVariants as errors
 use Rattle.line_cli.proofs.LinesLemmas.{lines-end, lines-last, lines-long, length-strip, StartsLong}
 
 -- a line that is done leaves the report of the rest to be written behind its part
-pub report-done : (old new : Point) (line before now : List ℕ) (others : List (List ℕ)) → IsDone old new line before now → now ++ report_with new.done new.stands (script_from new.done others) ≡ before ++ report_with old.done old.stands (script_from old.done (line ∷ others))
+pub report-done : (old new : Point) (line before now : List ℕ) (others : List (List ℕ)) → IsDone old new line before now → now ++ report_with new.done new.layout (script_from new.done others) ≡ before ++ report_with old.done old.layout (script_from old.done (line ∷ others))
 report-done old new line before now others done = rw (done.point, done.text, done.meaning) (simp append_assoc)
 
 pub refusal-done : (old new : Point) (line before now : List ℕ) (others : List (List ℕ)) → IsDone old new line before now → (script_from new.done others).refusal ≡ (script_from old.done (line ∷ others)).refusal
 refusal-done old new line before now others done = rw (done.point, done.meaning) refl
 
 -- a refused line ends the report
-pub report-refused : (old : Point) (line before now : List ℕ) (number : ℕ) (why : LineWhy) (others : List (List ℕ)) → IsRefused old line before now number why → now ≡ before ++ report_with old.done old.stands (script_from old.done (line ∷ others))
+pub report-refused : (old : Point) (line before now : List ℕ) (number : ℕ) (why : LineWhy) (others : List (List ℕ)) → IsRefused old line before now number why → now ≡ before ++ report_with old.done old.layout (script_from old.done (line ∷ others))
 report-refused old line before now number why others refused = rw (refused.text, refused.counted, refused.meaning) refl
 
 pub refusal-refused : (old : Point) (line before now : List ℕ) (number : ℕ) (why : LineWhy) (others : List (List ℕ)) → IsRefused old line before now number why → (script_from old.done (line ∷ others)).refusal ≡ Some (record { line = number; why = why })
@@ -49,7 +49,7 @@ lines-pending pending part rest none =
 -- the end of a line is taken: what is pending then is nothing
 pub takes-line : (result : Result (Unit {0}) RunError) (old : Place) (point : Point) (part before now : List ℕ) → HasNoEnd (old.pending ++ part) → DoesLine result old.point point (strip_carriage_return (old.pending ++ part)) before now → Takes result old (record { point = point; pending = [] }) (part ++ 10 ∷ []) before now
 takes-line (Ok done) old point part before now none does = record {
-  report = λ rest. report-done old.point point (strip_carriage_return (old.pending ++ part)) before now (lines rest) does ∙ ap (λ all. before ++ report_with old.point.done old.point.stands (script_from old.point.done all)) (sym (lines-pending old.pending part rest none));
+  report = λ rest. report-done old.point point (strip_carriage_return (old.pending ++ part)) before now (lines rest) does ∙ ap (λ all. before ++ report_with old.point.done old.point.layout (script_from old.point.done all)) (sym (lines-pending old.pending part rest none));
   refusal = λ rest. refusal-done old.point point (strip_carriage_return (old.pending ++ part)) before now (lines rest) does ∙ ap (λ all. (script_from old.point.done all).refusal) (sym (lines-pending old.pending part rest none));
   progress =
       let counted : point.done ≡ old.point.done + 1 = ap (λ (p : Point). p.done) does.point in
@@ -58,7 +58,7 @@ takes-line (Ok done) old point part before now none does = record {
       omega (arith, counted, short, length-strip (old.pending ++ part), length-append old.pending part, length-append part (10 ∷ []));
 }
 takes-line (Err (errors.Refused number why)) old point part before now none does = record {
-  report = λ rest. report-refused old.point (strip_carriage_return (old.pending ++ part)) before now number why (lines rest) does ∙ ap (λ all. before ++ report_with old.point.done old.point.stands (script_from old.point.done all)) (sym (lines-pending old.pending part rest none));
+  report = λ rest. report-refused old.point (strip_carriage_return (old.pending ++ part)) before now number why (lines rest) does ∙ ap (λ all. before ++ report_with old.point.done old.point.layout (script_from old.point.done all)) (sym (lines-pending old.pending part rest none));
   refusal = λ rest. ap (λ all. (script_from old.point.done all).refusal) (lines-pending old.pending part rest none) ∙ refusal-refused old.point (strip_carriage_return (old.pending ++ part)) before now number why (lines rest) does;
 }
 takes-line (Err errors.Memory) old point part before now none does = tt
@@ -81,7 +81,7 @@ takes-long (Err (errors.Refused number why)) old new part tail before now none l
       text = rw (refuses.0, refuses.1) refuses.2;
     } in
     record {
-      report = λ rest. report-refused old.point (starts rest).line before now number why (starts rest).others (refused rest) ∙ ap (λ all. before ++ report_with old.point.done old.point.stands (script_from old.point.done all)) (sym (starts rest).starts);
+      report = λ rest. report-refused old.point (starts rest).line before now number why (starts rest).others (refused rest) ∙ ap (λ all. before ++ report_with old.point.done old.point.layout (script_from old.point.done all)) (sym (starts rest).starts);
       refusal = λ rest. ap (λ all. (script_from old.point.done all).refusal) (starts rest).starts ∙ refusal-refused old.point (starts rest).line before now number why (starts rest).others (refused rest);
     }
 takes-long (Err errors.Memory) old new part tail before now none long refuses = tt
@@ -126,7 +126,7 @@ lines-only pending none there = rw append-nil (lines-last pending none ∙ rw th
 pub finishes-line : (result : Result (Unit {0}) RunError) (place : Place) (point : Point) (before between now : List ℕ) → HasNoEnd place.pending → (length place.pending == 0) ≡ false → IsDone place.point point place.pending before between → Sums result point between now → Finishes result place before now
 finishes-line (Ok done) place point before between now none there does sums =
     let only = lines-only place.pending none there in (
-      sums.text ∙ report-done place.point point place.pending before between [] does ∙ ap (λ all. before ++ report_with place.point.done place.point.stands (script_from place.point.done all)) (sym only),
+      sums.text ∙ report-done place.point point place.pending before between [] does ∙ ap (λ all. before ++ report_with place.point.done place.point.layout (script_from place.point.done all)) (sym only),
       ap (λ all. (script_from place.point.done all).refusal) only ∙ sym (refusal-done place.point point place.pending before between [] does),
     )
 finishes-line (Err (errors.Refused number why)) place point before between now none there does sums = absurd sums
@@ -135,7 +135,7 @@ finishes-line (Err errors.Memory) place point before between now none there does
 pub finishes-refused : (error : RunError) (place : Place) (point : Point) (before now : List ℕ) → HasNoEnd place.pending → (length place.pending == 0) ≡ false → DoesLine (Err error) place.point point place.pending before now → Finishes (Err error) place before now
 finishes-refused (errors.Refused number why) place point before now none there refused =
     let only = lines-only place.pending none there in (
-      report-refused place.point place.pending before now number why [] refused ∙ ap (λ all. before ++ report_with place.point.done place.point.stands (script_from place.point.done all)) (sym only),
+      report-refused place.point place.pending before now number why [] refused ∙ ap (λ all. before ++ report_with place.point.done place.point.layout (script_from place.point.done all)) (sym only),
       ap (λ all. (script_from place.point.done all).refusal) only ∙ refusal-refused place.point place.pending before now number why [] refused,
     )
 finishes-refused errors.Memory place point before now none there refused = tt

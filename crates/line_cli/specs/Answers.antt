@@ -4,14 +4,14 @@ use Rattle.line_cli.specs.declared.machine.MachineError.{MachineError}
 use Rattle.line_cli.specs.declared.machine.MachineError.TheVariants as errors
 
 -- the answer, unless memory ran out
-abbrev pub Answers : Result ℕ Reason → Result ℕ MachineError → Type 0
-Answers wanted (Ok id) = wanted ≡ Ok id
+abbrev pub Answers : {A : Type 0} → Result A Reason → Result A MachineError → Type 0
+Answers wanted (Ok answer) = wanted ≡ Ok answer
 Answers wanted (Err (errors.No reason)) = wanted ≡ Err reason
 Answers wanted (Err errors.Memory) = Unit {0}
 
 -- a fact that holds unless memory ran out
-abbrev pub Settles : Result ℕ MachineError → Type 0 → Type 0
-Settles (Ok id) fact = fact
+abbrev pub Settles : {A : Type 0} → Result A MachineError → Type 0 → Type 0
+Settles (Ok answer) fact = fact
 Settles (Err (errors.No reason)) fact = fact
 Settles (Err errors.Memory) fact = Unit {0}
 

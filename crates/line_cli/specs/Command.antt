@@ -67,6 +67,33 @@ DoesAs true reads left_old left_new old new before now status = Runs left_old le
 DoesAs false true left_old left_new old new before now status = Reads left_old left_new old new status
 DoesAs false false left_old left_new old new before now status = Refers left_old left_new old new before now status
 
+-- whatever the source tells, what `run` may answer: a line of a script is refused for a reason of the
+-- script grammar, and a stream's size is none of its concern
+abbrev pub IsRunStatus : Status → Type 0
+IsRunStatus statuses.Done = Unit {0}
+IsRunStatus statuses.Usage = ⊥
+IsRunStatus (statuses.ScriptRefused line (inputs.Line why)) = Unit {0}
+IsRunStatus (statuses.ScriptRefused line inputs.TooLarge) = ⊥
+IsRunStatus statuses.ReadFault = Unit {0}
+IsRunStatus statuses.WriteFault = Unit {0}
+IsRunStatus statuses.Memory = Unit {0}
+
+-- and what `read` may answer: a stream is refused for its size alone
+abbrev pub IsReadStatus : Status → Type 0
+IsReadStatus statuses.Done = Unit {0}
+IsReadStatus statuses.Usage = ⊥
+IsReadStatus (statuses.ScriptRefused line (inputs.Line why)) = ⊥
+IsReadStatus (statuses.ScriptRefused line inputs.TooLarge) = line ≡ 0
+IsReadStatus statuses.ReadFault = Unit {0}
+IsReadStatus statuses.WriteFault = Unit {0}
+IsReadStatus statuses.Memory = Unit {0}
+
+-- WHAT THE PROGRAM MAY ANSWER to its words: `Usage` exactly where they are neither `run` nor `read`
+abbrev pub FitsWords : Bool → Bool → Status → Type 0
+FitsWords true reads status = IsRunStatus status
+FitsWords false true status = IsReadStatus status
+FitsWords false false status = status ≡ statuses.Usage
+
 -- no count of faults falls, and a fault comes only where the count of that object rose
 pub record HasCauses (status : Status) (reads_before reads_now writes_before writes_now : ℕ) : Type 0 where
   pub reads : reads_before ≤ reads_now

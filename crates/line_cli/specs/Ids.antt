@@ -1,7 +1,7 @@
 use Rattle.std.specs.Prelude.{◌≡◌, ◌≢◌, ◌++◌, ℕ, List, [], ◌∷◌}
 use Rattle.std.specs.List.{AllByRecursion}
 use Rattle.line_script.specs.declared.line.ScriptLine.{ScriptLine}
-use Rattle.line_cli.specs.Stand.{Stand, ids_of}
+use Rattle.line_cli.specs.Stand.{Layout, ids_of, no_line}
 use Rattle.line_cli.specs.Step.{happened, after}
 use Rattle.line_cli.specs.Report.{run_of}
 use Rattle.line_cli.specs.declared.happening.Happening.{Happening}
@@ -34,6 +34,8 @@ named_in (happenings.Replaces machine old new) = old ∷ new ∷ []
 named_in (happenings.With machine id) = id ∷ []
 named_in (happenings.Gone id) = id ∷ []
 named_in (happenings.Shown machine id quality) = id ∷ []
+named_in (happenings.Moved gap step) = []
+named_in (happenings.Reads machine sensed) = []
 named_in (happenings.No reason) = []
 
 abbrev pub named_by : List Happening → List ℕ
@@ -41,9 +43,9 @@ named_by [] = []
 named_by (happening ∷ happened) = named_in happening ++ named_by happened
 
 -- EACH NEW ID WAS NEVER REPORTED BEFORE
-abbrev pub IsFresh : List ℕ → List Stand → List ScriptLine → Type 0
-IsFresh seen stands [] = Unit {0}
-IsFresh seen stands (line ∷ lines) = AllByRecursion (IsNoneOf seen) (made_by (happened stands line)) × IsFresh (seen ++ named_by (happened stands line)) (after stands line) lines
+abbrev pub IsFresh : List ℕ → Layout → List ScriptLine → Type 0
+IsFresh seen layout [] = Unit {0}
+IsFresh seen layout (line ∷ lines) = AllByRecursion (IsNoneOf seen) (made_by (happened layout line)) × IsFresh (seen ++ named_by (happened layout line)) (after layout line) lines
 
 -- FROM LINE TO LINE the ids that a line keeps change only so: an insertion adds one, a removal
 -- takes one away, a replacement puts one for another in its place
@@ -75,15 +77,15 @@ abbrev pub ChangesIds : List Happening → List ℕ → List ℕ → Type 0
 ChangesIds [] old new = new ≡ old
 ChangesIds (deed ∷ standings) old new = ChangesBy deed old new
 
-abbrev pub KeepsIds : List Stand → List ScriptLine → Type 0
-KeepsIds stands [] = Unit {0}
-KeepsIds stands (line ∷ lines) = ChangesIds (happened stands line) (ids_of stands) (ids_of (after stands line)) × KeepsIds (after stands line) lines
+abbrev pub KeepsIds : Layout → List ScriptLine → Type 0
+KeepsIds layout [] = Unit {0}
+KeepsIds layout (line ∷ lines) = ChangesIds (happened layout line) (ids_of layout.stands) (ids_of (after layout line).stands) × KeepsIds (after layout line) lines
 
 -- UNIQUE IDS, and ids that stay, over the whole run of a script
 pub record HasOwnIds (lines : List ScriptLine) : Type 0 where
-  pub differ : AllByRecursion (λ stands. AllDiffer (ids_of stands)) (run_of lines)
-  pub fresh : IsFresh [] [] lines
-  pub stay : KeepsIds [] lines
+  pub differ : AllByRecursion (λ (layout : Layout). AllDiffer (ids_of layout.stands)) (run_of lines)
+  pub fresh : IsFresh [] no_line lines
+  pub stay : KeepsIds no_line lines
 
 -- the law: it holds of every script
 abbrev pub IdsStay : Type 0

@@ -1,7 +1,8 @@
 use Rattle.std.specs.Prelude.{◌≡◌, ◌+◌, ◌*◌, ◌≤◌, ℕ, ◌++◌, List, [], Option, None, Some, Result, Ok, Err, length}
 use Rattle.std.specs.Str.Lines.{lines}
 use Rattle.line_script.specs.declared.line.LineWhy.{LineWhy}
-use Rattle.line_cli.specs.Stand.{Stand, ids_of}
+use Rattle.line_world.specs.Boards.{boards_on}
+use Rattle.line_cli.specs.Stand.{Layout}
 use Rattle.line_cli.specs.Step.{happened, after}
 use Rattle.line_cli.specs.Texts.{entries, refused_text, summary_text}
 use Rattle.line_cli.specs.Script.{Refusal, meaning_at, script_from}
@@ -10,10 +11,10 @@ use Rattle.line_cli.specs.declared.script_run.RunError.{RunError}
 use Rattle.line_cli.specs.declared.script_run.RunError.TheVariants as errors
 use Rattle.line_script.specs.declared.line.ScriptLine.{ScriptLine}
 
--- where a run stands between two lines: how many are done, and the machines
+-- where a run stands between two lines of its script: how many are done, and the line of machines
 pub record Point : Type 0 where
   pub done : ℕ
-  pub stands : List Stand
+  pub layout : Layout
 
 -- where a reader stands inside its script: the point, and the front of a line that has not ended
 pub record Place : Type 0 where
@@ -22,7 +23,7 @@ pub record Place : Type 0 where
 
 -- the report and the refusal of what follows a place
 abbrev pub report_from : Place → List ℕ → List ℕ
-report_from place rest = report_with place.point.done place.point.stands (script_from place.point.done (lines (place.pending ++ rest)))
+report_from place rest = report_with place.point.done place.point.layout (script_from place.point.done (lines (place.pending ++ rest)))
 
 abbrev pub refusal_from : Place → List ℕ → Option Refusal
 refusal_from place rest = (script_from place.point.done (lines (place.pending ++ rest))).refusal
@@ -37,8 +38,8 @@ progress_of place = place.point.done * 4099 + length place.pending
 pub record IsDone (old new : Point) (line before now : List ℕ) : Type 0 where
   pub asked : ScriptLine
   pub meaning : meaning_at (old.done + 1) line ≡ Ok asked
-  pub text : now ≡ before ++ entries (old.done + 1) (happened old.stands asked)
-  pub point : new ≡ record { done = old.done + 1; stands = after old.stands asked }
+  pub text : now ≡ before ++ entries (old.done + 1) (happened old.layout asked)
+  pub point : new ≡ record { done = old.done + 1; layout = after old.layout asked }
 
 pub record IsRefused (old : Point) (line before now : List ℕ) (number : ℕ) (why : LineWhy) : Type 0 where
   pub meaning : meaning_at (old.done + 1) line ≡ Err why
@@ -58,7 +59,7 @@ RefusesAs (Err errors.Memory) number why before now = Unit {0}
 
 -- the report's last line is written
 pub record IsSummed (point : Point) (before now : List ℕ) : Type 0 where
-  pub text : now ≡ before ++ summary_text point.done (length (ids_of point.stands))
+  pub text : now ≡ before ++ summary_text point.done (length (boards_on point.layout.floor))
 
 abbrev pub Sums : Result (Unit {0}) RunError → Point → List ℕ → List ℕ → Type 0
 Sums (Ok done) point before now = IsSummed point before now

@@ -1,8 +1,9 @@
-use Rattle.std.specs.Prelude.{ℕ, ◌+◌, ◌-◌, ◌++◌, List, [], ◌∷◌, Option, None, Some, codes, slice_get, map, nat_eq, if◌then◌else◌}
+use Rattle.std.specs.Prelude.{ℕ, ◌-◌, ◌++◌, List, [], Option, codes, slice_get, map, nat_eq, position}
 use Rattle.std.specs.List.{flat_map}
 use Rattle.std.specs.Fmt.{decimal}
 use Rattle.board_record.specs.declared.record.Record.{Record}
 use Rattle.board_record.specs.Maker.{Maker}
+use Rattle.line_world.specs.FloorPlan.{FloorPlan, no_floor}
 
 -- a machine of the line: for how many boards it has room, the records it keeps, front first, and
 -- what makes its ids
@@ -19,13 +20,9 @@ stand_at stands number = slice_get stands (number - 1)
 abbrev pub machine_text : ℕ → List ℕ
 machine_text number = codes "M" ++ decimal number
 
--- the place of the first record with this id, counted on from a number
-abbrev pub place_from : ℕ → List Record → ℕ → Option ℕ
-place_from place [] id = None
-place_from place (board ∷ boards) id = if nat_eq board.id id then Some place else place_from (place + 1) boards id
-
-abbrev pub place_of : List Record → ℕ → Option ℕ
-place_of boards id = place_from 0 boards id
+-- the place, from the front, of the first record with this id
+unfoldable pub place_of : List Record → ℕ → Option ℕ
+place_of boards id = position (λ (board : Record). nat_eq board.id id) boards
 
 -- the ids that a machine keeps, and those that a line keeps
 abbrev pub ids_at : Stand → List ℕ
@@ -33,3 +30,11 @@ ids_at stand = map (λ board. board.id) stand.boards
 
 abbrev pub ids_of : List Stand → List ℕ
 ids_of stands = flat_map ids_at stands
+
+-- a line as a script has built it: its machines, and the floor under them
+pub record Layout : Type 0 where
+  pub stands : List Stand
+  pub floor : FloorPlan
+
+abbrev pub no_line : Layout
+no_line = record { stands = []; floor = no_floor }

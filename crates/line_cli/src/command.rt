@@ -1,6 +1,6 @@
 ghost use Rattle.std.specs.Prelude.{◌≡◌};
 ghost use Rattle.line_cli.specs.Ids.{IdsStay};
-ghost use Rattle.line_cli.specs.Command.{DoesAs, HasCauses, is_word, is_run, is_read, usage_text};
+ghost use Rattle.line_cli.specs.Command.{DoesAs, FitsWords, HasCauses, is_word, is_run, is_read, usage_text};
 
 use crate::reading::read_stream;
 use crate::running::run_script;
@@ -26,6 +26,7 @@ pub fn line_main<S: Source, K: Sink>(
     report: &mut K,
 ) -> Status
     ensures does { DoesAs (is_run words.now) (is_read words.now) (S.left script.old) (S.left script.new) (K.contents report.old) (K.contents report.new) (K.faults report.old) (K.faults report.new) result }
+    ensures fits { FitsWords (is_run words.now) (is_read words.now) result }
     ensures causes { HasCauses result (S.faults script.old) (S.faults script.new) (K.faults report.old) (K.faults report.new) }
     // unique ids, and ids that stay, over the run of every script
     ensures ids { IdsStay }

@@ -1,7 +1,11 @@
 //! What a script line does, and its text in the report.
 
-use board_record::BoardId;
-use line_base::Quality;
+ghost use Rattle.std.specs.Prelude.{◌≡◌, ◌∷◌, [], ◌++◌, OnOk};
+ghost use Rattle.line_cli.specs.Texts.{side_text, event_text};
+
+use board_record::{BoardId, Sensed};
+use line_base::{Memory, Quality, SensorEvent, Side};
+use line_world::{Move, MoveNo};
 use std::fmt;
 
 /// Why a line can't be done in the state in which it is met.
@@ -12,6 +16,12 @@ pub enum Reason {
     Full,
     IdsUsedUp,
     NotKept,
+    /// The machine keeps the board's record, but the board itself lies elsewhere.
+    NotHere,
+    /// The machine's sensors saw nothing that it has not read.
+    NothingToRead,
+    /// The floor refuses the move.
+    Move(MoveNo),
 }
 
 impl fmt::Display for Reason {
@@ -27,6 +37,9 @@ impl fmt::Display for Reason {
             Reason::Full => f.write_str("full"),
             Reason::IdsUsedUp => f.write_str("ids used up"),
             Reason::NotKept => f.write_str("not kept"),
+            Reason::NotHere => f.write_str("not here"),
+            Reason::NothingToRead => f.write_str("nothing to read"),
+            Reason::Move(why) => write!(f, "{why}"),
         }
     }
 }
@@ -70,6 +83,16 @@ pub enum Happening {
         id: BoardId,
         quality: Quality,
     },
+    /// A board on the floor was moved.
+    Moved {
+        gap: u32,
+        step: Move,
+    },
+    /// A machine read what one of its sensors saw.
+    Reads {
+        machine: u32,
+        sensed: Sensed,
+    },
     /// The line can't be done.
     No(Reason),
 }
@@ -99,7 +122,44 @@ impl fmt::Display for Happening {
                 Quality::Good => write!(f, "show {machine} {id} good"),
                 Quality::Failed => write!(f, "show {machine} {id} failed"),
             },
+            Happening::Moved { gap, step } => write!(f, "move {gap} {step}"),
+            Happening::Reads { machine, sensed } => {
+                let side = side_text(sensed.side);
+                let event = event_text(sensed.event);
+                write!(f, "reads {machine} {side} {event}")
+            }
             Happening::No(reason) => write!(f, "no: {reason}"),
         }
+    }
+}
+
+fn side_text(side: Side) -> &'static str
+    ensures { result.now ≡ side_text side }
+{
+    match side {
+        Side::Entry => "in",
+        Side::Exit => "out",
+    }
+}
+
+fn event_text(event: SensorEvent) -> &'static str
+    ensures { result.now ≡ event_text event }
+{
+    match event {
+        SensorEvent::Begun => "Begun",
+        SensorEvent::Left => "Left",
+        SensorEvent::Full => "Full",
+        SensorEvent::Back => "Back",
+        SensorEvent::Taken => "Taken",
+    }
+}
+
+/// Adds what happened.
+pub fn tell(told: &mut Vec<Happening>, happening: Happening) -> Result<(), Memory>
+    ensures { OnOk result (told.new.items ≡ told.old.items ++ happening ∷ []) }
+{
+    match told.push(happening) {
+        Ok(()) => Ok(()),
+        Err(_) => Err(Memory),
     }
 }

@@ -3,6 +3,7 @@
 
 mod command;
 mod happening;
+mod line;
 mod machine;
 mod reading;
 mod running;

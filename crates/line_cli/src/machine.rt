@@ -1,5 +1,5 @@
 ghost use Rattle.std.specs.Prelude.{◌≡◌, ◌^◌, ◌<◌, ◌≤◌, [], IfOk, IfSome, OnErr, length};
-ghost use Rattle.line_cli.specs.Stand.{Stand, machine_text, place_of, place_from};
+ghost use Rattle.line_cli.specs.Stand.{Stand, machine_text, place_of};
 ghost use Rattle.line_cli.specs.Step.{insert_of, remove_of, replace_of, inserted, removed, replaced};
 ghost use Rattle.line_cli.specs.Answers.{Answers, Removes, Settles};
 
@@ -58,6 +58,13 @@ impl Machine {
     {
         let _capacity = self.capacity;
         self.kept.list()
+    }
+
+    /// The place of the first record with this id among those that it keeps.
+    pub fn place_of(&self, id: BoardId) -> Option<usize>
+        ensures { result ≡ place_of self.now.boards id }
+    {
+        place_of(self.kept.list(), id)
     }
 
     /// Takes in a new board at the back, and answers its id.
@@ -124,16 +131,12 @@ impl Machine {
 }
 
 /// The place of the first record with this id.
+#[tactic(auto, unfolding(crate::specs::Stand::place_of))]
 fn place_of(boards: &[Record], id: BoardId) -> Option<usize>
     ensures answer { result ≡ place_of boards.now id }
     ensures within { IfSome result (λ place. place < length boards.now) }
 {
-    for (place, board) in boards.iter().enumerate() {
-        if board.id == id {
-            return Some(place);
-        }
-    }
-    None
+    boards.iter().position(|board| board.id == id)
 }
 
 /// The id text of the machine with this number: `M` and the number.

@@ -1,5 +1,5 @@
 ghost use Rattle.std.specs.Prelude.{◌≡◌, ◌≤◌, ◌<◌, ◌^◌, ◌++◌};
-ghost use Rattle.line_cli.specs.Command.{HasCauses};
+ghost use Rattle.line_cli.specs.Command.{HasCauses, IsReadStatus};
 ghost use Rattle.line_cli.specs.Stream.{Reads, EndsRead};
 
 use crate::running::{PIECE_BYTES, front, push_full};
@@ -15,6 +15,7 @@ const MOST_READ: u64 = 1_073_741_824;
 /// Reads the stream of messages that the source has, and writes its read text.
 pub fn read_stream<S: Source, K: Sink>(alloc: Global, stream: &mut S, text_to: &mut K) -> Status
     ensures reads { Reads (S.left stream.old) (S.left stream.new) (K.contents text_to.old) (K.contents text_to.new) result }
+    ensures fits { IsReadStatus result }
     ensures causes { HasCauses result (S.faults stream.old) (S.faults stream.new) (K.faults text_to.old) (K.faults text_to.new) }
 {
     let mut room = match vec![in alloc; 0u8; PIECE_BYTES] {
@@ -69,7 +70,8 @@ fn end_read<K: Sink>(
     text_to: &mut K,
 ) -> Status
     requires { far.done < 2 ^ 40 }
-    ensures { EndsRead far waiting large (K.contents text_to.old) (K.contents text_to.new) (K.faults text_to.old) (K.faults text_to.new) text.old.items result }
+    ensures fits { IsReadStatus result }
+    ensures ends { EndsRead far waiting large (K.contents text_to.old) (K.contents text_to.new) (K.faults text_to.old) (K.faults text_to.new) text.old.items result }
 {
     if write_ending(far, waiting, large, text).is_err() {
         return Status::Memory;

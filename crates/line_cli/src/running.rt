@@ -1,5 +1,5 @@
 ghost use Rattle.std.specs.Prelude.{◌≡◌, ◌≤◌, length, take};
-ghost use Rattle.line_cli.specs.Command.{Runs, HasCauses};
+ghost use Rattle.line_cli.specs.Command.{Runs, HasCauses, IsRunStatus};
 ghost use Rattle.line_cli.specs.Ending.{PushesFull, EndsWhole, EndsRefused};
 
 use crate::script_reader::ScriptReader;
@@ -14,6 +14,7 @@ pub(crate) const PIECE_BYTES: usize = 65_536;
 /// Runs the script that the source has, and writes its report.
 pub fn run_script<S: Source, K: Sink>(alloc: Global, script: &mut S, report: &mut K) -> Status
     ensures runs { Runs (S.left script.old) (S.left script.new) (K.contents report.old) (K.contents report.new) result }
+    ensures fits { IsRunStatus result }
     ensures causes { HasCauses result (S.faults script.old) (S.faults script.new) (K.faults report.old) (K.faults report.new) }
 {
     let mut room = match vec![in alloc; 0u8; PIECE_BYTES] {
@@ -68,7 +69,8 @@ pub(crate) fn push_full<K: Sink>(text: &mut Vec<u8>, report: &mut K) -> Pushed
 
 /// Ends a run whose whole script is done.
 fn end_whole<K: Sink>(text: &[u8], report: &mut K) -> Status
-    ensures { EndsWhole (K.contents report.old) (K.contents report.new) (K.faults report.old) (K.faults report.new) text.now result }
+    ensures fits { IsRunStatus result }
+    ensures ends { EndsWhole (K.contents report.old) (K.contents report.new) (K.faults report.old) (K.faults report.new) text.now result }
 {
     match push_all(report, text) {
         Pushed::Whole => Status::Done,
@@ -79,7 +81,8 @@ fn end_whole<K: Sink>(text: &[u8], report: &mut K) -> Status
 /// Ends a run inside its script: the report up to the refused line is written. Where memory was
 /// wanting, what waits to be written may be cut off inside a line, and is not written.
 fn end_refused<K: Sink>(error: RunError, text: &[u8], report: &mut K) -> Status
-    ensures { EndsRefused error (K.contents report.old) (K.contents report.new) (K.faults report.old) (K.faults report.new) text.now result }
+    ensures fits { IsRunStatus result }
+    ensures ends { EndsRefused error (K.contents report.old) (K.contents report.new) (K.faults report.old) (K.faults report.new) text.now result }
 {
     match error {
         RunError::Refused { line, why } => match push_all(report, text) {

@@ -1,6 +1,7 @@
 ghost use Rattle.std.specs.Prelude.{◌≡◌, ◌≤◌, [], ◌∷◌, ◌++◌, IfNone, IfSome, OnOk, length, vec_len};
 ghost use Rattle.std.specs.Str.Lines.{strip_carriage_return};
 ghost use Rattle.line_cli.specs.Reader.{Place, Takes, Finishes, progress_of};
+ghost use Rattle.line_cli.specs.Stand.{no_line};
 ghost use Rattle.line_cli.specs.LineEnds.{HasNoEnd, IsFirstEnd, CutsLine};
 
 use crate::script_run::{RunError, ScriptRun};
@@ -28,7 +29,7 @@ impl Model for ScriptReader {
 impl ScriptReader {
     /// A reader before its script.
     pub fn new(alloc: Global) -> ScriptReader
-        ensures { result ≡ record { point = record { done = 0; stands = [] }; pending = [] } }
+        ensures { result ≡ record { point = record { done = 0; layout = no_line }; pending = [] } }
     {
         ScriptReader {
             run: ScriptRun::new(alloc),

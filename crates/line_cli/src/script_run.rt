@@ -1,10 +1,10 @@
-ghost use Rattle.std.specs.Prelude.{◌≡◌, ◌≤◌, ◌+◌, ◌++◌, [], OnOk, length, vec_len};
-ghost use Rattle.line_cli.specs.Stand.{ids_of};
+ghost use Rattle.std.specs.Prelude.{◌≡◌, ◌≤◌, ◌+◌, ◌++◌, OnOk};
+ghost use Rattle.line_cli.specs.Stand.{no_line};
 ghost use Rattle.line_cli.specs.Texts.{entries};
 ghost use Rattle.line_cli.specs.Reader.{Point, DoesLine, RefusesAs, Sums};
 
 use crate::happening::Happening;
-use crate::machine::Machine;
+use crate::line::Line;
 use crate::step::do_line;
 use line_base::Memory;
 use line_script::{LineError, LineWhy, MOST_LINE_BYTES, read_line};
@@ -23,32 +23,32 @@ pub enum RunError {
     Memory,
 }
 
-/// A run between two lines of its script: the machines, and how many lines are done.
+/// A run between two lines of its script: how many are done, and the line of machines.
 #[derive(Drop)]
 pub struct ScriptRun {
     alloc: Global,
     done: u64,
-    machines: Vec<Machine>,
+    line: Line,
     told: Vec<Happening>,
 }
 
 impl Model for ScriptRun {
     ghost Value = { Point };
 
-    ghost view = { λ run. record { done = run.done; stands = run.machines.items } };
+    ghost view = { λ run. record { done = run.done; layout = run.line } };
 
-    ghost invariant = { λ run. (run.done ≤ 1000000) × (vec_len run.machines ≤ 64) };
+    ghost invariant = { λ run. run.done ≤ 1000000 };
 }
 
 impl ScriptRun {
     /// A run before its first line, with no machines.
     pub fn new(alloc: Global) -> ScriptRun
-        ensures { result ≡ record { done = 0; stands = [] } }
+        ensures { result ≡ record { done = 0; layout = no_line } }
     {
         ScriptRun {
             alloc,
             done: 0,
-            machines: Vec::new(alloc),
+            line: Line::new(alloc),
             told: Vec::new(alloc),
         }
     }
@@ -72,7 +72,7 @@ impl ScriptRun {
             Err(LineError::Memory) => return Err(RunError::Memory),
         };
         self.told.clear();
-        if let Err(_) = do_line(self.alloc, &mut self.machines, asked, &mut self.told) {
+        if let Err(_) = do_line(&mut self.line, asked, &mut self.told) {
             return Err(RunError::Memory);
         }
         self.done = number;
@@ -94,7 +94,7 @@ impl ScriptRun {
         ensures { Sums result self.now to.old.items to.new.items }
     {
         let lines = self.done;
-        let boards = count_boards(self.machines.as_slice());
+        let boards = self.line.boards();
         match write!(to, "end lines={lines} boards={boards} opened=0 settled=0\n") {
             Ok(()) => Ok(()),
             Err(_) => Err(RunError::Memory),
@@ -121,16 +121,4 @@ fn write_told(number: u64, told: &[Happening], to: &mut Vec<u8>) -> Result<(), M
         }
     }
     Ok(())
-}
-
-/// How many boards the machines keep.
-fn count_boards(machines: &[Machine]) -> u64
-    requires { length machines.now ≤ 64 }
-    ensures { result ≡ length (ids_of machines.now) }
-{
-    let mut boards = 0u64;
-    for machine in machines {
-        boards += machine.kept().len() as u64;
-    }
-    boards
 }

@@ -1,91 +1,70 @@
-//! What a line of the script does to the machines.
+//! What a line of the script does, and what is told of it.
 
-ghost use Rattle.std.specs.Prelude.{◌≡◌, ◌<◌, ◌^◌, ◌∷◌, [], ◌++◌, ◌≤◌, OnOk, length};
-ghost use Rattle.line_cli.specs.Step.{happened, after, answer_at, changed_at, insert_of, remove_of, replace_of, insert_told, remove_told, replace_told, replace_standings, inserted, removed, replaced, shown_at, shown_from};
-ghost use Rattle.line_cli.specs.Answers.{Answers, Removes, Settles};
+ghost use Rattle.std.specs.Prelude.{◌≡◌, ◌<◌, ◌^◌, ◌≤◌, [], ◌++◌, OnOk, length, map};
+ghost use Rattle.line_world.specs.Moves.{floor_move};
 ghost use Rattle.line_script.specs.Ranges.{IsWithin};
-ghost use Rattle.line_script.specs.declared.line.ScriptLine.TheVariants as lines;
+ghost use Rattle.line_cli.specs.Step.{happened, after, addition, added_in, machine_told, insertion, inserted_in, insert_told, removal, removed_in, remove_told, replacement, replaced_in, replace_told, replace_standings, reading, read_in, read_told, moved_in, move_told, shown_at, shown_from};
+ghost use Rattle.line_cli.specs.declared.happening.Happening.TheVariants as happenings;
 
-use crate::happening::{Happening, Reason};
+use crate::happening::{Happening, Reason, tell};
+use crate::line::Line;
 use crate::machine::{Machine, MachineError};
-use board_record::BoardId;
+use board_record::{BoardId, Sensed};
 use line_base::{Memory, Text};
 use line_script::ScriptLine;
-use std::alloc::Global;
-
-/// The most machines of a line.
-const MOST_MACHINES: usize = 64;
+use line_world::{Move, MoveError};
 
 /// Does a line of the script, and adds what happened.
-pub fn do_line(
-    alloc: Global,
-    machines: &mut Vec<Machine>,
-    line: ScriptLine,
-    told: &mut Vec<Happening>,
-) -> Result<(), Memory>
-    requires within { IsWithin line }
-    requires few { length machines.old.items ≤ 64 }
-    ensures few { length machines.new.items ≤ 64 }
-    ensures told { OnOk result (told.new.items ≡ told.old.items ++ happened machines.old.items line) }
-    ensures machines { OnOk result (machines.new.items ≡ after machines.old.items line) }
+pub fn do_line(line: &mut Line, asked: ScriptLine, told: &mut Vec<Happening>) -> Result<(), Memory>
+    requires { IsWithin asked }
+    ensures told { OnOk result (told.new.items ≡ told.old.items ++ happened line.old asked) }
+    ensures line { OnOk result (line.new ≡ after line.old asked) }
 {
-    match line {
+    match asked {
         ScriptLine::Blank => Ok(()),
-        ScriptLine::Machine { capacity, used } => add_machine(
-            alloc, machines, capacity, used, told,
-        ),
-        ScriptLine::Insert { machine, barcode } => insert(machines, machine, barcode, told),
-        ScriptLine::Remove { machine, id } => remove(machines, machine, id, told),
-        ScriptLine::Replace { machine, id } => replace(machines, machine, id, told),
-        ScriptLine::Show => show(machines.as_slice(), told),
-    }
-}
-
-/// Adds what happened.
-fn tell(told: &mut Vec<Happening>, happening: Happening) -> Result<(), Memory>
-    ensures { OnOk result (told.new.items ≡ told.old.items ++ happening ∷ []) }
-{
-    match told.push(happening) {
-        Ok(()) => Ok(()),
-        Err(_) => Err(Memory),
+        ScriptLine::Machine { capacity, used } => add_machine(line, capacity, used, told),
+        ScriptLine::Insert { machine, barcode } => insert(line, machine, barcode, told),
+        ScriptLine::Remove { machine, id } => remove(line, machine, id, told),
+        ScriptLine::Replace { machine, id } => replace(line, machine, id, told),
+        ScriptLine::Sense { machine } => sense(line, machine, told),
+        ScriptLine::Begin { gap } => move_board(line, gap, Move::Begin, told),
+        ScriptLine::Left { gap } => move_board(line, gap, Move::Left, told),
+        ScriptLine::Enter { gap } => move_board(line, gap, Move::Enter, told),
+        ScriptLine::Back { gap } => move_board(line, gap, Move::Back, told),
+        ScriptLine::HandIn { gap } => move_board(line, gap, Move::HandIn, told),
+        ScriptLine::Take { gap } => move_board(line, gap, Move::Take, told),
+        ScriptLine::Show => show(line.machines(), told),
     }
 }
 
 fn add_machine(
-    alloc: Global,
-    machines: &mut Vec<Machine>,
+    line: &mut Line,
     capacity: u32,
     used: u64,
     told: &mut Vec<Happening>,
 ) -> Result<(), Memory>
-    requires used { used < 2 ^ 48 }
-    requires few { length machines.old.items ≤ 64 }
-    ensures few { length machines.new.items ≤ 64 }
-    ensures told { OnOk result (told.new.items ≡ told.old.items ++ happened machines.old.items (lines.Machine capacity used)) }
-    ensures machines { OnOk result (machines.new.items ≡ after machines.old.items (lines.Machine capacity used)) }
+    requires { used < 2 ^ 48 }
+    ensures told { OnOk result (told.new.items ≡ told.old.items ++ machine_told capacity (addition line.old)) }
+    ensures line { OnOk result (line.new ≡ added_in line.old capacity used (addition line.old)) }
 {
-    if machines.len() >= MOST_MACHINES {
-        return tell(told, Happening::No(Reason::LineFull));
-    }
-    let number = machines.len() as u32 + 1;
-    let machine = Machine::new(alloc, number, capacity, used)?;
-    match machines.push(machine) {
-        Ok(()) => tell(told, Happening::Machine { number, capacity }),
-        Err(_) => Err(Memory),
+    match line.add_machine(capacity, used) {
+        Ok(number) => tell(told, Happening::Machine { number, capacity }),
+        Err(MachineError::No(reason)) => tell(told, Happening::No(reason)),
+        Err(MachineError::Memory) => Err(Memory),
     }
 }
 
 fn insert(
-    machines: &mut Vec<Machine>,
+    line: &mut Line,
     machine: u32,
     barcode: Option<Text>,
     told: &mut Vec<Happening>,
 ) -> Result<(), Memory>
-    ensures few { length machines.new.items ≡ length machines.old.items }
-    ensures told { OnOk result (told.new.items ≡ told.old.items ++ insert_told machine (answer_at machines.old.items machine insert_of)) }
-    ensures machines { OnOk result (machines.new.items ≡ changed_at machines.old.items machine (inserted barcode)) }
+    requires { 1 ≤ machine }
+    ensures told { OnOk result (told.new.items ≡ told.old.items ++ insert_told machine (insertion line.old machine)) }
+    ensures line { OnOk result (line.new ≡ inserted_in line.old machine barcode (insertion line.old machine)) }
 {
-    match insert_at(machines, machine, barcode) {
+    match line.insert(machine, barcode) {
         Ok(id) => {
             tell(told, Happening::Inserts { machine, id })?;
             tell(told, Happening::With { machine, id })
@@ -95,33 +74,17 @@ fn insert(
     }
 }
 
-fn insert_at(
-    machines: &mut Vec<Machine>,
-    machine: u32,
-    barcode: Option<Text>,
-) -> Result<BoardId, MachineError>
-    ensures few { length machines.new.items ≡ length machines.old.items }
-    ensures answer { Answers (answer_at machines.old.items machine insert_of) result }
-    ensures after { Settles result (machines.new.items ≡ changed_at machines.old.items machine (inserted barcode)) }
-{
-    let place = machine.saturating_sub(1) as usize;
-    if place >= machines.len() {
-        return Err(MachineError::No(Reason::NoSuchMachine));
-    }
-    machines[place].insert(barcode)
-}
-
 fn remove(
-    machines: &mut Vec<Machine>,
+    line: &mut Line,
     machine: u32,
     id: BoardId,
     told: &mut Vec<Happening>,
 ) -> Result<(), Memory>
-    ensures few { length machines.new.items ≡ length machines.old.items }
-    ensures told { OnOk result (told.new.items ≡ told.old.items ++ remove_told machine id (answer_at machines.old.items machine (remove_of id))) }
-    ensures machines { OnOk result (machines.new.items ≡ changed_at machines.old.items machine (removed id)) }
+    requires { 1 ≤ machine }
+    ensures told { OnOk result (told.new.items ≡ told.old.items ++ remove_told machine id (removal line.old machine id)) }
+    ensures line { OnOk result (line.new ≡ removed_in line.old machine id (removal line.old machine id)) }
 {
-    match remove_at(machines, machine, id) {
+    match line.remove(machine, id) {
         Ok(()) => {
             tell(told, Happening::Removes { machine, id })?;
             tell(told, Happening::Gone { id })
@@ -130,29 +93,17 @@ fn remove(
     }
 }
 
-fn remove_at(machines: &mut Vec<Machine>, machine: u32, id: BoardId) -> Result<(), Reason>
-    ensures few { length machines.new.items ≡ length machines.old.items }
-    ensures answer { Removes (answer_at machines.old.items machine (remove_of id)) result }
-    ensures after { machines.new.items ≡ changed_at machines.old.items machine (removed id) }
-{
-    let place = machine.saturating_sub(1) as usize;
-    if place >= machines.len() {
-        return Err(Reason::NoSuchMachine);
-    }
-    machines[place].remove(id)
-}
-
 fn replace(
-    machines: &mut Vec<Machine>,
+    line: &mut Line,
     machine: u32,
     old: BoardId,
     told: &mut Vec<Happening>,
 ) -> Result<(), Memory>
-    ensures few { length machines.new.items ≡ length machines.old.items }
-    ensures told { OnOk result (told.new.items ≡ told.old.items ++ replace_told machine old (answer_at machines.old.items machine (replace_of old))) }
-    ensures machines { OnOk result (machines.new.items ≡ changed_at machines.old.items machine (replaced old)) }
+    requires { 1 ≤ machine }
+    ensures told { OnOk result (told.new.items ≡ told.old.items ++ replace_told machine old (replacement line.old machine old)) }
+    ensures line { OnOk result (line.new ≡ replaced_in line.old machine old (replacement line.old machine old)) }
 {
-    match replace_at(machines, machine, old) {
+    match line.replace(machine, old) {
         Ok(new) => {
             tell(told, Happening::Replaces { machine, old, new })?;
             tell_standings(told, machine, old, new)
@@ -160,22 +111,6 @@ fn replace(
         Err(MachineError::No(reason)) => tell(told, Happening::No(reason)),
         Err(MachineError::Memory) => Err(Memory),
     }
-}
-
-fn replace_at(
-    machines: &mut Vec<Machine>,
-    machine: u32,
-    old: BoardId,
-) -> Result<BoardId, MachineError>
-    ensures few { length machines.new.items ≡ length machines.old.items }
-    ensures answer { Answers (answer_at machines.old.items machine (replace_of old)) result }
-    ensures after { Settles result (machines.new.items ≡ changed_at machines.old.items machine (replaced old)) }
-{
-    let place = machine.saturating_sub(1) as usize;
-    if place >= machines.len() {
-        return Err(MachineError::No(Reason::NoSuchMachine));
-    }
-    machines[place].replace(old)
 }
 
 /// The standings that a replacement changed, in ascending order of id.
@@ -193,6 +128,50 @@ fn tell_standings(
     }
     tell(told, Happening::With { machine, id: new })?;
     tell(told, Happening::Gone { id: old })
+}
+
+fn move_board(
+    line: &mut Line,
+    gap: u32,
+    step: Move,
+    told: &mut Vec<Happening>,
+) -> Result<(), Memory>
+    ensures told { OnOk result (told.new.items ≡ told.old.items ++ move_told gap step (floor_move gap step line.old.floor)) }
+    ensures line { OnOk result (line.new ≡ moved_in line.old (floor_move gap step line.old.floor)) }
+{
+    match line.move_board(gap, step) {
+        Ok(()) => tell(told, Happening::Moved { gap, step }),
+        Err(MoveError::No(why)) => tell(told, Happening::No(Reason::Move(why))),
+        Err(MoveError::Memory) => Err(Memory),
+    }
+}
+
+/// What a machine's sensors saw that it has not read.
+fn sense(line: &mut Line, machine: u32, told: &mut Vec<Happening>) -> Result<(), Memory>
+    requires { 1 ≤ machine }
+    ensures told { OnOk result (told.new.items ≡ told.old.items ++ read_told machine (reading line.old machine)) }
+    ensures line { OnOk result (line.new ≡ read_in line.old machine (reading line.old machine)) }
+{
+    match line.read_sensors(machine) {
+        Ok(events) => tell_events(told, machine, events.list()),
+        Err(MachineError::No(reason)) => tell(told, Happening::No(reason)),
+        Err(MachineError::Memory) => Err(Memory),
+    }
+}
+
+fn tell_events(told: &mut Vec<Happening>, machine: u32, events: &[Sensed]) -> Result<(), Memory>
+    ensures { OnOk result (told.new.items ≡ told.old.items ++ map (λ sensed. happenings.Reads machine sensed) events.now) }
+{
+    for sensed in events {
+        tell(
+            told,
+            Happening::Reads {
+                machine,
+                sensed: *sensed,
+            },
+        )?;
+    }
+    Ok(())
 }
 
 /// What every machine keeps.

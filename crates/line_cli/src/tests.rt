@@ -1,5 +1,7 @@
 //! Whole scripts with their reports, worked out by hand.
 
+ghost use Rattle.std.specs.Prelude.{None};
+
 use crate::{InputWhy, Status, line_main};
 use line_base::{Memory, Word, Words};
 use line_outside::{MemorySink, MemorySource, Pull, Source, SteadySink, SteadySource};
@@ -9,7 +11,7 @@ use std::io::Write;
 use std::test::Fail;
 
 /// Scripts, their reports, and the line and the reason of the refusal where there is one.
-const SCRIPTS: [(&[u8], &[u8], Option<(u64, LineWhy)>); 10] = [
+const SCRIPTS: [(&[u8], &[u8], Option<(u64, LineWhy)>); 11] = [
     (
         b"machine 4\nmachine 4\ninsert 1\nshow\n",
         b"1 machine 1 4\n2 machine 2 4\n3 insert 1 00000001-0000-8000-8000-000000000001\n3 with 1 00000001-0000-8000-8000-000000000001\n4 show 1 00000001-0000-8000-8000-000000000001 unknown\nend lines=4 boards=1 opened=0 settled=0\n",
@@ -29,6 +31,11 @@ const SCRIPTS: [(&[u8], &[u8], Option<(u64, LineWhy)>); 10] = [
     (
         b"machine 3\r\n# a machine with one id left\nmachine 2 used 281474976710654\ninsert 1 PCB-7\ninsert 1\ninsert 1\ninsert 1\nremove 1 00000001000080008000000000000002\nreplace 1 {00000001-0000-8000-8000-000000000001}\ninsert 2\nreplace 2 00000002-0000-8000-8000-FFFFFFFFFFFF\ninsert 2\ninsert 3\nremove 1 00000001-0000-8000-8000-000000000001\n \t\nshow",
         b"1 machine 1 3\n3 machine 2 2\n4 insert 1 00000001-0000-8000-8000-000000000001\n4 with 1 00000001-0000-8000-8000-000000000001\n5 insert 1 00000001-0000-8000-8000-000000000002\n5 with 1 00000001-0000-8000-8000-000000000002\n6 insert 1 00000001-0000-8000-8000-000000000003\n6 with 1 00000001-0000-8000-8000-000000000003\n7 no: full\n8 remove 1 00000001-0000-8000-8000-000000000002\n8 gone 00000001-0000-8000-8000-000000000002\n9 replace 1 00000001-0000-8000-8000-000000000001 00000001-0000-8000-8000-000000000004\n9 gone 00000001-0000-8000-8000-000000000001\n9 with 1 00000001-0000-8000-8000-000000000004\n10 insert 2 00000002-0000-8000-8000-ffffffffffff\n10 with 2 00000002-0000-8000-8000-ffffffffffff\n11 no: ids used up\n12 no: ids used up\n13 no: no such machine\n14 no: not kept\n16 show 1 00000001-0000-8000-8000-000000000004 unknown\n16 show 1 00000001-0000-8000-8000-000000000003 unknown\n16 show 2 00000002-0000-8000-8000-ffffffffffff unknown\nend lines=16 boards=3 opened=0 settled=0\n",
+        None,
+    ),
+    (
+        b"machine 4\nmachine 4\nbegin 1\nleft 1\nin 1\ntake 1\nbegin 2\nsense 1\n",
+        b"1 machine 1 4\n2 machine 2 4\n3 no: exit drive off\n4 no: not begun\n5 no: not left\n6 no: not begun\n7 no: no gap\n8 no: nothing to read\nend lines=8 boards=0 opened=0 settled=0\n",
         None,
     ),
     (
@@ -223,9 +230,40 @@ fn faults_and_usage(rt: HostRuntime) -> Result<(), Fail> {
     Ok(())
 }
 
+/// A source that gives its bytes in pieces of one size.
+struct Pieces<'a> {
+    rest: &'a [u8],
+    size: usize,
+}
+
+impl<'a> Source for Pieces<'a> {
+    ghost left = { λ _. None };
+
+    ghost faults = { λ _. 0 };
+
+    fn pull(&mut self, room: &mut [u8]) -> Pull {
+        let count = self.size.min(self.rest.len()).min(room.len());
+        if count == 0 {
+            return Pull::End;
+        }
+        let (piece, rest) = self.rest.split_at(count);
+        room[..count].copy_from_slice(piece);
+        self.rest = rest;
+        Pull::Bytes(count)
+    }
+}
+
 #[test]
 fn streams_and_what_is_written(rt: HostRuntime) -> Result<(), Fail> {
     let words = words_of(rt.alloc(), &[b"read"])?;
+    let (stream, written) = STREAMS[0];
+    for size in 1..65 {
+        let mut source = Pieces { rest: stream, size };
+        let mut sink = SteadySink::new(rt.alloc(), 1000)?;
+        let status = line_main(rt.alloc(), &words, &mut source, &mut sink);
+        assert_eq!(rt; status, Status::Done);
+        assert!(rt; sink.contents() == Some(written), "in pieces of {size}");
+    }
     for (stream, written) in STREAMS {
         let mut source = SteadySource::new(rt.alloc(), stream)?;
         let mut sink = SteadySink::new(rt.alloc(), 1000)?;

@@ -62,12 +62,12 @@ loop-count-preserved g c =
 
 pub returns-in-End-clause-reads : goal.returns-in-End-clause-reads
 returns-in-End-clause-reads g c =
-    let ends = rw c.waiting-in-End.ensures.count at c.end_read-in-End.ensures in
+    let ends = rw c.waiting-in-End.ensures.count at c.end_read-in-End.ensures.ends in
     reads-end (g.S.Source.left c.args.stream.now) (g.S.Source.left c.loop-count.stream) (g.S.Source.left c.pull.new.self) (g.K.Sink.contents c.args.text_to.now) (g.K.Sink.contents c.loop-count.text_to) (g.K.Sink.contents c.end_read-in-End.new.text_to) c.loop-count.cutter c.loop-count.far c.loop-count.text.items (g.K.Sink.faults c.loop-count.text_to) (g.K.Sink.faults c.end_read-in-End.new.text_to) c.end_read-in-End.result c.loop-count.invariant.on c.loop-count.invariant.over c.loop-count.invariant.most c.in-End.ensures.gives.0 c.in-End.ensures.gives.1 ends
 
 pub returns-in-End-clause-causes : goal.returns-in-End-clause-causes
 returns-in-End-clause-causes g c =
-    causes-ended c.loop-count.far c.waiting-in-End.result false (g.K.Sink.contents c.loop-count.text_to) (g.K.Sink.contents c.end_read-in-End.new.text_to) c.loop-count.text.items c.end_read-in-End.result (g.S.Source.faults c.args.stream.now) (g.S.Source.faults c.pull.new.self) (g.K.Sink.faults c.args.text_to.now) (g.K.Sink.faults c.loop-count.text_to) (g.K.Sink.faults c.end_read-in-End.new.text_to) (omega (arith, c.loop-count.invariant.reads, c.in-End.ensures.cause)) c.loop-count.invariant.writes c.end_read-in-End.ensures
+    causes-ended c.loop-count.far c.waiting-in-End.result false (g.K.Sink.contents c.loop-count.text_to) (g.K.Sink.contents c.end_read-in-End.new.text_to) c.loop-count.text.items c.end_read-in-End.result (g.S.Source.faults c.args.stream.now) (g.S.Source.faults c.pull.new.self) (g.K.Sink.faults c.args.text_to.now) (g.K.Sink.faults c.loop-count.text_to) (g.K.Sink.faults c.end_read-in-End.new.text_to) (omega (arith, c.loop-count.invariant.reads, c.in-End.ensures.cause)) c.loop-count.invariant.writes c.end_read-in-End.ensures.ends
 
 pub returns-in-Failed-clause-reads : goal.returns-in-Failed-clause-reads
 returns-in-Failed-clause-reads g c =
@@ -97,9 +97,9 @@ returns-in-Ok-take_some-clause-reads g c =
     let long : length (take count room) ≡ count = length-take-le count room c.in-Bytes.ensures.gives.1 in
     let full : c.loop-count.far.taken + n ≡ 1073741824 = omega (arith, c.loop-count.invariant.most) in
     let more : n < length (take count room) = omega (arith, long, c.if-count-space.true) in
-    let ends = rw c.waiting.ensures.count at c.end_read.ensures in
+    let ends = rw c.waiting.ensures.count at c.end_read.ensures.ends in
     reads-large (g.S.Source.left c.args.stream.now) (g.S.Source.left c.loop-count.stream) (g.S.Source.left c.pull.new.self) (g.K.Sink.contents c.args.text_to.now) (g.K.Sink.contents c.loop-count.text_to) (g.K.Sink.contents c.end_read.new.text_to) c.loop-count.cutter c.take_some.new.cutter c.loop-count.far c.in-Ok-take_some.now (take count room) c.loop-count.text.items c.take_some.new.to.items n (g.K.Sink.faults c.loop-count.text_to) (g.K.Sink.faults c.end_read.new.text_to) c.end_read.result c.loop-count.invariant.on c.in-Bytes.ensures.gives.2 takes full more ends
 
 pub returns-in-Ok-take_some-clause-causes : goal.returns-in-Ok-take_some-clause-causes
 returns-in-Ok-take_some-clause-causes g c =
-    causes-ended c.in-Ok-take_some.now c.waiting.result true (g.K.Sink.contents c.loop-count.text_to) (g.K.Sink.contents c.end_read.new.text_to) c.take_some.new.to.items c.end_read.result (g.S.Source.faults c.args.stream.now) (g.S.Source.faults c.pull.new.self) (g.K.Sink.faults c.args.text_to.now) (g.K.Sink.faults c.loop-count.text_to) (g.K.Sink.faults c.end_read.new.text_to) (omega (arith, c.loop-count.invariant.reads, c.in-Bytes.ensures.cause)) c.loop-count.invariant.writes c.end_read.ensures
+    causes-ended c.in-Ok-take_some.now c.waiting.result true (g.K.Sink.contents c.loop-count.text_to) (g.K.Sink.contents c.end_read.new.text_to) c.take_some.new.to.items c.end_read.result (g.S.Source.faults c.args.stream.now) (g.S.Source.faults c.pull.new.self) (g.K.Sink.faults c.args.text_to.now) (g.K.Sink.faults c.loop-count.text_to) (g.K.Sink.faults c.end_read.new.text_to) (omega (arith, c.loop-count.invariant.reads, c.in-Bytes.ensures.cause)) c.loop-count.invariant.writes c.end_read.ensures.ends

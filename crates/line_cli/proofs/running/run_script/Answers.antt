@@ -13,12 +13,12 @@ returns-in-Err-take_piece-clause-runs g c =
     let fits : length room ≤ c.loop-count.room.len = omega (arith, c.pull.auto.room, c.as_mut_slice.ensures.len) in
     let front : c.front.result.now ≡ take c.in-Bytes.count room = front-room c.in-Bytes.count c.loop-count.room.len c.front.result.now room (drop (length room) c.loop-count.room.items) c.as_slice.result.now c.in-Bytes.ensures.gives.1 fits c.front.ensures c.as_slice.ensures.value in
     let takes = rw front at c.in-Err-take_piece.ensures.takes in
-    let ends = rw c.as_slice-in-Err-take_piece.ensures.value at c.end_refused.ensures in
+    let ends = rw c.as_slice-in-Err-take_piece.ensures.value at c.end_refused.ensures.ends in
     runs-refused c.in-Err-take_piece.error (g.S.Source.left c.args.script.now) (g.S.Source.left c.loop-count.script) (g.S.Source.left c.pull.new.self) (g.K.Sink.contents c.args.report.now) (g.K.Sink.contents c.loop-count.report) (g.K.Sink.contents c.end_refused.new.report) (g.K.Sink.faults c.loop-count.report) (g.K.Sink.faults c.end_refused.new.report) c.loop-count.reader c.take_piece.new.self (take c.in-Bytes.count room) c.loop-count.text.items c.take_piece.new.to.items c.end_refused.result c.loop-count.invariant.going c.in-Bytes.ensures.gives.2 takes ends
 
 pub returns-in-Err-take_piece-clause-causes : goal.returns-in-Err-take_piece-clause-causes
 returns-in-Err-take_piece-clause-causes g c =
-    causes-refused c.in-Err-take_piece.error (g.K.Sink.contents c.loop-count.report) (g.K.Sink.contents c.end_refused.new.report) _ c.end_refused.result (g.S.Source.faults c.args.script.now) (g.S.Source.faults c.pull.new.self) (g.K.Sink.faults c.args.report.now) (g.K.Sink.faults c.loop-count.report) (g.K.Sink.faults c.end_refused.new.report) (omega (arith, c.loop-count.invariant.reads, c.in-Bytes.ensures.cause)) c.loop-count.invariant.writes c.end_refused.ensures
+    causes-refused c.in-Err-take_piece.error (g.K.Sink.contents c.loop-count.report) (g.K.Sink.contents c.end_refused.new.report) _ c.end_refused.result (g.S.Source.faults c.args.script.now) (g.S.Source.faults c.pull.new.self) (g.K.Sink.faults c.args.report.now) (g.K.Sink.faults c.loop-count.report) (g.K.Sink.faults c.end_refused.new.report) (omega (arith, c.loop-count.invariant.reads, c.in-Bytes.ensures.cause)) c.loop-count.invariant.writes c.end_refused.ensures.ends
 
 pub returns-in-Failed-push_full-clause-runs : goal.returns-in-Failed-push_full-clause-runs
 returns-in-Failed-push_full-clause-runs g c =
@@ -63,21 +63,21 @@ loop-count-preserved g c =
 
 pub returns-in-Err-finish-clause-runs : goal.returns-in-Err-finish-clause-runs
 returns-in-Err-finish-clause-runs g c =
-    let ends = rw c.as_slice-in-Err-finish.ensures.value at c.end_refused-in-Err-finish.ensures in
+    let ends = rw c.as_slice-in-Err-finish.ensures.value at c.end_refused-in-Err-finish.ensures.ends in
     runs-end_refused c.in-Err-finish.error (g.S.Source.left c.args.script.now) (g.S.Source.left c.loop-count.script) (g.S.Source.left c.pull.new.self) (g.K.Sink.contents c.args.report.now) (g.K.Sink.contents c.loop-count.report) (g.K.Sink.contents c.end_refused-in-Err-finish.new.report) (g.K.Sink.faults c.loop-count.report) (g.K.Sink.faults c.end_refused-in-Err-finish.new.report) c.loop-count.reader c.loop-count.text.items c.finish.new.to.items c.end_refused-in-Err-finish.result c.loop-count.invariant.going c.in-End.ensures.gives.1 c.in-Err-finish.ensures ends
 
 pub returns-in-Err-finish-clause-causes : goal.returns-in-Err-finish-clause-causes
 returns-in-Err-finish-clause-causes g c =
-    causes-refused c.in-Err-finish.error (g.K.Sink.contents c.loop-count.report) (g.K.Sink.contents c.end_refused-in-Err-finish.new.report) _ c.end_refused-in-Err-finish.result (g.S.Source.faults c.args.script.now) (g.S.Source.faults c.pull.new.self) (g.K.Sink.faults c.args.report.now) (g.K.Sink.faults c.loop-count.report) (g.K.Sink.faults c.end_refused-in-Err-finish.new.report) (omega (arith, c.loop-count.invariant.reads, c.in-End.ensures.cause)) c.loop-count.invariant.writes c.end_refused-in-Err-finish.ensures
+    causes-refused c.in-Err-finish.error (g.K.Sink.contents c.loop-count.report) (g.K.Sink.contents c.end_refused-in-Err-finish.new.report) _ c.end_refused-in-Err-finish.result (g.S.Source.faults c.args.script.now) (g.S.Source.faults c.pull.new.self) (g.K.Sink.faults c.args.report.now) (g.K.Sink.faults c.loop-count.report) (g.K.Sink.faults c.end_refused-in-Err-finish.new.report) (omega (arith, c.loop-count.invariant.reads, c.in-End.ensures.cause)) c.loop-count.invariant.writes c.end_refused-in-Err-finish.ensures.ends
 
 pub returns-in-End-clause-runs : goal.returns-in-End-clause-runs
 returns-in-End-clause-runs g c =
-    let ends = rw c.as_slice-in-End.ensures.value at c.end_whole.ensures in
+    let ends = rw c.as_slice-in-End.ensures.value at c.end_whole.ensures.ends in
     runs-whole (g.S.Source.left c.args.script.now) (g.S.Source.left c.loop-count.script) (g.S.Source.left c.pull.new.self) (g.K.Sink.contents c.args.report.now) (g.K.Sink.contents c.loop-count.report) (g.K.Sink.contents c.end_whole.new.report) (g.K.Sink.faults c.loop-count.report) (g.K.Sink.faults c.end_whole.new.report) c.loop-count.reader c.loop-count.text.items c.finish.new.to.items c.end_whole.result c.loop-count.invariant.going c.in-End.ensures.gives.0 c.in-End.ensures.gives.1 c.in_default-finish.ensures ends
 
 pub returns-in-End-clause-causes : goal.returns-in-End-clause-causes
 returns-in-End-clause-causes g c =
-    causes-whole (g.K.Sink.contents c.loop-count.report) (g.K.Sink.contents c.end_whole.new.report) _ c.end_whole.result (g.S.Source.faults c.args.script.now) (g.S.Source.faults c.pull.new.self) (g.K.Sink.faults c.args.report.now) (g.K.Sink.faults c.loop-count.report) (g.K.Sink.faults c.end_whole.new.report) (omega (arith, c.loop-count.invariant.reads, c.in-End.ensures.cause)) c.loop-count.invariant.writes c.end_whole.ensures
+    causes-whole (g.K.Sink.contents c.loop-count.report) (g.K.Sink.contents c.end_whole.new.report) _ c.end_whole.result (g.S.Source.faults c.args.script.now) (g.S.Source.faults c.pull.new.self) (g.K.Sink.faults c.args.report.now) (g.K.Sink.faults c.loop-count.report) (g.K.Sink.faults c.end_whole.new.report) (omega (arith, c.loop-count.invariant.reads, c.in-End.ensures.cause)) c.loop-count.invariant.writes c.end_whole.ensures.ends
 
 pub returns-in-Failed-clause-runs : goal.returns-in-Failed-clause-runs
 returns-in-Failed-clause-runs g c =
