@@ -231,6 +231,7 @@ fn faults_and_usage(rt: HostRuntime) -> Result<(), Fail> {
 }
 
 /// A source that gives its bytes in pieces of one size.
+#[derive(Drop)]
 struct Pieces<'a> {
     rest: &'a [u8],
     size: usize,
