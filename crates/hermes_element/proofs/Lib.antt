@@ -19,3 +19,4 @@ pub mod Living
 pub mod Rising
 pub mod Exact
 pub mod Back
+pub mod Unescaped

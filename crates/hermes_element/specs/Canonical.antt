@@ -1,5 +1,5 @@
 -- The one written spelling of an element, and which elements are writable.
-use Rattle.std.specs.Prelude.{ℕ, suc, ◌≤◌, ◌==◌, cond, List, [], ◌∷◌, ◌++◌, codes, length, map, max}
+use Rattle.std.specs.Prelude.{ℕ, suc, ◌≤◌, ◌==◌, ◌||◌, Bool, not, cond, List, [], ◌∷◌, ◌++◌, codes, length, map, max}
 use Rattle.std.specs.List.{flat_map, AllByRecursion, IsDistinct}
 use Rattle.std.specs.Str.{bytes_eq}
 use Rattle.line_base.specs.Text.{IsText}
@@ -12,6 +12,10 @@ abbrev pub escaped_byte : ℕ → List ℕ
 escaped_byte b =
     cond (b == 38) (codes "&amp;") (cond (b == 60) (codes "&lt;") (cond (b == 62) (codes "&gt;") (cond (b == 34) (codes "&quot;")
     (cond (b == 10) (codes "&#10;") (cond (b == 13) (codes "&#13;") (cond (b == 9) (codes "&#9;") (b ∷ [])))))))
+
+-- a byte that is written as itself
+abbrev pub is_unescaped : ℕ → Bool
+is_unescaped b = not (b == 38 || b == 60 || b == 62 || b == 34 || b == 10 || b == 13 || b == 9)
 
 -- a space, the name, `="`, the value, and `"`
 abbrev pub canonical_attribute : Attribute → List ℕ

@@ -1,6 +1,6 @@
 ghost use Rattle.std.specs.Prelude.{◌≡◌, ◌++◌, OnOk, OnErr};
-ghost use Rattle.std.specs.List.{flat_map};
-ghost use Rattle.hermes_element.specs.Canonical.{canonical, canonical_attribute, escaped_byte};
+ghost use Rattle.std.specs.List.{flat_map, list_all};
+ghost use Rattle.hermes_element.specs.Canonical.{canonical, canonical_attribute, escaped_byte, is_unescaped};
 
 use crate::attribute::Attribute;
 use crate::element::Element;
@@ -59,10 +59,20 @@ pub fn write_attribute(name: &[u8], value: &[u8], to: &mut Vec<u8>) -> Result<()
 fn append_value(value: &[u8], to: &mut Vec<u8>) -> Result<(), Memory>
     ensures { OnOk result (to.new.items ≡ to.old.items ++ flat_map escaped_byte value.now) }
 {
+    if is_unescaped(value) {
+        return append(to, value);
+    }
     for byte in value {
         append_byte(*byte, to)?;
     }
     Ok(())
+}
+
+/// Whether no byte of a value needs an escape, as in most of them.
+fn is_unescaped(value: &[u8]) -> bool
+    ensures { result ≡ list_all is_unescaped value.now }
+{
+    value.iter().all(|byte| { !matches!(*byte, b'&' | b'<' | b'>' | b'"' | b'\n' | b'\r' | b'\t') })
 }
 
 fn append_byte(byte: u8, to: &mut Vec<u8>) -> Result<(), Memory>
