@@ -8,3 +8,4 @@ pub mod Again
 pub mod Fitting
 pub mod Returning
 pub mod Writable
+pub mod Plain

@@ -1,5 +1,5 @@
 -- The names of the attributes.
-use Rattle.std.specs.Prelude.{ℕ, List, codes}
+use Rattle.std.specs.Prelude.{ℕ, List, [], ◌∷◌, ◌++◌, codes}
 use Rattle.hermes_horizontal.specs.declared.attr.Attr.{Attr}
 use Rattle.hermes_horizontal.specs.declared.attr.Attr.TheVariants as attrs
 
@@ -37,3 +37,7 @@ attr_text attrs.QueryId = codes "QueryId"
 attr_text attrs.Barcode = codes "Barcode"
 attr_text attrs.MagazineId = codes "MagazineId"
 attr_text attrs.SlotId = codes "SlotId"
+
+-- a space, the name, and `="`
+abbrev pub opening_of : Attr → List ℕ
+opening_of attr = (32 ∷ attr_text attr) ++ (61 ∷ 34 ∷ [])

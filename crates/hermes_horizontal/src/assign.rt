@@ -1,6 +1,6 @@
 //! Attributes, written one by one.
 
-ghost use Rattle.std.specs.Prelude.{◌≡◌, ◌++◌, OnOk, OnErr, option_map};
+ghost use Rattle.std.specs.Prelude.{◌≡◌, ◌++◌, OnOk, OnErr, decimal, option_map};
 ghost use Rattle.hermes_horizontal.specs.Canonical.{assignment, assignment_if};
 ghost use Rattle.hermes_horizontal.specs.Values.{worded, numbered, identified, measured, timed};
 
@@ -38,11 +38,19 @@ pub fn append_optional_text(attr: Attr, text: Option<&Text>, to: &mut Vec<u8>) -
 pub fn append_number(attr: Attr, number: u32, to: &mut Vec<u8>) -> Result<(), Memory>
     ensures { OnOk result (to.new.items ≡ to.old.items ++ assignment attr (numbered number)) }
 {
-    let mut text = Vec::new(*to.allocator());
-    match write!(text, "{number}") {
-        Ok(()) => write_attribute(attr.text().as_bytes(), text.as_slice(), to),
-        Err(_) => Err(Memory),
+    append(to, attr.opening().as_bytes())?;
+    append_digits(number, to)?;
+    append(to, b"\"")
+}
+
+/// Appends the digits of a number; most numbers have one.
+fn append_digits(number: u32, to: &mut Vec<u8>) -> Result<(), Memory>
+    ensures { OnOk result (to.new.items ≡ to.old.items ++ decimal number) }
+{
+    if number < 10 {
+        return append(to, &[b'0' + number as u8]);
     }
+    write!(to, "{number}").map_err(|_| Memory)
 }
 
 pub fn append_optional_number(
@@ -61,9 +69,9 @@ pub fn append_optional_number(
 pub fn append_id(attr: Attr, id: BoardId, to: &mut Vec<u8>) -> Result<(), Memory>
     ensures { OnOk result (to.new.items ≡ to.old.items ++ assignment attr (identified id)) }
 {
-    let mut text = Vec::new(*to.allocator());
-    id.write(&mut text)?;
-    write_attribute(attr.text().as_bytes(), text.as_slice(), to)
+    append(to, attr.opening().as_bytes())?;
+    id.write(to)?;
+    append(to, b"\"")
 }
 
 pub fn append_optional_id(attr: Attr, id: Option<BoardId>, to: &mut Vec<u8>) -> Result<(), Memory>
@@ -75,6 +83,15 @@ pub fn append_optional_id(attr: Attr, id: Option<BoardId>, to: &mut Vec<u8>) -> 
     }
 }
 
+fn append_decimal(attr: Attr, decimal: Decimal, to: &mut Vec<u8>) -> Result<(), Memory>
+    ensures { OnOk result (to.new.items ≡ to.old.items ++ assignment attr (measured decimal)) }
+{
+    let _millionths = decimal.millionths();
+    append(to, attr.opening().as_bytes())?;
+    decimal.write(to)?;
+    append(to, b"\"")
+}
+
 pub fn append_optional_decimal(
     attr: Attr,
     decimal: Option<Decimal>,
@@ -83,13 +100,17 @@ pub fn append_optional_decimal(
     ensures { OnOk result (to.new.items ≡ to.old.items ++ assignment_if attr (option_map measured decimal)) }
 {
     match decimal {
-        Some(decimal) => {
-            let mut text = Vec::new(*to.allocator());
-            decimal.write(&mut text)?;
-            write_attribute(attr.text().as_bytes(), text.as_slice(), to)
-        }
+        Some(decimal) => append_decimal(attr, decimal, to),
         None => Ok(()),
     }
+}
+
+fn append_moment(attr: Attr, moment: Moment, to: &mut Vec<u8>) -> Result<(), Memory>
+    ensures { OnOk result (to.new.items ≡ to.old.items ++ assignment attr (timed moment)) }
+{
+    append(to, attr.opening().as_bytes())?;
+    moment.write(to)?;
+    append(to, b"\"")
 }
 
 pub fn append_optional_moment(
@@ -100,11 +121,7 @@ pub fn append_optional_moment(
     ensures { OnOk result (to.new.items ≡ to.old.items ++ assignment_if attr (option_map timed moment)) }
 {
     match moment {
-        Some(moment) => {
-            let mut text = Vec::new(*to.allocator());
-            moment.write(&mut text)?;
-            write_attribute(attr.text().as_bytes(), text.as_slice(), to)
-        }
+        Some(moment) => append_moment(attr, moment, to),
         None => Ok(()),
     }
 }

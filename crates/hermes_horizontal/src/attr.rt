@@ -41,7 +41,7 @@ pub enum Attr {
 
 impl Attr {
     ghost use Rattle.std.specs.Prelude.{◌≡◌};
-    ghost use Rattle.hermes_horizontal.specs.Attrs.{attr_text};
+    ghost use Rattle.hermes_horizontal.specs.Attrs.{attr_text, opening_of};
 
     /// The attribute's name.
     pub fn text(self) -> &'static str
@@ -81,6 +81,47 @@ impl Attr {
             Attr::Barcode => "Barcode",
             Attr::MagazineId => "MagazineId",
             Attr::SlotId => "SlotId",
+        }
+    }
+
+    /// How its assignment begins: a space, its name, and `="`.
+    pub fn opening(self) -> &'static str
+        ensures { result.now ≡ opening_of self }
+    {
+        match self {
+            Attr::Timestamp => " Timestamp=\"",
+            Attr::AliveType => " Type=\"",
+            Attr::Id => " Id=\"",
+            Attr::MachineId => " MachineId=\"",
+            Attr::LaneId => " LaneId=\"",
+            Attr::InterfaceId => " InterfaceId=\"",
+            Attr::Version => " Version=\"",
+            Attr::NotificationCode => " NotificationCode=\"",
+            Attr::Severity => " Severity=\"",
+            Attr::Description => " Description=\"",
+            Attr::BoardId => " BoardId=\"",
+            Attr::BoardIdCreatedBy => " BoardIdCreatedBy=\"",
+            Attr::FailedBoard => " FailedBoard=\"",
+            Attr::FlippedBoard => " FlippedBoard=\"",
+            Attr::ProductTypeId => " ProductTypeId=\"",
+            Attr::TopBarcode => " TopBarcode=\"",
+            Attr::BottomBarcode => " BottomBarcode=\"",
+            Attr::Length => " Length=\"",
+            Attr::Width => " Width=\"",
+            Attr::Thickness => " Thickness=\"",
+            Attr::ConveyorSpeed => " ConveyorSpeed=\"",
+            Attr::TopClearanceHeight => " TopClearanceHeight=\"",
+            Attr::BottomClearanceHeight => " BottomClearanceHeight=\"",
+            Attr::Weight => " Weight=\"",
+            Attr::WorkOrderId => " WorkOrderId=\"",
+            Attr::BatchId => " BatchId=\"",
+            Attr::TransferState => " TransferState=\"",
+            Attr::SystemId => " SystemId=\"",
+            Attr::BoardTransfer => " BoardTransfer=\"",
+            Attr::QueryId => " QueryId=\"",
+            Attr::Barcode => " Barcode=\"",
+            Attr::MagazineId => " MagazineId=\"",
+            Attr::SlotId => " SlotId=\"",
         }
     }
 }

@@ -8,6 +8,9 @@ use crate::children::append_children;
 use crate::message::{Horizontal, Message};
 use line_base::Memory;
 
+/// Typical messages have fewer bytes.
+const TYPICAL_BYTES: usize = 512;
+
 /// Appends the canonical spelling of a message, or leaves `to` as it was where memory is wanting.
 ///
 /// The name in `Other` is none of the thirteen names, else what is written is read as another
@@ -16,9 +19,13 @@ pub fn write_horizontal(message: &Message, to: &mut Vec<u8>) -> Result<(), Memor
     ensures written { OnOk result (to.new.items ≡ to.old.items ++ canonical message.now) }
     ensures unchanged { OnErr result (to.new.items ≡ to.old.items) }
 {
-    let mut spelling = Vec::new(*to.allocator());
-    append_message(message, &mut spelling)?;
-    append(to, spelling.as_slice())
+    match Vec::with_capacity(*to.allocator(), TYPICAL_BYTES) {
+        Ok(mut spelling) => {
+            append_message(message, &mut spelling)?;
+            append(to, spelling.as_slice())
+        }
+        Err(_) => Err(Memory),
+    }
 }
 
 fn append_message(message: &Message, to: &mut Vec<u8>) -> Result<(), Memory>
