@@ -1,3 +1,4 @@
+pub mod Short
 pub mod Text
 pub mod Name
 pub mod Number

@@ -10,6 +10,7 @@ mod memory;
 mod moment;
 mod name;
 mod number;
+mod short;
 mod states;
 #[cfg(test)]
 mod tests;

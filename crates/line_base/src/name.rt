@@ -1,10 +1,11 @@
 ghost use Rattle.std.specs.Str.{bytes_eq};
-ghost use Rattle.std.specs.Prelude.{◌≡◌, List, ℕ, IfOk};
+ghost use Rattle.std.specs.Prelude.{◌≡◌, ◌≤◌, List, ℕ, IfOk, length, slice_range};
 ghost use Rattle.std.specs.List.{list_all};
+ghost use Rattle.line_base.specs.Short.{short_bytes};
 ghost use Rattle.line_base.specs.Name.{IsName, ReadsName, is_name, is_name_start, is_name_byte};
 
 use crate::memory::Memory;
-use smallvec::SmallVec;
+use crate::short::Short;
 use std::alloc::Global;
 use std::marker::Model;
 use thiserror::Error;
@@ -17,15 +18,15 @@ const INLINE_BYTES: usize = 24;
 /// `_`, `-`, `.` and `:`.
 #[derive(Debug, Drop)]
 pub struct Name {
-    bytes: SmallVec<u8, INLINE_BYTES>,
+    bytes: Short<INLINE_BYTES>,
 }
 
 impl Model for Name {
     ghost Value = { List ℕ };
 
-    ghost view = { λ name. name.bytes.items };
+    ghost view = { λ name. short_bytes name.bytes };
 
-    ghost invariant = { λ name. IsName name.bytes.items };
+    ghost invariant = { λ name. IsName (short_bytes name.bytes) };
 }
 
 /// Why bytes are no name.
@@ -64,7 +65,7 @@ impl Name {
         if !is_name(bytes) {
             return Err(NameError::BadName);
         }
-        match SmallVec::from_slice(alloc, bytes) {
+        match Short::of(alloc, bytes, 0, bytes.len()) {
             Ok(bytes) => Ok(Name { bytes }),
             Err(_) => Err(NameError::Memory),
         }
@@ -75,13 +76,28 @@ impl Name {
         requires { IsName bytes.now }
         ensures { IfOk result (λ name. name ≡ bytes.now) }
     {
-        match SmallVec::from_slice(alloc, bytes) {
+        match Short::of(alloc, bytes, 0, bytes.len()) {
+            Ok(bytes) => Ok(Name { bytes }),
+            Err(_) => Err(Memory),
+        }
+    }
+
+    /// The name that the bytes from an index up to another are.
+    #[inline(always)]
+    pub fn of_part(alloc: Global, bytes: &[u8], from: usize, to: usize) -> Result<Name, Memory>
+        requires ordered { from ≤ to }
+        requires inside { to ≤ length bytes.now }
+        requires name { IsName (slice_range bytes.now from to) }
+        ensures { IfOk result (λ name. name ≡ slice_range bytes.now from to) }
+    {
+        match Short::of(alloc, bytes, from, to) {
             Ok(bytes) => Ok(Name { bytes }),
             Err(_) => Err(Memory),
         }
     }
 
     /// Its bytes.
+    #[inline]
     pub fn bytes(&self) -> &[u8]
         ensures bytes { result.now ≡ self.now }
         ensures name { IsName self.now }
