@@ -1,3 +1,4 @@
+pub mod LaneRuns
 pub mod Forests
 pub mod Writing
 pub mod Running

@@ -1,5 +1,5 @@
 -- How the reading machine goes over what stands around the root, over end tags, and from tag to tag.
-use Rattle.std.proofs.Common.{◌≡◌, ◌⊎◌, inl, inr, ℕ, suc, ◌+◌, ◌-◌, ◌<◌, Bool, true, false, cond, List, [], ◌∷◌, ◌++◌, Option, Some, None, Result, Ok, Err, length, drop, get_or, refl, ap, sym, ◌∙◌, arith, subst, length-append}
+use Rattle.std.proofs.Common.{◌≡◌, ◌⊎◌, inl, inr, ℕ, suc, ◌+◌, ◌-◌, ◌<◌, Bool, true, false, cond, List, [], ◌∷◌, ◌++◌, Option, Some, None, Result, Ok, Err, length, drop, get_or, set, refl, ap, sym, ◌∙◌, arith, subst, length-append}
 use Rattle.std.specs.Prelude.{◌==◌, ◌&&◌, nat_lt, slice_range}
 use Rattle.std.specs.Str.{bytes_eq}
 use Rattle.std.proofs.lemmas.List.{drop_all}
@@ -111,6 +111,16 @@ pub outer-push : (stack : List Tree) (top : Tree) → outer (stack ++ top ∷ []
 outer-push [] top = refl
 outer-push (a ∷ []) top = refl
 outer-push (a ∷ b ∷ rest) top = ap (λ l. a ∷ l) (outer-push (b ∷ rest) top)
+
+-- what the innermost open element becomes, in its place
+pub add_last-set : (stack : List Tree) (parent child : Tree) → 0 < length stack → parent ≡ get_or stack (length stack - 1) parent
+    → set stack (length stack - 1) (record parent { children = add parent.children child }) ≡ add_last stack child
+add_last-set [] parent child some is = absurd (omega arith)
+add_last-set (a ∷ []) parent child some is = ap (λ (p : Tree). record p { children = add p.children child } ∷ []) is
+add_last-set (a ∷ b ∷ rest) parent child some is =
+    let last : length (a ∷ b ∷ rest) - 1 ≡ suc (length (b ∷ rest) - 1) = omega arith in
+    ap (λ k. set (a ∷ b ∷ rest) k (record parent { children = add parent.children child })) last
+    ∙ ap (λ l. a ∷ l) (add_last-set (b ∷ rest) parent child (omega arith) (is ∙ ap (λ k. get_or (a ∷ b ∷ rest) k parent) last))
 
 pub add_last-push : (stack : List Tree) (parent child : Tree) → add_last (stack ++ parent ∷ []) child ≡ stack ++ record parent { children = add parent.children child } ∷ []
 add_last-push [] parent child = refl

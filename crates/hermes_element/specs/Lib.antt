@@ -1,3 +1,4 @@
+pub mod Lanes
 pub mod Element
 pub mod Falls
 pub mod Plain

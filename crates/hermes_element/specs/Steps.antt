@@ -184,11 +184,7 @@ ReadsClose bytes at old new (Ok (None, to)) = (in_close old at bytes ≡ in_cont
 ReadsClose bytes at old new (Ok (Some root, to)) = in_close old at bytes ≡ run_at places.End 0 (between (as_forest root) []) to bytes
 ReadsClose bytes at old new (Err stop) = Meets (in_close old at bytes) stop
 
--- a child is added, or memory is wanting
-abbrev pub AddsChild : Tree → Tree → Result Tree Stop → Type 0
-AddsChild parent child (Ok grown) = grown ≡ record parent { children = add parent.children child }
-AddsChild parent child (Err stop) = stop ≡ stops.Memory
-
+-- a child is added to the innermost element, or memory is wanting
 abbrev pub AddsLast : List Tree → Tree → List Tree → Result (Unit {0}) Stop → Type 0
 AddsLast old child new (Ok _) = new ≡ add_last old child
 AddsLast old child new (Err stop) = stop ≡ stops.Memory

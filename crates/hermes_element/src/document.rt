@@ -1,6 +1,6 @@
 ghost use Rattle.std.specs.Prelude.{◌≡◌, ◌+◌, ◌<◌, ◌≤◌, ℕ, IfOk, OnOk, length, slice_index, ◌++◌, [], ◌∷◌};
 ghost use Rattle.hermes_element.specs.Element.{add};
-ghost use Rattle.hermes_element.specs.Steps.{ReadsDocument, ReadsBegin, ReadsProlog, ReadsDeclaration, ReadsRoot, ReadsTagEnd, ReadsEndTag, ReadsStart, ReadsMarkup, ReadsClose, AddsChild, AddsLast, IsNoBlank, IsSpan};
+ghost use Rattle.hermes_element.specs.Steps.{ReadsDocument, ReadsBegin, ReadsProlog, ReadsDeclaration, ReadsRoot, ReadsTagEnd, ReadsEndTag, ReadsStart, ReadsMarkup, ReadsClose, AddsLast, IsNoBlank, IsSpan};
 ghost use Rattle.hermes_element.specs.Plain.{is_declared};
 
 use crate::bytes::{is_blank, is_declared};
@@ -214,25 +214,9 @@ fn add_last(stack: &mut Vec<Element>, element: Element) -> Result<(), Stop>
     requires { 0 < length stack.old.items }
     ensures { AddsLast stack.old.items element stack.new.items result }
 {
-    let parent = match stack.pop() {
-        Some(parent) => parent,
-        None => return Err(Stop::Memory),
-    };
-    match with_child(parent, element) {
-        Ok(grown) => match stack.push(grown) {
-            Ok(()) => Ok(()),
-            Err(_) => Err(Stop::Memory),
-        },
-        Err(stop) => Err(stop),
-    }
-}
-
-fn with_child(parent: Element, child: Element) -> Result<Element, Stop>
-    ensures { AddsChild parent child result }
-{
-    let mut grown = parent;
-    match grown.children.push(child) {
-        Ok(()) => Ok(grown),
+    let last = stack.as_slice().len() - 1;
+    match stack[last].children.push(element) {
+        Ok(()) => Ok(()),
         Err(_) => Err(Stop::Memory),
     }
 }

@@ -6,6 +6,7 @@ mod attribute;
 mod bytes;
 mod document;
 mod element;
+mod lanes;
 mod laws;
 mod place;
 mod read;

@@ -32,7 +32,7 @@ pub(crate) fn read_value(
         if end - at > MOST_VALUE_BYTES {
             return Err(Stop::Fault(at, Why::LongValue));
         }
-        return match Text::of(alloc, &bytes[at..end]) {
+        return match Text::of_part(alloc, bytes, at, end) {
             Ok(value) => Ok((value, end + 1)),
             Err(_) => Err(Stop::Memory),
         };
@@ -41,6 +41,8 @@ pub(crate) fn read_value(
 }
 
 /// The same of a value with escapes, blanks other than spaces, or characters of several bytes.
+#[cold]
+#[inline(never)]
 fn read_mixed_value(
     alloc: Global,
     bytes: &[u8],

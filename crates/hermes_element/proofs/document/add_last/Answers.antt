@@ -1,14 +1,16 @@
-use Rattle.std.proofs.Common.{◌++◌, ◌∷◌, [], ap, sym, ◌∙◌, subst, refl}
-use Rattle.hermes_element.specs.Machine.{add_last}
-use Rattle.hermes_element.specs.Steps.{AddsLast}
-use Rattle.hermes_element.proofs.Roots.{add_last-push}
+use Rattle.std.proofs.Common.{◌≡◌, ◌-◌, length, get_or, set, ap, ◌∙◌}
+use Rattle.hermes_element.specs.Element.{Tree, add}
+use Rattle.hermes_element.proofs.Roots.{add_last-set}
 use Rattle.hermes_element.proofs.document.add_last.Goals as goal
-use Rattle.hermes_element.proofs.document.add_last.Goals.{in-Ok-push, in-Err-push}
 
-pub returns-after-push : goal.returns-after-push
-returns-after-push c = elim c.match-push.branch [
-  | in-Ok-push w ↦ subst (λ r. AddsLast c.args.stack.now.items c.args.element c.push.new.self.items r) (sym w.result-is)
-      (w.in-Ok-push.ensures.items ∙ ap (λ g. c.pop.new.self.items ++ g ∷ []) c.in-Ok.ensures
-      ∙ sym (add_last-push c.pop.new.self.items c.in-Some.parent c.args.element) ∙ ap (λ l. add_last l c.args.element) (sym c.in-Some.ensures.items))
-  | in-Err-push w ↦ subst (λ r. AddsLast c.args.stack.now.items c.args.element c.push.new.self.items r) (sym w.result-is) refl
-]
+pub returns-in-Ok : goal.returns-in-Ok
+returns-in-Ok c =
+    let items = c.args.stack.now.items in
+    let parent = c.index_mut.result.now in
+    let inside = c.behind-stack.inside in
+    let last_is : length c.as_slice.result.now - 1 ≡ length items - 1 = ap (λ l. length l - 1) c.as_slice.ensures.value in
+    let parent_is : parent ≡ get_or items (length items - 1) parent = c.index_mut.ensures.value ∙ ap (λ k. get_or items k parent) last_is in
+    ap (λ k. set items k (record { name = inside.name; at = inside.at; attributes = inside.attributes; children = c.push.new.self })) last_is
+    ∙ ap (λ f. set items (length items - 1) (record { name = inside.name; at = inside.at; attributes = inside.attributes; children = f })) c.in-Ok.ensures.ok
+    ∙ ap (λ (t : Tree). set items (length items - 1) (record t { children = add t.children c.args.element })) c.behind-stack.view_is
+    ∙ add_last-set items parent c.args.element c.requires parent_is
