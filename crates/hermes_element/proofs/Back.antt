@@ -7,11 +7,12 @@ use Rattle.std.specs.Char.{encode_utf8}
 use Rattle.std.proofs.lemmas.Str.{encode_ascii, encodes-chars}
 use Rattle.std.proofs.lemmas.Bool.{cases_lt, cases_Bool, eqb-true, ne_eqb, le-ltb}
 use Rattle.std.proofs.lemmas.Bool.Decides.{nat_tests}
+use Rattle.line_base.specs.Name.{IsName}
 use Rattle.line_base.specs.Text.{is_allowed_char}
 use Rattle.hermes_element.specs.Plain.{Escape, named, decimal, Piece, plain, escaped, piece_text, is_piece, value_text, Assignment, assignment_front, assignment_text, IsAssignment, AreAssignments, Tag, tag_text, IsTag, EndTag, end_text, Content, last, empty, full, content_text, IsContent, Root, lone, holding, root_text, IsRoot, Document}
 use Rattle.hermes_element.specs.Checks.{Fault, character_of, encoded, spaced, value_from, value_of, reference_faults, value_faults, assignments_faults, tag_faults, content_faults, root_faults, attributes_of, forest_in, element_of}
 use Rattle.hermes_element.specs.Element.{Forest, none, more, Tree}
-use Rattle.hermes_element.specs.Canonical.{escaped_byte, canonical_attribute, canonical_rest, canonical_front, canonical_forest, canonical, depth_of, IsWritableAttribute, HasGoodTag, HasGoodTags, IsWritable, unplaced_attribute, unplaced_forest, unplaced}
+use Rattle.hermes_element.specs.Canonical.{escaped_byte, canonical_attribute, canonical_rest, canonical_front, canonical_forest, canonical, depth_of, HasFewDistinct, HaveFewDistinct, IsWritable, IsProperAttribute, HasProperTag, HaveProperTags, IsProper, unplaced_attribute, unplaced_forest, unplaced}
 use Rattle.hermes_element.specs.Spelling.{Spells}
 use Rattle.std.proofs.lemmas.Slice.Eq.{bytes_eq-Decides}
 use Rattle.std.proofs.lemmas.List.Folds.{list_any-append}
@@ -144,21 +145,21 @@ pieces_good at (c ∷ cs) h =
 abbrev assignment_of : Attribute → Assignment
 assignment_of a = record { gap = 32 ∷ []; name = a.name; before = []; after = []; quote = 34; value = pieces_of (chars a.value) }
 
-assignment_is : (a : Attribute) → IsWritableAttribute a → IsAssignment (assignment_of a)
+assignment_is : (a : Attribute) → IsProperAttribute a → IsAssignment (assignment_of a)
 assignment_is a h = record { some = omega arith; gap = refl; name = h.name; before = refl; after = refl; quote = refl; value = pieces_are (chars a.value) h.value.allowed.allowed }
 
 attribute_split : (name value : List ℕ) → ((((((((32 ∷ []) ++ name) ++ []) ++ (61 ∷ [])) ++ []) ++ (34 ∷ [])) ++ value) ++ (34 ∷ [])) ≡ (((32 ∷ name) ++ (61 ∷ 34 ∷ [])) ++ value) ++ (34 ∷ [])
 attribute_split name value = simp (append_assoc, append-nil)
 
-assignment_is_text : (a : Attribute) → IsWritableAttribute a → assignment_text (assignment_of a) ≡ canonical_attribute a
+assignment_is_text : (a : Attribute) → IsProperAttribute a → assignment_text (assignment_of a) ≡ canonical_attribute a
 assignment_is_text a h =
     attribute_split a.name (value_text (pieces_of (chars a.value)))
     ∙ ap (λ v. (((32 ∷ a.name) ++ (61 ∷ 34 ∷ [])) ++ v) ++ (34 ∷ [])) (pieces_text (chars a.value) h.value.allowed.allowed ∙ ap (flat_map escaped_byte) (encodes-chars a.value h.value.allowed.utf8))
 
-value_is : (a : Attribute) → IsWritableAttribute a → value_of (pieces_of (chars a.value)) ≡ a.value
+value_is : (a : Attribute) → IsProperAttribute a → value_of (pieces_of (chars a.value)) ≡ a.value
 value_is a h = pieces_value (chars a.value) h.value.allowed.allowed ∙ encodes-chars a.value h.value.allowed.utf8
 
-value_good : (at : ℕ) (a : Attribute) → IsWritableAttribute a → value_faults at (pieces_of (chars a.value)) ≡ []
+value_good : (at : ℕ) (a : Attribute) → IsProperAttribute a → value_faults at (pieces_of (chars a.value)) ≡ []
 value_good at a h =
     let v = value_is a h in
     let short : nat_lt 1024 (length (value_of (pieces_of (chars a.value)))) ≡ false = le-ltb 1024 (length (value_of (pieces_of (chars a.value)))) (omega (arith, h.value.short, ap length v)) in
@@ -167,11 +168,11 @@ value_good at a h =
 abbrev assignments_of : List Attribute → List Assignment
 assignments_of list = map assignment_of list
 
-assignments_are : (list : List Attribute) → AllByRecursion IsWritableAttribute list → AreAssignments (assignments_of list)
+assignments_are : (list : List Attribute) → AllByRecursion IsProperAttribute list → AreAssignments (assignments_of list)
 assignments_are [] h = tt
 assignments_are (a ∷ list) h = (assignment_is a h.0, assignments_are list h.1)
 
-assignments_text : (list : List Attribute) → AllByRecursion IsWritableAttribute list → flat_map assignment_text (assignments_of list) ≡ flat_map canonical_attribute list
+assignments_text : (list : List Attribute) → AllByRecursion IsProperAttribute list → flat_map assignment_text (assignments_of list) ≡ flat_map canonical_attribute list
 assignments_text [] h = refl
 assignments_text (a ∷ list) h = ap (λ l. l ++ flat_map assignment_text (assignments_of list)) (assignment_is_text a h.0) ∙ ap (λ l. canonical_attribute a ++ l) (assignments_text list h.1)
 
@@ -193,7 +194,7 @@ fresh_more names name (a ∷ list) h d = (
   fresh_more names name list h.1 d.1,
 )
 
-assignments_good : (at : ℕ) (names : List (List ℕ)) (list : List Attribute) → AllByRecursion IsWritableAttribute list → length names + length list ≤ 64
+assignments_good : (at : ℕ) (names : List (List ℕ)) (list : List Attribute) → AllByRecursion IsProperAttribute list → length names + length list ≤ 64
     → AllByRecursion (λ (a : Attribute). list_any (bytes_eq a.name) names ≡ false) list → IsDistinct bytes_eq (map (λ (a : Attribute). a.name) list) → assignments_faults at names (assignments_of list) ≡ []
 unfolding IsDistinct
 assignments_good at names [] each few fresh distinct = refl
@@ -207,7 +208,7 @@ none_fresh : (list : List Attribute) → AllByRecursion (λ (a : Attribute). lis
 none_fresh [] = tt
 none_fresh (a ∷ list) = (refl, none_fresh list)
 
-attributes_same : (at : ℕ) (list : List Attribute) → AllByRecursion IsWritableAttribute list → map unplaced_attribute (attributes_of at (assignments_of list)) ≡ map unplaced_attribute list
+attributes_same : (at : ℕ) (list : List Attribute) → AllByRecursion IsProperAttribute list → map unplaced_attribute (attributes_of at (assignments_of list)) ≡ map unplaced_attribute list
 attributes_same at [] h = refl
 attributes_same at (a ∷ list) h =
     let next = at + length (assignment_text (assignment_of a)) in
@@ -227,6 +228,24 @@ abbrev content_of : Forest → Content
 content_of none = last []
 content_of (more name at attributes none rest) = empty [] (tag_of name attributes) (content_of rest)
 content_of (more name at attributes (more n a l c r) rest) = full [] (tag_of name attributes) (content_of (more n a l c r)) (end_of name) (content_of rest)
+
+-- a tag that is proper and writable
+record HasGoodTag (name : List ℕ) (attributes : List Attribute) : Type 0 where
+  named : IsName name
+  few : length attributes ≤ 64
+  distinct : IsDistinct bytes_eq (map (λ a. a.name) attributes)
+  each : AllByRecursion IsProperAttribute attributes
+
+abbrev HasGoodTags : Forest → Type 0
+HasGoodTags none = Unit {0}
+HasGoodTags (more name at attributes children rest) = HasGoodTag name attributes × HasGoodTags children × HasGoodTags rest
+
+good_tag : (name : List ℕ) (attributes : List Attribute) → HasProperTag name attributes → HasFewDistinct attributes → HasGoodTag name attributes
+good_tag name attributes proper few = record { named = proper.named; few = few.few; distinct = few.distinct; each = proper.each }
+
+good_tags : (f : Forest) → HaveProperTags f → HaveFewDistinct f → HasGoodTags f
+good_tags none proper few = tt
+good_tags (more name at attributes children rest) proper few = (good_tag name attributes proper.0 few.0, good_tags children proper.1 few.1, good_tags rest proper.2 few.2)
 
 tag_is : (name : List ℕ) (list : List Attribute) → HasGoodTag name list → IsTag (tag_of name list)
 tag_is name list h = record { name = h.named; assignments = assignments_are list h.each; gap = refl }
@@ -358,17 +377,19 @@ root_same at name place list (more n a l c r) h g =
     ap (λ x. record { name = name; at = 0; attributes = x; children = unplaced_forest (forest_in from inside) }) (attributes_same (at + 1 + length name) list h.each)
     ∙ ap (λ x. record { name = name; at = 0; attributes = map unplaced_attribute list; children = x }) (content_same from (more n a l c r) g)
 
-pub read_back : (tree : Tree) → IsWritable tree → (found : Tree) × Spells (canonical tree) found × (unplaced found ≡ unplaced tree)
-read_back tree h =
-    let d = document_for tree in (
+pub read_back : (tree : Tree) → IsProper tree → IsWritable tree → (found : Tree) × Spells (canonical tree) found × (unplaced found ≡ unplaced tree)
+read_back tree proper writable =
+    let d = document_for tree in
+    let tag = good_tag tree.name tree.attributes proper.own writable.own in
+    let tags = good_tags tree.children proper.below writable.below in (
       element_of d,
       record {
         document = d;
-        spelled = record { plain = record { declaration = tt; gap = refl; root = root_is tree.name tree.attributes tree.children h.tag h.tags }; text = root_is_text tree.name tree.attributes tree.children h.tag h.tags };
-        good = root_good 0 tree.name tree.attributes tree.children h.tag h.tags h.depth;
+        spelled = record { plain = record { declaration = tt; gap = refl; root = root_is tree.name tree.attributes tree.children tag tags }; text = root_is_text tree.name tree.attributes tree.children tag tags };
+        good = root_good 0 tree.name tree.attributes tree.children tag tags writable.depth;
         element = refl;
       },
-      root_same 0 tree.name tree.at tree.attributes tree.children h.tag h.tags,
+      root_same 0 tree.name tree.at tree.attributes tree.children tag tags,
     )
 
 abbrev built_of : Outcome → Result Build Fault
@@ -406,10 +427,10 @@ canonical_unplaced tree =
     ∙ ap (λ x. canonical_front tree.name tree.attributes ++ canonical_rest tree.name (unplaced_forest tree.children) x) (forest_unplaced tree.children)
     ∙ ap (λ x. canonical_front tree.name tree.attributes ++ x) (rest_unplaced tree.name (canonical_forest tree.children) tree.children)
 
-pub one_spelling : (a b : Tree) → IsWritable a → IsWritable b → (canonical a ≡ canonical b) ↔ (unplaced a ≡ unplaced b)
-one_spelling a b x y =
-    let p = read_back a x in
-    let q = read_back b y in (
+pub one_spelling : (a b : Tree) → IsProper a → IsWritable a → IsProper b → IsWritable b → (canonical a ≡ canonical b) ↔ (unplaced a ≡ unplaced b)
+one_spelling a b proper_a writable_a proper_b writable_b =
+    let p = read_back a proper_a writable_a in
+    let q = read_back b proper_b writable_b in (
       (λ e. sym p.2 ∙ ap unplaced (spelled_once (canonical b) p.0 q.0 (subst (λ l. Spells l p.0) e p.1) q.1) ∙ q.2),
       (λ e. sym (canonical_unplaced a) ∙ ap canonical e ∙ canonical_unplaced b),
     )

@@ -6,6 +6,10 @@ pub trees_of-forest_of : (trees : List Tree) → trees_of (forest_of trees) ≡ 
 trees_of-forest_of [] = refl
 trees_of-forest_of (tree ∷ trees) = ap (λ rest. tree ∷ rest) (trees_of-forest_of trees)
 
+pub forest_of-trees_of : (forest : Forest) → forest_of (trees_of forest) ≡ forest
+forest_of-trees_of none = refl
+forest_of-trees_of (more name at attributes children rest) = ap (more name at attributes children) (forest_of-trees_of rest)
+
 pub forest_of-push : (trees : List Tree) (tree : Tree) → forest_of (trees ++ tree ∷ []) ≡ add (forest_of trees) tree
 forest_of-push [] tree = refl
 forest_of-push (first ∷ trees) tree = ap (λ rest. more first.name first.at first.attributes first.children rest) (forest_of-push trees tree)

@@ -2,11 +2,8 @@
 use Rattle.std.proofs.Common.{◌≡◌, ℕ, ◌<◌, List, [], ◌∷◌, ◌++◌, length, refl, ap, sym, ◌∙◌, append_assoc, arith}
 use Rattle.std.specs.List.{flat_map}
 use Rattle.hermes_element.specs.Element.{Tree, Forest, none, more, trees_of, forest_of}
+use Rattle.hermes_element.proofs.Forests.{forest_of-trees_of}
 use Rattle.hermes_element.specs.Canonical.{canonical, canonical_attribute, canonical_forest, canonical_rest}
-
-forest_of-trees_of : (forest : Forest) → forest_of (trees_of forest) ≡ forest
-forest_of-trees_of none = refl
-forest_of-trees_of (more name at attributes children rest) = ap (more name at attributes children) (forest_of-trees_of rest)
 
 canonical_rest-some : (name inside : List ℕ) (forest : Forest) → 0 < length (trees_of forest) → canonical_rest name forest inside ≡ (62 ∷ []) ++ inside ++ (60 ∷ 47 ∷ []) ++ name ++ (62 ∷ [])
 canonical_rest-some name inside none h = absurd (omega arith)

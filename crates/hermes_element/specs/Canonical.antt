@@ -44,27 +44,43 @@ abbrev pub depth_of : Forest → ℕ
 depth_of none = 0
 depth_of (more name at attributes children rest) = max (suc (depth_of children)) (depth_of rest)
 
-pub record IsWritableAttribute (a : Attribute) : Type 0 where
+-- at most 64 attributes, and no name that repeats
+pub record HasFewDistinct (attributes : List Attribute) : Type 0 where
+  pub few : length attributes ≤ 64
+  pub distinct : IsDistinct bytes_eq (map (λ a. a.name) attributes)
+
+-- so has each element, at all depths
+abbrev pub HaveFewDistinct : Forest → Type 0
+HaveFewDistinct none = Unit {0}
+HaveFewDistinct (more name at attributes children rest) = HasFewDistinct attributes × HaveFewDistinct children × HaveFewDistinct rest
+
+-- depth at most 4, and in each element at most 64 attributes of which none repeats
+pub record IsWritable (tree : Tree) : Type 0 where
+  pub own : HasFewDistinct tree.attributes
+  pub below : HaveFewDistinct tree.children
+  pub depth : depth_of tree.children ≤ 3
+
+-- ---- what every element is that exists
+
+-- its name is a name, and its value a text
+pub record IsProperAttribute (a : Attribute) : Type 0 where
   pub name : IsName a.name
   pub value : IsText a.value
 
--- a name, at most 64 attributes, and none that repeats
-pub record HasGoodTag (name : List ℕ) (attributes : List Attribute) : Type 0 where
+-- the element's name is a name, and each of its attributes is proper
+pub record HasProperTag (name : List ℕ) (attributes : List Attribute) : Type 0 where
   pub named : IsName name
-  pub few : length attributes ≤ 64
-  pub distinct : IsDistinct bytes_eq (map (λ a. a.name) attributes)
-  pub each : AllByRecursion IsWritableAttribute attributes
+  pub each : AllByRecursion IsProperAttribute attributes
 
-abbrev pub HasGoodTags : Forest → Type 0
-HasGoodTags none = Unit {0}
-HasGoodTags (more name at attributes children rest) = HasGoodTag name attributes × HasGoodTags children × HasGoodTags rest
+-- so has each element, at all depths
+abbrev pub HaveProperTags : Forest → Type 0
+HaveProperTags none = Unit {0}
+HaveProperTags (more name at attributes children rest) = HasProperTag name attributes × HaveProperTags children × HaveProperTags rest
 
--- depth at most 4, and in each element at most 64 attributes of which none repeats. That names are names and
--- values are texts holds of every element of the program
-pub record IsWritable (tree : Tree) : Type 0 where
-  pub tag : HasGoodTag tree.name tree.attributes
-  pub tags : HasGoodTags tree.children
-  pub depth : depth_of tree.children ≤ 3
+-- names are names and values are texts, at all depths
+pub record IsProper (tree : Tree) : Type 0 where
+  pub own : HasProperTag tree.name tree.attributes
+  pub below : HaveProperTags tree.children
 
 -- ---- equal up to the places
 

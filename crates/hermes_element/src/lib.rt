@@ -9,6 +9,7 @@ mod element;
 mod lanes;
 mod laws;
 mod place;
+mod proper;
 mod read;
 mod reference;
 mod refusal;

@@ -1,4 +1,4 @@
--- The element of a writable message is a writable element.
+-- The element of a message is a writable element, and that of a writable message is proper.
 use Rattle.std.proofs.Common.{◌≡◌, ℕ, ℤ, ◌≤◌, not, Bool, true, false, List, [], ◌∷◌, map, length, Option, Some, None, option_map, codes, refl, sym, ◌∙◌, arith, lit≤}
 use Rattle.std.specs.List.{AllByRecursion, IsDistinct, list_any}
 use Rattle.std.specs.Str.{bytes_eq}
@@ -8,7 +8,7 @@ use Rattle.line_base.specs.Name.{IsName}
 use Rattle.line_base.proofs.Printable.{IsText-moment}
 use Rattle.hermes_element.specs.Element.{Forest, none}
 use Rattle.hermes_element.specs.Canonical as form
-use Rattle.hermes_element.specs.Canonical.{IsWritableAttribute, HasGoodTag, HasGoodTags, depth_of}
+use Rattle.hermes_element.specs.Canonical.{HasFewDistinct, HaveFewDistinct, IsProperAttribute, HasProperTag, HaveProperTags, depth_of}
 use Rattle.hermes_element.specs.declared.attribute.Attribute.{Attribute}
 use Rattle.hermes_horizontal.specs.declared.attr.Attr.{Attr}
 use Rattle.hermes_horizontal.specs.declared.attr.Attr.TheVariants as attrs
@@ -67,14 +67,14 @@ few (column ∷ columns) [] = omega arith
 few (column ∷ columns) (None ∷ values) = let h = few columns values in omega (arith, h)
 few (column ∷ columns) (Some value ∷ values) = let h = few columns values in omega (arith, h)
 
-written_attribute : (attr : Attr) (column : Column) (value : Value) → IsOfKind column.kind value → IsProper value → IsWritableAttribute (attribute_of attr value)
-written_attribute attr column value fit proper = record { name = attr_is_name attr; value = text_of_value column.kind value fit proper }
+proper_attribute : (attr : Attr) (column : Column) (value : Value) → IsOfKind column.kind value → IsProper value → IsProperAttribute (attribute_of attr value)
+proper_attribute attr column value fit proper = record { name = attr_is_name attr; value = text_of_value column.kind value fit proper }
 
-each_written : (columns : List Column) (values : List (Option Value)) → AreFit columns values → AllByRecursion IsProperIf values → AllByRecursion IsWritableAttribute (attributes_of columns values)
-each_written [] values fit proper = tt
-each_written (column ∷ columns) [] fit proper = tt
-each_written (column ∷ columns) (None ∷ values) fit proper = each_written columns values fit.1 proper.1
-each_written (column ∷ columns) (Some value ∷ values) fit proper = (written_attribute column.attr column value fit.0 proper.0, each_written columns values fit.1 proper.1)
+each_proper : (columns : List Column) (values : List (Option Value)) → AreFit columns values → AllByRecursion IsProperIf values → AllByRecursion IsProperAttribute (attributes_of columns values)
+each_proper [] values fit proper = tt
+each_proper (column ∷ columns) [] fit proper = tt
+each_proper (column ∷ columns) (None ∷ values) fit proper = each_proper columns values fit.1 proper.1
+each_proper (column ∷ columns) (Some value ∷ values) fit proper = (proper_attribute column.attr column value fit.0 proper.0, each_proper columns values fit.1 proper.1)
 
 names_of : List Attribute → List (List ℕ)
 names_of attributes = map (λ (a : Attribute). a.name) attributes
@@ -115,35 +115,56 @@ short_row kinds.QueryBoardInfo = lit≤ tt
 short_row kinds.SendBoardInfo = lit≤ tt
 short_row kinds.Other = lit≤ tt
 
-row_tag : (name : List ℕ) (kind : Kind) (values : List (Option Value)) → IsName name → AreFit (columns_of kind) values → AllByRecursion IsProperIf values → HasGoodTag name (attributes_of (columns_of kind) values)
-row_tag name kind values named fit proper = record {
-  named = named;
+row_few : (kind : Kind) (values : List (Option Value)) → HasFewDistinct (attributes_of (columns_of kind) values)
+row_few kind values = record {
   few = (let h = few (columns_of kind) values in let k = short_row kind in omega (arith, h, k));
   distinct = all_distinct (columns_of kind) values (rows_apart kind);
-  each = each_written (columns_of kind) values fit proper;
 }
 
-root_tag : (stamp : Option ℤ) → HasGoodTag (codes "Hermes") (attribute_if stamp_column.attr (option_map timed stamp))
-unfolding IsDistinct
-root_tag None = record { named = refl; few = lit≤ tt; distinct = tt; each = tt }
-root_tag (Some millis) = record { named = refl; few = lit≤ tt; distinct = (tt, tt); each = (record { name = attr_is_name stamp_column.attr; value = IsText-moment millis }, tt) }
+row_tag : (name : List ℕ) (kind : Kind) (values : List (Option Value)) → IsName name → AreFit (columns_of kind) values → AllByRecursion IsProperIf values → HasProperTag name (attributes_of (columns_of kind) values)
+row_tag name kind values named fit proper = record { named = named; each = each_proper (columns_of kind) values fit proper }
 
-empty_tag : (name : List ℕ) → IsName name → HasGoodTag name []
+root_few : (stamp : Option ℤ) → HasFewDistinct (attribute_if stamp_column.attr (option_map timed stamp))
 unfolding IsDistinct
-empty_tag name named = record { named = named; few = lit≤ tt; distinct = tt; each = tt }
+root_few None = record { few = lit≤ tt; distinct = tt }
+root_few (Some millis) = record { few = lit≤ tt; distinct = (tt, tt) }
+
+root_tag : (stamp : Option ℤ) → HasProperTag (codes "Hermes") (attribute_if stamp_column.attr (option_map timed stamp))
+root_tag None = record { named = refl; each = tt }
+root_tag (Some millis) = record { named = refl; each = (record { name = attr_is_name stamp_column.attr; value = IsText-moment millis }, tt) }
+
+no_few : HasFewDistinct []
+unfolding IsDistinct
+no_few = record { few = lit≤ tt; distinct = tt }
+
+empty_tag : (name : List ℕ) → IsName name → HasProperTag name []
+empty_tag name named = record { named = named; each = tt }
 
 -- ---- features
 
-if_tags : (test : Bool) (name : List ℕ) (rest : Forest) → IsName name → HasGoodTags rest → HasGoodTags (child_if test name rest)
+if_few : (test : Bool) (name : List ℕ) (rest : Forest) → HaveFewDistinct rest → HaveFewDistinct (child_if test name rest)
+if_few true name rest h = (no_few, tt, h)
+if_few false name rest h = h
+
+feature_few : (features : Features) → HaveFewDistinct (feature_children features)
+feature_few features =
+    if_few features.check_alive (codes "FeatureCheckAliveResponse") _ (if_few features.forecast (codes "FeatureBoardForecast") _
+    (if_few features.query (codes "FeatureQueryBoardInfo") _ (if_few features.send (codes "FeatureSendBoardInfo") none tt)))
+
+children_few : (features : Option Features) → HaveFewDistinct (children_of features)
+children_few None = tt
+children_few (Some features) = (no_few, feature_few features, tt)
+
+if_tags : (test : Bool) (name : List ℕ) (rest : Forest) → IsName name → HaveProperTags rest → HaveProperTags (child_if test name rest)
 if_tags true name rest named h = (empty_tag name named, tt, h)
 if_tags false name rest named h = h
 
-feature_tags : (features : Features) → HasGoodTags (feature_children features)
+feature_tags : (features : Features) → HaveProperTags (feature_children features)
 feature_tags features =
     if_tags features.check_alive (codes "FeatureCheckAliveResponse") _ refl (if_tags features.forecast (codes "FeatureBoardForecast") _ refl
     (if_tags features.query (codes "FeatureQueryBoardInfo") _ refl (if_tags features.send (codes "FeatureSendBoardInfo") none refl tt)))
 
-children_tags : (features : Option Features) → HasGoodTags (children_of features)
+children_tags : (features : Option Features) → HaveProperTags (children_of features)
 children_tags None = tt
 children_tags (Some features) = (empty_tag (codes "SupportedFeatures") refl, feature_tags features, tt)
 
@@ -165,9 +186,15 @@ children_depth (Some features) = let h = feature_depth features in omega (arith,
 
 -- ---- the whole element
 
-pub tree_writable : (message : Message) → IsProperMessage message → IsWritable message → form.IsWritable (tree_of message)
-tree_writable message proper writable = record {
-  tag = root_tag message.stamp;
-  tags = (row_tag (name_of message.body) (kind_of message.body) (parts message.body) proper.name (fit_parts message.body writable.numbers) proper.values, children_tags (features_of message.body), tt);
+pub tree_writable : (message : Message) → form.IsWritable (tree_of message)
+tree_writable message = record {
+  own = root_few message.stamp;
+  below = (row_few (kind_of message.body) (parts message.body), children_few (features_of message.body), tt);
   depth = (let h = children_depth (features_of message.body) in omega (arith, h));
+}
+
+pub tree_proper : (message : Message) → IsProperMessage message → IsWritable message → form.IsProper (tree_of message)
+tree_proper message proper writable = record {
+  own = root_tag message.stamp;
+  below = (row_tag (name_of message.body) (kind_of message.body) (parts message.body) proper.name (fit_parts message.body writable.numbers) proper.values, children_tags (features_of message.body), tt);
 }

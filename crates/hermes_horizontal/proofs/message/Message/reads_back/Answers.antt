@@ -1,10 +1,10 @@
 use Rattle.hermes_horizontal.specs.Canonical.{tree_of}
 use Rattle.hermes_horizontal.proofs.Returning.{message_back}
-use Rattle.hermes_horizontal.proofs.Writable.{tree_writable}
+use Rattle.hermes_horizontal.proofs.Writable.{tree_writable, tree_proper}
 use Rattle.hermes_horizontal.proofs.message.Message.reads_back.Goals as goal
 
 pub returns : goal.returns
 returns c = λ writable.
     let message = c.args.self.now in
-    let read = c.written_is_read.ensures (tree_of message) (tree_writable message c.parts_are_proper.ensures writable) in
+    let read = c.written_is_read.ensures (tree_of message) (tree_proper message c.parts_are_proper.ensures writable) (tree_writable message) in
     record { tree = read.0; element = read.1; says = message_back message read.0 c.parts_are_proper.ensures writable read.2 }
