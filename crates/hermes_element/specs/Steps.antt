@@ -3,7 +3,7 @@ use Rattle.std.specs.Prelude.{◌≡◌, ◌≢◌, ◌⊎◌, ℕ, zero, suc, �
 use Rattle.std.specs.Char.{encode_utf8}
 use Rattle.line_base.specs.Text.{is_allowed_char}
 use Rattle.hermes_element.specs.Plain.{is_blank}
-use Rattle.hermes_element.specs.Element.{Forest, none, more, Tree, add}
+use Rattle.hermes_element.specs.Element.{Forest, none, more, Tree}
 use Rattle.hermes_element.specs.Refusal.{shape_reason}
 use Rattle.hermes_element.specs.declared.refusal.ElementError.{ElementError}
 use Rattle.hermes_element.specs.declared.refusal.ElementError.TheVariants as errors

@@ -1,4 +1,4 @@
-ghost use Rattle.std.specs.Prelude.{◌≡◌, ◌+◌, ◌<◌, ◌≤◌, ℕ, IfOk, length, slice_index, slice_range, true, false};
+ghost use Rattle.std.specs.Prelude.{◌≡◌, ◌+◌, ◌<◌, ◌≤◌, ℕ, IfOk, length, slice_index, true, false};
 ghost use Rattle.std.specs.List.{list_any};
 ghost use Rattle.std.specs.Str.{bytes_eq};
 ghost use Rattle.line_base.specs.Name.{IsName, is_name_start, is_name_byte};
@@ -43,7 +43,7 @@ pub(crate) fn read_tag(
         return Err(Stop::Fault(at - 1, Why::Deep));
     }
     let name_end = name_end(bytes, at);
-    let name = match copy_name(alloc, bytes, at, name_end) {
+    let name = match copy_name(alloc, &bytes[at..name_end]) {
         Ok(name) => name,
         Err(stop) => return Err(stop),
     };
@@ -61,15 +61,11 @@ pub(crate) fn read_tag(
     }
 }
 
-/// The name that the bytes from an index up to another are.
-#[inline(always)]
-fn copy_name(alloc: Global, bytes: &[u8], from: usize, to: usize) -> Result<Name, Stop>
-    requires ordered { from ≤ to }
-    requires inside { to ≤ length bytes.now }
-    requires name { IsName (slice_range bytes.now from to) }
-    ensures { CopiesName (slice_range bytes.now from to) result }
+fn copy_name(alloc: Global, bytes: &[u8]) -> Result<Name, Stop>
+    requires { IsName bytes.now }
+    ensures { CopiesName bytes.now result }
 {
-    match Name::of_part(alloc, bytes, from, to) {
+    match Name::of(alloc, bytes) {
         Ok(name) => Ok(name),
         Err(_) => Err(Stop::Memory),
     }
@@ -128,7 +124,7 @@ fn read_attribute(
     if quote_at == bytes.len() || !is_quote(bytes[quote_at]) {
         return Err(Stop::Shape(quote_at));
     }
-    let name = match copy_name(alloc, bytes, at, name_end) {
+    let name = match copy_name(alloc, &bytes[at..name_end]) {
         Ok(name) => name,
         Err(stop) => return Err(stop),
     };

@@ -32,7 +32,7 @@ pub(crate) fn read_value(
         if end - at > MOST_VALUE_BYTES {
             return Err(Stop::Fault(at, Why::LongValue));
         }
-        return match Text::of_part(alloc, bytes, at, end) {
+        return match Text::of(alloc, &bytes[at..end]) {
             Ok(value) => Ok((value, end + 1)),
             Err(_) => Err(Stop::Memory),
         };

@@ -1,4 +1,3 @@
-pub mod Short
 pub mod Text
 pub mod Name
 pub mod Number

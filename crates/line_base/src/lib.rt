@@ -10,7 +10,6 @@ mod memory;
 mod moment;
 mod name;
 mod number;
-mod short;
 mod states;
 #[cfg(test)]
 mod tests;

@@ -1,11 +1,10 @@
 ghost use Rattle.std.specs.Str.{bytes_eq};
-ghost use Rattle.std.specs.Prelude.{◌≡◌, ◌≤◌, List, ℕ, IfOk, length, slice_range};
+ghost use Rattle.std.specs.Prelude.{◌≡◌, List, ℕ, IfOk};
 ghost use Rattle.std.specs.List.{list_all};
-ghost use Rattle.line_base.specs.Short.{short_bytes};
 ghost use Rattle.line_base.specs.Name.{IsName, ReadsName, is_name, is_name_start, is_name_byte};
 
 use crate::memory::Memory;
-use crate::short::Short;
+use smallvec::SmallVec;
 use std::alloc::Global;
 use std::marker::Model;
 use thiserror::Error;
@@ -18,15 +17,15 @@ const INLINE_BYTES: usize = 24;
 /// `_`, `-`, `.` and `:`.
 #[derive(Debug, Drop)]
 pub struct Name {
-    bytes: Short<INLINE_BYTES>,
+    bytes: SmallVec<u8, INLINE_BYTES>,
 }
 
 impl Model for Name {
     ghost Value = { List ℕ };
 
-    ghost view = { λ name. short_bytes name.bytes };
+    ghost view = { λ name. name.bytes.items };
 
-    ghost invariant = { λ name. IsName (short_bytes name.bytes) };
+    ghost invariant = { λ name. IsName name.bytes.items };
 }
 
 /// Why bytes are no name.
@@ -65,7 +64,7 @@ impl Name {
         if !is_name(bytes) {
             return Err(NameError::BadName);
         }
-        match Short::of(alloc, bytes, 0, bytes.len()) {
+        match SmallVec::from_slice(alloc, bytes) {
             Ok(bytes) => Ok(Name { bytes }),
             Err(_) => Err(NameError::Memory),
         }
@@ -76,21 +75,7 @@ impl Name {
         requires { IsName bytes.now }
         ensures { IfOk result (λ name. name ≡ bytes.now) }
     {
-        match Short::of(alloc, bytes, 0, bytes.len()) {
-            Ok(bytes) => Ok(Name { bytes }),
-            Err(_) => Err(Memory),
-        }
-    }
-
-    /// The name that the bytes from an index up to another are.
-    #[inline(always)]
-    pub fn of_part(alloc: Global, bytes: &[u8], from: usize, to: usize) -> Result<Name, Memory>
-        requires ordered { from ≤ to }
-        requires inside { to ≤ length bytes.now }
-        requires name { IsName (slice_range bytes.now from to) }
-        ensures { IfOk result (λ name. name ≡ slice_range bytes.now from to) }
-    {
-        match Short::of(alloc, bytes, from, to) {
+        match SmallVec::from_slice(alloc, bytes) {
             Ok(bytes) => Ok(Name { bytes }),
             Err(_) => Err(Memory),
         }

@@ -1,11 +1,10 @@
-ghost use Rattle.std.specs.Prelude.{◌≡◌, ◌≤◌, ◌↔◌, List, ℕ, IfOk, IsTrue, length, slice_range};
+ghost use Rattle.std.specs.Prelude.{◌≡◌, ◌↔◌, List, ℕ, IfOk, IsTrue};
 ghost use Rattle.std.specs.List.{list_all};
 ghost use Rattle.std.specs.Str.{bytes_eq, chars};
-ghost use Rattle.line_base.specs.Short.{short_bytes};
 ghost use Rattle.line_base.specs.Text.{IsAllowed, IsText, ReadsText, is_allowed_char};
 
 use crate::memory::Memory;
-use crate::short::Short;
+use smallvec::SmallVec;
 use std::alloc::Global;
 use std::marker::Model;
 use std::str;
@@ -20,15 +19,15 @@ const INLINE_BYTES: usize = 40;
 /// Text of allowed characters, in UTF-8, of at most 1,024 bytes.
 #[derive(Debug, Drop)]
 pub struct Text {
-    bytes: Short<INLINE_BYTES>,
+    bytes: SmallVec<u8, INLINE_BYTES>,
 }
 
 impl Model for Text {
     ghost Value = { List ℕ };
 
-    ghost view = { λ text. short_bytes text.bytes };
+    ghost view = { λ text. text.bytes.items };
 
-    ghost invariant = { λ text. IsText (short_bytes text.bytes) };
+    ghost invariant = { λ text. IsText text.bytes.items };
 }
 
 /// Why bytes are no text.
@@ -74,7 +73,7 @@ impl Text {
         if !is_allowed_text(bytes) {
             return Err(TextError::BadChar);
         }
-        match Short::of(alloc, bytes, 0, bytes.len()) {
+        match SmallVec::from_slice(alloc, bytes) {
             Ok(bytes) => Ok(Text { bytes }),
             Err(_) => Err(TextError::Memory),
         }
@@ -85,21 +84,7 @@ impl Text {
         requires { IsText bytes.now }
         ensures { IfOk result (λ text. text ≡ bytes.now) }
     {
-        match Short::of(alloc, bytes, 0, bytes.len()) {
-            Ok(bytes) => Ok(Text { bytes }),
-            Err(_) => Err(Memory),
-        }
-    }
-
-    /// The text that the bytes from an index up to another are.
-    #[inline(always)]
-    pub fn of_part(alloc: Global, bytes: &[u8], from: usize, to: usize) -> Result<Text, Memory>
-        requires ordered { from ≤ to }
-        requires inside { to ≤ length bytes.now }
-        requires text { IsText (slice_range bytes.now from to) }
-        ensures { IfOk result (λ text. text ≡ slice_range bytes.now from to) }
-    {
-        match Short::of(alloc, bytes, from, to) {
+        match SmallVec::from_slice(alloc, bytes) {
             Ok(bytes) => Ok(Text { bytes }),
             Err(_) => Err(Memory),
         }
@@ -109,8 +94,7 @@ impl Text {
     pub fn copy(&self, alloc: Global) -> Result<Text, Memory>
         ensures { IfOk result (λ text. text ≡ self.now) }
     {
-        let bytes = self.bytes.as_slice();
-        match Short::of(alloc, bytes, 0, bytes.len()) {
+        match SmallVec::from_slice(alloc, self.bytes.as_slice()) {
             Ok(bytes) => Ok(Text { bytes }),
             Err(_) => Err(Memory),
         }

@@ -1,4 +1,4 @@
-use Rattle.std.proofs.Common.{ℕ, leb, cond, bit_or, refl, arith}
+use Rattle.std.proofs.Common.{ℕ, leb, cond, bit_or, refl}
 use Rattle.std.proofs.lemmas.Simd.{zip2_splat, length-chunk}
 use lib.Lanes.{chunk}
 use Rattle.hermes_element.proofs.LaneRuns.{joined, splat_is, plain_in}

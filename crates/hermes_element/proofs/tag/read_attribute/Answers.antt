@@ -29,8 +29,8 @@ returns-then-quote_at-bytes-clause-reads c = λ depth roots stack tag same.
     value_breaks c.args.bytes.now c.args.at c.name_end-name_end.result c.requires.here c.requires.name c.name_end-name_end.ensures depth (in_tag roots stack tag) c.blanks_end-equals.result c.blanks_end-equals.ensures (omega (arith, c.blanks_end-equals.ensures.high, c.if-equals-bytes.false)) c.if-bytes-equals-ne61.false c.blanks_end-quote_at.result c.blanks_end-quote_at.ensures
     (λ inside. elim c.then-quote_at-bytes.branch [ then-quote_at-bytes-via-then-quote_at-bytes w ↦ absurd (omega (arith, w.if-quote_at-bytes.true)) | then-quote_at-bytes-via-else-quote_at-bytes+then-not-is_quote w ↦ sym w.is_quote.ensures ∙ w.if-not-is_quote.true ])
 
-pub copy_name-requires-clause-name : goal.copy_name-requires-clause-name
-copy_name-requires-clause-name c = range_name c.args.bytes.now c.args.at c.name_end-name_end.result c.requires.here c.requires.name c.name_end-name_end.ensures
+pub copy_name-requires : goal.copy_name-requires
+copy_name-requires c = range_name c.args.bytes.now c.args.at c.name_end-name_end.result c.requires.here c.requires.name c.name_end-name_end.ensures
 
 pub returns-in-Ok-read_value-clause-reads : goal.returns-in-Ok-read_value-clause-reads
 returns-in-Ok-read_value-clause-reads c = λ depth roots stack tag same.

@@ -11,8 +11,8 @@ pub returns-then-open_count-eq-MOST_OPEN-clause-reads : goal.returns-then-open_c
 returns-then-open_count-eq-MOST_OPEN-clause-reads c = λ roots stack many.
     tag_deep c.args.bytes.now c.args.at c.args.open_count roots stack (omega (arith, c.requires.here, c.if-at-bytes.false)) (sym c.is_name_start.ensures ∙ c.if-not-is_name_start.false) (many ∙ c.if-open_count-eq-MOST_OPEN.true)
 
-pub copy_name-requires-clause-name : goal.copy_name-requires-clause-name
-copy_name-requires-clause-name c = range_name c.args.bytes.now c.args.at c.name_end-name_end.result (omega (arith, c.requires.here, c.if-at-bytes.false)) (sym c.is_name_start.ensures ∙ c.if-not-is_name_start.false) c.name_end-name_end.ensures
+pub copy_name-requires : goal.copy_name-requires
+copy_name-requires c = range_name c.args.bytes.now c.args.at c.name_end-name_end.result (omega (arith, c.requires.here, c.if-at-bytes.false)) (sym c.is_name_start.ensures ∙ c.if-not-is_name_start.false) c.name_end-name_end.ensures
 
 pub returns-in-Ok-read_attributes-clause-reads : goal.returns-in-Ok-read_attributes-clause-reads
 returns-in-Ok-read_attributes-clause-reads c = λ roots stack many.

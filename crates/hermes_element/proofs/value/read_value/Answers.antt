@@ -1,4 +1,4 @@
-use Rattle.std.proofs.Common.{◌≡◌, ◌+◌, length, false, ap, sym, ◌∙◌, arith, subst}
+use Rattle.std.proofs.Common.{◌+◌, false, ap, sym, ◌∙◌, arith, subst}
 use Rattle.std.specs.Prelude.{slice_range}
 use Rattle.hermes_element.specs.Machine.{in_tag, with_attribute}
 use Rattle.hermes_element.specs.Steps.{run_at, ReadsValue}
@@ -15,12 +15,12 @@ returns-then-end-at-gt-MOST_VALUE_BYTES-clause-reads c = λ depth key b.
     ap (λ o. o.built) (plain_span c.args.quote depth c.args.at c.args.at to key c.args.bytes.now b c.plain_end-end.ensures)
     ∙ closes_long c.args.quote depth c.args.at to key (slice_range c.args.bytes.now c.args.at to) c.args.bytes.now false b c.if-end-bytes.true c.if-bytes-end.true (omega (arith, length_range c.args.bytes.now c.args.at to c.plain_end-end.ensures.low c.plain_end-end.ensures.high, c.if-end-at-gt-MOST_VALUE_BYTES.true))
 
-pub of_part-requires-clause-text : goal.of_part-requires-clause-text
-of_part-requires-clause-text c = record { short = omega (arith, length_range c.args.bytes.now c.args.at c.plain_end-end.result c.plain_end-end.ensures.low c.plain_end-end.ensures.high, c.if-end-at-gt-MOST_VALUE_BYTES.false); allowed = allowed_span c.args.quote c.args.bytes.now c.args.at c.plain_end-end.result c.plain_end-end.ensures }
+pub of-requires : goal.of-requires
+of-requires c = record { short = omega (arith, length_range c.args.bytes.now c.args.at c.plain_end-end.result c.plain_end-end.ensures.low c.plain_end-end.ensures.high, c.if-end-at-gt-MOST_VALUE_BYTES.false); allowed = allowed_span c.args.quote c.args.bytes.now c.args.at c.plain_end-end.result c.plain_end-end.ensures }
 
 pub returns-then-bytes-end-clause-reads : goal.returns-then-bytes-end-clause-reads
 returns-then-bytes-end-clause-reads c =
-    elim c.match-of_part.branch [
+    elim c.match-of.branch [
       | in-Ok w ↦ subst (λ r. ReadsValue c.args.bytes.now c.args.quote c.args.at r) (sym w.result-is) (λ depth key b.
           let to = c.plain_end-end.result in
           plain_span c.args.quote depth c.args.at c.args.at to key c.args.bytes.now b c.plain_end-end.ensures
