@@ -49,6 +49,8 @@ impl Moment {
     /// Reads `YYYY-MM-DDThh:mm:ss`, perhaps with a point and 1 to 9 digits, perhaps with `Z` or an
     /// offset `+hh:mm` or `-hh:mm`, which is passed over. Digits after the third are dropped.
     /// Refuses all else, and dates and times that no calendar or clock has.
+    // Inlined, it asks at each byte whether a text's bytes lie in the text itself.
+    #[inline(never)]
     #[tactic(auto, unfolding(crate::specs::Moment::moment_of))]
     pub fn read(bytes: &[u8]) -> Result<Moment, BadMoment>
         ensures same { result ≡ moment_of bytes.now }
