@@ -20,6 +20,8 @@ use hermes_element::{Attributes, Children, Element};
 use line_base::{Code, Decimal, Flip, Quality, Text};
 
 /// What the element of a message says.
+// Inlined, it fills its caller's frame with the fields of every message.
+#[inline(never)]
 pub fn body_of(child: Element) -> Result<Horizontal, Refusal>
     ensures { ReadsBody child result }
 {
