@@ -1,6 +1,8 @@
 ghost use Rattle.std.specs.Prelude.{◌≡◌, ◌++◌, OnOk, OnErr};
 ghost use Rattle.std.specs.List.{flat_map, list_all};
-ghost use Rattle.hermes_element.specs.Canonical.{canonical, canonical_attribute, escaped_byte, is_unescaped};
+ghost use Rattle.hermes_element.specs.Element.{Tree};
+ghost use Rattle.hermes_element.specs.Spelling.{Spells};
+ghost use Rattle.hermes_element.specs.Canonical.{IsWritable, canonical, canonical_attribute, unplaced, escaped_byte, is_unescaped};
 
 use crate::attribute::Attribute;
 use crate::element::Element;
@@ -10,7 +12,10 @@ use line_base::Memory;
 pub fn write_element(element: &Element, to: &mut Vec<u8>) -> Result<(), Memory>
     ensures written { OnOk result (to.new.items ≡ to.old.items ++ canonical element.now) }
     ensures unchanged { OnErr result (to.new.items ≡ to.old.items) }
+    // what is written of a writable element is read as that element, up to the places
+    ensures reads_back { IsWritable element.now → (found : Tree) × Spells (canonical element.now) found × (unplaced found ≡ unplaced element.now) }
 {
+    element.reads_back();
     let mut spelling = Vec::new(*to.allocator());
     append_element(element, &mut spelling)?;
     append(to, spelling.as_slice())
