@@ -1,5 +1,6 @@
 ghost use Rattle.std.specs.Prelude.{◌≡◌, ◌++◌, OnOk, OnErr};
-ghost use Rattle.hermes_horizontal.specs.Canonical.{canonical, body_spelling};
+ghost use Rattle.hermes_horizontal.specs.Canonical.{IsWritable, canonical, body_spelling};
+ghost use Rattle.hermes_horizontal.specs.Spelling.{Spells};
 
 use crate::assign::{append, append_optional_moment};
 use crate::attr::Attr;
@@ -18,7 +19,10 @@ const TYPICAL_BYTES: usize = 512;
 pub fn write_horizontal(message: &Message, to: &mut Vec<u8>) -> Result<(), Memory>
     ensures written { OnOk result (to.new.items ≡ to.old.items ++ canonical message.now) }
     ensures unchanged { OnErr result (to.new.items ≡ to.old.items) }
+    // what is written of a writable message is read as that message
+    ensures reads_back { IsWritable message.now → Spells (canonical message.now) message.now }
 {
+    message.reads_back();
     match Vec::with_capacity(*to.allocator(), TYPICAL_BYTES) {
         Ok(mut spelling) => {
             append_message(message, &mut spelling)?;
