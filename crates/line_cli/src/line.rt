@@ -1,6 +1,5 @@
 ghost use Rattle.std.specs.Prelude.{◌≡◌, ◌^◌, ◌<◌, ◌≤◌, IfOk, length};
 ghost use Rattle.line_world.specs.Boards.{boards_on};
-ghost use Rattle.line_world.specs.FloorPlan.{place_of};
 ghost use Rattle.line_world.specs.Moves.{AnswersFloor};
 ghost use Rattle.line_cli.specs.Answers.{Answers, Removes, Settles};
 ghost use Rattle.line_cli.specs.Stand.{no_line};
@@ -180,16 +179,9 @@ impl Line {
         let Some(place) = self.machines[number - 1].place_of(id) else {
             return Err(Reason::NotKept);
         };
-        if board_place(self.floor.list(number), id).is_none() {
+        if self.floor.place_of(number, id).is_none() {
             return Err(Reason::NotHere);
         }
         Ok(place)
     }
-}
-
-/// The place of the first board with this id.
-fn board_place(boards: &[Board], id: BoardId) -> Option<usize>
-    ensures { result ≡ place_of id boards.now }
-{
-    boards.iter().position(|board| board.has_id(id))
 }

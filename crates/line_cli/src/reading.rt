@@ -35,17 +35,15 @@ pub fn read_stream<S: Source, K: Sink>(alloc: Global, stream: &mut S, text_to: &
                 let space = MOST_READ - far.taken;
                 if count as u64 > space {
                     let part = front(piece, space as usize);
-                    match take_some(alloc, &mut cutter, far, part, &mut text) {
-                        Ok(now) => {
-                            return end_read(now, cutter.waiting(), true, &mut text, text_to);
-                        }
-                        Err(_) => return Status::Memory,
-                    }
+                    let Ok(now) = take_some(alloc, &mut cutter, far, part, &mut text) else {
+                        return Status::Memory;
+                    };
+                    return end_read(now, cutter.waiting(), true, &mut text, text_to);
                 }
-                match take_some(alloc, &mut cutter, far, piece, &mut text) {
-                    Ok(now) => far = now,
-                    Err(_) => return Status::Memory,
-                }
+                let Ok(now) = take_some(alloc, &mut cutter, far, piece, &mut text) else {
+                    return Status::Memory;
+                };
+                far = now;
                 if let Pushed::Failed = push_full(&mut text, text_to) {
                     return Status::WriteFault;
                 }

@@ -97,6 +97,14 @@ impl Floor {
         self.machines[machine - 1].boards()
     }
 
+    /// The place of the first board with an id in a machine's list, counted from the front.
+    pub fn place_of(&self, machine: usize, id: BoardId) -> Option<usize>
+        requires { IsMachine self.now machine }
+        ensures { result ≡ place_of id (machine_at self.now machine).boards }
+    {
+        self.machines[machine - 1].place_of(id)
+    }
+
     /// What lies in a gap.
     pub fn gap(&self, gap: usize) -> Gap
         requires { IsGap self.now gap }

@@ -87,6 +87,13 @@ impl Station {
         Ok(events)
     }
 
+    /// The place of the first board with an id.
+    pub fn place_of(&self, id: BoardId) -> Option<usize>
+        ensures { result ≡ place_of id self.now.boards }
+    {
+        place_of(&self.boards, id)
+    }
+
     /// Takes out the first board with an id.
     pub fn remove(&mut self, id: BoardId) -> Option<Board>
         ensures taken { result ≡ board_found id self.old.boards }

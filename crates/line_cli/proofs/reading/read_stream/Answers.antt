@@ -19,12 +19,12 @@ loop-count-init g c =
       room = c.in-Ok.ensures.len;
     }
 
-pub returns-in-Err-take_some-2-clause-reads : goal.returns-in-Err-take_some-2-clause-reads
-returns-in-Err-take_some-2-clause-reads g c =
+pub returns-in_default-take_some-clause-reads : goal.returns-in_default-take_some-clause-reads
+returns-in_default-take_some-clause-reads g c =
     reads-memory (g.S.Source.left c.args.stream.now) (g.S.Source.left c.loop-count.stream) (g.S.Source.left c.pull.new.self) (g.K.Sink.contents c.args.text_to.now) (g.K.Sink.contents c.loop-count.text_to) c.loop-count.cutter c.loop-count.far c.loop-count.text.items c.loop-count.invariant.on c.loop-count.invariant.most
 
-pub returns-in-Err-take_some-2-clause-causes : goal.returns-in-Err-take_some-2-clause-causes
-returns-in-Err-take_some-2-clause-causes g c = record { reads = omega (arith, c.loop-count.invariant.reads, c.in-Bytes.ensures.cause); writes = c.loop-count.invariant.writes; read_fault = λ is. cc; write_fault = λ is. cc }
+pub returns-in_default-take_some-clause-causes : goal.returns-in_default-take_some-clause-causes
+returns-in_default-take_some-clause-causes g c = record { reads = omega (arith, c.loop-count.invariant.reads, c.in-Bytes.ensures.cause); writes = c.loop-count.invariant.writes; read_fault = λ is. cc; write_fault = λ is. cc }
 
 pub returns-in-Failed-push_full-clause-reads : goal.returns-in-Failed-push_full-clause-reads
 returns-in-Failed-push_full-clause-reads g c =
@@ -51,12 +51,12 @@ loop-count-preserved g c =
     let long : length (take c.in-Bytes.count room) ≡ c.in-Bytes.count = length-take-le c.in-Bytes.count room c.in-Bytes.ensures.gives.1 in
     let on = reads-piece (g.S.Source.left c.args.stream.now) (g.S.Source.left c.loop-count.stream) (g.S.Source.left c.pull.new.self) (g.K.Sink.contents c.args.text_to.now) (g.K.Sink.contents c.loop-count.text_to) c.loop-count.cutter c.take_some-in-Bytes.new.cutter c.loop-count.far c.in-Ok-take_some-2.now (take c.in-Bytes.count room) c.loop-count.text.items c.take_some-in-Bytes.new.to.items c.loop-count.invariant.on c.in-Bytes.ensures.gives.2 takes in
     record {
-      on = reads-pushed (g.S.Source.left c.args.stream.now) (g.S.Source.left c.pull.new.self) (g.K.Sink.contents c.args.text_to.now) (g.K.Sink.contents c.loop-count.text_to) (g.K.Sink.contents c.push_full.new.report) c.take_some-in-Bytes.new.cutter c.in-Ok-take_some-2.now c.take_some-in-Bytes.new.to.items c.push_full.new.text.items on c.in_default.ensures.1;
+      on = reads-pushed (g.S.Source.left c.args.stream.now) (g.S.Source.left c.pull.new.self) (g.K.Sink.contents c.args.text_to.now) (g.K.Sink.contents c.loop-count.text_to) (g.K.Sink.contents c.push_full.new.report) c.take_some-in-Bytes.new.cutter c.in-Ok-take_some-2.now c.take_some-in-Bytes.new.to.items c.push_full.new.text.items on c.in_default-push_full.ensures.1;
       over = takes.over;
       most = omega (arith, takes.taken, long, c.if-count-space.false, c.loop-count.invariant.most);
       bounded = takes.bounded;
       reads = omega (arith, c.loop-count.invariant.reads, c.in-Bytes.ensures.cause);
-      writes = omega (arith, c.loop-count.invariant.writes, c.in_default.ensures.0);
+      writes = omega (arith, c.loop-count.invariant.writes, c.in_default-push_full.ensures.0);
       room = c.loop-count.invariant.room;
     }
 
@@ -78,15 +78,15 @@ pub returns-in-Failed-clause-causes : goal.returns-in-Failed-clause-causes
 returns-in-Failed-clause-causes g c =
     causes-read_fault c.push_all-pushed.result _ _ _ _ _ _ _ _ _ c.loop-count.invariant.reads c.in-Failed.ensures.cause.0 c.in-Failed.ensures.cause.1 c.loop-count.invariant.writes c.push_all-pushed.ensures
 
-pub returns-in-Err-take_some-clause-reads : goal.returns-in-Err-take_some-clause-reads
-returns-in-Err-take_some-clause-reads g c =
+pub returns-in_default-clause-reads : goal.returns-in_default-clause-reads
+returns-in_default-clause-reads g c =
     reads-memory (g.S.Source.left c.args.stream.now) (g.S.Source.left c.loop-count.stream) (g.S.Source.left c.pull.new.self) (g.K.Sink.contents c.args.text_to.now) (g.K.Sink.contents c.loop-count.text_to) c.loop-count.cutter c.loop-count.far c.loop-count.text.items c.loop-count.invariant.on c.loop-count.invariant.most
 
-pub returns-in-Err-take_some-clause-causes : goal.returns-in-Err-take_some-clause-causes
-returns-in-Err-take_some-clause-causes g c = record { reads = omega (arith, c.loop-count.invariant.reads, c.in-Bytes.ensures.cause); writes = c.loop-count.invariant.writes; read_fault = λ is. cc; write_fault = λ is. cc }
+pub returns-in_default-clause-causes : goal.returns-in_default-clause-causes
+returns-in_default-clause-causes g c = record { reads = omega (arith, c.loop-count.invariant.reads, c.in-Bytes.ensures.cause); writes = c.loop-count.invariant.writes; read_fault = λ is. cc; write_fault = λ is. cc }
 
-pub returns-in-Ok-take_some-clause-reads : goal.returns-in-Ok-take_some-clause-reads
-returns-in-Ok-take_some-clause-reads g c =
+pub returns-then-count-space-clause-reads : goal.returns-then-count-space-clause-reads
+returns-then-count-space-clause-reads g c =
     let room = c.pull.new.room in
     let count = c.in-Bytes.count in
     let fits : length room ≤ c.loop-count.room.len = omega (arith, c.pull.auto.room, c.as_mut_slice.ensures.len) in
@@ -100,6 +100,6 @@ returns-in-Ok-take_some-clause-reads g c =
     let ends = rw c.waiting.ensures.count at c.end_read.ensures.ends in
     reads-large (g.S.Source.left c.args.stream.now) (g.S.Source.left c.loop-count.stream) (g.S.Source.left c.pull.new.self) (g.K.Sink.contents c.args.text_to.now) (g.K.Sink.contents c.loop-count.text_to) (g.K.Sink.contents c.end_read.new.text_to) c.loop-count.cutter c.take_some.new.cutter c.loop-count.far c.in-Ok-take_some.now (take count room) c.loop-count.text.items c.take_some.new.to.items n (g.K.Sink.faults c.loop-count.text_to) (g.K.Sink.faults c.end_read.new.text_to) c.end_read.result c.loop-count.invariant.on c.in-Bytes.ensures.gives.2 takes full more ends
 
-pub returns-in-Ok-take_some-clause-causes : goal.returns-in-Ok-take_some-clause-causes
-returns-in-Ok-take_some-clause-causes g c =
+pub returns-then-count-space-clause-causes : goal.returns-then-count-space-clause-causes
+returns-then-count-space-clause-causes g c =
     causes-ended c.in-Ok-take_some.now c.waiting.result true (g.K.Sink.contents c.loop-count.text_to) (g.K.Sink.contents c.end_read.new.text_to) c.take_some.new.to.items c.end_read.result (g.S.Source.faults c.args.stream.now) (g.S.Source.faults c.pull.new.self) (g.K.Sink.faults c.args.text_to.now) (g.K.Sink.faults c.loop-count.text_to) (g.K.Sink.faults c.end_read.new.text_to) (omega (arith, c.loop-count.invariant.reads, c.in-Bytes.ensures.cause)) c.loop-count.invariant.writes c.end_read.ensures.ends
