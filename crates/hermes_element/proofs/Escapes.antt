@@ -190,7 +190,7 @@ reads_named bytes at to char here amp span good e = λ quote depth start key val
     amp_byte bytes at quote depth start key value after_cr c here amp ne ∙ letters_give quote depth start at key value c bytes (at + 1) to span char good e
 
 pub faults_named : (bytes : List ℕ) (at to : ℕ) → at < length bytes → get_or bytes at 0 ≡ 38 → IsSpan is_letter bytes (at + 1) to → IsGood bytes (at + 1) to
-    → character_of (named (slice_range bytes (at + 1) to)) ≡ None → ReadsReference bytes at (Err (stops.Fault at why.Reference))
+    → character_of (named (slice_range bytes (at + 1) to)) ≡ None → ReadsReference bytes at (Err (stops.Reference at))
 faults_named bytes at to here amp span good e = λ quote depth start key value after_cr c ne.
     ap (λ o. o.built) (amp_byte bytes at quote depth start key value after_cr c here amp ne) ∙ letters_fail quote depth start at key value c bytes (at + 1) to span good e
 
@@ -212,7 +212,7 @@ reads_decimal bytes at to char here amp sharp span good e = λ quote depth start
     hash bytes at quote depth start key value after_cr c here amp sharp ne ∙ digits_give quote depth start at key value c bytes (at + 2) to span char good e
 
 pub faults_decimal : (bytes : List ℕ) (at to : ℕ) → at + 1 < length bytes → get_or bytes at 0 ≡ 38 → get_or bytes (at + 1) 0 ≡ 35 → IsSpan is_digit bytes (at + 2) to → IsGood bytes (at + 2) to
-    → character_of (decimal (slice_range bytes (at + 2) to)) ≡ None → ReadsReference bytes at (Err (stops.Fault at why.Reference))
+    → character_of (decimal (slice_range bytes (at + 2) to)) ≡ None → ReadsReference bytes at (Err (stops.Reference at))
 faults_decimal bytes at to here amp sharp span good e = λ quote depth start key value after_cr c ne.
     ap (λ o. o.built) (hash bytes at quote depth start key value after_cr c here amp sharp ne) ∙ digits_fail quote depth start at key value c bytes (at + 2) to span good e
 
@@ -234,7 +234,7 @@ reads_hex bytes at to char here amp sharp x span good e = λ quote depth start k
     hash_x bytes at quote depth start key value after_cr c here amp sharp x ne ∙ hex_give quote depth start at key value c bytes (at + 3) to span char good e
 
 pub faults_hex : (bytes : List ℕ) (at to : ℕ) → at + 2 < length bytes → get_or bytes at 0 ≡ 38 → get_or bytes (at + 1) 0 ≡ 35 → get_or bytes (at + 2) 0 ≡ 120 → IsSpan is_hex_digit bytes (at + 3) to
-    → IsGood bytes (at + 3) to → character_of (hexadecimal (slice_range bytes (at + 3) to)) ≡ None → ReadsReference bytes at (Err (stops.Fault at why.Reference))
+    → IsGood bytes (at + 3) to → character_of (hexadecimal (slice_range bytes (at + 3) to)) ≡ None → ReadsReference bytes at (Err (stops.Reference at))
 faults_hex bytes at to here amp sharp x span good e = λ quote depth start key value after_cr c ne.
     ap (λ o. o.built) (hash_x bytes at quote depth start key value after_cr c here amp sharp x ne) ∙ hex_fail quote depth start at key value c bytes (at + 3) to span good e
 

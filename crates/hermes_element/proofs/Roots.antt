@@ -122,6 +122,10 @@ add_last-set (a ∷ b ∷ rest) parent child some is =
     ap (λ k. set (a ∷ b ∷ rest) k (record parent { children = add parent.children child })) last
     ∙ ap (λ l. a ∷ l) (add_last-set (b ∷ rest) parent child (omega arith) (is ∙ ap (λ k. get_or (a ∷ b ∷ rest) k parent) last))
 
+pub add_last-below : (root : Tree) (stack : List Tree) (child : Tree) → 0 < length stack → root ∷ add_last stack child ≡ add_last (root ∷ stack) child
+add_last-below root [] child some = absurd (omega arith)
+add_last-below root (a ∷ rest) child some = refl
+
 pub add_last-push : (stack : List Tree) (parent child : Tree) → add_last (stack ++ parent ∷ []) child ≡ stack ++ record parent { children = add parent.children child } ∷ []
 add_last-push [] parent child = refl
 add_last-push (a ∷ []) parent child = refl
@@ -266,7 +270,7 @@ pub last_closed : (front : List Tree) (top : Tree) (to : ℕ) (bytes : List ℕ)
 last_closed [] top to bytes e = refl
 last_closed (a ∷ rest) top to bytes e = absurd (omega arith)
 
-pub markup_close : (bytes : List ℕ) (at k : ℕ) (old new : List Tree) (result : Result (Option Tree × ℕ) Stop) → in_content old at bytes ≡ in_close old k bytes → ReadsClose bytes k old new result → ReadsMarkup bytes at old new result
-markup_close bytes at k old new (Ok (None, to)) e h = (e ∙ h.0, h.1)
-markup_close bytes at k old new (Ok (Some root, to)) e h = e ∙ h
-markup_close bytes at k old new (Err stop) e h = subst (λ o. Meets o stop) (sym e) h
+pub markup_close : (bytes : List ℕ) (at k : ℕ) (old : List Tree) (root : Tree) (stack : List Tree) (result : Result (Bool × ℕ) Stop) → in_content old at bytes ≡ in_close old k bytes → ReadsClose bytes k old root stack result → ReadsMarkup bytes at old root stack result
+markup_close bytes at k old root stack (Ok (false, to)) e h = e ∙ h
+markup_close bytes at k old root stack (Ok (true, to)) e h = e ∙ h
+markup_close bytes at k old root stack (Err stop) e h = subst (λ o. Meets o stop) (sym e) h

@@ -1,5 +1,5 @@
 -- What the parts of the reader answer: each goes on with the reading machine from where it is called to where it ends.
-use Rattle.std.specs.Prelude.{◌≡◌, ◌≢◌, ◌⊎◌, ℕ, zero, suc, ◌+◌, ◌/◌, ◌%◌, ◌<◌, ◌≤◌, Bool, true, false, List, [], ◌∷◌, ◌++◌, Option, Some, None, Result, Ok, Err, length, drop, slice_index, slice_range}
+use Rattle.std.specs.Prelude.{◌≡◌, ◌≢◌, ◌⊎◌, ℕ, zero, suc, ◌+◌, ◌/◌, ◌%◌, ◌<◌, ◌≤◌, Bool, true, false, List, [], ◌∷◌, ◌++◌, Some, None, Result, Ok, Err, length, drop, slice_index, slice_range}
 use Rattle.std.specs.Char.{encode_utf8}
 use Rattle.line_base.specs.Text.{is_allowed_char}
 use Rattle.hermes_element.specs.Plain.{is_blank}
@@ -11,6 +11,7 @@ use Rattle.hermes_element.specs.Machine.{Build, Outcome, run, between, in_tag, w
 use Rattle.hermes_element.specs.declared.attribute.Attribute.{Attribute}
 use Rattle.hermes_element.specs.declared.place.Place.{Place}
 use Rattle.hermes_element.specs.declared.place.Place.TheVariants as places
+use Rattle.hermes_element.specs.declared.refusal.Why.TheVariants as why
 use Rattle.hermes_element.specs.declared.stop.Stop.{Stop}
 use Rattle.hermes_element.specs.declared.stop.Stop.TheVariants as stops
 
@@ -28,7 +29,12 @@ run_at place depth c at bytes = run place depth (Ok c) at (drop at bytes)
 -- the machine ends as the reader says
 abbrev pub Meets : Outcome → Stop → Type 0
 Meets outcome (stops.Shape at) = outcome.stop ≡ Some at
-Meets outcome (stops.Fault at reason) = outcome.built ≡ Err (at, reason)
+Meets outcome (stops.EndName at) = outcome.built ≡ Err (at, why.EndName)
+Meets outcome (stops.Repeated at) = outcome.built ≡ Err (at, why.Repeated)
+Meets outcome (stops.Reference at) = outcome.built ≡ Err (at, why.Reference)
+Meets outcome (stops.LongValue at) = outcome.built ≡ Err (at, why.LongValue)
+Meets outcome (stops.Deep at) = outcome.built ≡ Err (at, why.Deep)
+Meets outcome (stops.Many at) = outcome.built ≡ Err (at, why.Many)
 Meets outcome stops.Memory = Unit {0}
 
 -- in a value
@@ -166,23 +172,23 @@ abbrev pub ReadsRoot : List ℕ → ℕ → Result (Tree × ℕ) Stop → Type 0
 ReadsRoot bytes at (Ok read) = run_at places.Open 0 beginning at bytes ≡ run_at places.End 0 (between (as_forest read.0) []) read.1 bytes
 ReadsRoot bytes at (Err stop) = Meets (run_at places.Open 0 beginning at bytes) stop
 
--- the next tag inside the root: `old` are open before it and `new` behind it, or the root has ended
+-- the next tag inside the root: `old` are open before it, and the root and `stack` behind it, or the root has ended
 abbrev pub in_content : List Tree → ℕ → List ℕ → Outcome
 in_content stack at bytes = run_at places.Content (length stack) (between none stack) at bytes
 
-abbrev pub ReadsMarkup : List ℕ → ℕ → List Tree → List Tree → Result (Option Tree × ℕ) Stop → Type 0
-ReadsMarkup bytes at old new (Ok (None, to)) = (in_content old at bytes ≡ in_content new to bytes) × (0 < length new)
-ReadsMarkup bytes at old new (Ok (Some root, to)) = in_content old at bytes ≡ run_at places.End 0 (between (as_forest root) []) to bytes
-ReadsMarkup bytes at old new (Err stop) = Meets (in_content old at bytes) stop
+abbrev pub ReadsMarkup : List ℕ → ℕ → List Tree → Tree → List Tree → Result (Bool × ℕ) Stop → Type 0
+ReadsMarkup bytes at old root stack (Ok (false, to)) = in_content old at bytes ≡ in_content (root ∷ stack) to bytes
+ReadsMarkup bytes at old root stack (Ok (true, to)) = in_content old at bytes ≡ run_at places.End 0 (between (as_forest root) []) to bytes
+ReadsMarkup bytes at old root stack (Err stop) = Meets (in_content old at bytes) stop
 
 -- behind the `</` of an end tag
 abbrev pub in_close : List Tree → ℕ → List ℕ → Outcome
 in_close stack at bytes = run_at places.Close (length stack) (between none stack) at bytes
 
-abbrev pub ReadsClose : List ℕ → ℕ → List Tree → List Tree → Result (Option Tree × ℕ) Stop → Type 0
-ReadsClose bytes at old new (Ok (None, to)) = (in_close old at bytes ≡ in_content new to bytes) × (0 < length new)
-ReadsClose bytes at old new (Ok (Some root, to)) = in_close old at bytes ≡ run_at places.End 0 (between (as_forest root) []) to bytes
-ReadsClose bytes at old new (Err stop) = Meets (in_close old at bytes) stop
+abbrev pub ReadsClose : List ℕ → ℕ → List Tree → Tree → List Tree → Result (Bool × ℕ) Stop → Type 0
+ReadsClose bytes at old root stack (Ok (false, to)) = in_close old at bytes ≡ in_content (root ∷ stack) to bytes
+ReadsClose bytes at old root stack (Ok (true, to)) = in_close old at bytes ≡ run_at places.End 0 (between (as_forest root) []) to bytes
+ReadsClose bytes at old root stack (Err stop) = Meets (in_close old at bytes) stop
 
 -- a child is added to the innermost element, or memory is wanting
 abbrev pub AddsLast : List Tree → Tree → List Tree → Result (Unit {0}) Stop → Type 0

@@ -5,7 +5,6 @@ ghost use Rattle.hermes_element.specs.Plain.{is_declared};
 
 use crate::bytes::{is_blank, is_declared};
 use crate::element::Element;
-use crate::refusal::Why;
 use crate::spans::{blanks_end, name_end};
 use crate::stop::Stop;
 use crate::tag::read_tag;
@@ -116,7 +115,7 @@ fn read_root(alloc: Global, bytes: &[u8], at: usize) -> Result<(Element, usize),
     ensures reads { ReadsRoot bytes.now at result }
     ensures within { IfOk result (λ read. read.1 ≤ length bytes.now) }
 {
-    let (root, is_empty, behind) = match read_start_tag(alloc, bytes, at, 0) {
+    let (mut root, is_empty, behind) = match read_start_tag(alloc, bytes, at, 0) {
         Ok(read) => read,
         Err(stop) => return Err(stop),
     };
@@ -124,33 +123,31 @@ fn read_root(alloc: Global, bytes: &[u8], at: usize) -> Result<(Element, usize),
         return Ok((root, behind));
     }
     let mut stack: Vec<Element> = Vec::new(alloc);
-    match stack.push(root) {
-        Ok(()) => {}
-        Err(_) => return Err(Stop::Memory),
-    }
     let mut end = behind;
     loop {
-        match read_markup(alloc, bytes, end, &mut stack) {
-            Ok((found, next)) => match found {
-                None => end = next,
-                Some(root) => return Ok((root, next)),
-            },
+        match read_markup(alloc, bytes, end, &mut root, &mut stack) {
+            Ok((has_ended, next)) => {
+                if has_ended {
+                    return Ok((root, next));
+                }
+                end = next;
+            }
             Err(stop) => return Err(stop),
         }
     }
 }
 
-/// Reads the next tag inside the root, where `stack` are the open elements, outermost first.
-/// Answers the root where it has ended, and the index behind the tag.
+/// Reads the next tag inside the root, where `stack` are the open elements below it, outermost
+/// first. Answers whether the root has ended, and the index behind the tag.
 fn read_markup(
     alloc: Global,
     bytes: &[u8],
     at: usize,
+    root: &mut Element,
     stack: &mut Vec<Element>,
-) -> Result<(Option<Element>, usize), Stop>
-    requires here { at ≤ length bytes.now }
-    requires some { 0 < length stack.old.items }
-    ensures reads { ReadsMarkup bytes.now at stack.old.items stack.new.items result }
+) -> Result<(bool, usize), Stop>
+    requires { at ≤ length bytes.now }
+    ensures reads { ReadsMarkup bytes.now at (root.old ∷ stack.old.items) root.new stack.new.items result }
     ensures within { IfOk result (λ read. (at < read.1) × (read.1 ≤ length bytes.now)) }
 {
     let open_at = blanks_end(bytes, at);
@@ -158,25 +155,25 @@ fn read_markup(
         return Err(Stop::Shape(open_at));
     }
     if open_at + 1 < bytes.len() && bytes[open_at + 1] == b'/' {
-        return read_close(bytes, open_at + 2, stack);
+        return read_close(bytes, open_at + 2, root, stack);
     }
     let (element, is_empty, end) = match read_start_tag(
         alloc,
         bytes,
         open_at + 1,
-        stack.as_slice().len(),
+        stack.as_slice().len() + 1,
     ) {
         Ok(read) => read,
         Err(stop) => return Err(stop),
     };
     if is_empty {
-        return match add_last(stack, element) {
-            Ok(()) => Ok((None, end)),
+        return match add_last(root, stack, element) {
+            Ok(()) => Ok((false, end)),
             Err(stop) => Err(stop),
         };
     }
     match stack.push(element) {
-        Ok(()) => Ok((None, end)),
+        Ok(()) => Ok((false, end)),
         Err(_) => Err(Stop::Memory),
     }
 }
@@ -185,37 +182,44 @@ fn read_markup(
 fn read_close(
     bytes: &[u8],
     at: usize,
+    root: &mut Element,
     stack: &mut Vec<Element>,
-) -> Result<(Option<Element>, usize), Stop>
-    requires here { at ≤ length bytes.now }
-    requires some { 0 < length stack.old.items }
-    ensures reads { ReadsClose bytes.now at stack.old.items stack.new.items result }
+) -> Result<(bool, usize), Stop>
+    requires { at ≤ length bytes.now }
+    ensures reads { ReadsClose bytes.now at (root.old ∷ stack.old.items) root.new stack.new.items result }
     ensures within { IfOk result (λ read. (at < read.1) × (read.1 ≤ length bytes.now)) }
 {
     let top = match stack.pop() {
         Some(top) => top,
-        None => return Err(Stop::Shape(at)),
+        None => {
+            return match read_end_tag(bytes, at, &*root) {
+                Ok(end) => Ok((true, end)),
+                Err(stop) => Err(stop),
+            };
+        }
     };
     let end = match read_end_tag(bytes, at, &top) {
         Ok(end) => end,
         Err(stop) => return Err(stop),
     };
-    if stack.as_slice().is_empty() {
-        return Ok((Some(top), end));
-    }
-    match add_last(stack, top) {
-        Ok(()) => Ok((None, end)),
+    match add_last(root, stack, top) {
+        Ok(()) => Ok((false, end)),
         Err(stop) => Err(stop),
     }
 }
 
 /// Adds an element as the last child of the innermost open one.
-fn add_last(stack: &mut Vec<Element>, element: Element) -> Result<(), Stop>
-    requires { 0 < length stack.old.items }
-    ensures { AddsLast stack.old.items element stack.new.items result }
+fn add_last(root: &mut Element, stack: &mut Vec<Element>, element: Element) -> Result<(), Stop>
+    ensures { AddsLast (root.old ∷ stack.old.items) element (root.new ∷ stack.new.items) result }
 {
-    let last = stack.as_slice().len() - 1;
-    match stack[last].children.push(element) {
+    let count = stack.as_slice().len();
+    if count == 0 {
+        return match root.children.push(element) {
+            Ok(()) => Ok(()),
+            Err(_) => Err(Stop::Memory),
+        };
+    }
+    match stack[count - 1].children.push(element) {
         Ok(()) => Ok(()),
         Err(_) => Err(Stop::Memory),
     }
@@ -282,7 +286,7 @@ fn read_end_tag(bytes: &[u8], at: usize, element: &Element) -> Result<usize, Sto
         return Err(Stop::Shape(end));
     }
     if &bytes[at..name_end] != element.name.bytes() {
-        return Err(Stop::Fault(at, Why::EndName));
+        return Err(Stop::EndName(at));
     }
     Ok(end + 1)
 }

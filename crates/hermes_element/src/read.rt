@@ -1,7 +1,8 @@
-ghost use Rattle.std.specs.Prelude.{◌≡◌, ℕ, IfOk};
+ghost use Rattle.std.specs.Prelude.{◌≡◌, ℕ, Err, IfOk};
 ghost use Rattle.hermes_element.specs.Element.{Tree};
 ghost use Rattle.hermes_element.specs.Spelling.{ReadsElement, Spells, AnswersElement, AnswersRefusal};
 ghost use Rattle.hermes_element.specs.Refusal.{IsRefused, shape_reason, markup_reason};
+ghost use Rattle.hermes_element.specs.Machine.{outcome};
 ghost use Rattle.hermes_element.specs.Steps.{ReadsOutcome};
 ghost use Rattle.hermes_element.specs.declared.refusal.ElementError.TheVariants as errors;
 ghost use Rattle.hermes_element.specs.declared.refusal.Why.{Why};
@@ -32,11 +33,24 @@ fn read_by_outcome(alloc: Global, bytes: &[u8]) -> Result<Element, ElementError>
     match read_document(alloc, bytes) {
         Ok(element) => Ok(element),
         Err(Stop::Shape(at)) => Err(shape_refusal(bytes, at)),
-        Err(Stop::Fault(at, why)) => match shape_stop(bytes) {
-            Some(stop) => Err(shape_refusal(bytes, stop)),
-            None => Err(ElementError::Refused { at, why }),
-        },
         Err(Stop::Memory) => Err(ElementError::Memory),
+        Err(Stop::EndName(at)) => Err(fault_refusal(bytes, at, Why::EndName)),
+        Err(Stop::Repeated(at)) => Err(fault_refusal(bytes, at, Why::Repeated)),
+        Err(Stop::Reference(at)) => Err(fault_refusal(bytes, at, Why::Reference)),
+        Err(Stop::LongValue(at)) => Err(fault_refusal(bytes, at, Why::LongValue)),
+        Err(Stop::Deep(at)) => Err(fault_refusal(bytes, at, Why::Deep)),
+        Err(Stop::Many(at)) => Err(fault_refusal(bytes, at, Why::Many)),
+    }
+}
+
+/// The refusal where a check fails at this index: there, unless the bytes leave the plain form.
+fn fault_refusal(bytes: &[u8], at: usize, why: Why) -> ElementError
+    requires { (outcome bytes.now).built ≡ Err (at, why) }
+    ensures { ReadsOutcome bytes.now (Err result) }
+{
+    match shape_stop(bytes) {
+        Some(stop) => shape_refusal(bytes, stop),
+        None => ElementError::Refused { at, why },
     }
 }
 

@@ -4,7 +4,6 @@ ghost use Rattle.hermes_element.specs.Plain.{is_digit, is_hex_digit};
 ghost use Rattle.hermes_element.specs.Checks.{allowed, named_char, number_of, digit_of};
 ghost use Rattle.hermes_element.specs.Steps.{ReadsReference, IsGood};
 
-use crate::refusal::Why;
 use crate::spans::{digits_end, hex_digits_end, letters_end};
 use crate::stop::Stop;
 use line_base::is_allowed_char;
@@ -30,7 +29,7 @@ pub(crate) fn read_reference(bytes: &[u8], at: usize) -> Result<(char, usize), S
     }
     match named_char(&bytes[start..end]) {
         Some(found) => Ok((found, end + 1)),
-        None => Err(Stop::Fault(at, Why::Reference)),
+        None => Err(Stop::Reference(at)),
     }
 }
 
@@ -53,7 +52,7 @@ fn read_number(bytes: &[u8], at: usize) -> Result<(char, usize), Stop>
     }
     match allowed(capped_number(&bytes[start..end], 10)) {
         Some(found) => Ok((found, end + 1)),
-        None => Err(Stop::Fault(at, Why::Reference)),
+        None => Err(Stop::Reference(at)),
     }
 }
 
@@ -74,7 +73,7 @@ fn read_hex_number(bytes: &[u8], at: usize) -> Result<(char, usize), Stop>
     }
     match allowed(capped_number(&bytes[start..end], 16)) {
         Some(found) => Ok((found, end + 1)),
-        None => Err(Stop::Fault(at, Why::Reference)),
+        None => Err(Stop::Reference(at)),
     }
 }
 

@@ -1,12 +1,15 @@
-use crate::refusal::Why;
-
 /// Why reading from the left ends.
 #[derive(Clone, Copy, Debug)]
 pub(crate) enum Stop {
     /// The bytes leave the plain form at this index.
     Shape(usize),
-    /// A check fails. The bytes may leave the plain form later.
-    Fault(usize, Why),
     /// Memory was wanting.
     Memory,
+    /// A check fails at this index. The bytes may leave the plain form later.
+    EndName(usize),
+    Repeated(usize),
+    Reference(usize),
+    LongValue(usize),
+    Deep(usize),
+    Many(usize),
 }

@@ -8,7 +8,6 @@ ghost use Rattle.hermes_element.specs.Steps.{ReadsAttribute, ReadsAttributes, Re
 use crate::attribute::{Attribute, Attributes};
 use crate::bytes::is_quote;
 use crate::element::{Children, Element};
-use crate::refusal::Why;
 use crate::spans::{blanks_end, name_end};
 use crate::stop::Stop;
 use crate::value::read_value;
@@ -40,7 +39,7 @@ pub(crate) fn read_tag(
         return Err(Stop::Shape(at));
     }
     if open_count == MOST_OPEN {
-        return Err(Stop::Fault(at - 1, Why::Deep));
+        return Err(Stop::Deep(at - 1));
     }
     let name_end = name_end(bytes, at);
     let name = match copy_name(alloc, &bytes[at..name_end]) {
@@ -110,7 +109,7 @@ fn read_attribute(
     ensures within { IfOk result (λ read. (at < read.1) × (read.1 ≤ length bytes.now)) }
 {
     if before.list().len() == MOST_ATTRIBUTES {
-        return Err(Stop::Fault(at, Why::Many));
+        return Err(Stop::Many(at));
     }
     let name_end = name_end(bytes, at);
     let equals = blanks_end(bytes, name_end);
@@ -118,7 +117,7 @@ fn read_attribute(
         return Err(Stop::Shape(equals));
     }
     if has_name(before.list(), &bytes[at..name_end]) {
-        return Err(Stop::Fault(name_end, Why::Repeated));
+        return Err(Stop::Repeated(name_end));
     }
     let quote_at = blanks_end(bytes, equals + 1);
     if quote_at == bytes.len() || !is_quote(bytes[quote_at]) {

@@ -5,7 +5,6 @@ ghost use Rattle.hermes_element.specs.Steps.{ReadsValue, ReadsPart, ReadsWide, P
 
 use crate::place::{Place, wide_next, wide_start};
 use crate::reference::read_reference;
-use crate::refusal::Why;
 use crate::spans::{is_plain, plain_end};
 use crate::stop::Stop;
 use line_base::Text;
@@ -30,7 +29,7 @@ pub(crate) fn read_value(
     let end = plain_end(bytes, at, quote);
     if end < bytes.len() && bytes[end] == quote {
         if end - at > MOST_VALUE_BYTES {
-            return Err(Stop::Fault(at, Why::LongValue));
+            return Err(Stop::LongValue(at));
         }
         return match Text::of(alloc, &bytes[at..end]) {
             Ok(value) => Ok((value, end + 1)),
@@ -70,7 +69,7 @@ fn read_mixed_value(
         return Err(Stop::Shape(end));
     }
     if value.as_slice().len() > MOST_VALUE_BYTES {
-        return Err(Stop::Fault(at, Why::LongValue));
+        return Err(Stop::LongValue(at));
     }
     match Text::of(alloc, value.as_slice()) {
         Ok(text) => Ok((text, end + 1)),

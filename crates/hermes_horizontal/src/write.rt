@@ -1,4 +1,4 @@
-ghost use Rattle.std.specs.Prelude.{◌≡◌, ◌++◌, OnOk, OnErr};
+ghost use Rattle.std.specs.Prelude.{◌≡◌, ◌++◌, [], OnOk, OnErr};
 ghost use Rattle.hermes_horizontal.specs.Canonical.{IsWritable, canonical, body_spelling};
 ghost use Rattle.hermes_horizontal.specs.Spelling.{Spells};
 
@@ -23,12 +23,33 @@ pub fn write_horizontal(message: &Message, to: &mut Vec<u8>) -> Result<(), Memor
     ensures reads_back { IsWritable message.now → Spells (canonical message.now) message.now }
 {
     message.reads_back();
+    if to.is_empty() {
+        return write_first(message, to);
+    }
     match Vec::with_capacity(*to.allocator(), TYPICAL_BYTES) {
         Ok(mut spelling) => {
             append_message(message, &mut spelling)?;
             append(to, spelling.as_slice())
         }
         Err(_) => Err(Memory),
+    }
+}
+
+/// Writes a message where nothing stands yet, so that there is nothing to keep.
+fn write_first(message: &Message, to: &mut Vec<u8>) -> Result<(), Memory>
+    requires { to.old.items ≡ [] }
+    ensures written { OnOk result (to.new.items ≡ to.old.items ++ canonical message.now) }
+    ensures unchanged { OnErr result (to.new.items ≡ to.old.items) }
+{
+    if to.reserve(TYPICAL_BYTES).is_err() {
+        return Err(Memory);
+    }
+    match append_message(message, to) {
+        Ok(()) => Ok(()),
+        Err(_) => {
+            to.clear();
+            Err(Memory)
+        }
     }
 }
 

@@ -71,7 +71,25 @@ impl Name {
     }
 
     /// The name that these bytes are.
+    #[inline]
     pub fn of(alloc: Global, bytes: &[u8]) -> Result<Name, Memory>
+        requires { IsName bytes.now }
+        ensures { IfOk result (λ name. name ≡ bytes.now) }
+    {
+        if bytes.len() > INLINE_BYTES {
+            return Name::of_many(alloc, bytes);
+        }
+        let mut copy = SmallVec::new(alloc);
+        match copy.extend_from_slice(bytes) {
+            Ok(()) => Ok(Name { bytes: copy }),
+            Err(_) => Err(Memory),
+        }
+    }
+
+    /// The same of more bytes than are kept inline. Apart, so that copying the others is inlined.
+    #[cold]
+    #[inline(never)]
+    fn of_many(alloc: Global, bytes: &[u8]) -> Result<Name, Memory>
         requires { IsName bytes.now }
         ensures { IfOk result (λ name. name ≡ bytes.now) }
     {

@@ -80,7 +80,25 @@ impl Text {
     }
 
     /// The text that these bytes are.
+    #[inline]
     pub fn of(alloc: Global, bytes: &[u8]) -> Result<Text, Memory>
+        requires { IsText bytes.now }
+        ensures { IfOk result (λ text. text ≡ bytes.now) }
+    {
+        if bytes.len() > INLINE_BYTES {
+            return Text::of_many(alloc, bytes);
+        }
+        let mut copy = SmallVec::new(alloc);
+        match copy.extend_from_slice(bytes) {
+            Ok(()) => Ok(Text { bytes: copy }),
+            Err(_) => Err(Memory),
+        }
+    }
+
+    /// The same of more bytes than are kept inline. Apart, so that copying the others is inlined.
+    #[cold]
+    #[inline(never)]
+    fn of_many(alloc: Global, bytes: &[u8]) -> Result<Text, Memory>
         requires { IsText bytes.now }
         ensures { IfOk result (λ text. text ≡ bytes.now) }
     {
