@@ -9,3 +9,4 @@ pub mod Canonical
 pub mod Texts
 pub mod Machine
 pub mod Steps
+pub mod Lent

@@ -207,11 +207,6 @@ ReadsOutcome bytes (Err (errors.Refused at reason)) =
     ((stop_of places.Start 0 0 bytes ≡ Some at) × (reason ≡ shape_reason bytes at)) ⊎ ((stop_of places.Start 0 0 bytes ≡ None) × ((outcome bytes).built ≡ Err (at, reason)))
 ReadsOutcome bytes (Err errors.Memory) = Unit {0}
 
--- a name of its own, or memory is wanting
-abbrev pub CopiesName : List ℕ → Result (List ℕ) Stop → Type 0
-CopiesName bytes (Ok name) = name ≡ bytes
-CopiesName bytes (Err stop) = stop ≡ stops.Memory
-
 -- ---- a character of several bytes
 
 -- its last `left` bytes

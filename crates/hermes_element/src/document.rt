@@ -4,7 +4,7 @@ ghost use Rattle.hermes_element.specs.Steps.{ReadsDocument, ReadsBegin, ReadsPro
 ghost use Rattle.hermes_element.specs.Plain.{is_declared};
 
 use crate::bytes::{is_blank, is_declared};
-use crate::element::Element;
+use crate::lent::LentElement;
 use crate::spans::{blanks_end, name_end};
 use crate::stop::Stop;
 use crate::tag::read_tag;
@@ -12,7 +12,7 @@ use line_base::is_name_start;
 use std::alloc::Global;
 
 /// Reads a document from the left up to its end, or to where it stops.
-pub(crate) fn read_document(alloc: Global, bytes: &[u8]) -> Result<Element, Stop>
+pub(crate) fn read_document<'a>(alloc: Global, bytes: &'a [u8]) -> Result<LentElement<'a>, Stop>
     ensures { ReadsDocument bytes.now result }
 {
     let start = match root_start(bytes) {
@@ -109,7 +109,7 @@ fn declared_end(bytes: &[u8], at: usize) -> usize
 }
 
 /// Reads the root from behind its `<`. Answers it and the index behind it.
-fn read_root(alloc: Global, bytes: &[u8], at: usize) -> Result<(Element, usize), Stop>
+fn read_root<'a>(alloc: Global, bytes: &'a [u8], at: usize) -> Result<(LentElement<'a>, usize), Stop>
     requires here { at ≤ length bytes.now }
     requires behind { 0 < at }
     ensures reads { ReadsRoot bytes.now at result }
@@ -122,7 +122,7 @@ fn read_root(alloc: Global, bytes: &[u8], at: usize) -> Result<(Element, usize),
     if is_empty {
         return Ok((root, behind));
     }
-    let mut stack: Vec<Element> = Vec::new(alloc);
+    let mut stack: Vec<LentElement<'a>> = Vec::new(alloc);
     let mut end = behind;
     loop {
         match read_markup(alloc, bytes, end, &mut root, &mut stack) {
@@ -139,12 +139,12 @@ fn read_root(alloc: Global, bytes: &[u8], at: usize) -> Result<(Element, usize),
 
 /// Reads the next tag inside the root, where `stack` are the open elements below it, outermost
 /// first. Answers whether the root has ended, and the index behind the tag.
-fn read_markup(
+fn read_markup<'a>(
     alloc: Global,
-    bytes: &[u8],
+    bytes: &'a [u8],
     at: usize,
-    root: &mut Element,
-    stack: &mut Vec<Element>,
+    root: &mut LentElement<'a>,
+    stack: &mut Vec<LentElement<'a>>,
 ) -> Result<(bool, usize), Stop>
     requires { at ≤ length bytes.now }
     ensures reads { ReadsMarkup bytes.now at (root.old ∷ stack.old.items) root.new stack.new.items result }
@@ -179,11 +179,11 @@ fn read_markup(
 }
 
 /// Reads the end tag of the innermost open element from its name on.
-fn read_close(
+fn read_close<'a>(
     bytes: &[u8],
     at: usize,
-    root: &mut Element,
-    stack: &mut Vec<Element>,
+    root: &mut LentElement<'a>,
+    stack: &mut Vec<LentElement<'a>>,
 ) -> Result<(bool, usize), Stop>
     requires { at ≤ length bytes.now }
     ensures reads { ReadsClose bytes.now at (root.old ∷ stack.old.items) root.new stack.new.items result }
@@ -209,8 +209,12 @@ fn read_close(
 }
 
 /// Adds an element as the last child of the innermost open one.
-fn add_last(root: &mut Element, stack: &mut Vec<Element>, element: Element) -> Result<(), Stop>
-    ensures { AddsLast (root.old ∷ stack.old.items) element (root.new ∷ stack.new.items) result }
+fn add_last<'a>(
+    root: &mut LentElement<'a>,
+    stack: &mut Vec<LentElement<'a>>,
+    element: LentElement<'a>,
+) -> Result<(), Stop>
+    ensures { AddsLast (root.old ∷ stack.old.items) element.entry (root.new ∷ stack.new.items) result }
 {
     let count = stack.as_slice().len();
     if count == 0 {
@@ -227,12 +231,12 @@ fn add_last(root: &mut Element, stack: &mut Vec<Element>, element: Element) -> R
 
 /// Reads a start tag from its name on, where so many elements are open. Answers its element,
 /// whether it ends with the tag, and the index behind the tag.
-fn read_start_tag(
+fn read_start_tag<'a>(
     alloc: Global,
-    bytes: &[u8],
+    bytes: &'a [u8],
     at: usize,
     open_count: usize,
-) -> Result<(Element, bool, usize), Stop>
+) -> Result<(LentElement<'a>, bool, usize), Stop>
     requires here { at ≤ length bytes.now }
     requires behind { 0 < at }
     requires start { at < length bytes.now → slice_index bytes.now at ≡ 47 → open_count ≡ 0 }
@@ -272,7 +276,7 @@ fn read_tag_end(bytes: &[u8], at: usize) -> Result<(bool, usize), Stop>
 }
 
 /// Reads the end tag of an element from its name on. Answers the index behind it.
-fn read_end_tag(bytes: &[u8], at: usize, element: &Element) -> Result<usize, Stop>
+fn read_end_tag(bytes: &[u8], at: usize, element: &LentElement<'_>) -> Result<usize, Stop>
     requires here { at ≤ length bytes.now }
     ensures reads { ReadsEndTag bytes.now at element.now result }
     ensures within { IfOk result (λ to. (at < to) × (to ≤ length bytes.now)) }

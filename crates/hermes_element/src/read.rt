@@ -9,6 +9,7 @@ ghost use Rattle.hermes_element.specs.declared.refusal.Why.{Why};
 
 use crate::document::read_document;
 use crate::element::Element;
+use crate::lent::LentElement;
 use crate::refusal::{ElementError, Why};
 use crate::shape::shape_stop;
 use crate::stop::Stop;
@@ -23,11 +24,28 @@ pub fn read_element(alloc: Global, bytes: &[u8]) -> Result<Element, ElementError
     ensures spelled { (tree : Tree) → Spells bytes.now tree → AnswersElement result tree }
     ensures refused { (at : ℕ) (reason : Why) → IsRefused bytes.now at reason → AnswersRefusal result at reason }
 {
+    match read_lent(alloc, bytes) {
+        Ok(lent) => match lent.own(alloc) {
+            Ok(element) => Ok(element),
+            Err(_) => Err(ElementError::Memory),
+        },
+        Err(error) => Err(error),
+    }
+}
+
+/// Reads the bytes of a document as an element that they lend.
+///
+/// The same as `read_element`, but that nothing is copied out of the bytes but what escapes stand for.
+pub fn read_lent<'a>(alloc: Global, bytes: &'a [u8]) -> Result<LentElement<'a>, ElementError>
+    ensures answer { ReadsElement bytes.now result }
+    ensures spelled { (tree : Tree) → Spells bytes.now tree → AnswersElement result tree }
+    ensures refused { (at : ℕ) (reason : Why) → IsRefused bytes.now at reason → AnswersRefusal result at reason }
+{
     read_by_outcome(alloc, bytes)
 }
 
 /// The same, as its outcome says.
-fn read_by_outcome(alloc: Global, bytes: &[u8]) -> Result<Element, ElementError>
+fn read_by_outcome<'a>(alloc: Global, bytes: &'a [u8]) -> Result<LentElement<'a>, ElementError>
     ensures { ReadsOutcome bytes.now result }
 {
     match read_document(alloc, bytes) {

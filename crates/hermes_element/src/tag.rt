@@ -1,17 +1,16 @@
 ghost use Rattle.std.specs.Prelude.{◌≡◌, ◌+◌, ◌<◌, ◌≤◌, ℕ, IfOk, length, slice_index, true, false};
 ghost use Rattle.std.specs.List.{list_any};
 ghost use Rattle.std.specs.Str.{bytes_eq};
-ghost use Rattle.line_base.specs.Name.{IsName, is_name_start, is_name_byte};
+ghost use Rattle.line_base.specs.Name.{is_name_start};
 ghost use Rattle.hermes_element.specs.Machine.{names_of};
-ghost use Rattle.hermes_element.specs.Steps.{ReadsAttribute, ReadsAttributes, ReadsTag, CopiesName, IsNoBlank};
+ghost use Rattle.hermes_element.specs.Steps.{ReadsAttribute, ReadsAttributes, ReadsTag, IsNoBlank};
 
-use crate::attribute::{Attribute, Attributes};
 use crate::bytes::is_quote;
-use crate::element::{Children, Element};
+use crate::lent::{LentAttribute, LentAttributes, LentChildren, LentElement, LentName};
 use crate::spans::{blanks_end, name_end};
 use crate::stop::Stop;
 use crate::value::read_value;
-use line_base::{Name, is_name_start};
+use line_base::is_name_start;
 use std::alloc::Global;
 
 /// The most attributes that an element may have.
@@ -22,12 +21,12 @@ const MOST_OPEN: usize = 4;
 
 /// Reads a start tag from its name on, where so many elements are open. Answers its element without
 /// children, and the index where its attributes and the blanks behind them end.
-pub(crate) fn read_tag(
+pub(crate) fn read_tag<'a>(
     alloc: Global,
-    bytes: &[u8],
+    bytes: &'a [u8],
     at: usize,
     open_count: usize,
-) -> Result<(Element, usize), Stop>
+) -> Result<(LentElement<'a>, usize), Stop>
     requires here { at ≤ length bytes.now }
     requires behind { 0 < at }
     requires start { at < length bytes.now → slice_index bytes.now at ≡ 47 → open_count ≡ 0 }
@@ -42,17 +41,14 @@ pub(crate) fn read_tag(
         return Err(Stop::Deep(at - 1));
     }
     let name_end = name_end(bytes, at);
-    let name = match copy_name(alloc, &bytes[at..name_end]) {
-        Ok(name) => name,
-        Err(stop) => return Err(stop),
-    };
+    let name = LentName::of(&bytes[at..name_end]);
     match read_attributes(alloc, bytes, name_end) {
         Ok((attributes, end)) => Ok((
-            Element {
+            LentElement {
                 name,
                 at: at - 1,
                 attributes,
-                children: Children::new(alloc),
+                children: LentChildren::new(alloc),
             },
             end,
         )),
@@ -60,25 +56,19 @@ pub(crate) fn read_tag(
     }
 }
 
-fn copy_name(alloc: Global, bytes: &[u8]) -> Result<Name, Stop>
-    requires { IsName bytes.now }
-    ensures { CopiesName bytes.now result }
-{
-    match Name::of(alloc, bytes) {
-        Ok(name) => Ok(name),
-        Err(_) => Err(Stop::Memory),
-    }
-}
-
 /// Reads the attributes of a start tag from behind its name. Answers them, and the index where they
 /// and the blanks behind them end.
-fn read_attributes(alloc: Global, bytes: &[u8], at: usize) -> Result<(Attributes, usize), Stop>
+fn read_attributes<'a>(
+    alloc: Global,
+    bytes: &'a [u8],
+    at: usize,
+) -> Result<(LentAttributes<'a>, usize), Stop>
     requires here { at ≤ length bytes.now }
     ensures reads { ReadsAttributes bytes.now at result }
     ensures within { IfOk result (λ read. (at ≤ read.1) × (read.1 ≤ length bytes.now)) }
     ensures over { IfOk result (λ read. IsNoBlank bytes.now read.1) }
 {
-    let mut attributes = Attributes::new(alloc);
+    let mut attributes = LentAttributes::new(alloc);
     let mut end = at;
     loop {
         let next = blanks_end(bytes, end);
@@ -97,12 +87,12 @@ fn read_attributes(alloc: Global, bytes: &[u8], at: usize) -> Result<(Attributes
 
 /// Reads an attribute from its name on, behind those of its element that were read before. Answers
 /// it and the index behind its value.
-fn read_attribute(
+fn read_attribute<'a>(
     alloc: Global,
-    bytes: &[u8],
+    bytes: &'a [u8],
     at: usize,
-    before: &Attributes,
-) -> Result<(Attribute, usize), Stop>
+    before: &LentAttributes<'a>,
+) -> Result<(LentAttribute<'a>, usize), Stop>
     requires here { at < length bytes.now }
     requires name { is_name_start (slice_index bytes.now at) ≡ true }
     ensures reads { ReadsAttribute bytes.now before.now at result }
@@ -123,14 +113,11 @@ fn read_attribute(
     if quote_at == bytes.len() || !is_quote(bytes[quote_at]) {
         return Err(Stop::Shape(quote_at));
     }
-    let name = match copy_name(alloc, &bytes[at..name_end]) {
-        Ok(name) => name,
-        Err(stop) => return Err(stop),
-    };
+    let name = LentName::of(&bytes[at..name_end]);
     let start = quote_at + 1;
     match read_value(alloc, bytes, start, bytes[quote_at]) {
         Ok((value, end)) => Ok((
-            Attribute {
+            LentAttribute {
                 name,
                 value,
                 at: start,
@@ -142,7 +129,7 @@ fn read_attribute(
 }
 
 /// Whether some attribute has this name.
-fn has_name(attributes: &[Attribute], name: &[u8]) -> bool
+fn has_name(attributes: &[LentAttribute<'_>], name: &[u8]) -> bool
     ensures { result ≡ list_any (bytes_eq name.now) (names_of attributes.now) }
 {
     for attribute in attributes {

@@ -3,11 +3,11 @@ ghost use Rattle.line_base.specs.Text.{IsAllowed};
 ghost use Rattle.hermes_element.specs.Plain.{is_quote};
 ghost use Rattle.hermes_element.specs.Steps.{ReadsValue, ReadsPart, ReadsWide, Puts, IsOne};
 
+use crate::lent::LentValue;
 use crate::place::{Place, wide_next, wide_start};
 use crate::reference::read_reference;
 use crate::spans::{is_plain, plain_end};
 use crate::stop::Stop;
-use line_base::Text;
 use std::alloc::Global;
 
 /// The most bytes that a value may have.
@@ -15,12 +15,12 @@ const MOST_VALUE_BYTES: usize = 1024;
 
 /// Reads a value of this quote from its first byte. Answers it and the index behind its closing
 /// quote.
-pub(crate) fn read_value(
+pub(crate) fn read_value<'a>(
     alloc: Global,
-    bytes: &[u8],
+    bytes: &'a [u8],
     at: usize,
     quote: u8,
-) -> Result<(Text, usize), Stop>
+) -> Result<(LentValue<'a>, usize), Stop>
     requires here { at ≤ length bytes.now }
     requires quote { is_quote quote ≡ true }
     ensures reads { ReadsValue bytes.now quote at result }
@@ -31,10 +31,7 @@ pub(crate) fn read_value(
         if end - at > MOST_VALUE_BYTES {
             return Err(Stop::LongValue(at));
         }
-        return match Text::of(alloc, &bytes[at..end]) {
-            Ok(value) => Ok((value, end + 1)),
-            Err(_) => Err(Stop::Memory),
-        };
+        return Ok((LentValue::of(&bytes[at..end]), end + 1));
     }
     read_mixed_value(alloc, bytes, at, quote)
 }
@@ -42,12 +39,12 @@ pub(crate) fn read_value(
 /// The same of a value with escapes, blanks other than spaces, or characters of several bytes.
 #[cold]
 #[inline(never)]
-fn read_mixed_value(
+fn read_mixed_value<'a>(
     alloc: Global,
-    bytes: &[u8],
+    bytes: &'a [u8],
     at: usize,
     quote: u8,
-) -> Result<(Text, usize), Stop>
+) -> Result<(LentValue<'a>, usize), Stop>
     requires here { at ≤ length bytes.now }
     requires quote { is_quote quote ≡ true }
     ensures reads { ReadsValue bytes.now quote at result }
@@ -71,10 +68,7 @@ fn read_mixed_value(
     if value.as_slice().len() > MOST_VALUE_BYTES {
         return Err(Stop::LongValue(at));
     }
-    match Text::of(alloc, value.as_slice()) {
-        Ok(text) => Ok((text, end + 1)),
-        Err(_) => Err(Stop::Memory),
-    }
+    Ok((LentValue::of_own(value), end + 1))
 }
 
 /// Reads one character or escape of a value, behind a raw CR or not, and appends what it stands

@@ -1,11 +1,5 @@
-use Rattle.hermes_element.proofs.Exact.{answer, answers_spelled, answers_refused}
+use Rattle.std.proofs.Common.{◌∙◌}
 use Rattle.hermes_element.proofs.read.read_element.Goals as goal
 
-pub returns-clause-answer : goal.returns-clause-answer
-returns-clause-answer c = answer c.args.bytes.now c.read_by_outcome.result c.read_by_outcome.ensures
-
-pub returns-clause-spelled : goal.returns-clause-spelled
-returns-clause-spelled c = answers_spelled c.args.bytes.now c.read_by_outcome.result c.read_by_outcome.ensures
-
-pub returns-clause-refused : goal.returns-clause-refused
-returns-clause-refused c = answers_refused c.args.bytes.now c.read_by_outcome.result c.read_by_outcome.ensures
+pub returns-in-Ok-own-clause-spelled : goal.returns-in-Ok-own-clause-spelled
+returns-in-Ok-own-clause-spelled c = λ tree spells. c.in-Ok-own.ensures ∙ c.in-Ok.ensures.spelled tree spells

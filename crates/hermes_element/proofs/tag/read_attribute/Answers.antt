@@ -29,17 +29,17 @@ returns-then-quote_at-bytes-clause-reads c = λ depth roots stack tag same.
     value_breaks c.args.bytes.now c.args.at c.name_end-name_end.result c.requires.here c.requires.name c.name_end-name_end.ensures depth (in_tag roots stack tag) c.blanks_end-equals.result c.blanks_end-equals.ensures (omega (arith, c.blanks_end-equals.ensures.high, c.if-equals-bytes.false)) c.if-bytes-equals-ne61.false c.blanks_end-quote_at.result c.blanks_end-quote_at.ensures
     (λ inside. elim c.then-quote_at-bytes.branch [ then-quote_at-bytes-via-then-quote_at-bytes w ↦ absurd (omega (arith, w.if-quote_at-bytes.true)) | then-quote_at-bytes-via-else-quote_at-bytes+then-not-is_quote w ↦ sym w.is_quote.ensures ∙ w.if-not-is_quote.true ])
 
-pub copy_name-requires : goal.copy_name-requires
-copy_name-requires c = range_name c.args.bytes.now c.args.at c.name_end-name_end.result c.requires.here c.requires.name c.name_end-name_end.ensures
+pub of-name-requires : goal.of-name-requires
+of-name-requires c = range_name c.args.bytes.now c.args.at c.name_end-name_end.result c.requires.here c.requires.name c.name_end-name_end.ensures
 
-pub returns-in-Ok-read_value-clause-reads : goal.returns-in-Ok-read_value-clause-reads
-returns-in-Ok-read_value-clause-reads c = λ depth roots stack tag same.
+pub returns-in-Ok-clause-reads : goal.returns-in-Ok-clause-reads
+returns-in-Ok-clause-reads c = λ depth roots stack tag same.
     in_value c.args.bytes.now c.args.at c.name_end-name_end.result c.requires.here c.requires.name c.name_end-name_end.ensures depth roots stack tag (λ e. c.if-list-eq-MOST_ATTRIBUTES.false (ap length c.list.ensures ∙ ap length (sym same) ∙ e)) (ap (λ l. list_any (bytes_eq (slice_range c.args.bytes.now c.args.at c.name_end-name_end.result)) (names_of l)) (same ∙ sym c.list-2.ensures) ∙ sym c.has_name.ensures ∙ c.if-has_name.false) c.blanks_end-equals.result c.blanks_end-equals.ensures (omega (arith, c.blanks_end-equals.ensures.high, c.if-equals-bytes.false)) c.if-bytes-equals-ne61.false c.blanks_end-quote_at.result c.blanks_end-quote_at.ensures (omega (arith, c.blanks_end-quote_at.ensures.high, c.if-quote_at-bytes.false)) (sym c.is_quote.ensures ∙ c.if-not-is_quote.false)
-    ∙ c.in-Ok-read_value.ensures.reads depth (slice_range c.args.bytes.now c.args.at c.name_end-name_end.result) (in_tag roots stack tag)
-    ∙ ap (λ n. run_at places.Quoted depth (in_tag roots stack (with_attribute tag n c.in-Ok-read_value.value (c.blanks_end-quote_at.result + 1))) c.in-Ok-read_value.end c.args.bytes.now) (sym c.in-Ok.ensures)
+    ∙ c.in-Ok.ensures.reads depth (slice_range c.args.bytes.now c.args.at c.name_end-name_end.result) (in_tag roots stack tag)
+    ∙ ap (λ n. run_at places.Quoted depth (in_tag roots stack (with_attribute tag n c.in-Ok.value (c.blanks_end-quote_at.result + 1))) c.in-Ok.end c.args.bytes.now) (sym c.of-name.ensures)
 
-pub returns-in-Err-read_value-clause-reads : goal.returns-in-Err-read_value-clause-reads
-returns-in-Err-read_value-clause-reads c = λ depth roots stack tag same.
-    subst (λ o. Meets o c.in-Err-read_value.stop)
+pub returns-in-Err-clause-reads : goal.returns-in-Err-clause-reads
+returns-in-Err-clause-reads c = λ depth roots stack tag same.
+    subst (λ o. Meets o c.in-Err.stop)
     (sym (in_value c.args.bytes.now c.args.at c.name_end-name_end.result c.requires.here c.requires.name c.name_end-name_end.ensures depth roots stack tag (λ e. c.if-list-eq-MOST_ATTRIBUTES.false (ap length c.list.ensures ∙ ap length (sym same) ∙ e)) (ap (λ l. list_any (bytes_eq (slice_range c.args.bytes.now c.args.at c.name_end-name_end.result)) (names_of l)) (same ∙ sym c.list-2.ensures) ∙ sym c.has_name.ensures ∙ c.if-has_name.false) c.blanks_end-equals.result c.blanks_end-equals.ensures (omega (arith, c.blanks_end-equals.ensures.high, c.if-equals-bytes.false)) c.if-bytes-equals-ne61.false c.blanks_end-quote_at.result c.blanks_end-quote_at.ensures (omega (arith, c.blanks_end-quote_at.ensures.high, c.if-quote_at-bytes.false)) (sym c.is_quote.ensures ∙ c.if-not-is_quote.false)))
-    (c.in-Err-read_value.ensures.reads depth (slice_range c.args.bytes.now c.args.at c.name_end-name_end.result) (in_tag roots stack tag))
+    (c.in-Err.ensures.reads depth (slice_range c.args.bytes.now c.args.at c.name_end-name_end.result) (in_tag roots stack tag))

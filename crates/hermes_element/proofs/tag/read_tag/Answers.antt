@@ -11,18 +11,18 @@ pub returns-then-open_count-eq-MOST_OPEN-clause-reads : goal.returns-then-open_c
 returns-then-open_count-eq-MOST_OPEN-clause-reads c = λ roots stack many.
     tag_deep c.args.bytes.now c.args.at c.args.open_count roots stack (omega (arith, c.requires.here, c.if-at-bytes.false)) (sym c.is_name_start.ensures ∙ c.if-not-is_name_start.false) (many ∙ c.if-open_count-eq-MOST_OPEN.true)
 
-pub copy_name-requires : goal.copy_name-requires
-copy_name-requires c = range_name c.args.bytes.now c.args.at c.name_end-name_end.result (omega (arith, c.requires.here, c.if-at-bytes.false)) (sym c.is_name_start.ensures ∙ c.if-not-is_name_start.false) c.name_end-name_end.ensures
+pub of-name-requires : goal.of-name-requires
+of-name-requires c = range_name c.args.bytes.now c.args.at c.name_end-name_end.result (omega (arith, c.requires.here, c.if-at-bytes.false)) (sym c.is_name_start.ensures ∙ c.if-not-is_name_start.false) c.name_end-name_end.ensures
 
-pub returns-in-Ok-read_attributes-clause-reads : goal.returns-in-Ok-read_attributes-clause-reads
-returns-in-Ok-read_attributes-clause-reads c = λ roots stack many.
+pub returns-in-Ok-clause-reads : goal.returns-in-Ok-clause-reads
+returns-in-Ok-clause-reads c = λ roots stack many.
     tag_named c.args.bytes.now c.args.at c.name_end-name_end.result c.args.open_count roots stack (omega (arith, c.requires.here, c.if-at-bytes.false)) (sym c.is_name_start.ensures ∙ c.if-not-is_name_start.false) c.name_end-name_end.ensures (λ e. c.if-open_count-eq-MOST_OPEN.false (sym many ∙ e))
-    ∙ c.in-Ok-read_attributes.ensures.reads c.args.open_count roots stack (record { name = slice_range c.args.bytes.now c.args.at c.name_end-name_end.result; at = c.args.at - 1; attributes = []; children = none }) refl
-    ∙ ap (λ n. run_at places.Quoted c.args.open_count (in_tag roots stack (record { name = n; at = c.args.at - 1; attributes = c.in-Ok-read_attributes.attributes; children = none })) c.in-Ok-read_attributes.end c.args.bytes.now) (sym c.in-Ok.ensures)
-    ∙ ap (λ f. run_at places.Quoted c.args.open_count (in_tag roots stack (record { name = c.in-Ok.name; at = c.args.at - 1; attributes = c.in-Ok-read_attributes.attributes; children = f })) c.in-Ok-read_attributes.end c.args.bytes.now) (sym c.new.ensures)
+    ∙ c.in-Ok.ensures.reads c.args.open_count roots stack (record { name = slice_range c.args.bytes.now c.args.at c.name_end-name_end.result; at = c.args.at - 1; attributes = []; children = none }) refl
+    ∙ ap (λ n. run_at places.Quoted c.args.open_count (in_tag roots stack (record { name = n; at = c.args.at - 1; attributes = c.in-Ok.attributes; children = none })) c.in-Ok.end c.args.bytes.now) (sym c.of-name.ensures)
+    ∙ ap (λ f. run_at places.Quoted c.args.open_count (in_tag roots stack (record { name = c.of-name.result; at = c.args.at - 1; attributes = c.in-Ok.attributes; children = f })) c.in-Ok.end c.args.bytes.now) (sym c.new.ensures)
 
-pub returns-in-Err-read_attributes-clause-reads : goal.returns-in-Err-read_attributes-clause-reads
-returns-in-Err-read_attributes-clause-reads c = λ roots stack many.
-    subst (λ o. Meets o c.in-Err-read_attributes.stop)
+pub returns-in-Err-clause-reads : goal.returns-in-Err-clause-reads
+returns-in-Err-clause-reads c = λ roots stack many.
+    subst (λ o. Meets o c.in-Err.stop)
     (sym (tag_named c.args.bytes.now c.args.at c.name_end-name_end.result c.args.open_count roots stack (omega (arith, c.requires.here, c.if-at-bytes.false)) (sym c.is_name_start.ensures ∙ c.if-not-is_name_start.false) c.name_end-name_end.ensures (λ e. c.if-open_count-eq-MOST_OPEN.false (sym many ∙ e))))
-    (c.in-Err-read_attributes.ensures.reads c.args.open_count roots stack (record { name = slice_range c.args.bytes.now c.args.at c.name_end-name_end.result; at = c.args.at - 1; attributes = []; children = none }) refl)
+    (c.in-Err.ensures.reads c.args.open_count roots stack (record { name = slice_range c.args.bytes.now c.args.at c.name_end-name_end.result; at = c.args.at - 1; attributes = []; children = none }) refl)

@@ -29,10 +29,10 @@ returns-then-as_slice-gt-MOST_VALUE_BYTES-clause-reads c = λ depth key b.
     ap (λ o. o.built) (c.loop-end.invariant.run depth key b)
     ∙ closes_long c.args.quote depth c.args.at c.loop-end.end key c.loop-end.value.items c.args.bytes.now c.loop-end.after_cr b here quote (omega (arith, c.if-as_slice-gt-MOST_VALUE_BYTES.true, ap length c.as_slice.ensures.value))
 
-pub returns-in-Ok-of-clause-reads : goal.returns-in-Ok-of-clause-reads
-returns-in-Ok-of-clause-reads c = λ depth key b.
+pub returns-clause-reads : goal.returns-clause-reads
+returns-clause-reads c = λ depth key b.
     let here : c.loop-end.end < length c.args.bytes.now = omega (arith, c.loop-end.invariant.high, c.if-end-bytes.false) in
     let quote : get_or c.args.bytes.now c.loop-end.end 0 ≡ c.args.quote = elim c.loop-end-test.branch [ then-loop-end-test+else-bytes-end w ↦ w.if-bytes-end.false | else-loop-end-test w ↦ absurd (omega arith) ] in
     c.loop-end.invariant.run depth key b
     ∙ closes c.args.quote depth c.args.at c.loop-end.end key c.loop-end.value.items c.args.bytes.now c.loop-end.after_cr b here quote (omega (arith, c.if-as_slice-gt-MOST_VALUE_BYTES.false, ap length c.as_slice.ensures.value))
-    ∙ ap (λ v. run_at places.Quoted depth (in_tag b.roots b.stack (with_attribute b.tag key v c.args.at)) (c.loop-end.end + 1) c.args.bytes.now) (sym (c.in-Ok-of.ensures ∙ c.as_slice-2.ensures.value))
+    ∙ ap (λ v. run_at places.Quoted depth (in_tag b.roots b.stack (with_attribute b.tag key v c.args.at)) (c.loop-end.end + 1) c.args.bytes.now) (sym c.of_own.ensures)
