@@ -1,5 +1,5 @@
 -- The one written spelling of an element, and which elements are writable.
-use Rattle.std.specs.Prelude.{ℕ, suc, ◌≤◌, ◌==◌, ◌||◌, Bool, not, cond, List, [], ◌∷◌, ◌++◌, codes, length, map, max}
+use Rattle.std.specs.Prelude.{ℕ, suc, ◌≤◌, ◌==◌, Bool, cond, List, [], ◌∷◌, ◌++◌, codes, length, map, max}
 use Rattle.std.specs.List.{flat_map, AllByRecursion, IsDistinct}
 use Rattle.std.specs.Str.{bytes_eq}
 use Rattle.line_base.specs.Text.{IsText}
@@ -15,7 +15,7 @@ escaped_byte b =
 
 -- a byte that is written as itself
 abbrev pub is_unescaped : ℕ → Bool
-is_unescaped b = not (b == 38 || b == 60 || b == 62 || b == 34 || b == 10 || b == 13 || b == 9)
+is_unescaped b = bytes_eq (escaped_byte b) (b ∷ [])
 
 -- a space, the name, `="`, the value, and `"`
 abbrev pub canonical_attribute : Attribute → List ℕ

@@ -64,7 +64,7 @@ pub fn write_attribute(name: &[u8], value: &[u8], to: &mut Vec<u8>) -> Result<()
 fn append_value(value: &[u8], to: &mut Vec<u8>) -> Result<(), Memory>
     ensures { OnOk result (to.new.items ≡ to.old.items ++ flat_map escaped_byte value.now) }
 {
-    if is_unescaped(value) {
+    if are_unescaped(value) {
         return append(to, value);
     }
     for byte in value {
@@ -74,10 +74,17 @@ fn append_value(value: &[u8], to: &mut Vec<u8>) -> Result<(), Memory>
 }
 
 /// Whether no byte of a value needs an escape, as in most of them.
-fn is_unescaped(value: &[u8]) -> bool
+fn are_unescaped(value: &[u8]) -> bool
     ensures { result ≡ list_all is_unescaped value.now }
 {
-    value.iter().all(|byte| { !matches!(*byte, b'&' | b'<' | b'>' | b'"' | b'\n' | b'\r' | b'\t') })
+    value.iter().all(|byte| is_unescaped(*byte))
+}
+
+#[tactic(auto, using(crate::proofs::Unescaped::unescaped_test))]
+fn is_unescaped(byte: u8) -> bool
+    ensures { result ≡ is_unescaped byte }
+{
+    !matches!(byte, b'&' | b'<' | b'>' | b'"' | b'\n' | b'\r' | b'\t')
 }
 
 fn append_byte(byte: u8, to: &mut Vec<u8>) -> Result<(), Memory>

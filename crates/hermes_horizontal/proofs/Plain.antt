@@ -15,7 +15,7 @@ use Rattle.line_base.proofs.Printable.{decimal_digits}
 use Rattle.board_record.specs.BoardId.{id_text}
 use Rattle.board_record.proofs.IdTexts.{is_id_byte, id_bytes}
 use Rattle.hermes_element.specs.Canonical.{is_unescaped}
-use Rattle.hermes_element.proofs.Unescaped.{unescaped}
+use Rattle.hermes_element.proofs.Unescaped.{unescaped_test, unescaped}
 use Rattle.hermes_horizontal.specs.declared.attr.Attr.{Attr}
 use Rattle.hermes_horizontal.specs.Attrs.{attr_text}
 use Rattle.hermes_horizontal.specs.Values.{Value, value_text}
@@ -26,7 +26,7 @@ pub record ArePlain (bytes : List ℕ) : Type 0 where
   pub all : list_all is_unescaped bytes ≡ true
 
 plain_digit : (c : ℕ) → is_ascii_digit c ≡ true → is_unescaped c ≡ true
-plain_digit c digit = grind (arith, nat_tests)
+plain_digit c digit = unescaped_test c ∙ grind (arith, nat_tests)
 
 plain_digits : (bytes : List ℕ) → are_digits bytes ≡ true → list_all is_unescaped bytes ≡ true
 plain_digits [] digits = refl
@@ -82,7 +82,7 @@ plain_moment millis = plain_fields (fields_of millis)
 -- ---- ids
 
 plain_id_byte : (b : ℕ) → is_id_byte b ≡ true → is_unescaped b ≡ true
-plain_id_byte b h = grind (arith, nat_tests)
+plain_id_byte b h = unescaped_test b ∙ grind (arith, nat_tests)
 
 plain_id_bytes : (bytes : List ℕ) → list_all is_id_byte bytes ≡ true → list_all is_unescaped bytes ≡ true
 plain_id_bytes [] h = refl
