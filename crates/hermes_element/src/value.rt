@@ -1,4 +1,4 @@
-ghost use Rattle.std.specs.Prelude.{◌≡◌, ◌≢◌, ◌+◌, ◌<◌, ◌≤◌, ◌⊎◌, IfOk, OnOk, length, slice_index, slice_range, true};
+ghost use Rattle.std.specs.Prelude.{◌≡◌, ◌≢◌, ◌+◌, ◌<◌, ◌≤◌, ◌⊎◌, Bool, IfOk, OnOk, length, slice_index, slice_range, true};
 ghost use Rattle.line_base.specs.Text.{IsAllowed};
 ghost use Rattle.hermes_element.specs.Plain.{is_quote};
 ghost use Rattle.hermes_element.specs.Steps.{ReadsValue, ReadsPart, ReadsWide, Puts, IsOne};
@@ -89,20 +89,75 @@ fn read_part(
 {
     let byte = bytes[at];
     if byte == b'&' {
-        return match read_reference(bytes, at) {
-            Ok((found, next)) => {
-                let mut room = [0; 4];
-                put(value, found.encode_utf8(&mut room).as_bytes(), next, false)
-            }
-            Err(stop) => Err(stop),
-        };
+        return read_escape(value, bytes, at, quote);
     }
     if byte >= 128 {
-        return match read_wide(bytes, at, quote) {
-            Ok(next) => put(value, &bytes[at..next], next, false),
-            Err(stop) => Err(stop),
-        };
+        return read_character(value, bytes, at, quote);
     }
+    read_ascii(value, bytes, at, quote, after_cr)
+}
+
+/// The same of an escape.
+fn read_escape(
+    value: &mut Vec<u8>,
+    bytes: &[u8],
+    at: usize,
+    quote: u8,
+) -> Result<(usize, bool), Stop>
+    requires here { at < length bytes.now }
+    requires escape { slice_index bytes.now at ≡ 38 }
+    requires quote { is_quote quote ≡ true }
+    ensures reads { (after_cr : Bool) → ReadsPart bytes.now quote at value.old.items after_cr value.new.items result }
+    ensures within { IfOk result (λ to. (at < to.0) × (to.0 ≤ length bytes.now)) }
+    ensures allowed { OnOk result (IsAllowed value.old.items → IsAllowed value.new.items) }
+{
+    match read_reference(bytes, at) {
+        Ok((found, next)) => {
+            let mut room = [0; 4];
+            put(value, found.encode_utf8(&mut room).as_bytes(), next, false)
+        }
+        Err(stop) => Err(stop),
+    }
+}
+
+/// The same of a character of several bytes.
+fn read_character(
+    value: &mut Vec<u8>,
+    bytes: &[u8],
+    at: usize,
+    quote: u8,
+) -> Result<(usize, bool), Stop>
+    requires here { at < length bytes.now }
+    requires first { 128 ≤ slice_index bytes.now at }
+    requires quote { is_quote quote ≡ true }
+    ensures reads { (after_cr : Bool) → ReadsPart bytes.now quote at value.old.items after_cr value.new.items result }
+    ensures within { IfOk result (λ to. (at < to.0) × (to.0 ≤ length bytes.now)) }
+    ensures allowed { OnOk result (IsAllowed value.old.items → IsAllowed value.new.items) }
+{
+    match read_wide(bytes, at, quote) {
+        Ok(next) => put(value, &bytes[at..next], next, false),
+        Err(stop) => Err(stop),
+    }
+}
+
+/// The same of a raw character of one byte.
+fn read_ascii(
+    value: &mut Vec<u8>,
+    bytes: &[u8],
+    at: usize,
+    quote: u8,
+    after_cr: bool,
+) -> Result<(usize, bool), Stop>
+    requires here { at < length bytes.now }
+    requires one { slice_index bytes.now at < 128 }
+    requires raw { slice_index bytes.now at ≢ 38 }
+    requires quote { is_quote quote ≡ true }
+    requires inside { slice_index bytes.now at ≢ quote }
+    ensures reads { ReadsPart bytes.now quote at value.old.items after_cr value.new.items result }
+    ensures within { IfOk result (λ to. (at < to.0) × (to.0 ≤ length bytes.now)) }
+    ensures allowed { OnOk result (IsAllowed value.old.items → IsAllowed value.new.items) }
+{
+    let byte = bytes[at];
     if is_plain(quote, byte) {
         return put(value, &[byte], at + 1, false);
     }

@@ -1,63 +1,7 @@
-use Rattle.std.proofs.Common.{◌+◌, ◌∷◌, [], get_or, true, false, ap, sym, ◌∙◌, arith, subst}
-use Rattle.std.specs.Prelude.{slice_range}
-use Rattle.line_base.specs.Text.{IsAllowed}
-use Rattle.hermes_element.specs.Steps.{run_at, valuing}
-use Rattle.hermes_element.specs.declared.place.Place.TheVariants as places
-use Rattle.hermes_element.proofs.Values.{part_plain, part_lf, part_first_lf, part_cr, part_tab}
-use Rattle.hermes_element.proofs.Texts.{allowed_char, allowed_one, allowed_plain, allowed_byte}
-use Rattle.hermes_element.proofs.Puts.{puts_part, puts_allowed}
 use Rattle.hermes_element.proofs.value.read_part.Goals as goal
 
-pub returns-in-Ok-clause-allowed : goal.returns-in-Ok-clause-allowed
-returns-in-Ok-clause-allowed c =
-    let text = c.as_bytes.ensures.value ∙ c.encode_utf8.ensures.value in
-    puts_allowed c.args.value.now.items c.as_bytes.result.now c.put.new.value.items c.in-Ok.next false c.put.result c.put.ensures
-    (subst IsAllowed (sym text) (allowed_char c.in-Ok.found c.in-Ok.ensures.allowed))
+pub returns-then-byte-eq38-clause-reads : goal.returns-then-byte-eq38-clause-reads
+returns-then-byte-eq38-clause-reads c = c.read_escape.ensures.reads c.args.after_cr
 
-pub returns-in-Ok-read_wide-clause-allowed : goal.returns-in-Ok-read_wide-clause-allowed
-returns-in-Ok-read_wide-clause-allowed c =
-    puts_allowed c.args.value.now.items (slice_range c.args.bytes.now c.args.at c.in-Ok-read_wide.next) c.put-in-Ok-read_wide.new.value.items c.in-Ok-read_wide.next false c.put-in-Ok-read_wide.result c.put-in-Ok-read_wide.ensures
-    (allowed_one (slice_range c.args.bytes.now c.args.at c.in-Ok-read_wide.next) c.in-Ok-read_wide.ensures.one)
-
-pub returns-in-Err-read_wide-clause-reads : goal.returns-in-Err-read_wide-clause-reads
-returns-in-Err-read_wide-clause-reads c = λ depth start key b. c.in-Err-read_wide.ensures.reads depth start key c.args.value.now.items c.args.after_cr b
-
-pub returns-then-is_plain-clause-reads : goal.returns-then-is_plain-clause-reads
-returns-then-is_plain-clause-reads c =
-    let plain = sym c.is_plain.ensures ∙ c.if-is_plain.true in
-    puts_part c.args.bytes.now c.args.value.now.items (get_or c.args.bytes.now c.args.at 0 ∷ []) c.put-then-is_plain.new.value.items c.args.quote c.args.at (c.args.at + 1) c.args.after_cr false c.put-then-is_plain.result c.put-then-is_plain.ensures
-    (λ depth start key b. part_plain c.args.quote depth start c.args.at key c.args.value.now.items c.args.bytes.now c.args.after_cr b c.requires.here plain)
-
-pub returns-then-is_plain-clause-allowed : goal.returns-then-is_plain-clause-allowed
-returns-then-is_plain-clause-allowed c =
-    let plain = sym c.is_plain.ensures ∙ c.if-is_plain.true in
-    puts_allowed c.args.value.now.items (get_or c.args.bytes.now c.args.at 0 ∷ []) c.put-then-is_plain.new.value.items (c.args.at + 1) false c.put-then-is_plain.result c.put-then-is_plain.ensures (allowed_plain c.args.quote (get_or c.args.bytes.now c.args.at 0) plain)
-
-pub returns-then-after_cr-clause-reads : goal.returns-then-after_cr-clause-reads
-returns-then-after_cr-clause-reads c =
-    puts_part c.args.bytes.now c.args.value.now.items ([]) c.put-then-after_cr.new.value.items c.args.quote c.args.at (c.args.at + 1) c.args.after_cr false c.put-then-after_cr.result c.put-then-after_cr.ensures
-    (λ depth start key b. ap (λ r. run_at (places.Value c.args.quote) depth (valuing b key start c.args.value.now.items r) c.args.at c.args.bytes.now) c.if-after_cr.true ∙ part_lf c.args.quote depth start c.args.at key c.args.value.now.items c.args.bytes.now b c.requires.quote c.requires.here c.if-byte-eq10.true)
-
-pub returns-then-byte-eq10-clause-reads : goal.returns-then-byte-eq10-clause-reads
-returns-then-byte-eq10-clause-reads c =
-    puts_part c.args.bytes.now c.args.value.now.items (32 ∷ []) c.put-then-byte-eq10.new.value.items c.args.quote c.args.at (c.args.at + 1) c.args.after_cr false c.put-then-byte-eq10.result c.put-then-byte-eq10.ensures
-    (λ depth start key b. ap (λ r. run_at (places.Value c.args.quote) depth (valuing b key start c.args.value.now.items r) c.args.at c.args.bytes.now) c.if-after_cr.false ∙ part_first_lf c.args.quote depth start c.args.at key c.args.value.now.items c.args.bytes.now b c.requires.quote c.requires.here c.if-byte-eq10.true)
-
-pub returns-then-byte-eq10-clause-allowed : goal.returns-then-byte-eq10-clause-allowed
-returns-then-byte-eq10-clause-allowed c = puts_allowed c.args.value.now.items (32 ∷ []) c.put-then-byte-eq10.new.value.items (c.args.at + 1) false c.put-then-byte-eq10.result c.put-then-byte-eq10.ensures (allowed_byte 32 (omega arith) (omega arith))
-
-pub returns-then-byte-eq13-clause-reads : goal.returns-then-byte-eq13-clause-reads
-returns-then-byte-eq13-clause-reads c =
-    puts_part c.args.bytes.now c.args.value.now.items (32 ∷ []) c.put-then-byte-eq13.new.value.items c.args.quote c.args.at (c.args.at + 1) c.args.after_cr true c.put-then-byte-eq13.result c.put-then-byte-eq13.ensures
-    (λ depth start key b. part_cr c.args.quote depth start c.args.at key c.args.value.now.items c.args.bytes.now c.args.after_cr b c.requires.quote c.requires.here c.if-byte-eq13.true)
-
-pub returns-then-byte-eq13-clause-allowed : goal.returns-then-byte-eq13-clause-allowed
-returns-then-byte-eq13-clause-allowed c = puts_allowed c.args.value.now.items (32 ∷ []) c.put-then-byte-eq13.new.value.items (c.args.at + 1) true c.put-then-byte-eq13.result c.put-then-byte-eq13.ensures (allowed_byte 32 (omega arith) (omega arith))
-
-pub returns-then-byte-eq9-clause-reads : goal.returns-then-byte-eq9-clause-reads
-returns-then-byte-eq9-clause-reads c =
-    puts_part c.args.bytes.now c.args.value.now.items (32 ∷ []) c.put-then-byte-eq9.new.value.items c.args.quote c.args.at (c.args.at + 1) c.args.after_cr false c.put-then-byte-eq9.result c.put-then-byte-eq9.ensures
-    (λ depth start key b. part_tab c.args.quote depth start c.args.at key c.args.value.now.items c.args.bytes.now c.args.after_cr b c.requires.quote c.requires.here c.if-byte-eq9.true)
-
-pub returns-then-byte-eq9-clause-allowed : goal.returns-then-byte-eq9-clause-allowed
-returns-then-byte-eq9-clause-allowed c = puts_allowed c.args.value.now.items (32 ∷ []) c.put-then-byte-eq9.new.value.items (c.args.at + 1) false c.put-then-byte-eq9.result c.put-then-byte-eq9.ensures (allowed_byte 32 (omega arith) (omega arith))
+pub returns-then-byte-ge128-clause-reads : goal.returns-then-byte-ge128-clause-reads
+returns-then-byte-ge128-clause-reads c = c.read_character.ensures.reads c.args.after_cr
