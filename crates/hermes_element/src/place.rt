@@ -1,6 +1,8 @@
-ghost use Rattle.std.specs.Prelude.{◌≡◌, ℕ, ◌+◌, ◌^◌, ◌<◌, ◌≤◌, IfSome};
+ghost use Rattle.std.specs.Prelude.{◌≡◌, ℕ, ◌+◌, ◌^◌, ◌<◌, ◌≤◌, ◌==◌, cond, Some, IfSome};
 ghost use Rattle.line_base.specs.Text.{is_allowed_char};
+ghost use Rattle.hermes_element.specs.Plain.{is_blank};
 ghost use Rattle.hermes_element.specs.Machine.{step, step_tag, step_equals, step_end, step_value, step_escape, only_if, to_if, with_open, share, is_wide_begun, wide, wide_start, wide_next, after_element};
+ghost use Rattle.hermes_element.specs.declared.place.Place.TheVariants as places;
 
 use crate::bytes::{is_blank, is_declared, is_digit, is_hex_digit, is_letter, is_quote};
 use line_base::{is_allowed_char, is_name_byte, is_name_start};
@@ -67,66 +69,21 @@ pub(crate) fn step(from: Place, depth: usize, byte: u8) -> Option<(Place, usize)
     ensures depth { IfSome result (λ to. to.1 ≤ depth + 1) }
 {
     match from {
-        Place::Start => {
-            if is_blank(byte) {
-                return Some((Place::Prolog, depth));
-            }
-            to_if(byte == b'<', Place::First, depth)
-        }
-        Place::First => {
-            if byte == b'?' {
-                return Some((Place::Question, depth));
-            }
-            to_if(is_name_start(byte), Place::Name, depth)
-        }
+        Place::Start => step_between(Place::Prolog, Place::First, depth, byte),
+        Place::First => step_first(depth, byte),
         Place::Question => to_if(byte == b'x', Place::DeclarationX, depth),
         Place::DeclarationX => to_if(byte == b'm', Place::DeclarationM, depth),
         Place::DeclarationM => to_if(byte == b'l', Place::DeclarationL, depth),
         Place::DeclarationL => to_if(is_blank(byte), Place::Declaration, depth),
-        Place::Declaration => {
-            if byte == b'?' {
-                return Some((Place::DeclarationEnd, depth));
-            }
-            to_if(is_declared(byte), Place::Declaration, depth)
-        }
+        Place::Declaration => step_declaration(depth, byte),
         Place::DeclarationEnd => to_if(byte == b'>', Place::Prolog, depth),
-        Place::Prolog => {
-            if is_blank(byte) {
-                return Some((Place::Prolog, depth));
-            }
-            to_if(byte == b'<', Place::Open, depth)
-        }
-        Place::Open => {
-            if byte == b'/' {
-                return to_if(depth > 0, Place::Close, depth);
-            }
-            to_if(is_name_start(byte), Place::Name, depth)
-        }
-        Place::Name => {
-            if is_name_byte(byte) {
-                return Some((Place::Name, depth));
-            }
-            step_tag(depth, byte)
-        }
-        Place::Gap => {
-            if is_name_start(byte) {
-                return Some((Place::Key, depth));
-            }
-            step_tag(depth, byte)
-        }
-        Place::Key => {
-            if is_name_byte(byte) {
-                return Some((Place::Key, depth));
-            }
-            step_equals(depth, byte)
-        }
+        Place::Prolog => step_between(Place::Prolog, Place::Open, depth, byte),
+        Place::Open => step_open(depth, byte),
+        Place::Name => step_name(depth, byte),
+        Place::Gap => step_gap(depth, byte),
+        Place::Key => step_key(depth, byte),
         Place::Equals => step_equals(depth, byte),
-        Place::Before => {
-            if is_blank(byte) {
-                return Some((Place::Before, depth));
-            }
-            to_if(is_quote(byte), Place::Value(byte), depth)
-        }
+        Place::Before => step_before(depth, byte),
         Place::Value(quote) => with_open(depth, step_value(quote, byte)),
         Place::Wide(quote, floor, bits, left) => {
             with_open(depth, wide_next(quote, floor, bits, left, byte))
@@ -139,22 +96,113 @@ pub(crate) fn step(from: Place, depth: usize, byte: u8) -> Option<(Place, usize)
         | Place::HexDigits(_) => with_open(depth, step_escape(from, byte)),
         Place::Quoted => step_tag(depth, byte),
         Place::Slash => to_if(byte == b'>', after_element(depth), depth),
-        Place::Content => {
-            if is_blank(byte) {
-                return Some((Place::Content, depth));
-            }
-            to_if(byte == b'<', Place::Open, depth)
-        }
+        Place::Content => step_between(Place::Content, Place::Open, depth, byte),
         Place::Close => to_if(is_name_start(byte), Place::EndName, depth),
-        Place::EndName => {
-            if is_name_byte(byte) {
-                return Some((Place::EndName, depth));
-            }
-            step_end(depth, byte)
-        }
+        Place::EndName => step_end_name(depth, byte),
         Place::EndGap => step_end(depth, byte),
         Place::End => None,
     }
+}
+
+/// Outside of tags, where a blank and a `<` may come.
+fn step_between(blank: Place, opened: Place, depth: usize, byte: u8) -> Option<(Place, usize)>
+    ensures value { result ≡ cond (is_blank byte) (Some (blank, depth)) (to_if (byte == 60) opened depth) }
+    ensures depth { IfSome result (λ to. to.1 ≤ depth) }
+{
+    if is_blank(byte) {
+        return Some((blank, depth));
+    }
+    to_if(byte == b'<', opened, depth)
+}
+
+/// Behind the `<` that is the first byte.
+fn step_first(depth: usize, byte: u8) -> Option<(Place, usize)>
+    ensures value { result ≡ step places.First depth byte }
+    ensures depth { IfSome result (λ to. to.1 ≤ depth) }
+{
+    if byte == b'?' {
+        return Some((Place::Question, depth));
+    }
+    to_if(is_name_start(byte), Place::Name, depth)
+}
+
+/// In a declaration, behind its first blank.
+fn step_declaration(depth: usize, byte: u8) -> Option<(Place, usize)>
+    ensures value { result ≡ step places.Declaration depth byte }
+    ensures depth { IfSome result (λ to. to.1 ≤ depth) }
+{
+    if byte == b'?' {
+        return Some((Place::DeclarationEnd, depth));
+    }
+    to_if(is_declared(byte), Place::Declaration, depth)
+}
+
+/// Behind a later `<`.
+fn step_open(depth: usize, byte: u8) -> Option<(Place, usize)>
+    ensures value { result ≡ step places.Open depth byte }
+    ensures depth { IfSome result (λ to. to.1 ≤ depth) }
+{
+    if byte == b'/' {
+        return to_if(depth > 0, Place::Close, depth);
+    }
+    to_if(is_name_start(byte), Place::Name, depth)
+}
+
+/// In the name of a start tag.
+fn step_name(depth: usize, byte: u8) -> Option<(Place, usize)>
+    requires { depth + 1 < 2 ^ 64 }
+    ensures value { result ≡ step places.Name depth byte }
+    ensures depth { IfSome result (λ to. to.1 ≤ depth + 1) }
+{
+    if is_name_byte(byte) {
+        return Some((Place::Name, depth));
+    }
+    step_tag(depth, byte)
+}
+
+/// Behind a blank of a start tag.
+fn step_gap(depth: usize, byte: u8) -> Option<(Place, usize)>
+    requires { depth + 1 < 2 ^ 64 }
+    ensures value { result ≡ step places.Gap depth byte }
+    ensures depth { IfSome result (λ to. to.1 ≤ depth + 1) }
+{
+    if is_name_start(byte) {
+        return Some((Place::Key, depth));
+    }
+    step_tag(depth, byte)
+}
+
+/// In the name of an attribute.
+fn step_key(depth: usize, byte: u8) -> Option<(Place, usize)>
+    ensures value { result ≡ step places.Key depth byte }
+    ensures depth { IfSome result (λ to. to.1 ≤ depth) }
+{
+    if is_name_byte(byte) {
+        return Some((Place::Key, depth));
+    }
+    step_equals(depth, byte)
+}
+
+/// Behind the `=` of an attribute.
+fn step_before(depth: usize, byte: u8) -> Option<(Place, usize)>
+    ensures value { result ≡ step places.Before depth byte }
+    ensures depth { IfSome result (λ to. to.1 ≤ depth) }
+{
+    if is_blank(byte) {
+        return Some((Place::Before, depth));
+    }
+    to_if(is_quote(byte), Place::Value(byte), depth)
+}
+
+/// In an end tag's name.
+fn step_end_name(depth: usize, byte: u8) -> Option<(Place, usize)>
+    ensures value { result ≡ step places.EndName depth byte }
+    ensures depth { IfSome result (λ to. to.1 ≤ depth) }
+{
+    if is_name_byte(byte) {
+        return Some((Place::EndName, depth));
+    }
+    step_end(depth, byte)
 }
 
 fn to_if(test: bool, place: Place, depth: usize) -> Option<(Place, usize)>
