@@ -58,11 +58,4 @@ impl Attributes {
     {
         self.list.as_slice()
     }
-
-    /// The attributes themselves.
-    pub fn into_list(self) -> Vec<Attribute>
-        ensures { result.items ≡ self }
-    {
-        self.list
-    }
 }

@@ -109,7 +109,11 @@ fn declared_end(bytes: &[u8], at: usize) -> usize
 }
 
 /// Reads the root from behind its `<`. Answers it and the index behind it.
-fn read_root<'a>(alloc: Global, bytes: &'a [u8], at: usize) -> Result<(LentElement<'a>, usize), Stop>
+fn read_root<'a>(
+    alloc: Global,
+    bytes: &'a [u8],
+    at: usize,
+) -> Result<(LentElement<'a>, usize), Stop>
     requires here { at ≤ length bytes.now }
     requires behind { 0 < at }
     ensures reads { ReadsRoot bytes.now at result }

@@ -82,11 +82,4 @@ impl Children {
     {
         self.list.as_slice()
     }
-
-    /// The children themselves.
-    pub fn into_list(self) -> Vec<Element>
-        ensures { result.items ≡ trees_of self }
-    {
-        self.list
-    }
 }

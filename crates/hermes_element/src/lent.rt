@@ -58,7 +58,7 @@ impl<'a> Model for LentChildren<'a> {
 
 impl<'a> LentChildren<'a> {
     /// No children yet.
-    pub fn new(alloc: Global) -> LentChildren<'a>
+    pub(crate) fn new(alloc: Global) -> LentChildren<'a>
         ensures { result ≡ none }
     {
         LentChildren {
@@ -68,7 +68,7 @@ impl<'a> LentChildren<'a> {
 
     /// Adds a child at the end.
     #[tactic(auto, using(crate::proofs::Forests::pushing))]
-    pub fn push(&mut self, child: LentElement<'a>) -> Result<(), Memory>
+    pub(crate) fn push(&mut self, child: LentElement<'a>) -> Result<(), Memory>
         ensures ok { OnOk result (self.new ≡ add self.old child.entry) }
         ensures memory { OnErr result (self.new ≡ self.old) }
     {
@@ -133,7 +133,7 @@ impl<'a> Model for LentAttributes<'a> {
 
 impl<'a> LentAttributes<'a> {
     /// No attributes yet.
-    pub fn new(alloc: Global) -> LentAttributes<'a>
+    pub(crate) fn new(alloc: Global) -> LentAttributes<'a>
         ensures { result ≡ [] }
     {
         LentAttributes {
@@ -142,7 +142,7 @@ impl<'a> LentAttributes<'a> {
     }
 
     /// Adds an attribute at the end.
-    pub fn push(&mut self, attribute: LentAttribute<'a>) -> Result<(), Memory>
+    pub(crate) fn push(&mut self, attribute: LentAttribute<'a>) -> Result<(), Memory>
         ensures ok { OnOk result (self.new ≡ self.old ++ attribute.entry ∷ []) }
         ensures memory { OnErr result (self.new ≡ self.old) }
     {
@@ -191,6 +191,7 @@ impl<'a> LentName<'a> {
     }
 
     /// Its bytes.
+    #[inline]
     pub fn bytes(&self) -> &'a [u8]
         ensures bytes { result.now ≡ self.now }
         ensures name { IsName self.now }
@@ -252,6 +253,7 @@ impl<'a> LentValue<'a> {
     }
 
     /// Its bytes.
+    #[inline]
     pub fn bytes(&self) -> &[u8]
         ensures bytes { result.now ≡ self.now }
         ensures text { IsText self.now }

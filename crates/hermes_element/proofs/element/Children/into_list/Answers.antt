@@ -1,7 +1,0 @@
-use Rattle.std.proofs.Common.{◌∙◌, ap, sym}
-use Rattle.hermes_element.specs.Element.{trees_of}
-use Rattle.hermes_element.proofs.Forests.{trees_of-forest_of}
-use Rattle.hermes_element.proofs.element.Children.into_list.Goals as goal
-
-pub returns : goal.returns
-returns c = sym (trees_of-forest_of c.self.inside.list.items) ∙ ap trees_of c.self.view_is
