@@ -1,5 +1,5 @@
 -- What reading answers follows from what reading the element answers and from what its root says.
-use Rattle.std.proofs.Common.{◌≡◌, ℕ, List, Option, Some, None, refl, sym, ap, subst, ◌∙◌, inl, inr}
+use Rattle.std.proofs.Common.{◌≡◌, ℕ, List, Option, Some, None, Result, Ok, Err, refl, sym, ap, subst, ◌∙◌, inl, inr}
 use Rattle.hermes_element.specs.Element.{Tree}
 use Rattle.hermes_element.specs.Spelling as form
 use Rattle.hermes_element.specs.Refusal as form_refusal
@@ -7,8 +7,11 @@ use Rattle.hermes_element.specs.declared.refusal.Why.{Why}
 use Rattle.hermes_horizontal.specs.declared.fault.Fault.{Fault}
 use Rattle.hermes_horizontal.specs.declared.fault.Fault.TheVariants as faults
 use Rattle.hermes_horizontal.specs.declared.fault.Refusal.{Refusal}
+use Rattle.hermes_horizontal.specs.declared.fault.MessageError.{MessageError}
+use Rattle.hermes_horizontal.specs.declared.fault.MessageError.TheVariants as errors
 use Rattle.hermes_horizontal.specs.declared.message.Message.{Message}
-use Rattle.hermes_horizontal.specs.Spelling.{Spells, Says, IsRefused, refusal_of}
+use Rattle.hermes_horizontal.specs.Spelling.{Spells, Says, IsRefused, refusal_of, ReadsMessage, AnswersMessage, AnswersRefusal}
+use Rattle.hermes_horizontal.specs.Reading.{ReadsTree}
 use Rattle.hermes_horizontal.proofs.Messages.{same_message, not_refused}
 
 -- the bytes spell this element alone
@@ -27,29 +30,47 @@ some_same a b o e d = cc
 
 -- ---- a root that says a message
 
-pub said_once : (bytes : List ℕ) (root : Tree) (message wanted : Message) → SpellsOnly bytes root → Says root message → Spells bytes wanted → message ≡ wanted
+said_once : (bytes : List ℕ) (root : Tree) (message wanted : Message) → SpellsOnly bytes root → Says root message → Spells bytes wanted → message ≡ wanted
 said_once bytes root message wanted only says spells =
     same_message root message wanted says (subst (λ (t : Tree). Says t wanted) (sym (only spells.tree spells.element)) spells.says)
 
-pub said_unrefused : (bytes : List ℕ) (root : Tree) (message : Message) (at : ℕ) (why : Fault) → SpellsOnly bytes root → IsFormed bytes → Says root message → IsRefused bytes at why → ⊥
+said_unrefused : (bytes : List ℕ) (root : Tree) (message : Message) (at : ℕ) (why : Fault) → SpellsOnly bytes root → IsFormed bytes → Says root message → IsRefused bytes at why → ⊥
 said_unrefused bytes root message at why only formed says (inl formless) = formed at formless.reason formless.refused
 said_unrefused bytes root message at why only formed says (inr nothing) =
     some_none (record { at = at; why = why }) (refusal_of root) (ap refusal_of (only nothing.tree nothing.element) ∙ nothing.refused) (not_refused root message says)
 
 -- ---- a root that says none
 
-pub refused_so : (bytes : List ℕ) (root : Tree) (refusal : Refusal) → form.Spells bytes root → refusal_of root ≡ Some refusal → IsRefused bytes refusal.at refusal.why
+refused_so : (bytes : List ℕ) (root : Tree) (refusal : Refusal) → form.Spells bytes root → refusal_of root ≡ Some refusal → IsRefused bytes refusal.at refusal.why
 refused_so bytes root refusal spells refused = inr (record { tree = root; element = spells; refused = refused })
 
-pub refused_unsaid : (bytes : List ℕ) (root : Tree) (refusal : Refusal) → SpellsOnly bytes root → refusal_of root ≡ Some refusal → (message : Message) → Spells bytes message → ⊥
+refused_unsaid : (bytes : List ℕ) (root : Tree) (refusal : Refusal) → SpellsOnly bytes root → refusal_of root ≡ Some refusal → (message : Message) → Spells bytes message → ⊥
 refused_unsaid bytes root refusal only refused message spells =
     some_none refusal (refusal_of root) refused (ap refusal_of (only spells.tree spells.element) ∙ not_refused spells.tree message spells.says)
 
-pub refused_once : (bytes : List ℕ) (root : Tree) (refusal : Refusal) (at : ℕ) (why : Fault) → SpellsOnly bytes root → IsFormed bytes → refusal_of root ≡ Some refusal → IsRefused bytes at why → (refusal.at ≡ at) × (refusal.why ≡ why)
+refused_once : (bytes : List ℕ) (root : Tree) (refusal : Refusal) (at : ℕ) (why : Fault) → SpellsOnly bytes root → IsFormed bytes → refusal_of root ≡ Some refusal → IsRefused bytes at why → (refusal.at ≡ at) × (refusal.why ≡ why)
 refused_once bytes root refusal at why only formed refused (inl formless) = absurd (formed at formless.reason formless.refused)
 refused_once bytes root refusal at why only formed refused (inr nothing) =
     let same = some_same refusal (record { at = at; why = why }) (refusal_of root) refused (ap refusal_of (only nothing.tree nothing.element) ∙ nothing.refused) in
     (ap (λ (r : Refusal). r.at) same, ap (λ (r : Refusal). r.why) same)
+
+-- ---- what is read of a root is what is read of its bytes
+
+pub answers : (bytes : List ℕ) (root : Tree) (result : Result Message MessageError) → form.Spells bytes root → SpellsOnly bytes root → ReadsTree root result → ReadsMessage bytes result
+answers bytes root (Ok message) spells only reads = record { tree = root; element = spells; says = reads }
+answers bytes root (Err (errors.Refused at why)) spells only refused =
+    (refused_so bytes root (record { at = at; why = why }) spells refused, refused_unsaid bytes root (record { at = at; why = why }) only refused)
+answers bytes root (Err errors.Memory) spells only reads = tt
+
+pub answers_said : (bytes : List ℕ) (root : Tree) (result : Result Message MessageError) (wanted : Message) → SpellsOnly bytes root → ReadsTree root result → Spells bytes wanted → AnswersMessage result wanted
+answers_said bytes root (Ok message) wanted only says spells = said_once bytes root message wanted only says spells
+answers_said bytes root (Err (errors.Refused at why)) wanted only refused spells = refused_unsaid bytes root (record { at = at; why = why }) only refused wanted spells
+answers_said bytes root (Err errors.Memory) wanted only reads spells = tt
+
+pub answers_refused : (bytes : List ℕ) (root : Tree) (result : Result Message MessageError) (at : ℕ) (why : Fault) → SpellsOnly bytes root → IsFormed bytes → ReadsTree root result → IsRefused bytes at why → AnswersRefusal result at why
+answers_refused bytes root (Ok message) at why only formed says refused = said_unrefused bytes root message at why only formed says refused
+answers_refused bytes root (Err (errors.Refused place reason)) at why only formed said refused = refused_once bytes root (record { at = place; why = reason }) at why only formed said refused
+answers_refused bytes root (Err errors.Memory) at why only formed reads refused = tt
 
 -- ---- bytes that spell no element
 

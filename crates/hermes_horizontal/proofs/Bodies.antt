@@ -8,6 +8,7 @@ use Rattle.hermes_element.specs.declared.attribute.Attribute.{Attribute}
 use Rattle.hermes_horizontal.specs.declared.attr.Attr.{Attr}
 use Rattle.hermes_horizontal.specs.declared.attr.Attr.TheVariants as attrs
 use Rattle.hermes_horizontal.specs.declared.fault.Refusal.{Refusal}
+use Rattle.hermes_horizontal.specs.declared.fault.MessageError.{MessageError}
 use Rattle.hermes_horizontal.specs.declared.kind.Kind.{Kind}
 use Rattle.hermes_horizontal.specs.declared.kind.Kind.TheVariants as kinds
 use Rattle.hermes_horizontal.specs.declared.message.Info.{Info}
@@ -18,7 +19,7 @@ use Rattle.hermes_horizontal.specs.Values.{ValueKind, Value, read_as, identity, 
 use Rattle.hermes_horizontal.specs.Rows.{quality, flip, required_if, columns_of, board_columns, kind_text, kind_among, kind_named, message_kinds}
 use Rattle.hermes_horizontal.specs.Parts.{parts, info_parts, features_of, kind_of, name_of}
 use Rattle.hermes_horizontal.specs.Spelling.{values_of, value_at, value_or_bad, first_named, then_ok, mapped_ok, features_said, refusal_of_result}
-use Rattle.hermes_horizontal.specs.Reading.{ReadsRow, ReadsBody, IsWhole}
+use Rattle.hermes_horizontal.specs.Reading.{Refuses, ReadsRow, ReadsBody, IsWhole}
 use Rattle.hermes_horizontal.proofs.Finding.{same_bytes}
 
 -- ---- names and kinds
@@ -52,7 +53,7 @@ name_of-kind (bodies.SendBoardInfo info) other = refl
 
 -- ---- rows and bodies
 
-pub row_reads : (child : Tree) (kind : Kind) (result : Result Horizontal Refusal) → (kind ≡ kinds.Other → ⊥) → kind_named child.name ≡ kind
+pub row_reads : (child : Tree) (kind : Kind) (result : Result Horizontal MessageError) → (kind ≡ kinds.Other → ⊥) → kind_named child.name ≡ kind
     → ReadsRow kind child.at child.attributes child.children result → ReadsBody child result
 row_reads child kind (Ok body) other k r = record {
   kind = k ∙ sym r.of_kind;
@@ -60,7 +61,7 @@ row_reads child kind (Ok body) other k r = record {
   values = subst (λ (x : Kind). values_of child.at child.attributes (columns_of x) ≡ Ok (parts body)) (sym r.of_kind) r.values;
   features = subst (λ (x : Kind). features_said x child.children ≡ features_of body) (sym r.of_kind) r.features;
 }
-row_reads child kind (Err refusal) other k r = ap (λ (x : Kind). refusal_of_result (values_of child.at child.attributes (columns_of x))) k ∙ ap refusal_of_result r
+row_reads child kind (Err error) other k r = subst (λ (x : Kind). Refuses (refusal_of_result (values_of child.at child.attributes (columns_of x))) error) (sym k) r
 
 -- ---- what is required is there
 

@@ -1,13 +1,20 @@
 -- What two parts of a row of the table say, one after the other.
-use Rattle.std.proofs.Common.{◌≡◌, ℕ, Bool, List, [], ◌∷◌, ◌++◌, Option, Some, None, Result, Ok, Err, refl, ap, ◌∙◌}
+use Rattle.std.proofs.Common.{◌≡◌, ℕ, Bool, List, [], ◌∷◌, ◌++◌, Option, Some, None, Result, Ok, Err, option_map, refl, ap, ◌∙◌}
 use Rattle.hermes_element.specs.declared.attribute.Attribute.{Attribute}
 use Rattle.hermes_horizontal.specs.declared.attr.Attr.{Attr}
 use Rattle.hermes_horizontal.specs.declared.attr.Attr.TheVariants as attrs
 use Rattle.hermes_horizontal.specs.declared.fault.Refusal.{Refusal}
+use Rattle.hermes_horizontal.specs.declared.fault.MessageError.{MessageError}
+use Rattle.hermes_horizontal.specs.declared.fault.MessageError.TheVariants as errors
+use Rattle.hermes_horizontal.specs.declared.message.Info.{Info}
+use Rattle.hermes_horizontal.specs.declared.rows.Head.{Head}
 use Rattle.hermes_horizontal.specs.Attrs.{attr_text}
-use Rattle.hermes_horizontal.specs.Values.{Value, worded, text, identity, decimal}
+use Rattle.hermes_horizontal.specs.Values.{Value, worded, identified, text, identity, decimal}
 use Rattle.hermes_horizontal.specs.Rows.{Column, required_if, optional, quality, flip, board_columns}
 use Rattle.hermes_horizontal.specs.Spelling.{values_of, value_at, first_named, then_ok, mapped_ok}
+use Rattle.hermes_horizontal.specs.Parts.{of_quality, of_flip}
+use Rattle.hermes_horizontal.specs.Fields.{found_of, head_parts}
+use Rattle.hermes_horizontal.specs.Reading.{ReadsInfo}
 
 abbrev pub Said : Type 0
 Said = Result (List (Option Value)) Refusal
@@ -72,8 +79,7 @@ three_ok at attributes a b c x y z e d f = rw (e, d, f) refl
 -- ---- a text that may be left out is never refused
 
 abbrev pub said_text : Option Attribute → Option Value
-said_text None = None
-said_text (Some attribute) = Some (worded attribute.value)
+said_text found = option_map (λ attribute. worded attribute.value) found
 
 text_said : (at : ℕ) (column : Attr) (found : Option Attribute) → value_at at (optional column text) found ≡ Ok (said_text found)
 text_said at column None = refl
@@ -87,6 +93,24 @@ texts_ok at attributes =
     three_ok at attributes (optional attrs.ProductTypeId text) (optional attrs.TopBarcode text) (optional attrs.BottomBarcode text)
     (said_text (first_named (attr_text attrs.ProductTypeId) attributes)) (said_text (first_named (attr_text attrs.TopBarcode) attributes)) (said_text (first_named (attr_text attrs.BottomBarcode) attributes))
     (text_said at attrs.ProductTypeId (first_named (attr_text attrs.ProductTypeId) attributes)) (text_said at attrs.TopBarcode (first_named (attr_text attrs.TopBarcode) attributes)) (text_said at attrs.BottomBarcode (first_named (attr_text attrs.BottomBarcode) attributes))
+
+told_text : (at : ℕ) (column : Attr) (found : Option Attribute) (o : Option (List ℕ)) → value_at at (optional column text) found ≡ Ok (option_map worded o) → said_text found ≡ option_map worded o
+told_text at column None o e = cc
+told_text at column (Some attribute) o e = cc
+
+-- the head of a board's row, with the text of the board's maker
+pub head_told : (at : ℕ) (attributes : List Attribute) (whole : Bool) (head : Head) (created_by : Option (List ℕ))
+    → values_of at attributes (head_row whole) ≡ Ok (head_parts (found_of attributes attrs.BoardIdCreatedBy) head)
+    → value_at at (optional attrs.BoardIdCreatedBy text) (first_named (attr_text attrs.BoardIdCreatedBy) attributes) ≡ Ok (option_map worded created_by)
+    → values_of at attributes (head_row whole) ≡ Ok (option_map identified head.id ∷ option_map worded created_by ∷ option_map of_quality head.quality ∷ option_map of_flip head.flip ∷ [])
+head_told at attributes whole head created_by e d =
+    e ∙ ap (λ (o : Option Value). Ok (option_map identified head.id ∷ o ∷ option_map of_quality head.quality ∷ option_map of_flip head.flip ∷ []))
+    (told_text at attrs.BoardIdCreatedBy (first_named (attr_text attrs.BoardIdCreatedBy) attributes) created_by d)
+
+-- ---- a refusal as an error
+
+pub info_refused : (said : Said) (refusal : Refusal) (error : MessageError) (result : Result Info MessageError) → result ≡ Err error → error ≡ errors.Refused refusal.at refusal.why → said ≡ Err refusal → ReadsInfo result said
+info_refused said refusal error result e d f = rw (e, d, f) refl
 
 -- ---- the whole row of a board
 

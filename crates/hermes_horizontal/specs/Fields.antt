@@ -8,8 +8,6 @@ use Rattle.hermes_horizontal.specs.declared.fault.Fault.TheVariants as faults
 use Rattle.hermes_horizontal.specs.declared.fault.Refusal.{Refusal}
 use Rattle.hermes_horizontal.specs.declared.field.Field.{Field}
 use Rattle.hermes_horizontal.specs.Attrs.{attr_text}
-use Rattle.hermes_horizontal.specs.declared.attr.Attr.TheVariants as attrs
-use Rattle.hermes_horizontal.specs.declared.find.BoardFields.{BoardFields}
 use Rattle.hermes_horizontal.specs.declared.rows.Head.{Head}
 use Rattle.hermes_horizontal.specs.declared.rows.Sizes.{Sizes}
 use Rattle.hermes_horizontal.specs.declared.rows.Clearances.{Clearances}
@@ -71,8 +69,13 @@ abbrev pub head_columns : Bool → Field → Field → Field → Field → List 
 head_columns whole id created_by quality_field flip_field =
     required_if whole id.attr identity ∷ required_if whole created_by.attr text ∷ required_if whole quality_field.attr quality ∷ required_if whole flip_field.attr flip ∷ []
 
-abbrev pub head_parts : Head → List (Option Value)
-head_parts head = option_map identified head.id ∷ option_map worded head.created_by ∷ option_map of_quality head.quality ∷ option_map of_flip head.flip ∷ []
+-- a text that may be left out
+abbrev pub text_in : Field → Option Value
+text_in field = option_map (λ attribute. worded attribute.value) field.found
+
+-- beside the board's maker
+abbrev pub head_parts : Field → Head → List (Option Value)
+head_parts created_by head = option_map identified head.id ∷ text_in created_by ∷ option_map of_quality head.quality ∷ option_map of_flip head.flip ∷ []
 
 abbrev pub sizes_parts : Sizes → List (Option Value)
 sizes_parts sizes = option_map measured sizes.length ∷ option_map measured sizes.width ∷ option_map measured sizes.thickness ∷ option_map measured sizes.speed ∷ []
@@ -84,22 +87,6 @@ clearances_parts clearances = option_map measured clearances.top ∷ option_map 
 abbrev pub board_fields : List Field
 board_fields = map (λ column. fresh column.attr) (board_columns true)
 
-abbrev pub board_found : List Attribute → BoardFields
-board_found attributes = record {
-  id = found_of attributes attrs.BoardId;
-  created_by = found_of attributes attrs.BoardIdCreatedBy;
-  quality = found_of attributes attrs.FailedBoard;
-  flip = found_of attributes attrs.FlippedBoard;
-  product = found_of attributes attrs.ProductTypeId;
-  top = found_of attributes attrs.TopBarcode;
-  bottom = found_of attributes attrs.BottomBarcode;
-  length = found_of attributes attrs.Length;
-  width = found_of attributes attrs.Width;
-  thickness = found_of attributes attrs.Thickness;
-  speed = found_of attributes attrs.ConveyorSpeed;
-  top_clearance = found_of attributes attrs.TopClearanceHeight;
-  bottom_clearance = found_of attributes attrs.BottomClearanceHeight;
-  weight = found_of attributes attrs.Weight;
-  order = found_of attributes attrs.WorkOrderId;
-  batch = found_of attributes attrs.BatchId;
-}
+-- a field for each, with the first attribute of its name
+abbrev pub board_found : List Attribute → List Field
+board_found attributes = map (found_in attributes) board_fields

@@ -1,5 +1,6 @@
 use crate::attr::Attr;
 use hermes_element::Why;
+use line_base::Memory;
 use std::fmt;
 use thiserror::Error;
 
@@ -63,4 +64,29 @@ impl fmt::Display for MessageError {
 pub struct Refusal {
     pub at: usize,
     pub why: Fault,
+}
+
+impl From<Refusal> for MessageError {
+    ghost use Rattle.std.specs.Prelude.{◌≡◌};
+    ghost use Rattle.hermes_horizontal.specs.declared.fault.MessageError.TheVariants as errors;
+
+    ghost from_gives = { λ refusal error. error ≡ errors.Refused refusal.at refusal.why };
+
+    fn from(refusal: Refusal) -> MessageError {
+        MessageError::Refused {
+            at: refusal.at,
+            why: refusal.why,
+        }
+    }
+}
+
+impl From<Memory> for MessageError {
+    ghost use Rattle.std.specs.Prelude.{◌≡◌};
+    ghost use Rattle.hermes_horizontal.specs.declared.fault.MessageError.TheVariants as errors;
+
+    ghost from_gives = { λ _ error. error ≡ errors.Memory };
+
+    fn from(_memory: Memory) -> MessageError {
+        MessageError::Memory
+    }
 }

@@ -1,7 +1,7 @@
 //! An attribute that a message may have, and its value.
 
 ghost use Rattle.std.specs.Prelude.{◌≡◌, ◌≤◌, ℕ, Some, Ok, IfOk, option_map};
-ghost use Rattle.hermes_horizontal.specs.Fields.{Gives, LeftOut, fresh};
+ghost use Rattle.hermes_horizontal.specs.Fields.{Gives, LeftOut, fresh, text_in};
 ghost use Rattle.hermes_horizontal.specs.Spelling.{value_at, value_or_bad};
 ghost use Rattle.hermes_horizontal.specs.Values as values;
 ghost use Rattle.hermes_horizontal.specs.Rows as rows;
@@ -12,127 +12,121 @@ use crate::attr::Attr;
 use crate::fault::{Fault, Refusal};
 use crate::message::Ping;
 use board_record::BoardId;
-use hermes_element::Attribute;
-use line_base::{Decimal, Flip, Moment, Quality, Severity, Text, Transfer, read_number};
+use hermes_element::{LentAttribute, LentValue};
+use line_base::{Decimal, Flip, Memory, Moment, Quality, Severity, Text, Transfer, read_number};
+use std::alloc::Global;
 
 /// An attribute that a message may have, and the first of its name that an element has.
 #[derive(Drop)]
-pub struct Field {
+pub struct Field<'a> {
     pub attr: Attr,
-    pub found: Option<Attribute>,
+    pub found: Option<LentAttribute<'a>>,
 }
 
-impl Field {
+impl<'a> Field<'a> {
     /// Nothing found yet.
-    pub fn of(attr: Attr) -> Field
+    #[inline]
+    pub fn of(attr: Attr) -> Field<'a>
         ensures { result ≡ fresh attr }
     {
         Field { attr, found: None }
     }
 
     /// A text that must be there.
-    pub fn text(self, at: usize) -> Result<Text, Refusal>
-        ensures { Gives (λ text. Some (values.worded text)) result (value_at at (rows.required self.attr values.text) self.found) }
+    pub fn text(&self, at: usize) -> Result<&LentValue<'a>, Refusal>
+        ensures { Gives (λ text. Some (values.worded text.now)) result (value_at at (rows.required self.now.attr values.text) self.now.found) }
     {
-        let Field { attr, found } = self;
-        match found {
-            Some(attribute) => Ok(attribute.value),
-            None => Err(missing(attr, at)),
+        match &self.found {
+            Some(attribute) => Ok(&attribute.value),
+            None => Err(missing(self.attr, at)),
         }
     }
 
-    /// A text that must be there where it is required.
-    pub fn text_if(self, at: usize, required: bool) -> Result<Option<Text>, Refusal>
-        ensures { Gives (option_map values.worded) result (value_at at (rows.required_if required self.attr values.text) self.found) }
+    /// Refuses a text that is not there where it is required.
+    pub fn check_text(&self, at: usize, required: bool) -> Result<(), Refusal>
+        ensures { Gives (λ _. text_in self.now) result (value_at at (rows.required_if required self.now.attr values.text) self.now.found) }
     {
-        let Field { attr, found } = self;
-        match found {
-            Some(attribute) => Ok(Some(attribute.value)),
-            None => left_out(attr, at, required),
+        match &self.found {
+            None if required => Err(missing(self.attr, at)),
+            _ => Ok(()),
         }
     }
 
     /// A text that may be left out.
-    pub fn optional_text(self) -> Option<Text>
-        ensures { (at : ℕ) → value_at at (rows.optional self.attr values.text) self.found ≡ Ok (option_map values.worded result) }
+    pub fn optional_text(&self, alloc: Global) -> Result<Option<Text>, Memory>
+        ensures { (at : ℕ) → IfOk result (λ text. value_at at (rows.optional self.now.attr values.text) self.now.found ≡ Ok (option_map values.worded text)) }
     {
-        match self.found {
-            Some(attribute) => Some(attribute.value),
-            None => None,
+        match &self.found {
+            Some(attribute) => Ok(Some(attribute.value.text(alloc)?)),
+            None => Ok(None),
         }
     }
 
     /// A number that must be there.
-    pub fn number(self, at: usize) -> Result<u32, Refusal>
-        ensures { Gives (λ number. Some (values.numbered number)) result (value_at at (rows.required self.attr values.number) self.found) }
+    pub fn number(&self, at: usize) -> Result<u32, Refusal>
+        ensures { Gives (λ number. Some (values.numbered number)) result (value_at at (rows.required self.now.attr values.number) self.now.found) }
     {
-        let Field { attr, found } = self;
-        match found {
+        match &self.found {
             Some(attribute) => match read_number(attribute.value.bytes()) {
                 Some(number) => Ok(number),
-                None => Err(bad(attr, &attribute)),
+                None => Err(bad(self.attr, attribute)),
             },
-            None => Err(missing(attr, at)),
+            None => Err(missing(self.attr, at)),
         }
     }
 
     /// An id that must be there.
-    pub fn id(self, at: usize) -> Result<BoardId, Refusal>
-        ensures { Gives (λ id. Some (values.identified id)) result (value_at at (rows.required self.attr values.identity) self.found) }
+    pub fn id(&self, at: usize) -> Result<BoardId, Refusal>
+        ensures { Gives (λ id. Some (values.identified id)) result (value_at at (rows.required self.now.attr values.identity) self.now.found) }
     {
-        let Field { attr, found } = self;
-        match found {
-            Some(attribute) => id_in(attr, &attribute),
-            None => Err(missing(attr, at)),
+        match &self.found {
+            Some(attribute) => id_in(self.attr, attribute),
+            None => Err(missing(self.attr, at)),
         }
     }
 
     /// An id that must be there where it is required.
-    pub fn id_if(self, at: usize, required: bool) -> Result<Option<BoardId>, Refusal>
-        ensures { Gives (option_map values.identified) result (value_at at (rows.required_if required self.attr values.identity) self.found) }
+    pub fn id_if(&self, at: usize, required: bool) -> Result<Option<BoardId>, Refusal>
+        ensures { Gives (option_map values.identified) result (value_at at (rows.required_if required self.now.attr values.identity) self.now.found) }
     {
-        let Field { attr, found } = self;
-        match found {
-            Some(attribute) => Ok(Some(id_in(attr, &attribute)?)),
-            None => left_out(attr, at, required),
+        match &self.found {
+            Some(attribute) => Ok(Some(id_in(self.attr, attribute)?)),
+            None => left_out(self.attr, at, required),
         }
     }
 
     /// A decimal that may be left out.
-    pub fn optional_decimal(self) -> Result<Option<Decimal>, Refusal>
-        ensures { (at : ℕ) → Gives (option_map values.measured) result (value_at at (rows.optional self.attr values.decimal) self.found) }
+    pub fn optional_decimal(&self) -> Result<Option<Decimal>, Refusal>
+        ensures { (at : ℕ) → Gives (option_map values.measured) result (value_at at (rows.optional self.now.attr values.decimal) self.now.found) }
     {
-        let Field { attr, found } = self;
-        match found {
+        match &self.found {
             Some(attribute) => match Decimal::read(attribute.value.bytes()) {
                 Ok(decimal) => Ok(Some(decimal)),
-                Err(_) => Err(bad(attr, &attribute)),
+                Err(_) => Err(bad(self.attr, attribute)),
             },
             None => Ok(None),
         }
     }
 
     /// A moment that may be left out.
-    pub fn optional_moment(self) -> Result<Option<Moment>, Refusal>
-        ensures { (at : ℕ) → Gives (option_map values.timed) result (value_at at (rows.optional self.attr values.moment) self.found) }
+    pub fn optional_moment(&self) -> Result<Option<Moment>, Refusal>
+        ensures { (at : ℕ) → Gives (option_map values.timed) result (value_at at (rows.optional self.now.attr values.moment) self.now.found) }
     {
-        let Field { attr, found } = self;
-        match found {
+        match &self.found {
             Some(attribute) => match Moment::read(attribute.value.bytes()) {
                 Ok(moment) => Ok(Some(moment)),
-                Err(_) => Err(bad(attr, &attribute)),
+                Err(_) => Err(bad(self.attr, attribute)),
             },
             None => Ok(None),
         }
     }
 
     /// The type of a CheckAlive, which may be left out.
-    pub fn optional_ping(self) -> Result<Option<Ping>, Refusal>
-        ensures { (at : ℕ) → Gives (option_map of_ping) result (value_at at (rows.optional self.attr rows.ping) self.found) }
+    pub fn optional_ping(&self) -> Result<Option<Ping>, Refusal>
+        ensures { (at : ℕ) → Gives (option_map of_ping) result (value_at at (rows.optional self.now.attr rows.ping) self.now.found) }
     {
-        let Field { attr, found } = self;
-        match found {
-            Some(attribute) => match number_in(attr, &attribute, 1, 2)? {
+        match &self.found {
+            Some(attribute) => match number_in(self.attr, attribute, 1, 2)? {
                 1 => Ok(Some(Ping::Ask)),
                 _ => Ok(Some(Ping::Answer)),
             },
@@ -141,70 +135,65 @@ impl Field {
     }
 
     /// A severity, which must be there.
-    pub fn severity(self, at: usize) -> Result<Severity, Refusal>
-        ensures { Gives (λ severity. Some (of_severity severity)) result (value_at at (rows.required self.attr rows.severity) self.found) }
+    pub fn severity(&self, at: usize) -> Result<Severity, Refusal>
+        ensures { Gives (λ severity. Some (of_severity severity)) result (value_at at (rows.required self.now.attr rows.severity) self.now.found) }
     {
-        let Field { attr, found } = self;
-        match found {
-            Some(attribute) => match number_in(attr, &attribute, 1, 4)? {
+        match &self.found {
+            Some(attribute) => match number_in(self.attr, attribute, 1, 4)? {
                 1 => Ok(Severity::Fatal),
                 2 => Ok(Severity::Error),
                 3 => Ok(Severity::Warning),
                 _ => Ok(Severity::Info),
             },
-            None => Err(missing(attr, at)),
+            None => Err(missing(self.attr, at)),
         }
     }
 
     /// A state of a transfer, which must be there.
-    pub fn transfer(self, at: usize) -> Result<Transfer, Refusal>
-        ensures { Gives (λ state. Some (of_transfer state)) result (value_at at (rows.required self.attr rows.transfer) self.found) }
+    pub fn transfer(&self, at: usize) -> Result<Transfer, Refusal>
+        ensures { Gives (λ state. Some (of_transfer state)) result (value_at at (rows.required self.now.attr rows.transfer) self.now.found) }
     {
-        let Field { attr, found } = self;
-        match found {
-            Some(attribute) => match number_in(attr, &attribute, 1, 3)? {
+        match &self.found {
+            Some(attribute) => match number_in(self.attr, attribute, 1, 3)? {
                 1 => Ok(Transfer::NotStarted),
                 2 => Ok(Transfer::Incomplete),
                 _ => Ok(Transfer::Complete),
             },
-            None => Err(missing(attr, at)),
+            None => Err(missing(self.attr, at)),
         }
     }
 
     /// A quality that must be there.
-    pub fn quality(self, at: usize) -> Result<Quality, Refusal>
-        ensures { Gives (λ quality. Some (of_quality quality)) result (value_at at (rows.required self.attr rows.quality) self.found) }
+    pub fn quality(&self, at: usize) -> Result<Quality, Refusal>
+        ensures { Gives (λ quality. Some (of_quality quality)) result (value_at at (rows.required self.now.attr rows.quality) self.now.found) }
     {
-        let Field { attr, found } = self;
-        match found {
-            Some(attribute) => quality_in(attr, &attribute),
-            None => Err(missing(attr, at)),
+        match &self.found {
+            Some(attribute) => quality_in(self.attr, attribute),
+            None => Err(missing(self.attr, at)),
         }
     }
 
     /// A quality that must be there where it is required.
-    pub fn quality_if(self, at: usize, required: bool) -> Result<Option<Quality>, Refusal>
-        ensures { Gives (option_map of_quality) result (value_at at (rows.required_if required self.attr rows.quality) self.found) }
+    pub fn quality_if(&self, at: usize, required: bool) -> Result<Option<Quality>, Refusal>
+        ensures { Gives (option_map of_quality) result (value_at at (rows.required_if required self.now.attr rows.quality) self.now.found) }
     {
-        let Field { attr, found } = self;
-        match found {
-            Some(attribute) => Ok(Some(quality_in(attr, &attribute)?)),
-            None => left_out(attr, at, required),
+        match &self.found {
+            Some(attribute) => Ok(Some(quality_in(self.attr, attribute)?)),
+            None => left_out(self.attr, at, required),
         }
     }
 
     /// Which side is up; it must be there where it is required.
-    pub fn flip_if(self, at: usize, required: bool) -> Result<Option<Flip>, Refusal>
-        ensures { Gives (option_map of_flip) result (value_at at (rows.required_if required self.attr rows.flip) self.found) }
+    pub fn flip_if(&self, at: usize, required: bool) -> Result<Option<Flip>, Refusal>
+        ensures { Gives (option_map of_flip) result (value_at at (rows.required_if required self.now.attr rows.flip) self.now.found) }
     {
-        let Field { attr, found } = self;
-        match found {
-            Some(attribute) => match number_in(attr, &attribute, 0, 2)? {
+        match &self.found {
+            Some(attribute) => match number_in(self.attr, attribute, 0, 2)? {
                 0 => Ok(Some(Flip::Unknown)),
                 1 => Ok(Some(Flip::TopUp)),
                 _ => Ok(Some(Flip::BottomUp)),
             },
-            None => left_out(attr, at, required),
+            None => left_out(self.attr, at, required),
         }
     }
 }
@@ -218,7 +207,7 @@ fn missing(attr: Attr, at: usize) -> Refusal
     }
 }
 
-fn bad(attr: Attr, attribute: &Attribute) -> Refusal
+fn bad(attr: Attr, attribute: &LentAttribute<'_>) -> Refusal
     ensures { result ≡ record { at = attribute.now.at; why = Fault.BadValue attr } }
 {
     Refusal {
@@ -237,7 +226,7 @@ fn left_out<T>(attr: Attr, at: usize, required: bool) -> Result<Option<T>, Refus
     Ok(None)
 }
 
-fn id_in(attr: Attr, attribute: &Attribute) -> Result<BoardId, Refusal>
+fn id_in(attr: Attr, attribute: &LentAttribute<'_>) -> Result<BoardId, Refusal>
     ensures { Gives (λ id. Some (values.identified id)) result (value_or_bad attribute.now.at attr (values.read_as values.identity attribute.now.value)) }
 {
     match BoardId::read(attribute.value.bytes()) {
@@ -246,7 +235,7 @@ fn id_in(attr: Attr, attribute: &Attribute) -> Result<BoardId, Refusal>
     }
 }
 
-fn quality_in(attr: Attr, attribute: &Attribute) -> Result<Quality, Refusal>
+fn quality_in(attr: Attr, attribute: &LentAttribute<'_>) -> Result<Quality, Refusal>
     ensures { Gives (λ quality. Some (of_quality quality)) result (value_or_bad attribute.now.at attr (values.read_as rows.quality attribute.now.value)) }
 {
     match number_in(attr, attribute, 0, 2)? {
@@ -257,7 +246,7 @@ fn quality_in(attr: Attr, attribute: &Attribute) -> Result<Quality, Refusal>
 }
 
 /// A number from `low` to `high`.
-fn number_in(attr: Attr, attribute: &Attribute, low: u32, high: u32) -> Result<u32, Refusal>
+fn number_in(attr: Attr, attribute: &LentAttribute<'_>, low: u32, high: u32) -> Result<u32, Refusal>
     ensures value { Gives (λ number. Some (values.numbered number)) result (value_or_bad attribute.now.at attr (values.read_as (values.choice low high) attribute.now.value)) }
     ensures within { IfOk result (λ number. (low ≤ number) × (number ≤ high)) }
 {

@@ -5,13 +5,13 @@ ghost use Rattle.hermes_horizontal.specs.Fields.{placed, found_in, found_of, fre
 
 use crate::attr::Attr;
 use crate::field::Field;
-use hermes_element::{Attribute, Attributes};
+use hermes_element::{LentAttribute, LentAttributes};
 
 /// Finds the fields' attributes, in one pass over an element's list.
-fn find(attributes: Attributes, fields: &mut [Field])
+fn find<'a>(attributes: LentAttributes<'a>, fields: &mut [Field<'a>])
     requires apart { IsTrue (are_apart fields.old) }
     requires fresh { IsTrue (are_fresh fields.old) }
-    ensures { fields.new ≡ map (found_in attributes) fields.old }
+    ensures { fields.new ≡ map (found_in attributes.entry) fields.old }
 {
     let mut rest = attributes.into_list();
     while let Some(attribute) = rest.pop() {
@@ -19,8 +19,8 @@ fn find(attributes: Attributes, fields: &mut [Field])
     }
 }
 
-fn place(attribute: Attribute, fields: &mut [Field])
-    ensures { fields.new ≡ placed attribute fields.old }
+fn place<'a>(attribute: LentAttribute<'a>, fields: &mut [Field<'a>])
+    ensures { fields.new ≡ placed attribute.entry fields.old }
 {
     for field in fields.iter_mut() {
         if attribute.name.bytes() == field.attr.text().as_bytes() {
@@ -31,125 +31,60 @@ fn place(attribute: Attribute, fields: &mut [Field])
 }
 
 /// The attribute of this name.
-pub fn find_one(attributes: Attributes, attr: Attr) -> Field
-    ensures { result ≡ found_of attributes attr }
+pub fn find_one(attributes: LentAttributes<'_>, attr: Attr) -> [Field<'_>; 1]
+    ensures { result ≡ found_of attributes.entry attr ∷ [] }
 {
     let mut fields = [Field::of(attr)];
-    find(attributes, &mut fields);
-    let [field] = fields;
-    field
+    find(attributes, fields.as_mut_slice());
+    fields
 }
 
 /// The attributes of two names.
-pub fn find_two(attributes: Attributes, a: Attr, b: Attr) -> (Field, Field)
+pub fn find_two<'a>(attributes: LentAttributes<'a>, a: Attr, b: Attr) -> [Field<'a>; 2]
     requires { IsTrue (are_apart (fresh a ∷ fresh b ∷ [])) }
-    ensures first { result.0 ≡ found_of attributes a }
-    ensures second { result.1 ≡ found_of attributes b }
+    ensures { result ≡ found_of attributes.entry a ∷ found_of attributes.entry b ∷ [] }
 {
     let mut fields = [Field::of(a), Field::of(b)];
-    find(attributes, &mut fields);
-    let [a, b] = fields;
-    (a, b)
+    find(attributes, fields.as_mut_slice());
+    fields
 }
 
 /// The attributes of three names.
-pub fn find_three(attributes: Attributes, a: Attr, b: Attr, c: Attr) -> (Field, Field, Field)
+pub fn find_three<'a>(attributes: LentAttributes<'a>, a: Attr, b: Attr, c: Attr) -> [Field<'a>; 3]
     requires { IsTrue (are_apart (fresh a ∷ fresh b ∷ fresh c ∷ [])) }
-    ensures first { result.0 ≡ found_of attributes a }
-    ensures second { result.1 ≡ found_of attributes b }
-    ensures third { result.2 ≡ found_of attributes c }
+    ensures { result ≡ found_of attributes.entry a ∷ found_of attributes.entry b ∷ found_of attributes.entry c ∷ [] }
 {
     let mut fields = [Field::of(a), Field::of(b), Field::of(c)];
-    find(attributes, &mut fields);
-    let [a, b, c] = fields;
-    (a, b, c)
+    find(attributes, fields.as_mut_slice());
+    fields
 }
 
 /// The attributes of four names.
-pub fn find_four(
-    attributes: Attributes,
+pub fn find_four<'a>(
+    attributes: LentAttributes<'a>,
     a: Attr,
     b: Attr,
     c: Attr,
     d: Attr,
-) -> (Field, Field, Field, Field)
+) -> [Field<'a>; 4]
     requires { IsTrue (are_apart (fresh a ∷ fresh b ∷ fresh c ∷ fresh d ∷ [])) }
-    ensures first { result.0 ≡ found_of attributes a }
-    ensures second { result.1 ≡ found_of attributes b }
-    ensures third { result.2 ≡ found_of attributes c }
-    ensures fourth { result.3 ≡ found_of attributes d }
+    ensures { result ≡ found_of attributes.entry a ∷ found_of attributes.entry b ∷ found_of attributes.entry c ∷ found_of attributes.entry d ∷ [] }
 {
     let mut fields = [Field::of(a), Field::of(b), Field::of(c), Field::of(d)];
-    find(attributes, &mut fields);
-    let [a, b, c, d] = fields;
-    (a, b, c, d)
+    find(attributes, fields.as_mut_slice());
+    fields
 }
 
-/// The attributes that tell of a board.
-#[derive(Drop)]
-pub struct BoardFields {
-    pub id: Field,
-    pub created_by: Field,
-    pub quality: Field,
-    pub flip: Field,
-    pub product: Field,
-    pub top: Field,
-    pub bottom: Field,
-    pub length: Field,
-    pub width: Field,
-    pub thickness: Field,
-    pub speed: Field,
-    pub top_clearance: Field,
-    pub bottom_clearance: Field,
-    pub weight: Field,
-    pub order: Field,
-    pub batch: Field,
-}
-
-pub fn find_board(attributes: Attributes) -> BoardFields
-    ensures { result ≡ board_found attributes }
+/// The attributes that tell of a board, in the order of their row of the table.
+pub fn find_board(attributes: LentAttributes<'_>) -> [Field<'_>; 16]
+    ensures { result ≡ board_found attributes.entry }
 {
     let mut fields = board_fields();
-    find(attributes, &mut fields);
-    let [
-        id,
-        created_by,
-        quality,
-        flip,
-        product,
-        top,
-        bottom,
-        length,
-        width,
-        thickness,
-        speed,
-        top_clearance,
-        bottom_clearance,
-        weight,
-        order,
-        batch,
-    ] = fields;
-    BoardFields {
-        id,
-        created_by,
-        quality,
-        flip,
-        product,
-        top,
-        bottom,
-        length,
-        width,
-        thickness,
-        speed,
-        top_clearance,
-        bottom_clearance,
-        weight,
-        order,
-        batch,
-    }
+    find(attributes, fields.as_mut_slice());
+    fields
 }
 
-fn board_fields() -> [Field; 16]
+fn board_fields<'a>() -> [Field<'a>; 16]
     ensures { result ≡ board_fields }
 {
     [

@@ -6,11 +6,11 @@ ghost use Rattle.hermes_horizontal.specs.declared.message.Message.{Message};
 ghost use Rattle.hermes_horizontal.specs.declared.fault.Fault.{Fault};
 
 use crate::attr::Attr;
-use crate::fault::{Fault, MessageError, Refusal};
+use crate::fault::{Fault, MessageError};
 use crate::find::find_one;
 use crate::message::Message;
 use crate::rows::body_of;
-use hermes_element::{Children, Element, ElementError, read_element};
+use hermes_element::{ElementError, LentChildren, LentElement, read_lent};
 use std::alloc::Global;
 
 /// Reads the bytes of one element as a message.
@@ -24,14 +24,8 @@ pub fn read_horizontal(alloc: Global, bytes: &[u8]) -> Result<Message, MessageEr
     ensures spelled { (message : Message) → Spells bytes.now message → AnswersMessage result message }
     ensures refused { (at : ℕ) (why : Fault) → IsRefused bytes.now at why → AnswersRefusal result at why }
 {
-    match read_element(alloc, bytes) {
-        Ok(root) => match message_of(root) {
-            Ok(message) => Ok(message),
-            Err(refusal) => Err(MessageError::Refused {
-                at: refusal.at,
-                why: refusal.why,
-            }),
-        },
+    match read_lent(alloc, bytes) {
+        Ok(root) => message_of(alloc, root),
         Err(ElementError::Refused { at, why }) => Err(MessageError::Refused {
             at,
             why: Fault::Form(why),
@@ -41,28 +35,29 @@ pub fn read_horizontal(alloc: Global, bytes: &[u8]) -> Result<Message, MessageEr
 }
 
 /// What a root says.
-fn message_of(root: Element) -> Result<Message, Refusal>
-    ensures { ReadsTree root result }
+fn message_of(alloc: Global, root: LentElement<'_>) -> Result<Message, MessageError>
+    ensures { ReadsTree root.entry result }
 {
-    let Element {
+    let LentElement {
         name,
         at,
         attributes,
         children,
     } = root;
     if name.bytes() != &b"Hermes"[..] {
-        return Err(Refusal {
+        return Err(MessageError::Refused {
             at,
             why: Fault::Root,
         });
     }
-    let stamp = find_one(attributes, Attr::Timestamp).optional_moment()?;
+    let [stamp] = &find_one(attributes, Attr::Timestamp);
+    let stamp = stamp.optional_moment()?;
     match only_child(children) {
         Some(child) => {
-            let body = body_of(child)?;
+            let body = body_of(alloc, child)?;
             Ok(Message { stamp, body })
         }
-        None => Err(Refusal {
+        None => Err(MessageError::Refused {
             at,
             why: Fault::Count,
         }),
@@ -70,8 +65,8 @@ fn message_of(root: Element) -> Result<Message, Refusal>
 }
 
 /// The one child, where there is exactly one.
-fn only_child(children: Children) -> Option<Element>
-    ensures { HasOnly (trees_of children) result }
+fn only_child(children: LentChildren<'_>) -> Option<LentElement<'_>>
+    ensures { HasOnly (trees_of children.entry) result }
 {
     let mut list = children.into_list();
     let child = list.pop()?;

@@ -3,91 +3,93 @@
 ghost use Rattle.std.specs.Prelude.{◌≡◌, ◌∷◌, [], ℕ, map};
 ghost use Rattle.hermes_element.specs.Element.{Forest, trees_of};
 ghost use Rattle.hermes_horizontal.specs.Fields.{Gives, said_by, head_columns, decimal_column, head_parts, sizes_parts, clearances_parts};
-ghost use Rattle.hermes_horizontal.specs.Parts.{info_of, info_parts};
-ghost use Rattle.hermes_horizontal.specs.Reading.{FitsRow, ReadsRow, ReadsBody, IsWhole};
+ghost use Rattle.hermes_horizontal.specs.Parts.{info_of};
+ghost use Rattle.hermes_horizontal.specs.Reading.{ReadsRow, ReadsBody, ReadsInfo, IsWhole};
 ghost use Rattle.hermes_horizontal.specs.Rows.{board_columns};
 ghost use Rattle.hermes_horizontal.specs.Spelling.{values_of, has_child, features_listed, features_in};
 ghost use Rattle.hermes_horizontal.specs.declared.kind.Kind.TheVariants as kinds;
 
 use crate::attr::Attr;
-use crate::fault::Refusal;
+use crate::fault::{MessageError, Refusal};
 use crate::field::Field;
 use crate::find::{find_board, find_four, find_one, find_three, find_two};
 use crate::kind::{Kind, kind_named};
 use crate::message::{Features, Horizontal, Info, Service};
 use board_record::{BoardId, Record};
-use hermes_element::{Attributes, Children, Element};
+use hermes_element::{LentAttributes, LentChildren, LentElement};
 use line_base::{Code, Decimal, Flip, Quality, Text};
+use std::alloc::Global;
 
 /// What the element of a message says.
 // Inlined, it fills its caller's frame with the fields of every message.
 #[inline(never)]
-pub fn body_of(child: Element) -> Result<Horizontal, Refusal>
-    ensures { ReadsBody child result }
+pub fn body_of(alloc: Global, child: LentElement<'_>) -> Result<Horizontal, MessageError>
+    ensures { ReadsBody child.entry result }
 {
-    let Element {
+    let LentElement {
         name,
         at,
         attributes,
         children,
     } = child;
     match kind_named(name.bytes()) {
-        Kind::CheckAlive => check_alive(attributes),
-        Kind::ServiceDescription => service_description(at, attributes, &children),
-        Kind::Notification => notification(at, attributes),
-        Kind::BoardAvailable => board_available(at, attributes),
+        Kind::CheckAlive => check_alive(alloc, attributes),
+        Kind::ServiceDescription => service_description(alloc, at, attributes, &children),
+        Kind::Notification => notification(alloc, at, attributes),
+        Kind::BoardAvailable => board_available(alloc, at, attributes),
         Kind::RevokeBoardAvailable => Ok(Horizontal::RevokeBoardAvailable),
         Kind::MachineReady => machine_ready(at, attributes),
         Kind::RevokeMachineReady => Ok(Horizontal::RevokeMachineReady),
         Kind::StartTransport => start_transport(at, attributes),
         Kind::StopTransport => stop_transport(at, attributes),
         Kind::TransportFinished => transport_finished(at, attributes),
-        Kind::BoardForecast => board_forecast(at, attributes),
-        Kind::QueryBoardInfo => Ok(query_board_info(attributes)),
-        Kind::SendBoardInfo => send_board_info(at, attributes),
-        Kind::Other => Ok(Horizontal::Other(name)),
+        Kind::BoardForecast => board_forecast(alloc, at, attributes),
+        Kind::QueryBoardInfo => query_board_info(alloc, attributes),
+        Kind::SendBoardInfo => send_board_info(alloc, at, attributes),
+        Kind::Other => Ok(Horizontal::Other(name.own(alloc)?)),
     }
 }
 
-fn check_alive(attributes: Attributes) -> Result<Horizontal, Refusal>
-    ensures { (at : ℕ) (children : Forest) → ReadsRow kinds.CheckAlive at attributes children result }
+fn check_alive(alloc: Global, attributes: LentAttributes<'_>) -> Result<Horizontal, MessageError>
+    ensures { (at : ℕ) (children : Forest) → ReadsRow kinds.CheckAlive at attributes.entry children result }
 {
-    let (ping, id) = find_two(attributes, Attr::AliveType, Attr::Id);
+    let fields = find_two(attributes, Attr::AliveType, Attr::Id);
+    let [ping, id] = &fields;
     let ping = ping.optional_ping()?;
-    Ok(Horizontal::CheckAlive {
-        ping,
-        id: id.optional_text(),
-    })
+    let id = id.optional_text(alloc)?;
+    Ok(Horizontal::CheckAlive { ping, id })
 }
 
 fn service_description(
+    alloc: Global,
     at: usize,
-    attributes: Attributes,
-    children: &Children,
-) -> Result<Horizontal, Refusal>
-    ensures { ReadsRow kinds.ServiceDescription at attributes children.now result }
+    attributes: LentAttributes<'_>,
+    children: &LentChildren<'_>,
+) -> Result<Horizontal, MessageError>
+    ensures { ReadsRow kinds.ServiceDescription at attributes.entry children.now result }
 {
-    let (machine, lane, interface, version) = find_four(
+    let fields = find_four(
         attributes,
         Attr::MachineId,
         Attr::LaneId,
         Attr::InterfaceId,
         Attr::Version,
     );
+    let [machine, lane, interface, version] = &fields;
     let machine = machine.text(at)?;
     let lane = lane.number(at)?;
     let version = version.text(at)?;
     Ok(Horizontal::ServiceDescription(Service {
-        machine,
+        machine: machine.text(alloc)?,
         lane,
-        version,
-        interface: interface.optional_text(),
+        version: version.text(alloc)?,
+        interface: interface.optional_text(alloc)?,
         features: features_in(children),
     }))
 }
 
 /// The features that the first SupportedFeatures lists.
-fn features_in(children: &Children) -> Features
+fn features_in(children: &LentChildren<'_>) -> Features
     ensures { result ≡ features_in (trees_of children.now) }
 {
     for child in children.list() {
@@ -98,7 +100,7 @@ fn features_in(children: &Children) -> Features
     features_listed(&[])
 }
 
-fn features_listed(features: &[Element]) -> Features
+fn features_listed(features: &[LentElement<'_>]) -> Features
     ensures { result ≡ features_listed features.now }
 {
     Features {
@@ -109,116 +111,157 @@ fn features_listed(features: &[Element]) -> Features
     }
 }
 
-fn has_child(children: &[Element], name: &[u8]) -> bool
+fn has_child(children: &[LentElement<'_>], name: &[u8]) -> bool
     ensures { result ≡ has_child name.now children.now }
 {
     children.iter().any(|child| child.name.bytes() == name)
 }
 
-fn notification(at: usize, attributes: Attributes) -> Result<Horizontal, Refusal>
-    ensures { (children : Forest) → ReadsRow kinds.Notification at attributes children result }
+fn notification(
+    alloc: Global,
+    at: usize,
+    attributes: LentAttributes<'_>,
+) -> Result<Horizontal, MessageError>
+    ensures { (children : Forest) → ReadsRow kinds.Notification at attributes.entry children result }
 {
-    let (code, severity, text) = find_three(
+    let fields = find_three(
         attributes,
         Attr::NotificationCode,
         Attr::Severity,
         Attr::Description,
     );
+    let [code, severity, text] = &fields;
     let number = code.number(at)?;
     let severity = severity.severity(at)?;
     let text = text.text(at)?;
     Ok(Horizontal::Notification {
         code: Code { number },
         severity,
-        text,
+        text: text.text(alloc)?,
     })
 }
 
-fn machine_ready(at: usize, attributes: Attributes) -> Result<Horizontal, Refusal>
-    ensures { (children : Forest) → ReadsRow kinds.MachineReady at attributes children result }
+fn machine_ready(at: usize, attributes: LentAttributes<'_>) -> Result<Horizontal, MessageError>
+    ensures { (children : Forest) → ReadsRow kinds.MachineReady at attributes.entry children result }
 {
-    let quality = find_one(attributes, Attr::FailedBoard).quality(at)?;
+    let [quality] = &find_one(attributes, Attr::FailedBoard);
+    let quality = quality.quality(at)?;
     Ok(Horizontal::MachineReady { quality })
 }
 
-fn start_transport(at: usize, attributes: Attributes) -> Result<Horizontal, Refusal>
-    ensures { (children : Forest) → ReadsRow kinds.StartTransport at attributes children result }
+fn start_transport(at: usize, attributes: LentAttributes<'_>) -> Result<Horizontal, MessageError>
+    ensures { (children : Forest) → ReadsRow kinds.StartTransport at attributes.entry children result }
 {
-    let id = find_one(attributes, Attr::BoardId).id(at)?;
+    let [id] = &find_one(attributes, Attr::BoardId);
+    let id = id.id(at)?;
     Ok(Horizontal::StartTransport { id })
 }
 
-fn stop_transport(at: usize, attributes: Attributes) -> Result<Horizontal, Refusal>
-    ensures { (children : Forest) → ReadsRow kinds.StopTransport at attributes children result }
+fn stop_transport(at: usize, attributes: LentAttributes<'_>) -> Result<Horizontal, MessageError>
+    ensures { (children : Forest) → ReadsRow kinds.StopTransport at attributes.entry children result }
 {
-    let (state, id) = find_two(attributes, Attr::TransferState, Attr::BoardId);
+    let fields = find_two(attributes, Attr::TransferState, Attr::BoardId);
+    let [state, id] = &fields;
     let state = state.transfer(at)?;
     let id = id.id(at)?;
     Ok(Horizontal::StopTransport { state, id })
 }
 
-fn transport_finished(at: usize, attributes: Attributes) -> Result<Horizontal, Refusal>
-    ensures { (children : Forest) → ReadsRow kinds.TransportFinished at attributes children result }
+fn transport_finished(at: usize, attributes: LentAttributes<'_>) -> Result<Horizontal, MessageError>
+    ensures { (children : Forest) → ReadsRow kinds.TransportFinished at attributes.entry children result }
 {
-    let (state, id) = find_two(attributes, Attr::TransferState, Attr::BoardId);
+    let fields = find_two(attributes, Attr::TransferState, Attr::BoardId);
+    let [state, id] = &fields;
     let state = state.transfer(at)?;
     let id = id.id(at)?;
     Ok(Horizontal::TransportFinished { state, id })
 }
 
-fn query_board_info(attributes: Attributes) -> Horizontal
-    ensures { (at : ℕ) (children : Forest) → FitsRow kinds.QueryBoardInfo at attributes children result }
+fn query_board_info(
+    alloc: Global,
+    attributes: LentAttributes<'_>,
+) -> Result<Horizontal, MessageError>
+    ensures { (at : ℕ) (children : Forest) → ReadsRow kinds.QueryBoardInfo at attributes.entry children result }
 {
-    let (top, bottom) = find_two(attributes, Attr::TopBarcode, Attr::BottomBarcode);
-    Horizontal::QueryBoardInfo {
-        top: top.optional_text(),
-        bottom: bottom.optional_text(),
-    }
+    let fields = find_two(attributes, Attr::TopBarcode, Attr::BottomBarcode);
+    let [top, bottom] = &fields;
+    Ok(Horizontal::QueryBoardInfo {
+        top: top.optional_text(alloc)?,
+        bottom: bottom.optional_text(alloc)?,
+    })
 }
 
-fn board_available(at: usize, attributes: Attributes) -> Result<Horizontal, Refusal>
-    ensures { (children : Forest) → ReadsRow kinds.BoardAvailable at attributes children result }
+fn board_available(
+    alloc: Global,
+    at: usize,
+    attributes: LentAttributes<'_>,
+) -> Result<Horizontal, MessageError>
+    ensures { (children : Forest) → ReadsRow kinds.BoardAvailable at attributes.entry children result }
 {
-    let board = info(at, attributes, true)?;
+    let board = info(alloc, at, attributes, true)?;
     Ok(Horizontal::BoardAvailable(record_of(board)))
 }
 
-fn board_forecast(at: usize, attributes: Attributes) -> Result<Horizontal, Refusal>
-    ensures { (children : Forest) → ReadsRow kinds.BoardForecast at attributes children result }
+fn board_forecast(
+    alloc: Global,
+    at: usize,
+    attributes: LentAttributes<'_>,
+) -> Result<Horizontal, MessageError>
+    ensures { (children : Forest) → ReadsRow kinds.BoardForecast at attributes.entry children result }
 {
-    Ok(Horizontal::BoardForecast(info(at, attributes, false)?))
+    Ok(Horizontal::BoardForecast(info(alloc, at, attributes, false)?))
 }
 
-fn send_board_info(at: usize, attributes: Attributes) -> Result<Horizontal, Refusal>
-    ensures { (children : Forest) → ReadsRow kinds.SendBoardInfo at attributes children result }
+fn send_board_info(
+    alloc: Global,
+    at: usize,
+    attributes: LentAttributes<'_>,
+) -> Result<Horizontal, MessageError>
+    ensures { (children : Forest) → ReadsRow kinds.SendBoardInfo at attributes.entry children result }
 {
-    Ok(Horizontal::SendBoardInfo(info(at, attributes, false)?))
+    Ok(Horizontal::SendBoardInfo(info(alloc, at, attributes, false)?))
 }
 
 /// What is told of a board. Its id, its maker, its quality and which side is up must be there
 /// where they are required.
-fn info(at: usize, attributes: Attributes, required: bool) -> Result<Info, Refusal>
-    ensures { Gives info_parts result (values_of at attributes (board_columns required)) }
+fn info(
+    alloc: Global,
+    at: usize,
+    attributes: LentAttributes<'_>,
+    required: bool,
+) -> Result<Info, MessageError>
+    ensures { ReadsInfo result (values_of at attributes.entry (board_columns required)) }
 {
     let fields = find_board(attributes);
-    let head = read_head(
-        at,
-        required,
-        fields.id,
-        fields.created_by,
-        fields.quality,
-        fields.flip,
-    )?;
-    let sizes = read_sizes(fields.length, fields.width, fields.thickness, fields.speed)?;
-    let clearances = read_clearances(fields.top_clearance, fields.bottom_clearance, fields.weight)?;
+    let [
+        id,
+        created_by,
+        quality,
+        flip,
+        product,
+        top,
+        bottom,
+        length,
+        width,
+        thickness,
+        speed,
+        top_clearance,
+        bottom_clearance,
+        weight,
+        order,
+        batch,
+    ] = &fields;
+    let head = read_head(at, required, id, created_by, quality, flip)?;
+    let sizes = read_sizes(length, width, thickness, speed)?;
+    let clearances = read_clearances(top_clearance, bottom_clearance, weight)?;
     Ok(Info {
         id: head.id,
-        created_by: head.created_by,
+        created_by: created_by.optional_text(alloc)?,
         quality: head.quality,
         flip: head.flip,
-        product: fields.product.optional_text(),
-        top: fields.top.optional_text(),
-        bottom: fields.bottom.optional_text(),
+        product: product.optional_text(alloc)?,
+        top: top.optional_text(alloc)?,
+        bottom: bottom.optional_text(alloc)?,
         length: sizes.length,
         width: sizes.width,
         thickness: sizes.thickness,
@@ -226,16 +269,15 @@ fn info(at: usize, attributes: Attributes, required: bool) -> Result<Info, Refus
         top_clearance: clearances.top,
         bottom_clearance: clearances.bottom,
         weight: clearances.weight,
-        order: fields.order.optional_text(),
-        batch: fields.batch.optional_text(),
+        order: order.optional_text(alloc)?,
+        batch: batch.optional_text(alloc)?,
     })
 }
 
-/// What an available board must tell.
-#[derive(Drop)]
+/// What an available board must tell, but for its maker.
+#[derive(Clone, Copy)]
 struct Head {
     id: Option<BoardId>,
-    created_by: Option<Text>,
     quality: Option<Quality>,
     flip: Option<Flip>,
 }
@@ -243,23 +285,18 @@ struct Head {
 fn read_head(
     at: usize,
     required: bool,
-    id: Field,
-    created_by: Field,
-    quality: Field,
-    flip: Field,
+    id: &Field<'_>,
+    created_by: &Field<'_>,
+    quality: &Field<'_>,
+    flip: &Field<'_>,
 ) -> Result<Head, Refusal>
-    ensures { Gives head_parts result (said_by at (head_columns required id created_by quality flip) (id ∷ created_by ∷ quality ∷ flip ∷ [])) }
+    ensures { Gives (head_parts created_by.now) result (said_by at (head_columns required id.now created_by.now quality.now flip.now) (id.now ∷ created_by.now ∷ quality.now ∷ flip.now ∷ [])) }
 {
     let id = id.id_if(at, required)?;
-    let created_by = created_by.text_if(at, required)?;
+    created_by.check_text(at, required)?;
     let quality = quality.quality_if(at, required)?;
     let flip = flip.flip_if(at, required)?;
-    Ok(Head {
-        id,
-        created_by,
-        quality,
-        flip,
-    })
+    Ok(Head { id, quality, flip })
 }
 
 /// A board's size and speed.
@@ -271,8 +308,13 @@ struct Sizes {
     speed: Option<Decimal>,
 }
 
-fn read_sizes(length: Field, width: Field, thickness: Field, speed: Field) -> Result<Sizes, Refusal>
-    ensures { (at : ℕ) → Gives sizes_parts result (said_by at (map decimal_column (length ∷ width ∷ thickness ∷ speed ∷ [])) (length ∷ width ∷ thickness ∷ speed ∷ [])) }
+fn read_sizes(
+    length: &Field<'_>,
+    width: &Field<'_>,
+    thickness: &Field<'_>,
+    speed: &Field<'_>,
+) -> Result<Sizes, Refusal>
+    ensures { (at : ℕ) → Gives sizes_parts result (said_by at (map decimal_column (length.now ∷ width.now ∷ thickness.now ∷ speed.now ∷ [])) (length.now ∷ width.now ∷ thickness.now ∷ speed.now ∷ [])) }
 {
     let length = length.optional_decimal()?;
     let width = width.optional_decimal()?;
@@ -294,8 +336,12 @@ struct Clearances {
     weight: Option<Decimal>,
 }
 
-fn read_clearances(top: Field, bottom: Field, weight: Field) -> Result<Clearances, Refusal>
-    ensures { (at : ℕ) → Gives clearances_parts result (said_by at (map decimal_column (top ∷ bottom ∷ weight ∷ [])) (top ∷ bottom ∷ weight ∷ [])) }
+fn read_clearances(
+    top: &Field<'_>,
+    bottom: &Field<'_>,
+    weight: &Field<'_>,
+) -> Result<Clearances, Refusal>
+    ensures { (at : ℕ) → Gives clearances_parts result (said_by at (map decimal_column (top.now ∷ bottom.now ∷ weight.now ∷ [])) (top.now ∷ bottom.now ∷ weight.now ∷ [])) }
 {
     let top = top.optional_decimal()?;
     let bottom = bottom.optional_decimal()?;

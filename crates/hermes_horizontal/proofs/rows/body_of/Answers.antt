@@ -1,4 +1,4 @@
-use Rattle.std.proofs.Common.{◌≡◌, Ok, subst}
+use Rattle.std.proofs.Common.{◌≡◌, subst}
 use Rattle.hermes_element.specs.Element.{Tree}
 use Rattle.hermes_horizontal.specs.declared.kind.Kind.TheVariants as kinds
 use Rattle.hermes_horizontal.specs.Rows.{kind_named}
@@ -70,4 +70,4 @@ pub returns-in-QueryBoardInfo : goal.returns-in-QueryBoardInfo
 returns-in-QueryBoardInfo c =
     let inside : Tree = record { name = c.child.inside.name; at = c.child.inside.at; attributes = c.child.inside.attributes; children = c.child.inside.children } in
     let kind : kind_named inside.name ≡ kinds.QueryBoardInfo = cc (c.kind_named.ensures, c.bytes.ensures.bytes, c.in-QueryBoardInfo.is) in
-    subst (λ (child : Tree). ReadsBody child (Ok c.query_board_info.result)) c.child.view_is (row_reads inside kinds.QueryBoardInfo (Ok c.query_board_info.result) (λ e. cc) kind (c.query_board_info.ensures inside.at inside.children))
+    subst (λ (child : Tree). ReadsBody child c.query_board_info.result) c.child.view_is (row_reads inside kinds.QueryBoardInfo c.query_board_info.result (λ e. cc) kind (c.query_board_info.ensures inside.at inside.children))
