@@ -128,28 +128,24 @@ pub fn take_piece(
     let mut count = done;
     loop {
         at += cutter.feed(&piece[at..]);
-        match cutter.next() {
-            Cut::Frame(frame) => {
-                count += 1;
-                if let Err(Memory) = write_frame(alloc, count, frame, to) {
-                    return Err(Memory);
-                }
+        let frame = match (cutter.next(), at == piece.len()) {
+            (Cut::Frame(frame), _) => frame,
+            (Cut::NeedMore, false) => continue,
+            (Cut::NeedMore, true) => {
+                return Ok(Taken {
+                    done: count,
+                    too_long: false,
+                });
             }
-            Cut::NeedMore => {
-                if at == piece.len() {
-                    return Ok(Taken {
-                        done: count,
-                        too_long: false,
-                    });
-                }
-            }
-            Cut::TooLong => {
+            (Cut::TooLong, _) => {
                 return Ok(Taken {
                     done: count,
                     too_long: true,
                 });
             }
-        }
+        };
+        count += 1;
+        write_frame(alloc, count, frame, to)?;
     }
 }
 
