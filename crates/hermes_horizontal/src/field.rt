@@ -33,6 +33,7 @@ impl<'a> Field<'a> {
     }
 
     /// A text that must be there.
+    #[inline]
     pub fn text(&self, at: usize) -> Result<&LentValue<'a>, Refusal>
         ensures { Gives (λ text. Some (values.worded text.now)) result (value_at at (rows.required self.now.attr values.text) self.now.found) }
     {
@@ -43,6 +44,7 @@ impl<'a> Field<'a> {
     }
 
     /// Refuses a text that is not there where it is required.
+    #[inline]
     pub fn check_text(&self, at: usize, required: bool) -> Result<(), Refusal>
         ensures { Gives (λ _. text_in self.now) result (value_at at (rows.required_if required self.now.attr values.text) self.now.found) }
     {
@@ -53,6 +55,7 @@ impl<'a> Field<'a> {
     }
 
     /// A text that may be left out.
+    #[inline]
     pub fn optional_text(&self, alloc: Global) -> Result<Option<Text>, Memory>
         ensures { (at : ℕ) → IfOk result (λ text. value_at at (rows.optional self.now.attr values.text) self.now.found ≡ Ok (option_map values.worded text)) }
     {
