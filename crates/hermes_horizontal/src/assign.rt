@@ -1,6 +1,6 @@
 //! Attributes, written one by one.
 
-ghost use Rattle.std.specs.Prelude.{◌≡◌, ◌++◌, OnOk, OnErr, decimal, option_map};
+ghost use Rattle.std.specs.Prelude.{◌≡◌, ◌++◌, OnOk, OnErr, option_map};
 ghost use Rattle.hermes_horizontal.specs.Canonical.{assignment, assignment_if};
 ghost use Rattle.hermes_horizontal.specs.Values.{worded, numbered, identified, measured, timed};
 
@@ -8,7 +8,6 @@ use crate::attr::Attr;
 use board_record::BoardId;
 use hermes_element::write_attribute;
 use line_base::{Decimal, Memory, Moment, Text};
-use std::io::Write;
 
 pub fn append(to: &mut Vec<u8>, bytes: &[u8]) -> Result<(), Memory>
     ensures written { OnOk result (to.new.items ≡ to.old.items ++ bytes.now) }
@@ -39,18 +38,8 @@ pub fn append_number(attr: Attr, number: u32, to: &mut Vec<u8>) -> Result<(), Me
     ensures { OnOk result (to.new.items ≡ to.old.items ++ assignment attr (numbered number)) }
 {
     append(to, attr.opening().as_bytes())?;
-    append_digits(number, to)?;
+    append(to, itoa::Buffer::new().format(number).as_bytes())?;
     append(to, b"\"")
-}
-
-/// Appends the digits of a number; most numbers have one.
-fn append_digits(number: u32, to: &mut Vec<u8>) -> Result<(), Memory>
-    ensures { OnOk result (to.new.items ≡ to.old.items ++ decimal number) }
-{
-    if number < 10 {
-        return append(to, &[b'0' + number as u8]);
-    }
-    write!(to, "{number}").map_err(|_| Memory)
 }
 
 pub fn append_optional_number(

@@ -25,7 +25,7 @@ pub use kind::Kind;
 pub use laws::spelled_once;
 pub use message::{Features, Horizontal, Info, Message, Ping, Service};
 pub use read::read_horizontal;
-pub use write::write_horizontal;
+pub use write::{append_horizontal, write_horizontal};
 
 #[cfg(test)]
 mod tests;

@@ -28,7 +28,7 @@ pub fn write_horizontal(message: &Message, to: &mut Vec<u8>) -> Result<(), Memor
     }
     match Vec::with_capacity(*to.allocator(), TYPICAL_BYTES) {
         Ok(mut spelling) => {
-            append_message(message, &mut spelling)?;
+            append_horizontal(message, &mut spelling)?;
             append(to, spelling.as_slice())
         }
         Err(_) => Err(Memory),
@@ -44,7 +44,7 @@ fn write_first(message: &Message, to: &mut Vec<u8>) -> Result<(), Memory>
     if to.reserve(TYPICAL_BYTES).is_err() {
         return Err(Memory);
     }
-    match append_message(message, to) {
+    match append_horizontal(message, to) {
         Ok(()) => Ok(()),
         Err(_) => {
             to.clear();
@@ -53,7 +53,10 @@ fn write_first(message: &Message, to: &mut Vec<u8>) -> Result<(), Memory>
     }
 }
 
-fn append_message(message: &Message, to: &mut Vec<u8>) -> Result<(), Memory>
+/// Appends the canonical spelling of a message, for a caller that gives `to` up where memory is
+/// wanting: a front of the spelling may stand there then. Else it is `write_horizontal`, without the
+/// spelling's copy.
+pub fn append_horizontal(message: &Message, to: &mut Vec<u8>) -> Result<(), Memory>
     ensures { OnOk result (to.new.items ≡ to.old.items ++ canonical message.now) }
 {
     append(to, b"<Hermes")?;

@@ -1,12 +1,12 @@
 //! Reads the messages of a stream, piece by piece, and writes a line for each.
 
-ghost use Rattle.std.specs.Prelude.{◌≡◌, ◌+◌, ◌≤◌, ◌<◌, ◌^◌, ◌++◌, IfOk, OnOk, codes, length, false};
+ghost use Rattle.std.specs.Prelude.{◌≡◌, ◌+◌, ◌≤◌, ◌<◌, ◌^◌, ◌++◌, IfOk, OnOk, codes, decimal, length, false};
 ghost use Rattle.line_cli.specs.Texts.{entry};
 ghost use Rattle.line_cli.specs.ReadText.{message_text};
 ghost use Rattle.line_cli.specs.ReadText.{ending_text, end_text};
 ghost use Rattle.line_cli.specs.StreamReader.{WritesLine, TakesPiece, TakesSome, IsOver};
 
-use hermes_horizontal::{Horizontal, Message, MessageError, read_horizontal, write_horizontal};
+use hermes_horizontal::{Horizontal, Message, MessageError, append_horizontal, read_horizontal};
 use hermes_stream::{Cut, Cutter};
 use line_base::Memory;
 use std::alloc::Global;
@@ -167,7 +167,7 @@ fn write_frame(alloc: Global, number: u64, frame: &[u8], to: &mut Vec<u8>) -> Re
 fn write_message(number: u64, message: &Message, to: &mut Vec<u8>) -> Result<(), Memory>
     ensures { OnOk result (to.new.items ≡ to.old.items ++ entry number (message_text message.now)) }
 {
-    if let Err(_) = write!(to, "{number} ") {
+    if let Err(Memory) = append_number(number, to) {
         return Err(Memory);
     }
     if let Err(Memory) = write_body(message, to) {
@@ -179,12 +179,25 @@ fn write_message(number: u64, message: &Message, to: &mut Vec<u8>) -> Result<(),
     }
 }
 
+/// Appends a line's number and the space behind it.
+fn append_number(number: u64, to: &mut Vec<u8>) -> Result<(), Memory>
+    ensures { OnOk result (to.new.items ≡ to.old.items ++ (decimal number ++ codes " ")) }
+{
+    if to.extend_from_slice(itoa::Buffer::new().format(number).as_bytes()).is_err() {
+        return Err(Memory);
+    }
+    match to.push(b' ') {
+        Ok(()) => Ok(()),
+        Err(_) => Err(Memory),
+    }
+}
+
 fn write_body(message: &Message, to: &mut Vec<u8>) -> Result<(), Memory>
     ensures { OnOk result (to.new.items ≡ to.old.items ++ message_text message.now) }
 {
     match &message.body {
         Horizontal::Other(name) => write_other(name.bytes(), to),
-        _ => write_horizontal(message, to),
+        _ => append_horizontal(message, to),
     }
 }
 

@@ -1,6 +1,6 @@
 use Rattle.std.proofs.lemmas.Result.{on_ok_weaker}
 use Rattle.hermes_horizontal.proofs.Writing.{message_written}
-use Rattle.hermes_horizontal.proofs.write.append_message.Goals as goal
+use Rattle.hermes_horizontal.proofs.write.append_horizontal.Goals as goal
 
 pub returns : goal.returns
 returns c = on_ok_weaker c.append-3.result

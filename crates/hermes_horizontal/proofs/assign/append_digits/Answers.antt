@@ -1,5 +1,0 @@
-use Rattle.std.proofs.lemmas.Fmt.{decimal_digit}
-use Rattle.hermes_horizontal.proofs.assign.append_digits.Goals as goal
-
-pub returns-then-number-lt10 : goal.returns-then-number-lt10
-returns-then-number-lt10 c = rw (decimal_digit c.args.number c.if-number-lt10.true) c.append.ensures.written
