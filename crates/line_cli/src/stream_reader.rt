@@ -183,7 +183,8 @@ fn write_message(number: u64, message: &Message, to: &mut Vec<u8>) -> Result<(),
 fn append_number(number: u64, to: &mut Vec<u8>) -> Result<(), Memory>
     ensures { OnOk result (to.new.items ≡ to.old.items ++ (decimal number ++ codes " ")) }
 {
-    if to.extend_from_slice(itoa::Buffer::new().format(number).as_bytes()).is_err() {
+    let mut room = itoa::Buffer::new();
+    if let Err(_) = to.extend_from_slice(room.format(number).as_bytes()) {
         return Err(Memory);
     }
     match to.push(b' ') {
