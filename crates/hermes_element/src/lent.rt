@@ -1,4 +1,4 @@
-//! Elements that are lent by the bytes that spell them: nothing is copied but what escapes stand for.
+//! Elements that are lent by the bytes that spell them. No name is copied, and no value whose bytes are plain.
 ghost use Rattle.std.specs.Prelude.{◌≡◌, ℕ, List, [], ◌∷◌, ◌++◌, IfOk, OnOk, OnErr};
 ghost use Rattle.line_base.specs.Name.{IsName};
 ghost use Rattle.line_base.specs.Text.{IsText};
@@ -207,7 +207,8 @@ impl<'a> LentName<'a> {
     }
 }
 
-/// The value of an attribute: lent where its bytes stand for themselves, else with bytes of its own.
+/// The value of an attribute: lent where it is of plain bytes, else with bytes of its own. Plain are the
+/// ASCII bytes that stand for themselves.
 #[derive(Drop)]
 pub struct LentValue<'a> {
     bytes: ValueBytes<'a>,

@@ -35,7 +35,8 @@ pub fn read_element(alloc: Global, bytes: &[u8]) -> Result<Element, ElementError
 
 /// Reads the bytes of a document as an element that they lend.
 ///
-/// The same as `read_element`, but that nothing is copied out of the bytes but what escapes stand for.
+/// The same as `read_element`, but that no name is copied, and of the values only those that have
+/// an escape, a blank other than a space, or a character of several bytes.
 pub fn read_lent<'a>(alloc: Global, bytes: &'a [u8]) -> Result<LentElement<'a>, ElementError>
     ensures answer { ReadsElement bytes.now result }
     ensures spelled { (tree : Tree) → Spells bytes.now tree → AnswersElement result tree }
