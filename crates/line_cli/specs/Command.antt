@@ -1,4 +1,4 @@
-use Rattle.std.specs.Prelude.{◌≡◌, ◌≤◌, ℕ, List, [], ◌∷◌, Bool, true, false, Option, None, Some, codes}
+use Rattle.std.specs.Prelude.{◌≡◌, ◌<◌, ◌≤◌, ℕ, List, [], ◌∷◌, Bool, true, false, Option, None, Some, codes}
 use Rattle.std.specs.Str.{bytes_eq}
 use Rattle.line_outside.specs.Faults.{Rose}
 use Rattle.line_outside.specs.Sink.{Grows, GrowsInPart, PushesAll}
@@ -67,12 +67,12 @@ DoesAs true reads left_old left_new old new before now status = Runs left_old le
 DoesAs false true left_old left_new old new before now status = Reads left_old left_new old new status
 DoesAs false false left_old left_new old new before now status = Refers left_old left_new old new before now status
 
--- whatever the source tells, what `run` may answer: a line of a script is refused for a reason of the
--- script grammar, and a stream's size is none of its concern
+-- whatever the source tells, what `run` may answer: a line of a script, numbered from 1, is refused for a
+-- reason of the script grammar, and a stream's size is none of its concern
 abbrev pub IsRunStatus : Status → Type 0
 IsRunStatus statuses.Done = Unit {0}
 IsRunStatus statuses.Usage = ⊥
-IsRunStatus (statuses.ScriptRefused line (inputs.Line why)) = Unit {0}
+IsRunStatus (statuses.ScriptRefused line (inputs.Line why)) = 0 < line
 IsRunStatus (statuses.ScriptRefused line inputs.TooLarge) = ⊥
 IsRunStatus statuses.ReadFault = Unit {0}
 IsRunStatus statuses.WriteFault = Unit {0}

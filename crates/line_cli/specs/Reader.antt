@@ -1,4 +1,4 @@
-use Rattle.std.specs.Prelude.{◌≡◌, ◌+◌, ◌*◌, ◌≤◌, ℕ, ◌++◌, List, [], Option, None, Some, Result, Ok, Err, length}
+use Rattle.std.specs.Prelude.{◌≡◌, ◌+◌, ◌*◌, ◌<◌, ◌≤◌, ℕ, ◌++◌, List, [], Option, None, Some, Result, Ok, Err, length}
 use Rattle.std.specs.Str.Lines.{lines}
 use Rattle.line_script.specs.declared.line.LineWhy.{LineWhy}
 use Rattle.line_world.specs.Boards.{boards_on}
@@ -50,6 +50,11 @@ abbrev pub DoesLine : Result (Unit {0}) RunError → Point → Point → List �
 DoesLine (Ok done) old new line before now = IsDone old new line before now
 DoesLine (Err (errors.Refused number why)) old new line before now = IsRefused old line before now number why
 DoesLine (Err errors.Memory) old new line before now = Unit {0}
+
+-- lines are numbered from 1
+abbrev pub IsNumbered : RunError → Type 0
+IsNumbered (errors.Refused number why) = 0 < number
+IsNumbered errors.Memory = Unit {0}
 
 -- refusing a line with this number
 abbrev pub RefusesAs : Result (Unit {0}) RunError → ℕ → LineWhy → List ℕ → List ℕ → Type 0

@@ -1,5 +1,6 @@
 ghost use Rattle.std.specs.Prelude.{◌≡◌, ◌≤◌, length, take};
 ghost use Rattle.line_cli.specs.Command.{Runs, HasCauses, IsRunStatus};
+ghost use Rattle.line_cli.specs.Reader.{IsNumbered};
 ghost use Rattle.line_cli.specs.Ending.{PushesFull, EndsWhole, EndsRefused};
 
 use crate::script_reader::ScriptReader;
@@ -81,6 +82,7 @@ fn end_whole<K: Sink>(text: &[u8], report: &mut K) -> Status
 /// Ends a run inside its script: the report up to the refused line is written. Where memory was
 /// wanting, what waits to be written may be cut off inside a line, and is not written.
 fn end_refused<K: Sink>(error: RunError, text: &[u8], report: &mut K) -> Status
+    requires { IsNumbered error }
     ensures fits { IsRunStatus result }
     ensures ends { EndsRefused error (K.contents report.old) (K.contents report.new) (K.faults report.old) (K.faults report.new) text.now result }
 {

@@ -1,6 +1,6 @@
-ghost use Rattle.std.specs.Prelude.{◌≡◌, ◌≤◌, [], ◌∷◌, ◌++◌, IfNone, IfSome, OnOk, length, vec_len};
+ghost use Rattle.std.specs.Prelude.{◌≡◌, ◌≤◌, [], ◌∷◌, ◌++◌, IfErr, IfNone, IfSome, OnOk, length, vec_len};
 ghost use Rattle.std.specs.Str.Lines.{strip_carriage_return};
-ghost use Rattle.line_cli.specs.Reader.{Place, Takes, Finishes, progress_of};
+ghost use Rattle.line_cli.specs.Reader.{Place, Takes, Finishes, IsNumbered, progress_of};
 ghost use Rattle.line_cli.specs.Stand.{no_line};
 ghost use Rattle.line_cli.specs.LineEnds.{HasNoEnd, IsFirstEnd, CutsLine};
 
@@ -40,6 +40,7 @@ impl ScriptReader {
     /// Takes the next piece of the script, and appends the report of the lines that end in it.
     pub fn take_piece(&mut self, piece: &[u8], to: &mut Vec<u8>) -> Result<(), RunError>
         ensures takes { Takes result self.old self.new piece.now to.old.items to.new.items }
+        ensures numbered { IfErr result IsNumbered }
         ensures bounded { OnOk result (progress_of self.new ≤ 4099004097) }
     {
         let mut rest = piece;
@@ -55,7 +56,8 @@ impl ScriptReader {
     /// Takes the script's end: does its last line, if that lacks its end, and appends the
     /// report's last line.
     pub fn finish(&mut self, to: &mut Vec<u8>) -> Result<(), RunError>
-        ensures { Finishes result self.old to.old.items to.new.items }
+        ensures finishes { Finishes result self.old to.old.items to.new.items }
+        ensures numbered { IfErr result IsNumbered }
     {
         if self.pending.is_empty() {
             return self.run.write_summary(to);
@@ -69,7 +71,8 @@ impl ScriptReader {
     /// Takes the rest of a line and its end.
     fn end_line(&mut self, part: &[u8], to: &mut Vec<u8>) -> Result<(), RunError>
         requires { HasNoEnd part.now }
-        ensures { Takes result self.old self.new (part.now ++ 10 ∷ []) to.old.items to.new.items }
+        ensures takes { Takes result self.old self.new (part.now ++ 10 ∷ []) to.old.items to.new.items }
+        ensures numbered { IfErr result IsNumbered }
     {
         if self.pending.is_empty() {
             return self.run.do_line(without_return(part), to);
@@ -91,6 +94,7 @@ impl ScriptReader {
     fn keep(&mut self, part: &[u8], to: &mut Vec<u8>) -> Result<(), RunError>
         requires { HasNoEnd part.now }
         ensures takes { Takes result self.old self.new part.now to.old.items to.new.items }
+        ensures numbered { IfErr result IsNumbered }
         ensures bounded { OnOk result (progress_of self.new ≤ 4099004097) }
     {
         if part.len() > MOST_PENDING - self.pending.len() {

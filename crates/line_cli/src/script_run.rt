@@ -1,7 +1,7 @@
-ghost use Rattle.std.specs.Prelude.{◌≡◌, ◌≤◌, ◌+◌, ◌++◌, OnOk};
+ghost use Rattle.std.specs.Prelude.{◌≡◌, ◌<◌, ◌≤◌, ◌+◌, ◌++◌, IfErr, OnOk};
 ghost use Rattle.line_cli.specs.Stand.{no_line};
 ghost use Rattle.line_cli.specs.Texts.{entries};
-ghost use Rattle.line_cli.specs.Reader.{Point, DoesLine, RefusesAs, Sums};
+ghost use Rattle.line_cli.specs.Reader.{Point, DoesLine, IsNumbered, RefusesAs, Sums};
 
 use crate::happening::Happening;
 use crate::line::Line;
@@ -58,6 +58,7 @@ impl ScriptRun {
     pub fn do_line(&mut self, line: &[u8], to: &mut Vec<u8>) -> Result<(), RunError>
         ensures does { DoesLine result self.old self.new line.now to.old.items to.new.items }
         ensures few { self.new.done ≤ 1000000 }
+        ensures numbered { IfErr result IsNumbered }
     {
         let number = self.done + 1;
         if line.len() > MOST_LINE_BYTES {
@@ -84,14 +85,16 @@ impl ScriptRun {
 
     /// Refuses the next line as too long.
     pub fn refuse_long(&self, to: &mut Vec<u8>) -> Result<(), RunError>
-        ensures { RefusesAs result (self.now.done + 1) LineWhy.LongLine to.old.items to.new.items }
+        ensures refuses { RefusesAs result (self.now.done + 1) LineWhy.LongLine to.old.items to.new.items }
+        ensures numbered { IfErr result IsNumbered }
     {
         refuse(self.done + 1, LineWhy::LongLine, to)
     }
 
     /// Appends the report's last line, where the whole script is done.
     pub fn write_summary(&self, to: &mut Vec<u8>) -> Result<(), RunError>
-        ensures { Sums result self.now to.old.items to.new.items }
+        ensures sums { Sums result self.now to.old.items to.new.items }
+        ensures numbered { IfErr result IsNumbered }
     {
         let lines = self.done;
         let boards = self.line.boards();
@@ -103,7 +106,8 @@ impl ScriptRun {
 }
 
 fn refuse(line: u64, why: LineWhy, to: &mut Vec<u8>) -> Result<(), RunError>
-    ensures { RefusesAs result line why to.old.items to.new.items }
+    ensures refuses { RefusesAs result line why to.old.items to.new.items }
+    ensures numbered { 0 < line → IfErr result IsNumbered }
 {
     match write!(to, "refused {line}: {why}\n") {
         Ok(()) => Err(RunError::Refused { line, why }),

@@ -64,7 +64,7 @@ loop-count-preserved g c =
 pub returns-in-Err-finish-clause-runs : goal.returns-in-Err-finish-clause-runs
 returns-in-Err-finish-clause-runs g c =
     let ends = rw c.as_slice-in-Err-finish.ensures.value at c.end_refused-in-Err-finish.ensures.ends in
-    runs-end_refused c.in-Err-finish.error (g.S.Source.left c.args.script.now) (g.S.Source.left c.loop-count.script) (g.S.Source.left c.pull.new.self) (g.K.Sink.contents c.args.report.now) (g.K.Sink.contents c.loop-count.report) (g.K.Sink.contents c.end_refused-in-Err-finish.new.report) (g.K.Sink.faults c.loop-count.report) (g.K.Sink.faults c.end_refused-in-Err-finish.new.report) c.loop-count.reader c.loop-count.text.items c.finish.new.to.items c.end_refused-in-Err-finish.result c.loop-count.invariant.going c.in-End.ensures.gives.1 c.in-Err-finish.ensures ends
+    runs-end_refused c.in-Err-finish.error (g.S.Source.left c.args.script.now) (g.S.Source.left c.loop-count.script) (g.S.Source.left c.pull.new.self) (g.K.Sink.contents c.args.report.now) (g.K.Sink.contents c.loop-count.report) (g.K.Sink.contents c.end_refused-in-Err-finish.new.report) (g.K.Sink.faults c.loop-count.report) (g.K.Sink.faults c.end_refused-in-Err-finish.new.report) c.loop-count.reader c.loop-count.text.items c.finish.new.to.items c.end_refused-in-Err-finish.result c.loop-count.invariant.going c.in-End.ensures.gives.1 c.in-Err-finish.ensures.finishes ends
 
 pub returns-in-Err-finish-clause-causes : goal.returns-in-Err-finish-clause-causes
 returns-in-Err-finish-clause-causes g c =
@@ -73,7 +73,7 @@ returns-in-Err-finish-clause-causes g c =
 pub returns-in-End-clause-runs : goal.returns-in-End-clause-runs
 returns-in-End-clause-runs g c =
     let ends = rw c.as_slice-in-End.ensures.value at c.end_whole.ensures.ends in
-    runs-whole (g.S.Source.left c.args.script.now) (g.S.Source.left c.loop-count.script) (g.S.Source.left c.pull.new.self) (g.K.Sink.contents c.args.report.now) (g.K.Sink.contents c.loop-count.report) (g.K.Sink.contents c.end_whole.new.report) (g.K.Sink.faults c.loop-count.report) (g.K.Sink.faults c.end_whole.new.report) c.loop-count.reader c.loop-count.text.items c.finish.new.to.items c.end_whole.result c.loop-count.invariant.going c.in-End.ensures.gives.0 c.in-End.ensures.gives.1 c.in_default-finish.ensures ends
+    runs-whole (g.S.Source.left c.args.script.now) (g.S.Source.left c.loop-count.script) (g.S.Source.left c.pull.new.self) (g.K.Sink.contents c.args.report.now) (g.K.Sink.contents c.loop-count.report) (g.K.Sink.contents c.end_whole.new.report) (g.K.Sink.faults c.loop-count.report) (g.K.Sink.faults c.end_whole.new.report) c.loop-count.reader c.loop-count.text.items c.finish.new.to.items c.end_whole.result c.loop-count.invariant.going c.in-End.ensures.gives.0 c.in-End.ensures.gives.1 c.in_default-finish.ensures.finishes ends
 
 pub returns-in-End-clause-causes : goal.returns-in-End-clause-causes
 returns-in-End-clause-causes g c =

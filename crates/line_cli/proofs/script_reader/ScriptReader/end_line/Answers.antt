@@ -6,8 +6,8 @@ use Rattle.line_cli.proofs.LinesLemmas.{HasNoEnd-append}
 use Rattle.line_cli.proofs.Steps.{takes-line, takes-line_alone, takes-long}
 use Rattle.line_cli.proofs.script_reader.ScriptReader.end_line.Goals as goal
 
-pub returns-then-is_empty : goal.returns-then-is_empty
-returns-then-is_empty c =
+pub returns-then-is_empty-clause-takes : goal.returns-then-is_empty-clause-takes
+returns-then-is_empty-clause-takes c =
     let pending = c.self.inside.pending.items in
     let part = c.args.part.now in
     let empty : pending ≡ [] = nil_from_length pending (omega (arith, c.self.inside.pending.ok.0, eqb-true _ _ (sym c.if-is_empty.ensures))) in
@@ -16,18 +16,18 @@ returns-then-is_empty c =
     let P : Place → Type 0 = λ place. Takes c.do_line.result place (record { point = c.do_line.new.self; pending = pending }) (part ++ 10 ∷ []) c.args.to.now.items c.do_line.new.to.items in
     subst P c.self.view_is taken
 
-pub returns-then-part-len : goal.returns-then-part-len
-returns-then-part-len c =
+pub returns-then-part-len-clause-takes : goal.returns-then-part-len-clause-takes
+returns-then-part-len-clause-takes c =
     let pending = c.self.inside.pending.items in
     let part = c.args.part.now in
     let place : Place = record { point = c.self.inside.run; pending = pending } in
     let none = HasNoEnd-append pending part c.self.invariant.0 c.requires in
-    let taken = takes-long c.refuse_long.result place place part (10 ∷ []) c.args.to.now.items c.refuse_long.new.to.items none (omega (arith, length-append pending part, c.len.ensures, c.if-part-len.true)) c.refuse_long.ensures in
+    let taken = takes-long c.refuse_long.result place place part (10 ∷ []) c.args.to.now.items c.refuse_long.new.to.items none (omega (arith, length-append pending part, c.len.ensures, c.if-part-len.true)) c.refuse_long.ensures.refuses in
     let P : Place → Type 0 = λ place. Takes c.refuse_long.result place place (part ++ 10 ∷ []) c.args.to.now.items c.refuse_long.new.to.items in
     subst P c.self.view_is taken
 
-pub returns : goal.returns
-returns c =
+pub returns-clause-takes : goal.returns-clause-takes
+returns-clause-takes c =
     let pending = c.self.inside.pending.items in
     let part = c.args.part.now in
     let result = c.do_line-done.result in

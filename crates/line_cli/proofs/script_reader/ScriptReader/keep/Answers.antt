@@ -10,6 +10,6 @@ returns-then-part-len-clause-takes c =
     let part = c.args.part.now in
     let place : Place = record { point = c.self.inside.run; pending = pending } in
     let none = HasNoEnd-append pending part c.self.invariant.0 c.requires in
-    let taken = takes-long c.refuse_long.result place place part [] c.args.to.now.items c.refuse_long.new.to.items none (omega (arith, length-append pending part, c.len.ensures, c.if-part-len.true)) c.refuse_long.ensures in
+    let taken = takes-long c.refuse_long.result place place part [] c.args.to.now.items c.refuse_long.new.to.items none (omega (arith, length-append pending part, c.len.ensures, c.if-part-len.true)) c.refuse_long.ensures.refuses in
     let P : Place → Type 0 = λ place. Takes c.refuse_long.result place place part c.args.to.now.items c.refuse_long.new.to.items in
     subst P c.self.view_is (rw append-nil at taken)

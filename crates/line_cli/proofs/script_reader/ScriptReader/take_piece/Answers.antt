@@ -13,7 +13,7 @@ returns-in-Err-clause-takes c =
     let now = c.end_line.new.to.items in
     let regroup : (taking.taken ++ (line ++ 10 ∷ [])) ++ others ≡ taking.taken ++ (line ++ 10 ∷ others) = simp append_assoc in
     let whole = regroup ∙ ap (λ t. taking.taken ++ t) (sym c.in-Some.ensures.cut.parts) ∙ taking.parts in
-    let front = takes-more (Err c.in-Err.error) old c.loop-line.self new taking.taken (line ++ 10 ∷ []) before c.loop-line.to.items now taking.takes c.in-Err.ensures in
+    let front = takes-more (Err c.in-Err.error) old c.loop-line.self new taking.taken (line ++ 10 ∷ []) before c.loop-line.to.items now taking.takes c.in-Err.ensures.takes in
     let all = takes-front c.in-Err.error old new new (taking.taken ++ (line ++ 10 ∷ [])) others before now front in
     rw whole at all
 
@@ -26,5 +26,5 @@ loop-line-preserved c =
     record {
       taken = taking.taken ++ (line ++ 10 ∷ []);
       parts = regroup ∙ ap (λ t. taking.taken ++ t) (sym c.in-Some.ensures.cut.parts) ∙ taking.parts;
-      takes = takes-more (Ok tt) c.args.self.now c.loop-line.self c.end_line.new.self taking.taken (line ++ 10 ∷ []) c.args.to.now.items c.loop-line.to.items c.end_line.new.to.items taking.takes c.in_default-end_line.ensures;
+      takes = takes-more (Ok tt) c.args.self.now c.loop-line.self c.end_line.new.self taking.taken (line ++ 10 ∷ []) c.args.to.now.items c.loop-line.to.items c.end_line.new.to.items taking.takes c.in_default-end_line.ensures.takes;
     }
