@@ -6,7 +6,8 @@ use Rattle.std.proofs.lemmas.List.Folds.{list_all-append}
 use Rattle.std.specs.Int.{w128, to_be_bytes}
 use Rattle.std.specs.List.{list_all}
 use Rattle.line_base.specs.Text.{IsText}
-use Rattle.line_base.proofs.Printable.{is_printable, IsText-from_printable}
+use Rattle.line_base.specs.PlainText.{is_plain_byte}
+use Rattle.line_base.proofs.Printable.{IsText-from_printable}
 use Rattle.uuid.specs.Text.{by_index, hex_digit, nibble, digit_place, is_hyphen_place, lower}
 use Rattle.uuid.proofs.RoundTrips.{parses_hyphenated}
 use Rattle.uuid.proofs.TextLemmas.{by_index_length, nibble_small}
@@ -36,14 +37,14 @@ id_bytes id =
     let bytes = to_be_bytes w128 id in
     all_by_index is_id_byte 36 (λ k. cond (is_hyphen_place k) 45 (hex_digit lower (nibble bytes (digit_place k)))) (λ k. hyphen_or (is_hyphen_place k) (nibble bytes (digit_place k)) (nibble_small bytes (digit_place k)))
 
-printable_byte : (b : ℕ) → is_id_byte b ≡ true → is_printable b ≡ true
+printable_byte : (b : ℕ) → is_id_byte b ≡ true → is_plain_byte b ≡ true
 printable_byte b h = grind (arith, nat_tests)
 
-printable_bytes : (bytes : List ℕ) → list_all is_id_byte bytes ≡ true → list_all is_printable bytes ≡ true
+printable_bytes : (bytes : List ℕ) → list_all is_id_byte bytes ≡ true → list_all is_plain_byte bytes ≡ true
 printable_bytes [] h = refl
 printable_bytes (b ∷ bs) h =
     let parts = and_parts (is_id_byte b) (list_all is_id_byte bs) h in
-    and_from (is_printable b) (list_all is_printable bs) (printable_byte b parts.0) (printable_bytes bs parts.1)
+    and_from (is_plain_byte b) (list_all is_plain_byte bs) (printable_byte b parts.0) (printable_bytes bs parts.1)
 
 pub IsText-id : (id : ℕ) → IsText (id_text id)
 unfolding id_text

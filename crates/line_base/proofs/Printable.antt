@@ -1,5 +1,5 @@
 -- The texts of values are texts: they are short, and of printable characters.
-use Rattle.std.proofs.Common.{◌≡◌, ◌&&◌, ◌^◌, ◌/◌, ◌%◌, ◌<◌, ◌≤◌, ◌+◌, ◌==◌, ℕ, ℤ, zero, suc, Bool, true, false, cond, leb, List, [], ◌∷◌, ◌++◌, Option, Some, None, length, refl, ap, ◌∙◌, sym, arith, rules, decimal, inl, length-append, lit≤}
+use Rattle.std.proofs.Common.{◌≡◌, ◌^◌, ◌/◌, ◌%◌, ◌<◌, ◌≤◌, ◌+◌, ℕ, ℤ, Bool, true, cond, leb, List, [], ◌∷◌, ◌++◌, Some, None, length, refl, ap, ◌∙◌, sym, arith, rules, decimal, length-append, lit≤}
 use Rattle.std.proofs.lemmas.Bool.{and_from, and_parts}
 use Rattle.std.proofs.lemmas.Bool.Decides.{nat_tests}
 use Rattle.std.proofs.lemmas.Fmt.{digits_decimal, digits_value-decimal, decimal_nonempty, length-decimal-le}
@@ -9,7 +9,8 @@ use Rattle.std.proofs.lemmas.Str.Parse.{IsNumeralModel, numerals_by_weight}
 use Rattle.std.specs.Char.{is_ascii_digit}
 use Rattle.std.specs.List.{list_all}
 use Rattle.std.specs.Str.{chars}
-use Rattle.line_base.specs.Text.{is_allowed_char, IsAllowed, IsText}
+use Rattle.line_base.specs.Text.{is_allowed_char, IsText}
+use Rattle.line_base.specs.PlainText.{is_plain_byte, is_plain_text}
 use Rattle.line_base.specs.Number.{are_digits, value_of, is_digits, number_of, fraction_text}
 use Rattle.line_base.specs.Decimal.{six_digits, without_trailing_zeros, decimal_text}
 use Rattle.line_base.specs.Moment.{fields_of, fields_text, moment_text}
@@ -18,16 +19,12 @@ use Rattle.line_base.proofs.Digits.{digit_is, is_digits-true}
 use Rattle.line_base.proofs.DecimalTexts.{without_trailing_zeros-IsCut}
 use lib.Utf8.{scalar, scalars, encodes, encode}
 
--- printable ASCII
-abbrev pub is_printable : ℕ → Bool
-is_printable b = leb 32 b && leb b 126
-
 record IsPlainByte (b : ℕ) : Type 0 where
   scalar_value : scalar b ≡ true
   one_byte : encode b ≡ b ∷ []
   allowed : is_allowed_char b ≡ true
 
-plain_byte : (b : ℕ) → is_printable b ≡ true → IsPlainByte b
+plain_byte : (b : ℕ) → is_plain_byte b ≡ true → IsPlainByte b
 plain_byte b printable = record {
   scalar_value = grind (arith, nat_tests);
   one_byte = encode_ascii b (grind (arith, nat_tests));
@@ -39,10 +36,10 @@ record ArePlain (bytes : List ℕ) : Type 0 where
   encoded : encodes bytes ≡ bytes
   allowed : list_all is_allowed_char bytes ≡ true
 
-plain_bytes : (bytes : List ℕ) → list_all is_printable bytes ≡ true → ArePlain bytes
+plain_bytes : (bytes : List ℕ) → list_all is_plain_byte bytes ≡ true → ArePlain bytes
 plain_bytes [] printable = record { scalar_values = refl; encoded = refl; allowed = refl }
 plain_bytes (b ∷ bs) printable =
-    let parts = and_parts (is_printable b) (list_all is_printable bs) printable in
+    let parts = and_parts (is_plain_byte b) (list_all is_plain_byte bs) printable in
     let first = plain_byte b parts.0 in
     let others = plain_bytes bs parts.1 in
     record {
@@ -51,22 +48,34 @@ plain_bytes (b ∷ bs) printable =
       allowed = rw first.allowed others.allowed;
     }
 
-pub IsText-from_printable : (bytes : List ℕ) → list_all is_printable bytes ≡ true → length bytes ≤ 1024 → IsText bytes
+pub IsText-from_printable : (bytes : List ℕ) → list_all is_plain_byte bytes ≡ true → length bytes ≤ 1024 → IsText bytes
 IsText-from_printable bytes printable short =
     let plain = plain_bytes bytes printable in
     let same : chars bytes ≡ bytes = ap chars (sym plain.encoded) ∙ chars-encodes bytes plain.scalar_values in
     record { short = short; allowed = record { utf8 = (bytes, (plain.scalar_values, plain.encoded)); allowed = ap (list_all is_allowed_char) same ∙ plain.allowed } }
 
+short_from : (n : ℕ) → leb n 1024 ≡ true → n ≤ 1024
+short_from n short = grind (arith, nat_tests)
+
+pub plain_is_text : (bytes : List ℕ) → is_plain_text bytes ≡ true → IsText bytes
+plain_is_text bytes plain =
+    let parts = and_parts (list_all is_plain_byte bytes) (leb (length bytes) 1024) plain in
+    IsText-from_printable bytes parts.0 (short_from (length bytes) parts.1)
+
+pub plain-append : (front back : List ℕ) → list_all is_plain_byte front ≡ true → list_all is_plain_byte back ≡ true → list_all is_plain_byte (front ++ back) ≡ true
+plain-append front back first last =
+    list_all-append is_plain_byte front back ∙ and_from (list_all is_plain_byte front) (list_all is_plain_byte back) first last
+
 -- ---- digits
 
-pub printable_digit : (c : ℕ) → is_ascii_digit c ≡ true → is_printable c ≡ true
+pub printable_digit : (c : ℕ) → is_ascii_digit c ≡ true → is_plain_byte c ≡ true
 printable_digit c digit = grind (arith, nat_tests)
 
-pub printable_digits : (bytes : List ℕ) → are_digits bytes ≡ true → list_all is_printable bytes ≡ true
+pub printable_digits : (bytes : List ℕ) → are_digits bytes ≡ true → list_all is_plain_byte bytes ≡ true
 printable_digits [] digits = refl
 printable_digits (b ∷ bs) digits =
     let parts = and_parts (is_ascii_digit b) (are_digits bs) digits in
-    and_from (is_printable b) (list_all is_printable bs) (printable_digit b parts.0) (printable_digits bs parts.1)
+    and_from (is_plain_byte b) (list_all is_plain_byte bs) (printable_digit b parts.0) (printable_digits bs parts.1)
 
 own_numerals : IsNumeralModel (λ ds. are_digits ds ≡ true) value_of
 own_numerals = numerals_by_weight (λ ds. are_digits ds ≡ true) (search rules) value_of (search rules)
@@ -83,15 +92,23 @@ number_of-decimal n small =
     let digits : is_digits 1 9 (decimal n) ≡ true = is_digits-true 1 9 (decimal n) (record { digits = decimal_digits n fits; enough = omega arith; few = few }) in
     ap (λ (b : Bool). cond b (Some (value_of (decimal n))) None) digits ∙ ap Some (digits_value-decimal own_numerals n fits)
 
+pub plain-decimal : (n : ℕ) → n < 2 ^ 64 → list_all is_plain_byte (decimal n) ≡ true
+plain-decimal n fits = printable_digits (decimal n) (decimal_digits n fits)
+
+pub length-decimal : (n : ℕ) → n < 2 ^ 64 → length (decimal n) ≤ 20
+length-decimal n fits = length-decimal-le 20 n (omega arith) (omega arith) fits
+
+pub number_is_text : (n : ℕ) → n < 2 ^ 64 → IsText (decimal n)
+number_is_text n fits =
+    let few = length-decimal n fits in
+    IsText-from_printable (decimal n) (plain-decimal n fits) (omega (arith, few))
+
 pub IsText-decimal : (n : ℕ) → n ≤ 999_999_999 → IsText (decimal n)
-IsText-decimal n small =
-    let fits : n < 2 ^ 64 = omega arith in
-    let few = length-decimal-le 9 n (omega arith) (omega arith) fits in
-    IsText-from_printable (decimal n) (printable_digits (decimal n) (decimal_digits n fits)) (omega arith)
+IsText-decimal n small = number_is_text n (omega arith)
 
 -- ---- decimals
 
-point_before : (digits : List ℕ) → list_all is_printable digits ≡ true → list_all is_printable (fraction_text digits) ≡ true
+point_before : (digits : List ℕ) → list_all is_plain_byte digits ≡ true → list_all is_plain_byte (fraction_text digits) ≡ true
 point_before [] h = refl
 point_before (c ∷ cs) h = h
 
@@ -113,19 +130,19 @@ IsText-millionths n small =
     let back = point_before fraction (printable_digits fraction (cut.kept (six_are_digits (n % 1_000_000)))) in
     let shorter = cut.shorter in
     IsText-from_printable (decimal (n / 1_000_000) ++ fraction_text fraction)
-    (list_all-append is_printable (decimal (n / 1_000_000)) (fraction_text fraction) ∙ and_from (list_all is_printable (decimal (n / 1_000_000))) (list_all is_printable (fraction_text fraction)) front back)
+    (list_all-append is_plain_byte (decimal (n / 1_000_000)) (fraction_text fraction) ∙ and_from (list_all is_plain_byte (decimal (n / 1_000_000))) (list_all is_plain_byte (fraction_text fraction)) front back)
     (omega (arith, length-append (decimal (n / 1_000_000)) (fraction_text fraction), point_length fraction, few, shorter))
 
 -- ---- moments
 
 record ArePrintable (bytes : List ℕ) : Type 0 where
-  all : list_all is_printable bytes ≡ true
+  all : list_all is_plain_byte bytes ≡ true
 
 digit_more : (n : ℕ) {rest : List ℕ} → ArePrintable rest → ArePrintable ((48 + n % 10) ∷ rest)
-digit_more n {rest} h = record { all = and_from (is_printable (48 + n % 10)) (list_all is_printable rest) (printable_digit (48 + n % 10) (digit_is n)) h.all }
+digit_more n {rest} h = record { all = and_from (is_plain_byte (48 + n % 10)) (list_all is_plain_byte rest) (printable_digit (48 + n % 10) (digit_is n)) h.all }
 
-mark_more : (c : ℕ) {rest : List ℕ} → is_printable c ≡ true → ArePrintable rest → ArePrintable (c ∷ rest)
-mark_more c {rest} e h = record { all = and_from (is_printable c) (list_all is_printable rest) e h.all }
+mark_more : (c : ℕ) {rest : List ℕ} → is_plain_byte c ≡ true → ArePrintable rest → ArePrintable (c ∷ rest)
+mark_more c {rest} e h = record { all = and_from (is_plain_byte c) (list_all is_plain_byte rest) e h.all }
 
 none_more : ArePrintable []
 none_more = record { all = refl }

@@ -1,4 +1,7 @@
+pub mod Bytes
+pub mod Results
 pub mod Text
+pub mod PlainText
 pub mod Name
 pub mod Number
 pub mod Decimal

@@ -4,6 +4,7 @@
 //! knows of messages, machines or lines.
 #![tactic(auto)]
 
+mod bytes;
 mod civil;
 mod decimal;
 mod memory;
@@ -16,11 +17,12 @@ mod tests;
 mod text;
 mod word;
 
+pub use bytes::{is_blank, is_escaped};
 pub use decimal::{BadDecimal, Decimal};
 pub use memory::Memory;
 pub use moment::{BadMoment, Moment};
 pub use name::{Name, NameError, is_name_byte, is_name_start};
 pub use number::{digits_value, is_digits, read_number};
 pub use states::{Code, Flip, Quality, Role, Seen, SensorEvent, Severity, Side, Transfer};
-pub use text::{Text, TextError, is_allowed_char};
+pub use text::{MOST_TEXT_BYTES, Text, TextError, is_allowed_char, is_plain_text};
 pub use word::{Word, Words};

@@ -1,9 +1,11 @@
-ghost use Rattle.std.specs.Prelude.{◌≡◌, ◌↔◌, List, ℕ, IfOk, IsTrue};
+ghost use Rattle.std.specs.Prelude.{◌≡◌, ◌↔◌, List, ℕ, IfOk, IsTrue, decimal, true};
 ghost use Rattle.std.specs.List.{list_all};
 ghost use Rattle.std.specs.Str.{bytes_eq, chars};
 ghost use Rattle.line_base.specs.Text.{IsAllowed, IsText, ReadsText, is_allowed_char};
+ghost use Rattle.line_base.specs.PlainText.{is_plain_byte, is_plain_text};
 
 use crate::memory::Memory;
+use itoa::Buffer;
 use smallvec::SmallVec;
 use std::alloc::Global;
 use std::marker::Model;
@@ -108,6 +110,25 @@ impl Text {
         }
     }
 
+    /// The text of these bytes of printable ASCII. A literal meets the condition as it stands;
+    /// `is_plain_text` tells whether other bytes do.
+    #[tactic(auto, using(crate::proofs::Printable::plain_is_text))]
+    pub fn plain(alloc: Global, bytes: &[u8]) -> Result<Text, Memory>
+        requires { is_plain_text bytes.now ≡ true }
+        ensures { IfOk result (λ text. text ≡ bytes.now) }
+    {
+        Text::of(alloc, bytes)
+    }
+
+    /// The text of a number, in decimal digits without leading zeros.
+    #[tactic(auto, using(crate::proofs::Printable::number_is_text))]
+    pub fn number(alloc: Global, number: u64) -> Result<Text, Memory>
+        ensures { IfOk result (λ text. text ≡ decimal number) }
+    {
+        let mut room = Buffer::new();
+        Text::of(alloc, room.format(number).as_bytes())
+    }
+
     /// An equal text of its own.
     pub fn copy(&self, alloc: Global) -> Result<Text, Memory>
         ensures { IfOk result (λ text. text ≡ self.now) }
@@ -133,6 +154,19 @@ pub fn is_allowed_char(c: char) -> bool
     ensures { result ≡ is_allowed_char c }
 {
     matches!(c, '\t' | '\n' | '\r' | ' '..='\u{D7FF}' | '\u{E000}'..='\u{FFFD}' | '\u{10000}'..='\u{10FFFF}')
+}
+
+/// Whether bytes are printable ASCII, and at most 1,024 of it.
+pub fn is_plain_text(bytes: &[u8]) -> bool
+    ensures { result ≡ is_plain_text bytes.now }
+{
+    are_plain(bytes) && bytes.len() <= MOST_TEXT_BYTES
+}
+
+fn are_plain(bytes: &[u8]) -> bool
+    ensures { result ≡ list_all is_plain_byte bytes.now }
+{
+    bytes.iter().all(|byte| matches!(*byte, b' '..=b'~'))
 }
 
 fn is_allowed_text(bytes: &[u8]) -> bool
