@@ -80,6 +80,16 @@ impl Block {
         self.end += piece.len();
     }
 
+    /// Lets go of all bytes.
+    pub fn clear(&mut self)
+        ensures { self.new ≡ record { frame = []; waiting = [] } }
+    {
+        self.frame = 0;
+        self.start = 0;
+        self.searched = 0;
+        self.end = 0;
+    }
+
     /// Drops the blanks at the front, and cuts off the frame that stands there, if one does.
     pub fn cut(&mut self) -> Step
         ensures step { result ≡ step_of (answer_of self.old.waiting) }

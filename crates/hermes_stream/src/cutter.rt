@@ -77,6 +77,13 @@ impl Cutter {
         }
     }
 
+    /// Lets go of the bytes that wait, as where one stream ends and another begins.
+    pub fn clear(&mut self)
+        ensures { self.new ≡ [] }
+    {
+        self.block.clear();
+    }
+
     /// How many bytes wait.
     pub fn waiting(&self) -> usize
         ensures count { result ≡ length self.now }
