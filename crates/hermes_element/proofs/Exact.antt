@@ -245,3 +245,19 @@ answers_refused bytes (Err (errors.Refused place why)) (inr r) at reason (inr f)
     let e = err_same (place, why) (at, reason) (sym r.1 ∙ ap (λ (o : Outcome). o.built) (checked_outcome bytes at reason f)) in
     (ap (λ (x : Fault). x.0) e, ap (λ (x : Fault). x.1) e)
 answers_refused bytes (Err errors.Memory) r at reason u = tt
+
+-- ---- one refusal, and none beside a spelling
+
+pub one_refusal : (bytes : List ℕ) (at place : ℕ) (why reason : Why) → IsRefused bytes at why → IsRefused bytes place reason → (at ≡ place) × (why ≡ reason)
+one_refusal bytes at place why reason (inl u) (inl v) = let e = one_place bytes at place u.place v.place in (e, u.first ∙ ap (shape_reason bytes) e ∙ sym v.first)
+one_refusal bytes at place why reason (inl u) (inr g) = absurd (u.unplain (g.document, g.spelled))
+one_refusal bytes at place why reason (inr f) (inl v) = absurd (v.unplain (f.document, f.spelled))
+one_refusal bytes at place why reason (inr f) (inr g) =
+    let one = ap (λ (o : Outcome). o.built) (checked_outcome bytes at why f) in
+    let other = ap (λ (o : Outcome). o.built) (checked_outcome bytes place reason g) in
+    let e = err_same (at, why) (place, reason) (sym one ∙ other) in
+    (ap (λ (x : Fault). x.0) e, ap (λ (x : Fault). x.1) e)
+
+pub never_both : (bytes : List ℕ) (at : ℕ) (why : Why) (tree : Tree) → IsRefused bytes at why → Spells bytes tree → ⊥
+never_both bytes at why tree (inl u) s = u.unplain (s.document, s.spelled)
+never_both bytes at why tree (inr f) s = not_spelled_built bytes (at, why) (ap (λ (o : Outcome). o.built) (checked_outcome bytes at why f)) tree s

@@ -2,8 +2,10 @@
 
 ghost use Rattle.std.specs.Prelude.{◌≡◌, ◌↔◌, ℕ, List};
 ghost use Rattle.hermes_element.specs.Element.{Tree};
+ghost use Rattle.hermes_element.specs.Refusal.{IsRefused};
 ghost use Rattle.hermes_element.specs.Spelling.{Spells};
 ghost use Rattle.hermes_element.specs.Canonical.{canonical, IsProper, IsWritable, unplaced};
+ghost use Rattle.hermes_element.specs.declared.refusal.Why.{Why};
 
 use crate::element::Element;
 use crate::proper::parts_are_proper;
@@ -37,6 +39,16 @@ impl Element {
 /// Bytes spell at most one element.
 pub fn spelled_once()
     ensures { (bytes : List ℕ) (one other : Tree) → Spells bytes one → Spells bytes other → one ≡ other }
+{}
+
+/// Bytes are refused at one place and for one reason at most.
+pub fn refused_once()
+    ensures { (bytes : List ℕ) (at place : ℕ) (why reason : Why) → IsRefused bytes at why → IsRefused bytes place reason → (at ≡ place) × (why ≡ reason) }
+{}
+
+/// No bytes both spell an element and are refused.
+pub fn refused_or_spelled()
+    ensures { (bytes : List ℕ) (at : ℕ) (why : Why) (tree : Tree) → IsRefused bytes at why → Spells bytes tree → ⊥ }
 {}
 
 /// The canonical spelling of a proper and writable element spells that element, up to the places. An

@@ -24,7 +24,7 @@ mod write;
 
 pub use attribute::{Attribute, Attributes};
 pub use element::{Children, Element};
-pub use laws::{one_spelling, spelled_once, written_is_read};
+pub use laws::{one_spelling, refused_once, refused_or_spelled, spelled_once, written_is_read};
 pub use lent::{LentAttribute, LentAttributes, LentChildren, LentElement, LentName, LentValue};
 pub use read::{read_element, read_lent};
 pub use refusal::{ElementError, Why};
