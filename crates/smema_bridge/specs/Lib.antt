@@ -1,0 +1,4 @@
+pub mod Levels
+pub mod Segment
+pub mod Signals
+pub mod Calls
