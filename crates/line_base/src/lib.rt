@@ -1,7 +1,7 @@
 //! Small values that every layer above speaks of.
 //!
-//! Texts, names, words, numbers, decimals, moments, and the enumerations of the standard's messages. Nothing here
-//! knows of messages, machines or lines.
+//! Bytes, texts, names, words, numbers, decimals, moments, and the enumerations of the standard's
+//! messages. Nothing here knows of messages, machines or lines.
 #![tactic(auto)]
 
 mod bytes;
@@ -12,8 +12,6 @@ mod moment;
 mod name;
 mod number;
 mod states;
-#[cfg(test)]
-mod tests;
 mod text;
 mod word;
 

@@ -86,7 +86,7 @@ impl Name {
         }
     }
 
-    /// The same of more bytes than are kept inline. Apart, so that copying the others is inlined.
+    /// The name of more bytes than are kept inline. Apart, so that copying the others is inlined.
     #[cold]
     #[inline(never)]
     fn of_many(alloc: Global, bytes: &[u8]) -> Result<Name, Memory>

@@ -97,7 +97,7 @@ impl Text {
         }
     }
 
-    /// The same of more bytes than are kept inline. Apart, so that copying the others is inlined.
+    /// The text of more bytes than are kept inline. Apart, so that copying the others is inlined.
     #[cold]
     #[inline(never)]
     fn of_many(alloc: Global, bytes: &[u8]) -> Result<Text, Memory>
