@@ -4,8 +4,6 @@
 mod forms;
 mod line;
 mod read;
-#[cfg(test)]
-mod tests;
 mod words;
 
 pub use line::{LineError, LineWhy, ScriptLine};
