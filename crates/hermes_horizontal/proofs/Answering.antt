@@ -86,3 +86,29 @@ formless_once bytes place reason at why none once (inl formless) =
     let same = once at formless.reason formless.refused in
     (same.0, ap faults.Form same.1 ∙ sym formless.fault)
 formless_once bytes place reason at why none once (inr nothing) = absurd (none nothing.tree nothing.element)
+
+-- ---- one refusal, and none beside a spelling
+
+abbrev OneRefusal : List ℕ → Type 0
+OneRefusal bytes = (at place : ℕ) (why reason : Why) → form_refusal.IsRefused bytes at why → form_refusal.IsRefused bytes place reason → (at ≡ place) × (why ≡ reason)
+
+abbrev NeverBoth : List ℕ → Type 0
+NeverBoth bytes = (at : ℕ) (why : Why) (tree : Tree) → form_refusal.IsRefused bytes at why → form.Spells bytes tree → ⊥
+
+pub one_refusal : (bytes : List ℕ) → ((one other : Tree) → form.Spells bytes one → form.Spells bytes other → one ≡ other) → OneRefusal bytes → NeverBoth bytes
+    → (at place : ℕ) (why reason : Fault) → IsRefused bytes at why → IsRefused bytes place reason → (at ≡ place) × (why ≡ reason)
+one_refusal bytes once one never at place why reason (inl f) (inl g) =
+    let same = one at place f.reason g.reason f.refused g.refused in
+    (same.0, f.fault ∙ ap faults.Form same.1 ∙ sym g.fault)
+one_refusal bytes once one never at place why reason (inl f) (inr n) = absurd (never at f.reason n.tree f.refused n.element)
+one_refusal bytes once one never at place why reason (inr m) (inl g) = absurd (never place g.reason m.tree g.refused m.element)
+one_refusal bytes once one never at place why reason (inr m) (inr n) =
+    let tree = once n.tree m.tree n.element m.element in
+    let same = some_same (record { at = at; why = why }) (record { at = place; why = reason }) (refusal_of m.tree) m.refused (ap refusal_of (sym tree) ∙ n.refused) in
+    (ap (λ (r : Refusal). r.at) same, ap (λ (r : Refusal). r.why) same)
+
+pub never_both : (bytes : List ℕ) → ((one other : Tree) → form.Spells bytes one → form.Spells bytes other → one ≡ other) → NeverBoth bytes
+    → (at : ℕ) (why : Fault) (message : Message) → IsRefused bytes at why → Spells bytes message → ⊥
+never_both bytes once never at why message (inl f) s = never at f.reason s.tree f.refused s.element
+never_both bytes once never at why message (inr n) s =
+    some_none (record { at = at; why = why }) (refusal_of n.tree) n.refused (ap refusal_of (once n.tree s.tree n.element s.element) ∙ not_refused s.tree message s.says)

@@ -9,3 +9,4 @@ pub mod Fitting
 pub mod Returning
 pub mod Writable
 pub mod Plain
+pub mod Refusals

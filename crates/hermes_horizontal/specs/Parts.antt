@@ -95,6 +95,27 @@ info_of board = record {
   batch = board.batch;
 }
 
+-- what tells nothing of a board
+abbrev pub no_info : Info
+no_info = record {
+  id = None;
+  created_by = None;
+  quality = None;
+  flip = None;
+  product = None;
+  top = None;
+  bottom = None;
+  length = None;
+  width = None;
+  thickness = None;
+  speed = None;
+  top_clearance = None;
+  bottom_clearance = None;
+  weight = None;
+  order = None;
+  batch = None;
+}
+
 abbrev pub service_parts : Service → List (Option Value)
 service_parts service =
     Some (worded service.machine) ∷ Some (numbered service.lane) ∷ option_map worded service.interface ∷ Some (worded service.version) ∷ []

@@ -1,7 +1,12 @@
+ghost use Rattle.std.specs.Prelude.{◌≡◌, IfOk};
+ghost use Rattle.hermes_horizontal.specs.Texts.{message_refusal_text};
+
 use crate::attr::Attr;
 use hermes_element::Why;
-use line_base::Memory;
+use line_base::{Memory, Text};
+use std::alloc::Global;
 use std::fmt;
+use std::io::Write;
 use thiserror::Error;
 
 /// Why bytes spell no message, in the order in which the reasons are tested.
@@ -17,6 +22,20 @@ pub enum Fault {
     Missing(Attr),
     /// An attribute's value is none of its kind.
     BadValue(Attr),
+}
+
+impl Fault {
+    /// The text of a refusal for this reason at this index: the reason, ` at ` and the index. It is
+    /// what `MessageError::Refused` displays.
+    pub fn text(self, alloc: Global, at: usize) -> Result<Text, Memory>
+        ensures { IfOk result (λ text. text ≡ message_refusal_text self at) }
+    {
+        let mut bytes = Vec::new(alloc);
+        match write!(bytes, "{self} at {at}") {
+            Ok(()) => Text::of(alloc, bytes.as_slice()),
+            Err(_) => Err(Memory),
+        }
+    }
 }
 
 impl fmt::Display for Fault {

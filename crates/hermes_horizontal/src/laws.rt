@@ -1,14 +1,24 @@
 //! The laws of messages and their spellings.
 
 ghost use Rattle.std.specs.Prelude.{◌≡◌, ◌↔◌, ℕ, List};
-ghost use Rattle.hermes_horizontal.specs.Canonical.{canonical, IsWritable};
-ghost use Rattle.hermes_horizontal.specs.Spelling.{Spells};
+ghost use Rattle.hermes_horizontal.specs.Canonical.{canonical, IsProperMessage, IsWritable};
+ghost use Rattle.hermes_horizontal.specs.Spelling.{IsRefused, Spells};
+ghost use Rattle.hermes_horizontal.specs.declared.fault.Fault.{Fault};
 ghost use Rattle.hermes_horizontal.specs.declared.message.Message.{Message};
 
 use crate::message::Message;
 use crate::proper::parts_are_proper;
 
 impl Message {
+    /// Every part of a message is within what its type allows: texts are texts, ids have 128 bits.
+    ///
+    /// The call states this of the message. It reads the message's parts, and changes nothing.
+    pub fn is_proper(&self)
+        ensures { IsProperMessage self.now }
+    {
+        parts_are_proper(self);
+    }
+
     /// What is written of this message is read as this message, if it is writable: the lane and the
     /// code are at most 999,999,999, and the name in `Other` is none of the thirteen.
     ///
@@ -38,4 +48,21 @@ pub fn spelled_once()
     ensures { (bytes : List ℕ) (a b : Message) → Spells bytes a → Spells bytes b → a ≡ b }
 {
     hermes_element::spelled_once();
+}
+
+/// Bytes are refused at one place and for one reason at most.
+pub fn refused_once()
+    ensures { (bytes : List ℕ) (at place : ℕ) (why reason : Fault) → IsRefused bytes at why → IsRefused bytes place reason → (at ≡ place) × (why ≡ reason) }
+{
+    hermes_element::spelled_once();
+    hermes_element::refused_once();
+    hermes_element::refused_or_spelled();
+}
+
+/// No bytes both spell a message and are refused.
+pub fn refused_or_spelled()
+    ensures { (bytes : List ℕ) (at : ℕ) (why : Fault) (message : Message) → IsRefused bytes at why → Spells bytes message → ⊥ }
+{
+    hermes_element::spelled_once();
+    hermes_element::refused_or_spelled();
 }

@@ -1,0 +1,166 @@
+//! Messages of their own, equal to others, and board information that tells nothing.
+
+ghost use Rattle.std.specs.Prelude.{◌≡◌, IfOk};
+ghost use Rattle.hermes_horizontal.specs.Parts.{no_info};
+
+use crate::message::{Horizontal, Info, Message, Service};
+use line_base::{Memory, Name, Text};
+use std::alloc::Global;
+
+impl Message {
+    /// An equal message of its own, as where what is heard is handed on too.
+    pub fn copy(&self, alloc: Global) -> Result<Message, Memory>
+        ensures { IfOk result (λ copy. copy ≡ self.now) }
+    {
+        let body = self.body.copy(alloc)?;
+        Ok(Message {
+            stamp: self.stamp,
+            body,
+        })
+    }
+}
+
+impl Horizontal {
+    /// An equal body of its own.
+    pub fn copy(&self, alloc: Global) -> Result<Horizontal, Memory>
+        ensures { IfOk result (λ copy. copy ≡ self.now) }
+    {
+        match self {
+            Horizontal::CheckAlive { ping, id } => {
+                let id = copied(alloc, id)?;
+                Ok(Horizontal::CheckAlive { ping: *ping, id })
+            }
+            Horizontal::ServiceDescription(service) => {
+                let service = service.copy(alloc)?;
+                Ok(Horizontal::ServiceDescription(service))
+            }
+            Horizontal::Notification {
+                code,
+                severity,
+                text,
+            } => {
+                let text = text.copy(alloc)?;
+                Ok(Horizontal::Notification {
+                    code: *code,
+                    severity: *severity,
+                    text,
+                })
+            }
+            Horizontal::BoardAvailable(board) => {
+                let board = board.copy(alloc)?;
+                Ok(Horizontal::BoardAvailable(board))
+            }
+            Horizontal::RevokeBoardAvailable => Ok(Horizontal::RevokeBoardAvailable),
+            Horizontal::MachineReady { quality } => {
+                Ok(Horizontal::MachineReady { quality: *quality })
+            }
+            Horizontal::RevokeMachineReady => Ok(Horizontal::RevokeMachineReady),
+            Horizontal::StartTransport { id } => Ok(Horizontal::StartTransport { id: *id }),
+            Horizontal::StopTransport { state, id } => Ok(Horizontal::StopTransport {
+                state: *state,
+                id: *id,
+            }),
+            Horizontal::TransportFinished { state, id } => Ok(Horizontal::TransportFinished {
+                state: *state,
+                id: *id,
+            }),
+            Horizontal::BoardForecast(info) => {
+                let info = info.copy(alloc)?;
+                Ok(Horizontal::BoardForecast(info))
+            }
+            Horizontal::QueryBoardInfo { top, bottom } => {
+                let top = copied(alloc, top)?;
+                let bottom = copied(alloc, bottom)?;
+                Ok(Horizontal::QueryBoardInfo { top, bottom })
+            }
+            Horizontal::SendBoardInfo(info) => {
+                let info = info.copy(alloc)?;
+                Ok(Horizontal::SendBoardInfo(info))
+            }
+            Horizontal::Other(name) => {
+                let name = name_copy(alloc, name)?;
+                Ok(Horizontal::Other(name))
+            }
+        }
+    }
+}
+
+impl Service {
+    /// An equal description of its own.
+    pub fn copy(&self, alloc: Global) -> Result<Service, Memory>
+        ensures { IfOk result (λ copy. copy ≡ self.now) }
+    {
+        Ok(Service {
+            machine: self.machine.copy(alloc)?,
+            lane: self.lane,
+            version: self.version.copy(alloc)?,
+            interface: copied(alloc, &self.interface)?,
+            features: self.features,
+        })
+    }
+}
+
+impl Info {
+    /// Equal board information of its own.
+    pub fn copy(&self, alloc: Global) -> Result<Info, Memory>
+        ensures { IfOk result (λ copy. copy ≡ self.now) }
+    {
+        Ok(Info {
+            id: self.id,
+            created_by: copied(alloc, &self.created_by)?,
+            quality: self.quality,
+            flip: self.flip,
+            product: copied(alloc, &self.product)?,
+            top: copied(alloc, &self.top)?,
+            bottom: copied(alloc, &self.bottom)?,
+            length: self.length,
+            width: self.width,
+            thickness: self.thickness,
+            speed: self.speed,
+            top_clearance: self.top_clearance,
+            bottom_clearance: self.bottom_clearance,
+            weight: self.weight,
+            order: copied(alloc, &self.order)?,
+            batch: copied(alloc, &self.batch)?,
+        })
+    }
+}
+
+/// Board information that tells nothing, as for a board that isn't known.
+pub fn no_info() -> Info
+    ensures { result ≡ no_info }
+{
+    Info {
+        id: None,
+        created_by: None,
+        quality: None,
+        flip: None,
+        product: None,
+        top: None,
+        bottom: None,
+        length: None,
+        width: None,
+        thickness: None,
+        speed: None,
+        top_clearance: None,
+        bottom_clearance: None,
+        weight: None,
+        order: None,
+        batch: None,
+    }
+}
+
+fn copied(alloc: Global, text: &Option<Text>) -> Result<Option<Text>, Memory>
+    ensures { IfOk result (λ copy. copy ≡ text.now) }
+{
+    match text {
+        Some(text) => Ok(Some(text.copy(alloc)?)),
+        None => Ok(None),
+    }
+}
+
+fn name_copy(alloc: Global, name: &Name) -> Result<Name, Memory>
+    ensures { IfOk result (λ copy. copy ≡ name.now) }
+{
+    Name::of(alloc, name.bytes())
+}
