@@ -22,7 +22,7 @@ impl Model for Kept {
 }
 
 impl Kept {
-    /// No records yet, and no room.
+    /// No records yet.
     pub fn new(alloc: Global) -> Kept
         ensures { result.boards ≡ [] }
     {
@@ -31,11 +31,12 @@ impl Kept {
         }
     }
 
-    /// Makes room for one more record.
+    /// Makes room for one more record, or leaves all as it was where memory is wanting.
     pub fn reserve_one(&mut self) -> Result<(), Memory>
         ensures same { self.new.boards ≡ self.old.boards }
         ensures room { OnOk result (0 < self.new.spare) }
         ensures kept { self.old.spare ≤ self.new.spare }
+        ensures memory { OnErr result (self.new ≡ self.old) }
     {
         match self.boards.reserve(1) {
             Ok(()) => Ok(()),

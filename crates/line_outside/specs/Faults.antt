@@ -1,4 +1,4 @@
-use Rattle.std.specs.Prelude.{ℕ, ◌-◌, ◌^◌, ◌<◌}
+use Rattle.std.specs.Prelude.{ℕ, ◌+◌, ◌-◌, ◌^◌, ◌<◌, min}
 
 -- the last value of a count of faults, at which it stands still
 abbrev pub last_count : ℕ
@@ -7,3 +7,7 @@ last_count = 2 ^ 64 - 1
 -- a count rose, or stood at its last value
 abbrev pub Rose : ℕ → ℕ → Type 0
 Rose before now = before < last_count → before < now
+
+-- the count after one more failure
+abbrev pub one_more : ℕ → ℕ
+one_more count = min (count + 1) last_count

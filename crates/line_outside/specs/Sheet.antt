@@ -1,5 +1,6 @@
 use Rattle.std.specs.Prelude.{◌+◌, ◌-◌, ◌^◌, ◌++◌, ℕ, Bool, true, false, List, Option, None, Some, length, min, nat_eq, nat_lt, if◌then◌else◌}
 use Rattle.std.specs.List.{list_any}
+use Rattle.line_outside.specs.Faults.{one_more}
 use Rattle.line_outside.specs.declared.sink.Push.{Push}
 use Rattle.line_outside.specs.declared.sink.Push.TheVariants as pushes
 
@@ -40,3 +41,8 @@ pushes_at sheet piece = if fails_next sheet.failing sheet.calls then pushes.Fail
 
 abbrev pub page_after : Sheet → List ℕ → Page
 page_after sheet piece = if fails_next sheet.failing sheet.calls then sheet.page else grown sheet.page piece
+
+-- how many calls failed, after a push that answers so: one more exactly where it failed
+abbrev pub faults_after : ℕ → Push → ℕ
+faults_after before pushes.Failed = one_more before
+faults_after before (pushes.Took n) = before

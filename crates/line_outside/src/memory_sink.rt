@@ -1,6 +1,6 @@
 ghost use Rattle.std.specs.Prelude.{◌≡◌, ◌+◌, ◌-◌, ◌^◌, ◌<◌, ℕ, [], List, Some, IfOk, length, min, option_map};
 ghost use Rattle.line_outside.specs.Sink.{Takes, HasPushCause};
-ghost use Rattle.line_outside.specs.Sheet.{Sheet, pushes_at, page_after};
+ghost use Rattle.line_outside.specs.Sheet.{Sheet, faults_after, pushes_at, page_after};
 
 use crate::sink::{Push, Sink};
 use crate::steady_sink::SteadySink;
@@ -9,6 +9,7 @@ use std::alloc::Global;
 use std::marker::Model;
 
 /// A sink in memory, of which the listed calls fail and no others. Else it is as a `SteadySink`.
+/// Its faults are the calls that failed.
 #[derive(Debug, Drop)]
 pub struct MemorySink {
     sink: SteadySink,
@@ -61,6 +62,8 @@ impl Sink for MemorySink {
         // the listed calls fail, and no others
         ensures answer { result ≡ pushes_at self.old piece.now }
         ensures page { self.new.page ≡ page_after self.old piece.now }
+        // each failed call is counted, and no other
+        ensures faults { self.new.faults ≡ faults_after self.old.faults result }
         ensures counted { self.new.calls ≡ min (self.old.calls + 1) (2 ^ 64 - 1) }
         ensures failing { self.new.failing ≡ self.old.failing }
     {

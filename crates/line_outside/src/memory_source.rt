@@ -1,6 +1,6 @@
 ghost use Rattle.std.specs.Prelude.{◌≡◌, ◌+◌, ◌-◌, ◌^◌, ◌<◌, ℕ, List, Some, IfOk, length, min};
 ghost use Rattle.line_outside.specs.Source.{Gives, HasPullCause};
-ghost use Rattle.line_outside.specs.Tape.{Tape, pulls_at};
+ghost use Rattle.line_outside.specs.Tape.{Tape, faults_after, pulls_at};
 
 use crate::source::{Pull, Source};
 use crate::steady_source::SteadySource;
@@ -8,7 +8,8 @@ use line_base::Memory;
 use std::alloc::Global;
 use std::marker::Model;
 
-/// A source of bytes in memory, of which the listed calls fail and no others.
+/// A source of bytes in memory, of which the listed calls fail and no others. Its faults are the
+/// calls that failed.
 #[derive(Debug, Drop)]
 pub struct MemorySource {
     source: SteadySource,
@@ -52,6 +53,8 @@ impl Source for MemorySource {
         ensures cause { HasPullCause self.old.faults self.new.faults result }
         // the listed calls fail, and no others
         ensures answer { result ≡ pulls_at self.old (length room.old) }
+        // each failed call is counted, and no other
+        ensures faults { self.new.faults ≡ faults_after self.old.faults result }
         ensures counted { self.new.calls ≡ min (self.old.calls + 1) (2 ^ 64 - 1) }
         ensures failing { self.new.failing ≡ self.old.failing }
     {

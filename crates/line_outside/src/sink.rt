@@ -15,7 +15,7 @@ pub trait Sink {
     /// The bytes that it has taken, where they are told. What is once untold stays untold.
     ghost contents: { Self → Option (List ℕ) };
 
-    /// How often it failed. It never falls, and at its last value it stands still.
+    /// A count of its faults. It never falls, and rises where a push fails, up to 2^64 - 1.
     ghost faults: { Self → ℕ };
 
     /// Appends the first bytes of the piece, as many as it likes.

@@ -17,7 +17,7 @@ pub trait Source {
     /// The bytes that are left, where they are told.
     ghost left: { Self → Option (List ℕ) };
 
-    /// How often it failed. It never falls, and at its last value it stands still.
+    /// A count of its faults. It never falls, and rises where a pull fails, up to 2^64 - 1.
     ghost faults: { Self → ℕ };
 
     /// Takes the next bytes, as many as it likes of those that fit the room.
