@@ -1,5 +1,5 @@
 -- The messages of a stream, and what follows them: on the whole list of its bytes.
-use Rattle.std.specs.Prelude.{ℕ, zero, suc, ◌+◌, ◌==◌, ◌||◌, Bool, List, [], ◌∷◌, ◌++◌, Option, None, Some, length, take, drop, nat_lt, nat_eq, codes, if◌then◌else◌, unwrap_or, option_map}
+use Rattle.std.specs.Prelude.{◌≡◌, ◌≤◌, ℕ, zero, suc, ◌+◌, ◌==◌, ◌||◌, Bool, List, [], ◌∷◌, ◌++◌, Option, None, Some, length, take, drop, nat_lt, nat_eq, codes, if◌then◌else◌, unwrap_or, option_map}
 use Rattle.std.specs.List.{starts_with}
 
 -- the most bytes that a message has, its end included
@@ -75,3 +75,8 @@ frames_within (suc more) bytes = joined (answer_of bytes) (left_of bytes) (frame
 -- the frames of a stream. Each message has nine bytes at least, so there are fewer than bytes and one
 unfoldable pub frames_of : List ℕ → Frames
 frames_of bytes = frames_within (length bytes + 1) bytes
+
+-- the bytes are one message of a stream with nothing behind it, and few enough
+pub record IsOneFrame (bytes : List ℕ) : Type 0 where
+  pub frames : frames_of bytes ≡ record { messages = bytes ∷ []; rest = Some [] }
+  pub short : length bytes ≤ most_bytes

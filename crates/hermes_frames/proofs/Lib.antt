@@ -1,0 +1,3 @@
+pub mod Lengths
+pub mod Opens
+pub mod Framed
