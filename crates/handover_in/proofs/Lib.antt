@@ -1,3 +1,6 @@
-mod Rows
-pub mod Table
+mod Asked
+pub mod Rows
+pub mod Together
 pub mod IntakeLaws
+pub mod Deeds
+pub mod Sights

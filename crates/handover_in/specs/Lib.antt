@@ -2,8 +2,14 @@ pub mod State
 pub mod Own
 pub mod Act
 pub mod Row
+pub mod Table
+pub mod Breach
 pub mod Given
 pub mod Run
 pub mod Records
 pub mod Offers
 pub mod Ends
+pub mod Together
+pub mod Links
+pub mod Deeds
+pub mod Sights

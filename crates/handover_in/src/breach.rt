@@ -1,12 +1,37 @@
+ghost use Rattle.std.specs.Prelude.{◌≡◌};
+ghost use Rattle.handover_in.specs.Breach.{breach_text};
+
+use std::fmt;
 use thiserror::Error;
 
 /// A message that the intake doesn't take in its phase, by the message's name.
 #[derive(Clone, Copy, Debug, PartialEq, Eq, Error)]
 pub enum InBreach {
-    #[error("unexpected BoardAvailable")]
     BoardAvailable,
-    #[error("unexpected RevokeBoardAvailable")]
     RevokeBoardAvailable,
-    #[error("unexpected TransportFinished")]
     TransportFinished,
+}
+
+impl InBreach {
+    /// The text of the Notification with which the machine then closes the connection:
+    /// `unexpected` and the message's name.
+    pub fn text(self) -> &'static str
+        ensures { result.now ≡ breach_text self }
+    {
+        match self {
+            InBreach::BoardAvailable => "unexpected BoardAvailable",
+            InBreach::RevokeBoardAvailable => "unexpected RevokeBoardAvailable",
+            InBreach::TransportFinished => "unexpected TransportFinished",
+        }
+    }
+}
+
+impl fmt::Display for InBreach {
+    ghost use Rattle.std.specs.Prelude.{Some};
+
+    ghost output = { λ breach. Some (breach_text breach) };
+
+    fn fmt<W: fmt::Write>(&self, f: &mut fmt::Formatter<W>) -> fmt::Result {
+        f.write_str(self.text())
+    }
 }

@@ -3,13 +3,13 @@ ghost use Rattle.handover_in.specs.Row.{closed_row, closes_stopped, row};
 ghost use Rattle.handover_in.specs.State.{at_rest};
 
 use crate::act::InAct;
-use crate::intake::Intake;
 use crate::phase::Phase;
+use crate::state::State;
 use board_record::Record;
 use line_base::{Seen, Transfer};
 use std::mem;
 
-impl Intake {
+impl State {
     pub(crate) fn close(&mut self) -> InAct
         ensures { closed_row self.old.phase ≡ row self.new result }
     {

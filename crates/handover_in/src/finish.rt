@@ -6,14 +6,14 @@ ghost use Rattle.transfer_state.specs.Intake.{in_ends};
 
 use crate::act::{InAct, stop};
 use crate::breach::InBreach;
-use crate::intake::Intake;
 use crate::phase::Phase;
+use crate::state::State;
 use board_record::{BoardId, Record};
 use line_base::{Seen, Transfer};
 use std::mem;
 use transfer_state::{InEnd, in_ends};
 
-impl Intake {
+impl State {
     pub(crate) fn finish(&mut self, heard: Transfer, id: BoardId) -> Result<InAct, InBreach>
         ensures row { IfOk result (λ act. finished_row self.old.phase self.old heard id ≡ row self.new act) }
         ensures breach { IfErr result (λ why. (finished_row self.old.phase self.old heard id ≡ None) × (why ≡ InBreach.TransportFinished)) }

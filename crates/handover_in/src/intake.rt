@@ -1,12 +1,14 @@
-ghost use Rattle.std.specs.Prelude.{◌≡◌, IfOk, IfErr, OnErr, None, Some, option_map};
+ghost use Rattle.std.specs.Prelude.{◌≡◌, IfOk, IfErr, OnErr, IsSome, None, Some, true, option_map};
 ghost use Rattle.handover_in.specs.State.{at_rest, name_of_phase, held, own_of_phase, has_heard, may_connect};
 ghost use Rattle.handover_in.specs.Row.{intake_row, row};
 ghost use Rattle.handover_in.specs.Given.{IsGiven, breach_of};
+ghost use Rattle.handover_in.specs.Together.{IsIntakeTogether};
 
 use crate::act::InAct;
 use crate::breach::InBreach;
 use crate::input::InInput;
 use crate::phase::{InPhase, Phase};
+use crate::state::State;
 use board_record::Record;
 use line_base::Seen;
 use std::marker::Model;
@@ -14,22 +16,23 @@ use std::marker::Model;
 /// The downstream half of a handover.
 ///
 /// It is seen as its phase, the record of the board that is offered, and whether the machine has
-/// said that it is ready.
+/// said that it is ready. What of these can stand together is its invariant.
 #[derive(Debug, PartialEq, Eq, Drop)]
 pub struct Intake {
-    pub(crate) phase: Phase,
-    pub(crate) offer: Option<Record>,
-    pub(crate) ready: bool,
+    state: State,
 }
 
 impl Model for Intake {
     ghost use Rattle.handover_in.specs.State.{InState};
+    ghost use Rattle.handover_in.specs.Together.{IsIntakeTogether};
 
     ghost Value = { InState };
 
-    ghost view = { λ intake. record { phase = intake.phase; offer = intake.offer; ready = intake.ready } };
+    ghost view = { λ intake. intake.state };
 
-    ghost inverse = { λ state. record { phase = state.phase; offer = state.offer; ready = state.ready } };
+    ghost invariant = { λ intake. IsIntakeTogether intake.state };
+
+    ghost inverse = { λ value. record { state = value } };
 }
 
 impl Intake {
@@ -38,17 +41,30 @@ impl Intake {
         ensures { result ≡ at_rest }
     {
         Intake {
-            phase: Phase::Idle,
-            offer: None,
-            ready: false,
+            state: State::at_rest(),
         }
+    }
+
+    /// What stands together in every intake: it is ready only while no handover is open, and has an
+    /// offer only where it takes offers; and its phase is one that comes up.
+    ///
+    /// It does nothing: a caller that knows that the intake is ready, and that a board is offered,
+    /// knows behind it that `Unready` and `Start` have their row.
+    #[tactic(auto, using(crate::proofs::Together::unready_given, crate::proofs::Together::start_given))]
+    pub fn together(&self)
+        ensures together { IsIntakeTogether self.now }
+        ensures unready { self.now.ready ≡ true → IsGiven self.now InInput.Unready }
+        ensures start { self.now.ready ≡ true → IsSome self.now.offer → IsGiven self.now InInput.Start }
+    {
+        let _state = &self.state;
     }
 
     /// Its phase, without the phase's parts.
     pub fn phase(&self) -> InPhase
         ensures { result ≡ name_of_phase self.now.phase }
     {
-        match &self.phase {
+        let state = &self.state;
+        match &state.phase {
             Phase::Idle => InPhase::Idle,
             Phase::Taking { .. } => InPhase::Taking,
             Phase::Stopped { .. } => InPhase::Stopped,
@@ -60,7 +76,8 @@ impl Intake {
     pub fn holds(&self) -> Option<&Record>
         ensures { option_map (λ board. board.now) result ≡ held self.now }
     {
-        match &self.phase {
+        let state = &self.state;
+        match &state.phase {
             Phase::Idle => None,
             Phase::Taking { board, .. } => Some(board),
             Phase::Stopped { board, .. } => Some(board),
@@ -72,21 +89,24 @@ impl Intake {
     pub fn offer(&self) -> Option<&Record>
         ensures { option_map (λ board. board.now) result ≡ self.now.offer }
     {
-        self.offer.as_ref()
+        let state = &self.state;
+        state.offer.as_ref()
     }
 
     /// Whether the machine has said that it is ready.
     pub fn ready(&self) -> bool
         ensures { result ≡ self.now.ready }
     {
-        self.ready
+        let state = &self.state;
+        state.ready
     }
 
     /// What its sensors saw of the board whose handover is open.
     pub fn own(&self) -> Option<Seen>
         ensures { result ≡ own_of_phase self.now.phase }
     {
-        match &self.phase {
+        let state = &self.state;
+        match &state.phase {
             Phase::Idle => None,
             Phase::Taking { own, .. } => Some(*own),
             Phase::Stopped { own, .. } => Some(*own),
@@ -94,11 +114,13 @@ impl Intake {
         }
     }
 
-    /// Whether the upstream machine said how the open handover ended for it.
+    /// Whether the upstream machine said how the open handover ended for it: of a transport that
+    /// runs, and beyond a close, only that the board has left counts.
     pub fn heard(&self) -> bool
         ensures { result ≡ has_heard self.now.phase }
     {
-        match &self.phase {
+        let state = &self.state;
+        match &state.phase {
             Phase::Idle => false,
             Phase::Taking { heard, .. } => *heard,
             Phase::Stopped { heard, .. } => heard.is_some(),
@@ -106,11 +128,13 @@ impl Intake {
         }
     }
 
-    /// Whether a new connection may be opened: no handover is open, or its board is inside.
+    /// Whether a new connection may be opened: no handover is open, or the connection of the open
+    /// one is closed and its board is inside.
     pub fn may_connect(&self) -> bool
         ensures { result ≡ may_connect self.now.phase }
     {
-        match &self.phase {
+        let state = &self.state;
+        match &state.phase {
             Phase::Idle => true,
             Phase::Waiting { own, .. } => *own == Seen::Complete,
             _ => false,
@@ -127,17 +151,6 @@ impl Intake {
         ensures breach { IfErr result (λ why. (intake_row self.old input ≡ None) × (breach_of input ≡ Some why)) }
         ensures unchanged { OnErr result (self.new ≡ self.old) }
     {
-        match input {
-            InInput::Ready => Ok(self.get_ready()),
-            InInput::Unready => Ok(self.get_unready()),
-            InInput::Start => Ok(self.start()),
-            InInput::BoardAvailable(board) => self.board_available(board),
-            InInput::RevokeBoardAvailable => self.revoke_board_available(),
-            InInput::Finished { state, id } => self.finish(state, id),
-            InInput::Sensed(event) => Ok(self.sense(event)),
-            InInput::Fault => Ok(self.fault()),
-            InInput::Closed => Ok(self.close()),
-            InInput::Stand => Ok(self.stand()),
-        }
+        self.state.meet(input)
     }
 }

@@ -14,8 +14,7 @@ pub mod laws;
 mod offer;
 mod phase;
 mod sensor;
-#[cfg(test)]
-mod tests;
+mod state;
 
 pub use act::{InAct, InDeed, InSend};
 pub use breach::InBreach;

@@ -6,12 +6,12 @@ ghost use Rattle.handover_in.specs.Row.{ready_row, unready_row, start_row, board
 use crate::act::{InAct, InSend};
 use crate::breach::InBreach;
 use crate::input::InInput;
-use crate::intake::Intake;
 use crate::phase::Phase;
+use crate::state::State;
 use board_record::Record;
 use line_base::Seen;
 
-impl Intake {
+impl State {
     pub(crate) fn get_ready(&mut self) -> InAct
         requires { IsGiven self.old InInput.Ready }
         ensures { ready_row self.old.phase self.old ≡ row self.new result }

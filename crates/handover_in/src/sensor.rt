@@ -4,13 +4,13 @@ ghost use Rattle.handover_in.specs.Own.{own_after};
 ghost use Rattle.handover_in.specs.Row.{taking_row, stopped_row, waiting_row, sensed_row, fault_row, complete_if, row};
 
 use crate::act::{InAct, stop};
-use crate::intake::Intake;
 use crate::phase::Phase;
+use crate::state::State;
 use board_record::Record;
 use line_base::{Seen, SensorEvent, Transfer};
 use std::mem;
 
-impl Intake {
+impl State {
     pub(crate) fn sense(&mut self, event: SensorEvent) -> InAct
         ensures { sensed_row self.old.phase self.old event ≡ row self.new result }
     {

@@ -1,8 +1,8 @@
 use Rattle.std.proofs.Common.{◌≡◌, true, ◌∙◌}
 use Rattle.handover_in.specs.declared.phase.Phase.TheVariants.{Taking}
 use Rattle.handover_in.specs.State.{awaits_finish}
-use Rattle.handover_in.proofs.Rows.{finished_taking}
-use Rattle.handover_in.proofs.intake.Intake.finish.Goals as goal
+use Rattle.handover_in.proofs.Asked.{finished_taking}
+use Rattle.handover_in.proofs.state.State.finish.Goals as goal
 
 pub returns-in-Taking-clause-row : goal.returns-in-Taking-clause-row
 returns-in-Taking-clause-row c =
