@@ -1,4 +1,5 @@
-ghost use Rattle.std.specs.Prelude.{◌≡◌};
+ghost use Rattle.std.specs.Prelude.{◌≡◌, true};
+ghost use Rattle.line_base.specs.PlainText.{is_plain_text};
 ghost use Rattle.handover_in.specs.Breach.{breach_text};
 
 use std::fmt;
@@ -16,7 +17,8 @@ impl InBreach {
     /// The text of the Notification with which the machine then closes the connection:
     /// `unexpected` and the message's name.
     pub fn text(self) -> &'static str
-        ensures { result.now ≡ breach_text self }
+        ensures text { result.now ≡ breach_text self }
+        ensures plain { is_plain_text result.now ≡ true }
     {
         match self {
             InBreach::BoardAvailable => "unexpected BoardAvailable",

@@ -114,8 +114,9 @@ impl Intake {
         }
     }
 
-    /// Whether the upstream machine said how the open handover ended for it: of a transport that
-    /// runs, and beyond a close, only that the board has left counts.
+    /// Whether the upstream machine was heard. While the transport runs, and beyond a close, that
+    /// it said that the board has left; once the transport has stopped, that it said how the
+    /// handover ended.
     pub fn heard(&self) -> bool
         ensures { result ≡ has_heard self.now.phase }
     {

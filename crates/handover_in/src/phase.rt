@@ -29,8 +29,8 @@ pub enum Phase {
         own: Seen,
         heard: Option<Transfer>,
     },
-    /// The connection is closed and the board lies between the machines, or is inside and nobody
-    /// said that it has left. `heard` says whether the upstream machine said that it has.
+    /// The connection is closed, and the sensors or a new connection tell what becomes of the
+    /// board. `heard` says whether the upstream machine said that the board has left.
     Waiting {
         board: Record,
         own: Seen,
