@@ -8,7 +8,8 @@ use Rattle.std.proofs.lemmas.Bool.Decides.{nat_tests}
 use Rattle.std.proofs.lemmas.Fmt.{length-decimal-le}
 use Rattle.std.proofs.lemmas.List.Folds.{list_all-append}
 use Rattle.line_base.specs.Text.{IsText}
-use Rattle.line_base.proofs.Printable.{is_printable, IsText-from_printable, printable_digits, decimal_digits}
+use Rattle.line_base.specs.PlainText.{is_plain_byte}
+use Rattle.line_base.proofs.Printable.{IsText-from_printable, printable_digits, decimal_digits}
 use Rattle.hermes_element.specs.Refusal.{why_text}
 use Rattle.hermes_element.specs.declared.refusal.Why.{Why}
 use Rattle.hermes_element.specs.declared.refusal.Why.TheVariants as why
@@ -20,20 +21,20 @@ use Rattle.hermes_horizontal.specs.declared.fault.Fault.{Fault}
 use Rattle.hermes_horizontal.specs.declared.fault.Fault.TheVariants as faults
 
 abbrev is_short : List ℕ → Bool
-is_short bytes = list_all is_printable bytes && nat_le (length bytes) 30
+is_short bytes = list_all is_plain_byte bytes && nat_le (length bytes) 30
 
 record IsShort (bytes : List ℕ) (most : ℕ) : Type 0 where
-  plain : list_all is_printable bytes ≡ true
+  plain : list_all is_plain_byte bytes ≡ true
   short : length bytes ≤ most
 
 le_from : (n : ℕ) → nat_le n 30 ≡ true → n ≤ 30
 le_from n is = grind (arith, nat_tests)
 
 short_from : (bytes : List ℕ) → is_short bytes ≡ true → IsShort bytes 30
-short_from bytes is = let parts = and_parts (list_all is_printable bytes) (nat_le (length bytes) 30) is in record { plain = parts.0; short = le_from (length bytes) parts.1 }
+short_from bytes is = let parts = and_parts (list_all is_plain_byte bytes) (nat_le (length bytes) 30) is in record { plain = parts.0; short = le_from (length bytes) parts.1 }
 
 joined : (a b : List ℕ) (m n : ℕ) → IsShort a m → IsShort b n → IsShort (a ++ b) (m + n)
-joined a b m n x y = record { plain = list_all-append is_printable a b ∙ and_from (list_all is_printable a) (list_all is_printable b) x.plain y.plain; short = omega (arith, x.short, y.short, length-append a b) }
+joined a b m n x y = record { plain = list_all-append is_plain_byte a b ∙ and_from (list_all is_plain_byte a) (list_all is_plain_byte b) x.plain y.plain; short = omega (arith, x.short, y.short, length-append a b) }
 
 attr_short : (attr : Attr) → is_short (attr_text attr) ≡ true
 attr_short attrs.Timestamp = refl
