@@ -6,8 +6,6 @@ mod kept;
 mod maker;
 mod record;
 mod sensed;
-#[cfg(test)]
-mod tests;
 
 pub use id::{BadId, BoardId};
 pub use kept::Kept;
