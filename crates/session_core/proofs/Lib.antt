@@ -1,3 +1,4 @@
 pub mod Rows
 pub mod RowLaws
 pub mod Silence
+pub mod States

@@ -17,7 +17,7 @@ use Rattle.session_core.specs.Given.{IsGiven, IsNoMessage}
 use Rattle.session_core.specs.Passing.{passed, passing, passing_at}
 use Rattle.session_core.specs.Handling.{handling_of}
 use Rattle.session_core.specs.declared.handling.Handling.{Handling}
-use Rattle.session_core.specs.declared.handling.Handling.TheVariants.{Pass, Take, Refuse}
+use Rattle.session_core.specs.declared.handling.Handling.TheVariants.{Pass, Refuse}
 use Rattle.hermes_horizontal.specs.Parts.{kind_of}
 use Rattle.hermes_horizontal.specs.declared.message.Horizontal.{Horizontal}
 use Rattle.session_core.specs.Alive.{pongs, asked}
@@ -39,7 +39,6 @@ idle : (handling : Handling) (state : SessionState) (message : Horizontal) → s
 idle Pass Standing message other = absurd (other refl)
 idle Pass NotConnected message other = refl
 idle Pass Handshake message other = refl
-idle Take _ message other = refl
 idle Refuse _ message other = refl
 
 passing_idle : (s : SessionEnd) (input : Input) → s.state ≢ Standing → passing s input ≡ []

@@ -13,14 +13,14 @@ use Rattle.session_core.specs.declared.actions.Action.TheVariants.{Close, Ping}
 use Rattle.session_core.specs.Acts.{nothing, one}
 use Rattle.session_core.specs.Input.{Input, opened, second, heard, tick, shutdown, closed}
 use Rattle.session_core.specs.Row.{SessionRow, session_row, connected_row, ticked}
-use Rattle.session_core.specs.Table.{end_of, to, IsConnected, in_handshake, in_standing, IsSessionRow, opens_downstream, opens_upstream, refuses_second, stands_upstream, is_unsettled, stands_downstream, answers, is_answered, is_alive, is_notified, passes_over, passes_ready, passes_unready, passes_start, passes_stop, passes_query, passes_available, passes_revoked, passes_finished, passes_forecast, takes_info, asks, gives_up_handshake, gives_up_standing, waits_in_handshake, waits_standing, shuts_down, is_closed}
+use Rattle.session_core.specs.Table.{end_of, to, IsConnected, in_handshake, in_standing, IsSessionRow, opens_downstream, opens_upstream, refuses_second, stands_upstream, is_unsettled, stands_downstream, answers, is_answered, is_alive, is_notified, passes_over, passes_ready, passes_unready, passes_start, passes_stop, passes_query, passes_available, passes_revoked, passes_finished, passes_forecast, passes_info, asks, gives_up_handshake, gives_up_standing, waits_in_handshake, waits_standing, shuts_down, is_closed}
 
 -- the count of silent ticks
 
 pub raised_most : (k : ℕ) → raised k ≤ 5
 raised_most k = grind (arith, nat_tests)
 
-five : (j : ℕ) → j ≤ 5 → nat_lt 4 j ≡ true → j ≡ 5
+pub five : (j : ℕ) → j ≤ 5 → nat_lt 4 j ≡ true → j ≡ 5
 five j most test = grind (arith, nat_tests)
 
 not_five : (j : ℕ) → nat_lt 4 j ≡ false → j ≢ 5
@@ -37,7 +37,7 @@ not_two j test same = grind (arith, nat_tests)
 test_two : (j : ℕ) → j ≢ 2 → nat_eq j 2 ≡ false
 test_two j other = grind (arith, nat_tests)
 
-test_five : (j : ℕ) → j ≤ 5 → j ≢ 5 → nat_lt 4 j ≡ false
+pub test_five : (j : ℕ) → j ≤ 5 → j ≢ 5 → nat_lt 4 j ≡ false
 test_five j most other = grind (arith, nat_tests)
 
 -- the two parts of a test
@@ -103,7 +103,7 @@ rows (heard (BoardAvailable board) unsettled) Standing Downstream k n f = passes
 rows (heard RevokeBoardAvailable unsettled) Standing Downstream k n f = passes_revoked
 rows (heard (TransportFinished said id) unsettled) Standing Downstream k n f = passes_finished
 rows (heard (BoardForecast info) unsettled) Standing Downstream k n f = passes_forecast
-rows (heard (SendBoardInfo info) unsettled) Standing Downstream k n f = takes_info
+rows (heard (SendBoardInfo info) unsettled) Standing Downstream k n f = passes_info
 rows tick Handshake role k n f = tick_by role Handshake k n f _ _ in_handshake refl refl
 rows tick Standing role k n f = tick_by role Standing k n f _ _ in_standing refl refl
 rows shutdown Handshake role k n f = shuts_down in_handshake

@@ -49,3 +49,13 @@ is_watched Standing peer = peer.check_alive
 -- whether a peer is given up after so many silent ticks
 abbrev pub is_given_up : SessionState → ℕ → Features → Bool
 is_given_up state silent peer = nat_lt 4 silent && is_watched state peer
+
+abbrev pub is_connected_state : SessionState → Bool
+is_connected_state NotConnected = false
+is_connected_state Handshake = true
+is_connected_state Standing = true
+
+abbrev pub is_standing_state : SessionState → Bool
+is_standing_state NotConnected = false
+is_standing_state Handshake = false
+is_standing_state Standing = true

@@ -3,7 +3,7 @@ use Rattle.line_base.specs.declared.states.Role.TheVariants.{Upstream, Downstrea
 use Rattle.hermes_horizontal.specs.declared.kind.Kind.{Kind}
 use Rattle.hermes_horizontal.specs.declared.kind.Kind.TheVariants as kinds
 use Rattle.session_core.specs.declared.handling.Handling.{Handling}
-use Rattle.session_core.specs.declared.handling.Handling.TheVariants.{Pass, Take, Refuse}
+use Rattle.session_core.specs.declared.handling.Handling.TheVariants.{Pass, Refuse}
 
 -- what a standing session does with the messages of handovers, forecasts and board information: each part takes those
 -- that the other part sends
@@ -17,5 +17,5 @@ handling_of kinds.BoardAvailable Downstream = Pass
 handling_of kinds.RevokeBoardAvailable Downstream = Pass
 handling_of kinds.TransportFinished Downstream = Pass
 handling_of kinds.BoardForecast Downstream = Pass
-handling_of kinds.SendBoardInfo Downstream = Take
+handling_of kinds.SendBoardInfo Downstream = Pass
 handling_of _ _ = Refuse

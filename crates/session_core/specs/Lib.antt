@@ -1,6 +1,7 @@
 pub mod End
 pub mod Acts
 pub mod Breach
+pub mod Tells
 pub mod Handling
 pub mod Input
 pub mod Row
@@ -9,4 +10,5 @@ pub mod Given
 pub mod Passing
 pub mod Alive
 pub mod Standing
+pub mod States
 pub mod Run

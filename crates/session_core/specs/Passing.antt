@@ -1,4 +1,4 @@
-use Rattle.std.specs.Prelude.{List, [], ◌∷◌, ◌++◌, Option, Some}
+use Rattle.std.specs.Prelude.{Bool, true, List, [], ◌∷◌, flat_map, Option, Some}
 use Rattle.hermes_horizontal.specs.Parts.{kind_of}
 use Rattle.hermes_horizontal.specs.declared.message.Horizontal.{Horizontal}
 use Rattle.session_core.specs.declared.actions.Actions.{Actions}
@@ -8,17 +8,18 @@ use Rattle.session_core.specs.declared.handling.Handling.{Handling}
 use Rattle.session_core.specs.declared.handling.Handling.TheVariants.{Pass}
 use Rattle.session_core.specs.declared.state.SessionState.{SessionState}
 use Rattle.session_core.specs.declared.state.SessionState.TheVariants.{Standing}
-use Rattle.session_core.specs.End.{SessionEnd}
+use Rattle.session_core.specs.Acts.{actions_list}
+use Rattle.session_core.specs.End.{SessionEnd, is_connected_state}
 use Rattle.session_core.specs.Handling.{handling_of}
 use Rattle.session_core.specs.Input.{Input, heard}
 
-abbrev pub passed_by : Option Action → List Horizontal
-passed_by (Some (act.Pass message)) = message ∷ []
+abbrev pub passed_by : Action → List Horizontal
+passed_by (act.Pass message) = message ∷ []
 passed_by _ = []
 
 -- the messages that are passed on
 abbrev pub passed : Actions → List Horizontal
-passed actions = passed_by actions.first ++ (passed_by actions.second ++ passed_by actions.third)
+passed actions = flat_map passed_by (actions_list actions)
 
 abbrev pub passing_at : Handling → SessionState → Horizontal → List Horizontal
 passing_at Pass Standing message = message ∷ []
@@ -29,3 +30,8 @@ passing_at _ _ _ = []
 abbrev pub passing : SessionEnd → Input → List Horizontal
 passing s (heard message _) = passing_at (handling_of (kind_of message) s.role) s.state message
 passing _ _ = []
+
+-- a message is passed on only where there is a connection
+abbrev pub pass_open : Option Action → SessionState → Bool
+pass_open (Some (act.Pass _)) state = is_connected_state state
+pass_open _ _ = true

@@ -12,7 +12,7 @@ use Rattle.session_core.specs.declared.actions.Actions.{Actions}
 use Rattle.session_core.specs.declared.actions.Action.TheVariants as act
 use Rattle.session_core.specs.declared.actions.Tell.TheVariants.{AlreadyConnected, Unsettled, Shutdown}
 use Rattle.session_core.specs.declared.handling.Handling.{Handling}
-use Rattle.session_core.specs.declared.handling.Handling.TheVariants.{Pass, Take, Refuse}
+use Rattle.session_core.specs.declared.handling.Handling.TheVariants.{Pass, Refuse}
 use Rattle.session_core.specs.declared.state.SessionState.{SessionState}
 use Rattle.session_core.specs.declared.state.SessionState.TheVariants.{NotConnected, Handshake, Standing}
 use Rattle.session_core.specs.End.{SessionEnd, at_rest, in_state, taken, stands, raised, grown, is_given_up}
@@ -65,7 +65,6 @@ alive_actions _ _ = nothing
 -- what is to be done at a message that is handled so, or that there is no row for it
 abbrev pub actions_at : Handling → Horizontal → Option Actions
 actions_at Pass message = Some (one (act.Pass message))
-actions_at Take _ = Some nothing
 actions_at Refuse _ = None
 
 abbrev pub taken_row : SessionEnd → Option Actions → Option SessionRow

@@ -1,9 +1,10 @@
-use Rattle.std.specs.Prelude.{Bool, true, false, ◌||◌, Option, Some, None}
+use Rattle.std.specs.Prelude.{Bool, true, false, Option, Some, None}
 use Rattle.hermes_horizontal.specs.Parts.{features_of}
 use Rattle.hermes_horizontal.specs.declared.message.Features.{Features}
 use Rattle.session_core.specs.declared.actions.Actions.{Actions}
 use Rattle.session_core.specs.declared.actions.Action.{Action}
 use Rattle.session_core.specs.declared.actions.Action.TheVariants as act
+use Rattle.session_core.specs.Acts.{actions_list, has_action}
 use Rattle.session_core.specs.Input.{Input, heard}
 
 -- the features that the peer lists, where it is a description that is heard
@@ -16,10 +17,10 @@ abbrev pub comes_unsettled : Input → Bool
 comes_unsettled (heard _ unsettled) = unsettled
 comes_unsettled _ = false
 
-abbrev pub describes_by : Option Action → Bool
-describes_by (Some act.SendService) = true
-describes_by _ = false
+abbrev pub is_service : Action → Bool
+is_service act.SendService = true
+is_service _ = false
 
 -- the machine's own description is sent
 abbrev pub describes : Actions → Bool
-describes actions = describes_by actions.first || (describes_by actions.second || describes_by actions.third)
+describes actions = has_action is_service (actions_list actions)

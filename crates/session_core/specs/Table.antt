@@ -59,7 +59,7 @@ pub data IsSessionRow : SessionEnd → Input → SessionRow → Type 0 where
   passes_revoked : {k n : ℕ} {f : Features} {unsettled : Bool} → IsSessionRow (end_of Downstream Standing k n f) (heard RevokeBoardAvailable unsettled) (to (end_of Downstream Standing 0 n f) (one (Pass RevokeBoardAvailable)))
   passes_finished : {k n : ℕ} {f : Features} {said : Transfer} {id : ℕ} {unsettled : Bool} → IsSessionRow (end_of Downstream Standing k n f) (heard (TransportFinished said id) unsettled) (to (end_of Downstream Standing 0 n f) (one (Pass (TransportFinished said id))))
   passes_forecast : {k n : ℕ} {f : Features} {info : Info} {unsettled : Bool} → IsSessionRow (end_of Downstream Standing k n f) (heard (BoardForecast info) unsettled) (to (end_of Downstream Standing 0 n f) (one (Pass (BoardForecast info))))
-  takes_info : {k n : ℕ} {f : Features} {info : Info} {unsettled : Bool} → IsSessionRow (end_of Downstream Standing k n f) (heard (SendBoardInfo info) unsettled) (to (end_of Downstream Standing 0 n f) nothing)
+  passes_info : {k n : ℕ} {f : Features} {info : Info} {unsettled : Bool} → IsSessionRow (end_of Downstream Standing k n f) (heard (SendBoardInfo info) unsettled) (to (end_of Downstream Standing 0 n f) (one (Pass (SendBoardInfo info))))
   -- a tick: where the silent count becomes 2 the peer is asked for a sign of life; where it is 5 the connection is closed
   -- in the handshake, and else where the peer lists that it answers
   asks : {role : Role} {state : SessionState} {k n : ℕ} {f : Features} → IsConnected state → raised k ≡ 2 → IsSessionRow (end_of role state k n f) tick (to (end_of role state (raised k) (grown n) f) (one (Ping (grown n))))

@@ -1,8 +1,10 @@
-ghost use Rattle.std.specs.Prelude.{◌≡◌};
+ghost use Rattle.std.specs.Prelude.{◌≡◌, true};
+ghost use Rattle.line_base.specs.PlainText.{is_plain_text};
 ghost use Rattle.session_core.specs.Acts.{nothing, one, two};
+ghost use Rattle.session_core.specs.Tells.{tell_code, tell_severity, tell_text};
 
 use hermes_horizontal::Horizontal;
-use line_base::Text;
+use line_base::{Code, Severity, Text};
 
 /// What a machine is to do for a session, in this order.
 #[derive(Debug, PartialEq, Eq, Drop)]
@@ -40,6 +42,44 @@ pub enum Tell {
     Unsettled,
     /// The machine shuts down.
     Shutdown,
+}
+
+impl Tell {
+    /// The Notification's code, as docs/PROFILE.md lists them: an established connection, unspecific, a
+    /// shutdown.
+    pub fn code(self) -> Code
+        ensures { result ≡ tell_code self }
+    {
+        let number = match self {
+            Tell::AlreadyConnected => 2,
+            Tell::Unsettled => 0,
+            Tell::Shutdown => 5,
+        };
+        Code { number }
+    }
+
+    /// How grave it is.
+    pub fn severity(self) -> Severity
+        ensures { result ≡ tell_severity self }
+    {
+        match self {
+            Tell::AlreadyConnected => Severity::Error,
+            Tell::Unsettled => Severity::Warning,
+            Tell::Shutdown => Severity::Info,
+        }
+    }
+
+    /// Its description.
+    pub fn text(self) -> &'static str
+        ensures text { result.now ≡ tell_text self }
+        ensures plain { is_plain_text result.now ≡ true }
+    {
+        match self {
+            Tell::AlreadyConnected => "already connected",
+            Tell::Unsettled => "handover unsettled",
+            Tell::Shutdown => "shutdown",
+        }
+    }
 }
 
 impl Actions {

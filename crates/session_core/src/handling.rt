@@ -9,8 +9,6 @@ use line_base::Role;
 pub enum Handling {
     /// It passes the message on.
     Pass,
-    /// It takes the message, which has no effect.
-    Take,
     /// It has no row for the message.
     Refuse,
 }
@@ -32,10 +30,10 @@ pub(crate) fn handling_of(kind: Kind, role: Role) -> Handling
             Kind::BoardAvailable
             | Kind::RevokeBoardAvailable
             | Kind::TransportFinished
-            | Kind::BoardForecast,
+            | Kind::BoardForecast
+            | Kind::SendBoardInfo,
             Role::Downstream,
         ) => Handling::Pass,
-        (Kind::SendBoardInfo, Role::Downstream) => Handling::Take,
         _ => Handling::Refuse,
     }
 }

@@ -1,7 +1,7 @@
 //! What holds of an end of a session whatever it meets. Each law is a contract over the
 //! definitions that the calls of `Session` meet.
 
-ghost use Rattle.std.specs.Prelude.{◌≡◌, ◌≢◌, ◌↔◌, ◌<◌, ◌≤◌, ℕ, Bool, true, false, IsSome, List, [], ◌∷◌, Option, Some, None};
+ghost use Rattle.std.specs.Prelude.{◌≡◌, ◌≢◌, ◌↔◌, ◌≤◌, ◌⊎◌, ◌&&◌, not, ℕ, Bool, true, false, IsSome, List, [], ◌∷◌, Option, Some, None};
 ghost use Rattle.line_base.specs.declared.states.Role.{Role as Part};
 ghost use Rattle.line_base.specs.declared.states.Role.TheVariants.{Upstream};
 ghost use Rattle.hermes_horizontal.specs.declared.message.Horizontal.{Horizontal};
@@ -12,13 +12,14 @@ ghost use Rattle.session_core.specs.declared.actions.Action.TheVariants.{Tell, C
 ghost use Rattle.session_core.specs.declared.actions.Tell.TheVariants.{Unsettled};
 ghost use Rattle.session_core.specs.End.{SessionEnd, at_rest, no_features};
 ghost use Rattle.session_core.specs.Acts.{two};
-ghost use Rattle.session_core.specs.Input.{Input, heard, tick};
+ghost use Rattle.session_core.specs.Input.{Input, heard, closed};
 ghost use Rattle.session_core.specs.Row.{SessionRow, session_row, row};
 ghost use Rattle.session_core.specs.Table.{IsSessionRow};
 ghost use Rattle.session_core.specs.Given.{IsGiven, IsNoMessage};
 ghost use Rattle.session_core.specs.Passing.{passed, passing};
 ghost use Rattle.session_core.specs.Alive.{pongs, asked};
 ghost use Rattle.session_core.specs.Standing.{described, comes_unsettled, describes};
+ghost use Rattle.session_core.specs.States.{closes, closes_at, stands_at, state_after, tells_intake, is_upstream};
 ghost use Rattle.session_core.specs.Run.{after_all, after_ticks, is_described_after};
 
 /// The plain program that the calls meet computes exactly the rows of the session table.
@@ -85,6 +86,31 @@ pub fn the_silent_count_begins_anew()
     ensures heard { (s : SessionEnd) (message : Horizontal) (unsettled : Bool) (row : SessionRow) → session_row s (heard message unsettled) ≡ Some row → row.after.silent ≡ 0 }
     ensures opened { (s : SessionEnd) (input : Input) (row : SessionRow) → session_row s input ≡ Some row → s.state ≡ NotConnected → row.after.silent ≡ 0 }
     ensures most { (role : Part) (inputs : List Input) → (after_all (at_rest role) inputs).silent ≤ 5 }
+{}
+
+/// The state after an input is known beforehand: a connection begins in the handshake, it ends
+/// where it is closed, the session stands from the peer's description on, and else the state stays.
+#[tactic(auto, using(crate::proofs::States::state_exactly))]
+pub fn the_state_follows_from_the_input()
+    ensures { (s : SessionEnd) (input : Input) (row : SessionRow) → session_row s input ≡ Some row → row.after.state ≡ state_after s input }
+{}
+
+/// An end closes its connection at a shutdown, at a tick that gives the peer up, and where the
+/// peer describes itself to an upstream end whose outlet holds a board, and nowhere else. It is then
+/// as an end without a connection, and only a close makes it so.
+#[tactic(auto, using(crate::proofs::States::closes_exactly, crate::proofs::States::closed_rests, crate::proofs::States::rests_exactly))]
+pub fn an_end_closes_where_it_gives_the_connection_up()
+    ensures closes { (s : SessionEnd) (input : Input) (row : SessionRow) → session_row s input ≡ Some row → closes row.actions ≡ closes_at s input }
+    ensures rests { (s : SessionEnd) (input : Input) (row : SessionRow) → session_row s input ≡ Some row → closes row.actions ≡ true → row.after ≡ at_rest s.role }
+    ensures only { (s : SessionEnd) (input : Input) (row : SessionRow) → session_row s input ≡ Some row → row.after.state ≡ NotConnected → (row.after ≡ at_rest s.role) × ((closes row.actions ≡ true) ⊎ (input ≡ closed)) }
+{}
+
+/// An end comes to stand exactly where the peer describes itself, unless it is an upstream end
+/// whose outlet holds a board. A downstream end, and no other, then tells its intake.
+#[tactic(auto, using(crate::proofs::States::stands_exactly, crate::proofs::States::tells_exactly))]
+pub fn an_end_comes_to_stand_at_a_description()
+    ensures stands { (s : SessionEnd) (input : Input) (row : SessionRow) → session_row s input ≡ Some row → s.state ≢ Standing → (row.after.state ≡ Standing) ↔ (stands_at s input ≡ true) }
+    ensures tells { (s : SessionEnd) (input : Input) (row : SessionRow) → session_row s input ≡ Some row → tells_intake row.actions ≡ (stands_at s input && not (is_upstream s.role)) }
 {}
 
 /// An end keeps its part.

@@ -1,6 +1,7 @@
-ghost use Rattle.std.specs.Prelude.{◌≡◌, ◌≢◌, None, IfOk, IfErr, OnErr};
+ghost use Rattle.std.specs.Prelude.{◌≡◌, ◌≢◌, None, true, IfOk, IfErr, OnErr};
 ghost use Rattle.hermes_horizontal.specs.Parts.{kind_of};
 ghost use Rattle.session_core.specs.Input.{heard};
+ghost use Rattle.session_core.specs.Passing.{pass_open};
 ghost use Rattle.session_core.specs.Row.{session_row, service_row, traffic_row, alive_actions, actions_at, row};
 
 use crate::actions::{Action, Actions, Tell};
@@ -15,10 +16,13 @@ impl Session {
     /// A message came in. `unsettled` says whether the machine's outlet holds a board.
     ///
     /// A breach exactly where the session table has no row for the message. The session is then
-    /// unchanged, and the machine has to close it by `on_closed`.
+    /// unchanged, and the machine has to close it by `on_closed`. Where a message is to be passed on,
+    /// the session has a connection.
+    #[tactic(auto, using(crate::proofs::States::pass_opens))]
     pub fn on_message(&mut self, message: Horizontal, unsettled: bool) -> Result<Actions, Breach>
         requires { self.old.state ≢ SessionState.NotConnected }
         ensures row { IfOk result (λ actions. session_row self.old (heard message unsettled) ≡ row self.new actions) }
+        ensures open { IfOk result (λ actions. pass_open actions.first self.new.state ≡ true) }
         ensures breach { IfErr result (λ breach. (session_row self.old (heard message unsettled) ≡ None) × (breach.kind ≡ kind_of message)) }
         ensures unchanged { OnErr result (self.new ≡ self.old) }
     {
@@ -94,7 +98,6 @@ fn actions_at(handling: Handling, message: Horizontal) -> Option<Actions>
 {
     match handling {
         Handling::Pass => Some(Actions::one(Action::Pass(message))),
-        Handling::Take => Some(Actions::nothing()),
         Handling::Refuse => None,
     }
 }

@@ -53,6 +53,13 @@ impl Session {
         }
     }
 
+    /// Its part.
+    pub fn role(&self) -> Role
+        ensures { result ≡ self.now.role }
+    {
+        self.role
+    }
+
     /// How far the connection is.
     pub fn state(&self) -> SessionState
         ensures { result ≡ self.now.state }
@@ -141,12 +148,6 @@ impl Session {
         self.state = SessionState::Standing;
         self.silent = 0;
         self.peer = features;
-    }
-
-    pub(crate) fn role(&self) -> Role
-        ensures { result ≡ self.now.role }
-    {
-        self.role
     }
 
     /// Forgets all of the connection before.

@@ -110,7 +110,7 @@ const MESSAGES: &[(Kind, Does, Does, Does, Does)] = &[
         Does::Breaches,
         Does::Breaches,
         Does::Breaches,
-        Does::Nothing,
+        Does::Passes,
     ),
     (
         Kind::Other,
