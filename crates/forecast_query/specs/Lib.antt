@@ -1,0 +1,3 @@
+pub mod Forecasts
+pub mod Find
+pub mod Info

@@ -1,0 +1,79 @@
+ghost use Rattle.std.specs.Prelude.{◌≡◌, IfOk};
+ghost use Rattle.forecast_query.specs.Info.{forecast_of, info_of, no_info};
+
+use board_record::Record;
+use hermes_horizontal::Info;
+use line_base::{Memory, Text};
+use std::alloc::Global;
+
+/// What is told of a board to a machine that asks for it: each field of its record.
+pub fn info_of(alloc: Global, board: &Record) -> Result<Info, Memory>
+    ensures { IfOk result (λ info. info ≡ info_of board.now) }
+{
+    Ok(Info {
+        id: Some(board.id),
+        created_by: Some(board.created_by.copy(alloc)?),
+        quality: Some(board.quality),
+        flip: Some(board.flip),
+        product: copied(alloc, &board.product)?,
+        top: copied(alloc, &board.top)?,
+        bottom: copied(alloc, &board.bottom)?,
+        length: board.length,
+        width: board.width,
+        thickness: board.thickness,
+        speed: board.speed,
+        top_clearance: board.top_clearance,
+        bottom_clearance: board.bottom_clearance,
+        weight: board.weight,
+        order: copied(alloc, &board.order)?,
+        batch: copied(alloc, &board.batch)?,
+    })
+}
+
+/// What is told of the next board before it is offered: its quality, its flip, its product and
+/// its barcodes, and no id.
+pub fn forecast_of(alloc: Global, board: &Record) -> Result<Info, Memory>
+    ensures { IfOk result (λ info. info ≡ forecast_of board.now) }
+{
+    Ok(Info {
+        quality: Some(board.quality),
+        flip: Some(board.flip),
+        product: copied(alloc, &board.product)?,
+        top: copied(alloc, &board.top)?,
+        bottom: copied(alloc, &board.bottom)?,
+        ..no_info()
+    })
+}
+
+/// What is told where nothing is known of the board that is asked for.
+pub fn no_info() -> Info
+    ensures { result ≡ no_info }
+{
+    Info {
+        id: None,
+        created_by: None,
+        quality: None,
+        flip: None,
+        product: None,
+        top: None,
+        bottom: None,
+        length: None,
+        width: None,
+        thickness: None,
+        speed: None,
+        top_clearance: None,
+        bottom_clearance: None,
+        weight: None,
+        order: None,
+        batch: None,
+    }
+}
+
+fn copied(alloc: Global, text: &Option<Text>) -> Result<Option<Text>, Memory>
+    ensures { IfOk result (λ copy. copy ≡ text.now) }
+{
+    match text {
+        Some(text) => Ok(Some(text.copy(alloc)?)),
+        None => Ok(None),
+    }
+}
