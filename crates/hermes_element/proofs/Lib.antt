@@ -21,3 +21,5 @@ pub mod Rising
 pub mod Exact
 pub mod Back
 pub mod Unescaped
+pub mod Zeros
+pub mod Depths

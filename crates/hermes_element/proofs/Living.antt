@@ -181,7 +181,7 @@ leads places.End d h = ([], refl)
 
 -- ---- and it comes to no others
 
-abbrev AllLive : Option Stand → Type 0
+abbrev pub AllLive : Option Stand → Type 0
 AllLive None = Unit {0}
 AllLive (Some to) = Lives to.0 to.1
 

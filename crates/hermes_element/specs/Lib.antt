@@ -10,3 +10,5 @@ pub mod Texts
 pub mod Machine
 pub mod Steps
 pub mod Lent
+pub mod Levels
+pub mod Adding

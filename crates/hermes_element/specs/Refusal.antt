@@ -56,6 +56,13 @@ pub record FailsCheck (bytes : List ℕ) (at : ℕ) (reason : Why) : Type 0 wher
 abbrev pub IsRefused : List ℕ → ℕ → Why → Type 0
 IsRefused bytes at reason = IsUnplain bytes at reason ⊎ FailsCheck bytes at reason
 
+-- the bytes are refused, at an index of at most this
+pub record IsRefusedBy (bytes : List ℕ) (most : ℕ) : Type 0 where
+  pub at : ℕ
+  pub reason : Why
+  pub near : at ≤ most
+  pub refused : IsRefused bytes at reason
+
 -- ---- texts
 
 abbrev pub why_text : Why → List ℕ

@@ -1,8 +1,8 @@
 //! The laws of elements and their spellings.
 
-ghost use Rattle.std.specs.Prelude.{◌≡◌, ◌↔◌, ℕ, List};
+ghost use Rattle.std.specs.Prelude.{◌≡◌, ◌↔◌, ◌∷◌, ◌++◌, ℕ, List, length};
 ghost use Rattle.hermes_element.specs.Element.{Tree};
-ghost use Rattle.hermes_element.specs.Refusal.{IsRefused};
+ghost use Rattle.hermes_element.specs.Refusal.{IsRefused, IsRefusedBy};
 ghost use Rattle.hermes_element.specs.Spelling.{Spells};
 ghost use Rattle.hermes_element.specs.Canonical.{canonical, IsProper, IsWritable, unplaced};
 ghost use Rattle.hermes_element.specs.declared.refusal.Why.{Why};
@@ -15,7 +15,8 @@ impl Element {
     /// the places, if it is writable: there are at most four levels of elements, and each element
     /// has at most 64 attributes of which no two share a name.
     ///
-    /// Nothing else is asked of it. The call states the law, and does nothing.
+    /// Nothing else is asked of it. The call states the law: it goes over the element's parts, and
+    /// changes nothing.
     pub fn reads_back(&self)
         ensures { IsWritable self.now → (found : Tree) × Spells (canonical self.now) found × (unplaced found ≡ unplaced self.now) }
     {
@@ -26,7 +27,7 @@ impl Element {
     /// Two writable elements are equal, up to the places, exactly where what is written of them is:
     /// different ones are never written as the same bytes.
     ///
-    /// The call states the law, and does nothing.
+    /// The call states the law: it goes over the parts of both, and changes nothing.
     pub fn spells_apart(&self, other: &Element)
         ensures { IsWritable self.now → IsWritable other.now → (canonical self.now ≡ canonical other.now) ↔ (unplaced self.now ≡ unplaced other.now) }
     {
@@ -49,6 +50,11 @@ pub fn refused_once()
 /// No bytes both spell an element and are refused.
 pub fn refused_or_spelled()
     ensures { (bytes : List ℕ) (at : ℕ) (why : Why) (tree : Tree) → IsRefused bytes at why → Spells bytes tree → ⊥ }
+{}
+
+/// Bytes with a 0 in them are refused, at their first 0 or before it.
+pub fn zero_is_refused()
+    ensures { (front rest : List ℕ) → IsRefusedBy (front ++ 0 ∷ rest) (length front) }
 {}
 
 /// The canonical spelling of a proper and writable element spells that element, up to the places. An

@@ -24,13 +24,10 @@ mod write;
 
 pub use attribute::{Attribute, Attributes};
 pub use element::{Children, Element};
-pub use laws::{one_spelling, refused_once, refused_or_spelled, spelled_once, written_is_read};
+pub use laws::{
+    one_spelling, refused_once, refused_or_spelled, spelled_once, written_is_read, zero_is_refused,
+};
 pub use lent::{LentAttribute, LentAttributes, LentChildren, LentElement, LentName, LentValue};
 pub use read::{read_element, read_lent};
-pub use refusal::{ElementError, Why};
+pub use refusal::{ChildError, ElementError, Why};
 pub use write::{write_attribute, write_element};
-
-#[cfg(test)]
-mod slow;
-#[cfg(test)]
-mod tests;

@@ -1,5 +1,6 @@
 //! Elements of their own, made of lent ones.
-ghost use Rattle.std.specs.Prelude.{◌≡◌, IfOk};
+ghost use Rattle.std.specs.Prelude.{◌≡◌, ◌≤◌, IfOk};
+ghost use Rattle.hermes_element.specs.Canonical.{depth_of};
 
 use crate::attribute::{Attribute, Attributes};
 use crate::element::{Children, Element};
@@ -8,9 +9,10 @@ use line_base::Memory;
 use std::alloc::Global;
 
 impl<'a> LentElement<'a> {
-    /// An equal element of its own.
+    /// An equal element of its own. It has at most four levels, as what is read has.
     #[cycle(own)]
     pub fn own(&self, alloc: Global) -> Result<Element, Memory>
+        requires { depth_of self.now.children ≤ 3 }
         ensures { IfOk result (λ element. element ≡ self.now) }
     {
         let name = self.name.own(alloc)?;
@@ -26,14 +28,15 @@ impl<'a> LentElement<'a> {
 }
 
 impl<'a> LentChildren<'a> {
-    /// Equal children of their own.
+    /// Equal children of their own. They have at most three levels, as those of what is read have.
     #[cycle(own)]
     pub fn own(&self, alloc: Global) -> Result<Children, Memory>
+        requires { depth_of self.now ≤ 3 }
         ensures { IfOk result (λ children. children ≡ self.now) }
     {
         let mut children = Children::new(alloc);
         for child in self.list() {
-            children.push(child.own(alloc)?)?;
+            children.add(child.own(alloc)?)?;
         }
         Ok(children)
     }

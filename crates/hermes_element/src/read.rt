@@ -1,4 +1,5 @@
-ghost use Rattle.std.specs.Prelude.{◌≡◌, ℕ, Err, IfOk};
+ghost use Rattle.std.specs.Prelude.{◌≡◌, ◌≤◌, ℕ, Err, IfOk};
+ghost use Rattle.hermes_element.specs.Canonical.{depth_of};
 ghost use Rattle.hermes_element.specs.Element.{Tree};
 ghost use Rattle.hermes_element.specs.Spelling.{ReadsElement, Spells, AnswersElement, AnswersRefusal};
 ghost use Rattle.hermes_element.specs.Refusal.{IsRefused, shape_reason, markup_reason};
@@ -17,8 +18,8 @@ use std::alloc::Global;
 
 /// Reads the bytes of a document as an element.
 ///
-/// `Refused` says at which index, and why, the bytes spell none. It takes the memory of the
-/// element alone.
+/// `Refused` says at which index, and why, the bytes spell none. `Memory` says that memory was
+/// wanting for the element, or for the lent one that it is made of.
 pub fn read_element(alloc: Global, bytes: &[u8]) -> Result<Element, ElementError>
     ensures answer { ReadsElement bytes.now result }
     ensures spelled { (tree : Tree) → Spells bytes.now tree → AnswersElement result tree }
@@ -41,6 +42,7 @@ pub fn read_lent<'a>(alloc: Global, bytes: &'a [u8]) -> Result<LentElement<'a>, 
     ensures answer { ReadsElement bytes.now result }
     ensures spelled { (tree : Tree) → Spells bytes.now tree → AnswersElement result tree }
     ensures refused { (at : ℕ) (reason : Why) → IsRefused bytes.now at reason → AnswersRefusal result at reason }
+    ensures levels { IfOk result (λ root. depth_of root.children ≤ 3) }
 {
     read_by_outcome(alloc, bytes)
 }

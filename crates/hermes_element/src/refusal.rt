@@ -88,3 +88,13 @@ impl Display for ElementError {
         }
     }
 }
+
+/// Why a child was not added to an element.
+#[derive(Clone, Copy, Debug, PartialEq, Eq, Error)]
+pub enum ChildError {
+    /// The element would have more than four levels of elements.
+    #[error("too deep")]
+    Deep,
+    #[error("out of memory")]
+    Memory,
+}
