@@ -1,7 +1,8 @@
 -- What is told of a board.
-use Rattle.std.specs.Prelude.{Some, None}
+use Rattle.std.specs.Prelude.{Some}
 use Rattle.board_record.specs.declared.record.Record.{Record}
 use Rattle.hermes_horizontal.specs.declared.message.Info.{Info}
+use Rattle.hermes_horizontal.specs.Parts.{no_info}
 
 -- each field of a record
 abbrev pub info_of : Record → Info
@@ -22,27 +23,6 @@ info_of board = record {
   weight = board.weight;
   order = board.order;
   batch = board.batch;
-}
-
--- nothing
-abbrev pub no_info : Info
-no_info = record {
-  id = None;
-  created_by = None;
-  quality = None;
-  flip = None;
-  product = None;
-  top = None;
-  bottom = None;
-  length = None;
-  width = None;
-  thickness = None;
-  speed = None;
-  top_clearance = None;
-  bottom_clearance = None;
-  weight = None;
-  order = None;
-  batch = None;
 }
 
 -- quality, flip, product and barcodes of a board that is to come, and no id

@@ -1,8 +1,8 @@
 ghost use Rattle.std.specs.Prelude.{◌≡◌, IfOk};
-ghost use Rattle.forecast_query.specs.Info.{forecast_of, info_of, no_info};
+ghost use Rattle.forecast_query.specs.Info.{forecast_of, info_of};
 
 use board_record::Record;
-use hermes_horizontal::Info;
+use hermes_horizontal::{Info, no_info};
 use line_base::{Memory, Text};
 use std::alloc::Global;
 
@@ -43,30 +43,6 @@ pub fn forecast_of(alloc: Global, board: &Record) -> Result<Info, Memory>
         bottom: copied(alloc, &board.bottom)?,
         ..no_info()
     })
-}
-
-/// What is told where nothing is known of the board that is asked for.
-pub fn no_info() -> Info
-    ensures { result ≡ no_info }
-{
-    Info {
-        id: None,
-        created_by: None,
-        quality: None,
-        flip: None,
-        product: None,
-        top: None,
-        bottom: None,
-        length: None,
-        width: None,
-        thickness: None,
-        speed: None,
-        top_clearance: None,
-        bottom_clearance: None,
-        weight: None,
-        order: None,
-        batch: None,
-    }
 }
 
 fn copied(alloc: Global, text: &Option<Text>) -> Result<Option<Text>, Memory>

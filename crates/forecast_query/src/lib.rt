@@ -7,5 +7,6 @@ mod info;
 mod query;
 
 pub use forecasts::Forecasts;
-pub use info::{forecast_of, info_of, no_info};
+pub use hermes_horizontal::no_info;
+pub use info::{forecast_of, info_of};
 pub use query::find;
