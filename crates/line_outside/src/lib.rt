@@ -13,8 +13,6 @@ mod sink;
 mod source;
 mod steady_sink;
 mod steady_source;
-#[cfg(test)]
-mod tests;
 mod writer_sink;
 
 pub use memory_sink::MemorySink;

@@ -1,0 +1,53 @@
+//! Cases of `line_outside`, a line each: a source or a sink, and what is asked of it in turn.
+//! Writes each line again with the answers.
+#![tactic(auto)]
+
+mod host;
+mod numbers;
+mod sinks;
+mod sources;
+
+use std::alloc::{AllocError, Global};
+use std::io;
+
+fn main(rt: HostRuntime) -> io::Result<()> {
+    let out = rt.stdout();
+    for line in rt.lines(rt.alloc()) {
+        let line = line?;
+        let said = answer(rt.alloc(), line.as_str())?;
+        println!(out; "{line} = {said}")?;
+    }
+    Ok(())
+}
+
+fn answer(alloc: Global, line: &str) -> Result<String, AllocError> {
+    match line.split_once(' ') {
+        Some((what, asked)) => answer_of(alloc, what, asked),
+        None => String::from_str(alloc, "no case"),
+    }
+}
+
+fn answer_of(alloc: Global, what: &str, asked: &str) -> Result<String, AllocError> {
+    if what == "source" {
+        return sources::memory(alloc, asked);
+    }
+    if what == "steady-source" {
+        return sources::steady(alloc, asked);
+    }
+    if what == "reader" {
+        return sources::reader(alloc, asked);
+    }
+    if what == "sink" {
+        return sinks::memory(alloc, asked);
+    }
+    if what == "whole-sink" {
+        return sinks::whole(alloc, asked);
+    }
+    if what == "steady-sink" {
+        return sinks::steady(alloc, asked);
+    }
+    if what == "writer" {
+        return sinks::writer(alloc, asked);
+    }
+    String::from_str(alloc, "no case")
+}
