@@ -11,7 +11,7 @@ use hermes_horizontal::Message;
 /// bytes, if it is writable: the lane and the code are at most 999,999,999, and the name in `Other` is
 /// none of the thirteen. That name has at most 65,480 bytes.
 ///
-/// The call states the law of the message. It reads the message's parts, and changes nothing.
+/// The call states the law: it goes over the message's parts, and changes nothing.
 pub fn text_is_one_frame(message: &Message)
     ensures { IsWritable message.now → HasShortName message.now.body → IsOneFrame (canonical message.now) }
 {

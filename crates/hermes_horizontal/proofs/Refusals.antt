@@ -1,15 +1,13 @@
 -- The text of a refusal is a text.
-use Rattle.std.proofs.Common.{◌≡◌, ◌&&◌, ◌^◌, ◌<◌, ◌≤◌, ◌+◌, ◌++◌, ◌∙◌, ℕ, Bool, true, List, length, refl, arith, length-append}
+use Rattle.std.proofs.Common.{◌≡◌, ◌&&◌, ◌^◌, ◌<◌, ◌≤◌, ◌+◌, ◌++◌, ℕ, Bool, true, List, length, refl, arith, length-append}
 use Rattle.std.specs.Prelude.{nat_le, codes}
 use Rattle.std.specs.List.{list_all}
 use Rattle.std.specs.Fmt.{decimal}
-use Rattle.std.proofs.lemmas.Bool.{and_parts, and_from}
+use Rattle.std.proofs.lemmas.Bool.{and_parts}
 use Rattle.std.proofs.lemmas.Bool.Decides.{nat_tests}
-use Rattle.std.proofs.lemmas.Fmt.{length-decimal-le}
-use Rattle.std.proofs.lemmas.List.Folds.{list_all-append}
 use Rattle.line_base.specs.Text.{IsText}
 use Rattle.line_base.specs.PlainText.{is_plain_byte}
-use Rattle.line_base.proofs.Printable.{IsText-from_printable, printable_digits, decimal_digits}
+use Rattle.line_base.proofs.Printable.{IsText-from_printable, plain-append, plain-decimal, length-decimal}
 use Rattle.hermes_element.specs.Refusal.{why_text}
 use Rattle.hermes_element.specs.declared.refusal.Why.{Why}
 use Rattle.hermes_element.specs.declared.refusal.Why.TheVariants as why
@@ -34,7 +32,7 @@ short_from : (bytes : List ℕ) → is_short bytes ≡ true → IsShort bytes 30
 short_from bytes is = let parts = and_parts (list_all is_plain_byte bytes) (nat_le (length bytes) 30) is in record { plain = parts.0; short = le_from (length bytes) parts.1 }
 
 joined : (a b : List ℕ) (m n : ℕ) → IsShort a m → IsShort b n → IsShort (a ++ b) (m + n)
-joined a b m n x y = record { plain = list_all-append is_plain_byte a b ∙ and_from (list_all is_plain_byte a) (list_all is_plain_byte b) x.plain y.plain; short = omega (arith, x.short, y.short, length-append a b) }
+joined a b m n x y = record { plain = plain-append a b x.plain y.plain; short = omega (arith, x.short, y.short, length-append a b) }
 
 attr_short : (attr : Attr) → is_short (attr_text attr) ≡ true
 attr_short attrs.Timestamp = refl
@@ -96,7 +94,7 @@ fault_short (faults.Missing attr) = joined (codes "missing ") (attr_text attr) 3
 fault_short (faults.BadValue attr) = joined (codes "bad ") (attr_text attr) 30 30 (short_from (codes "bad ") refl) (short_from (attr_text attr) (attr_short attr))
 
 number_short : (n : ℕ) → n < 2 ^ 64 → IsShort (decimal n) 20
-number_short n fits = record { plain = printable_digits (decimal n) (decimal_digits n fits); short = length-decimal-le 20 n (omega arith) (omega arith) fits }
+number_short n fits = record { plain = plain-decimal n fits; short = length-decimal n fits }
 
 pub IsText_refusal : (fault : Fault) (at : ℕ) → at < 2 ^ 64 → IsText (message_refusal_text fault at)
 IsText_refusal fault at fits =

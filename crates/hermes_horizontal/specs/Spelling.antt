@@ -1,5 +1,5 @@
 -- Which bytes spell a message, which are refused, where and why, and what reading answers.
-use Rattle.std.specs.Prelude.{◌≡◌, ◌⊎◌, ℕ, Bool, true, false, if◌then◌else◌, List, [], ◌∷◌, Option, Some, None, Result, Ok, Err, codes, option_map}
+use Rattle.std.specs.Prelude.{◌≡◌, ◌≤◌, ◌⊎◌, ℕ, Bool, true, false, if◌then◌else◌, List, [], ◌∷◌, Option, Some, None, Result, Ok, Err, codes, option_map}
 use Rattle.std.specs.List.{list_any}
 use Rattle.std.specs.Str.{bytes_eq}
 use Rattle.hermes_element.specs.Element.{Tree, Forest, trees_of}
@@ -142,6 +142,13 @@ pub record SaysNothing (bytes : List ℕ) (at : ℕ) (why : Fault) : Type 0 wher
 
 abbrev pub IsRefused : List ℕ → ℕ → Fault → Type 0
 IsRefused bytes at why = IsFormless bytes at why ⊎ SaysNothing bytes at why
+
+-- the bytes are refused, at an index of at most this
+pub record IsRefusedBy (bytes : List ℕ) (most : ℕ) : Type 0 where
+  pub at : ℕ
+  pub why : Fault
+  pub near : at ≤ most
+  pub refused : IsRefused bytes at why
 
 -- ---- what reading answers
 

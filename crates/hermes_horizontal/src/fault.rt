@@ -9,14 +9,14 @@ use std::fmt;
 use std::io::Write;
 use thiserror::Error;
 
-/// Why bytes spell no message, in the order in which the reasons are tested.
+/// Why bytes spell no message. `read_horizontal` says in which order the reasons are tested.
 #[derive(Clone, Copy, Debug, PartialEq, Eq, Error)]
 pub enum Fault {
     /// They spell no element.
     Form(Why),
     /// The root's name isn't `Hermes`.
     Root,
-    /// The root doesn't have exactly one child. A bad Timestamp comes before.
+    /// The root doesn't have exactly one child.
     Count,
     /// The message lacks an attribute that it must have.
     Missing(Attr),

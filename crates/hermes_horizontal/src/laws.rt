@@ -1,8 +1,8 @@
 //! The laws of messages and their spellings.
 
-ghost use Rattle.std.specs.Prelude.{◌≡◌, ◌↔◌, ℕ, List};
+ghost use Rattle.std.specs.Prelude.{◌≡◌, ◌↔◌, ◌∷◌, ◌++◌, ℕ, List, length};
 ghost use Rattle.hermes_horizontal.specs.Canonical.{canonical, IsProperMessage, IsWritable};
-ghost use Rattle.hermes_horizontal.specs.Spelling.{IsRefused, Spells};
+ghost use Rattle.hermes_horizontal.specs.Spelling.{IsRefused, IsRefusedBy, Spells};
 ghost use Rattle.hermes_horizontal.specs.declared.fault.Fault.{Fault};
 ghost use Rattle.hermes_horizontal.specs.declared.message.Message.{Message};
 
@@ -12,7 +12,7 @@ use crate::proper::parts_are_proper;
 impl Message {
     /// Every part of a message is within what its type allows: texts are texts, ids have 128 bits.
     ///
-    /// The call states this of the message. It reads the message's parts, and changes nothing.
+    /// The call goes over the message's parts, and changes nothing.
     pub fn is_proper(&self)
         ensures { IsProperMessage self.now }
     {
@@ -22,7 +22,8 @@ impl Message {
     /// What is written of this message is read as this message, if it is writable: the lane and the
     /// code are at most 999,999,999, and the name in `Other` is none of the thirteen.
     ///
-    /// Nothing else is asked of it. The call states the law, and does nothing.
+    /// Nothing else is asked of it. The call states the law: it goes over the message's parts, and
+    /// changes nothing.
     pub fn reads_back(&self)
         ensures { IsWritable self.now → Spells (canonical self.now) self.now }
     {
@@ -33,7 +34,7 @@ impl Message {
     /// Two writable messages are equal exactly where what is written of them is: different ones are
     /// never written as the same bytes.
     ///
-    /// The call states the law, and does nothing.
+    /// The call states the law: it goes over the parts of both, and changes nothing.
     pub fn spells_apart(&self, other: &Message)
         ensures { IsWritable self.now → IsWritable other.now → (canonical self.now ≡ canonical other.now) ↔ (self.now ≡ other.now) }
     {
@@ -65,4 +66,11 @@ pub fn refused_or_spelled()
 {
     hermes_element::spelled_once();
     hermes_element::refused_or_spelled();
+}
+
+/// Bytes with a 0 in them are refused, at their first 0 or before it.
+pub fn zero_is_refused()
+    ensures { (front rest : List ℕ) → IsRefusedBy (front ++ 0 ∷ rest) (length front) }
+{
+    hermes_element::zero_is_refused();
 }

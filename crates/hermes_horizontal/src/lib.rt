@@ -24,10 +24,7 @@ pub use attr::Attr;
 pub use copies::no_info;
 pub use fault::{Fault, MessageError};
 pub use kind::Kind;
-pub use laws::{refused_once, refused_or_spelled, spelled_once};
+pub use laws::{refused_once, refused_or_spelled, spelled_once, zero_is_refused};
 pub use message::{Features, Horizontal, Info, Message, Ping, Service};
 pub use read::read_horizontal;
 pub use write::{append_horizontal, write_horizontal};
-
-#[cfg(test)]
-mod tests;

@@ -1,5 +1,5 @@
-//! What the types of a message's parts say of them. Each function states it of a kind of part, and
-//! does nothing.
+//! What the types of a message's parts say of them. Each function states it of a kind of part: it
+//! goes over the part, and changes nothing.
 
 ghost use Rattle.std.specs.Prelude.{◌<◌, ◌^◌, option_map};
 ghost use Rattle.std.specs.List.{AllByRecursion};

@@ -15,10 +15,11 @@ use std::alloc::Global;
 
 /// Reads the bytes of one element as a message.
 ///
-/// `Refused` says at which index, and why, the bytes spell none. The reasons are tested in the
-/// order of `Fault`'s variants, but that a bad Timestamp comes before `Count`; the attributes of
-/// the message in the order in which they are written. Unknown attributes and children are passed
-/// over. It takes the memory of the message and of its element alone.
+/// `Refused` says at which index, and why, the bytes spell none. The tests come in this order: the
+/// form of the element, the root's name, the Timestamp, the number of children, and then the
+/// attributes of the message in the order of its row in the table (`columns_of`), wherever they
+/// stand in the bytes. Attributes of other names and other children are passed over. `Memory` says
+/// that memory was wanting for the message or, meanwhile, for its element.
 pub fn read_horizontal(alloc: Global, bytes: &[u8]) -> Result<Message, MessageError>
     ensures answer { ReadsMessage bytes.now result }
     ensures spelled { (message : Message) → Spells bytes.now message → AnswersMessage result message }
