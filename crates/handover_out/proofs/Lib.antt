@@ -1,2 +1,5 @@
-pub mod Table
+pub mod Rows
 pub mod OutletLaws
+pub mod Together
+pub mod Starts
+pub mod Deeds

@@ -19,7 +19,8 @@ use Rattle.handover_out.specs.Run.{stay, step, after_all}
 use Rattle.handover_out.specs.Records.{list_of, goes_in, comes_out, all_in, all_out, held_by, held_by_all, id_of}
 use Rattle.handover_out.specs.Offers.{is_opening, opens_at, offered_after, ready_after, touched_after}
 use Rattle.handover_out.specs.Sensors.{between_after, between_after_all, IsSensed, own_of, deed_of_end, is_moving, drive_after_all}
-use Rattle.handover_out.proofs.Table.{Row, state, rows_of, each_step, by_row, met_row, offers, opens, left_moving, left_stuck, left_stopped, left_unlinked, taken_moving, taken_stuck, taken_stopped, taken_unlinked, back_stuck, back_stopped, back_unlinked, stop_home, fault_home, closed_home}
+use Rattle.handover_out.specs.Table.{state_of, IsOutletRow, offers, opens, left_moving, left_stuck, left_stopped, left_unlinked, taken_moving, taken_stuck, taken_stopped, taken_unlinked, back_stuck, back_stopped, back_unlinked, stop_home, fault_home, closed_home}
+use Rattle.handover_out.proofs.Rows.{row_is, rows_of, each_step, by_row, met_row}
 
 -- Records: what was held and what goes in is what comes out and what is held after it
 
@@ -31,7 +32,7 @@ stay_balances : (board : Option Record) → list_of board ++ [] ≡ list_of boar
 stay_balances None = refl
 stay_balances (Some _) = refl
 
-row_balances : (s : OutState) (input : OutInput) (row : OutRow) → Row s input row → Balances s input row
+row_balances : (s : OutState) (input : OutInput) (row : OutRow) → IsOutletRow s input row → Balances s input row
 row_balances _ _ _ offers = refl
 row_balances _ _ _ _ = refl
 
@@ -53,7 +54,7 @@ records_balance s (input ∷ inputs) =
 abbrev Holds : OutState → OutInput → OutRow → Type 0
 Holds s input row = id_of (held row.after) ≡ held_by (id_of (held s)) row.act.deed
 
-row_holds : (s : OutState) (input : OutInput) (row : OutRow) → Row s input row → Holds s input row
+row_holds : (s : OutState) (input : OutInput) (row : OutRow) → IsOutletRow s input row → Holds s input row
 row_holds _ _ _ offers = refl
 row_holds _ _ _ _ = refl
 
@@ -71,8 +72,8 @@ holds_by_deeds s (input ∷ inputs) =
 abbrev Opens : OutState → OutInput → OutRow → Type 0
 Opens s input row = is_opening row.act.deed ≡ opens_at s input
 
-row_opens : (s : OutState) (input : OutInput) (row : OutRow) → Row s input row → Opens s input row
-row_opens _ _ _ (opens same) = sym same
+row_opens : (s : OutState) (input : OutInput) (row : OutRow) → IsOutletRow s input row → Opens s input row
+row_opens _ _ _ (opens {mine = mine} {id = id} same) = sym (eq-eqb mine id same)
 row_opens _ _ _ _ = refl
 
 opening_test : (test : Bool) (s after : OutState) (act : OutAct) → is_opening act.deed ≡ true
@@ -81,8 +82,8 @@ opening_test true s after act opening = opening
 opening_test false s after act _ = refl
 
 opens_start : (phase : Phase) (o t : Option ℕ) (r : Bool) (id : ℕ) (board : Record)
-    → is_opening (step (state phase o t r) (input.Start id (Some board))).act.deed ≡ would_open (state phase o t r) id
-opens_start phase.Idle o t r id board = opening_test (would_open (state phase.Idle o t r) id) _ _ _ refl
+    → is_opening (step (state_of phase o t r) (input.Start id (Some board))).act.deed ≡ would_open (state_of phase o t r) id
+opens_start phase.Idle o t r id board = opening_test (would_open (state_of phase.Idle o t r) id) _ _ _ refl
 opens_start _ _ _ _ _ _ = refl
 
 pub opens_exactly : (s : OutState) (input : OutInput) → is_opening (step s input).act.deed ≡ opens_at s input
@@ -91,27 +92,22 @@ opens_exactly s input = by_row Opens s input (outlet_row s input) (row_opens s i
 
 -- Offers and readiness
 
-abbrev Clears : OutState → OutInput → OutRow → Type 0
+abbrev pub Clears : OutState → OutInput → OutRow → Type 0
 Clears s input row = (row.after.offered ≡ offered_after s.offered input) × (row.after.ready ≡ ready_after s.ready input) × (row.after.touched ≡ touched_after s input row.after)
 
-row_clears : (s : OutState) (input : OutInput) (row : OutRow) → Row s input row → Clears s input row
+pub row_clears : (s : OutState) (input : OutInput) (row : OutRow) → IsOutletRow s input row → Clears s input row
 row_clears _ _ _ offers = (refl, refl, refl)
 row_clears _ _ _ _ = (refl, refl, refl)
 
-clears_of : (s : OutState) (input : OutInput) (found : Option OutRow) (row : OutRow)
-    → IfSome found (Row s input) → found ≡ Some row → Clears s input row
-clears_of s input None row _ none = cc
-clears_of s input (Some found) row shape same = let is : found ≡ row = cc in rw is at (row_clears s input found shape)
-
 pub clears_exactly : (s : OutState) (input : OutInput) (row : OutRow) → outlet_row s input ≡ Some row → Clears s input row
-clears_exactly s input row = clears_of s input (outlet_row s input) row (rows_of s input)
+clears_exactly s input row same = row_clears s input row (row_is s input row same)
 
 -- The drive
 
 abbrev Drives : OutState → OutInput → OutRow → Type 0
 Drives s input row = is_moving row.after.phase ≡ unwrap_or row.act.drive (is_moving s.phase)
 
-row_drives : (s : OutState) (input : OutInput) (row : OutRow) → Row s input row → Drives s input row
+row_drives : (s : OutState) (input : OutInput) (row : OutRow) → IsOutletRow s input row → Drives s input row
 row_drives _ _ _ offers = refl
 row_drives _ _ _ _ = refl
 
@@ -138,7 +134,7 @@ holding s = is_some (held s)
 abbrev Tracks : OutState → OutInput → OutRow → Type 0
 Tracks s input row = lies_between row.after.phase ≡ holding row.after && between_after (lies_between s.phase) input row.act.deed
 
-row_tracks : (s : OutState) (input : OutInput) (row : OutRow) → Row s input row → Tracks s input row
+row_tracks : (s : OutState) (input : OutInput) (row : OutRow) → IsOutletRow s input row → Tracks s input row
 row_tracks _ _ _ offers = refl
 row_tracks _ _ _ _ = refl
 
@@ -150,11 +146,11 @@ Agrees between s = lies_between s.phase ≡ holding s && between
 abbrev Forgets : Bool → OutState → OutInput → OutRow → Type 0
 Forgets between s input row = holding row.after && between_after (holding s && between) input row.act.deed ≡ holding row.after && between_after between input row.act.deed
 
-row_forgets : (between : Bool) (s : OutState) (input : OutInput) (row : OutRow) → Row s input row → Forgets between s input row
+row_forgets : (between : Bool) (s : OutState) (input : OutInput) (row : OutRow) → IsOutletRow s input row → Forgets between s input row
 row_forgets _ _ _ _ offers = refl
 row_forgets _ _ _ _ _ = refl
 
-has_row : (phase : Phase) (o t : Option ℕ) (r : Bool) (event : SensorEvent) → is_some (sensed_row event (state phase o t r)) ≡ true
+has_row : (phase : Phase) (o t : Option ℕ) (r : Bool) (event : SensorEvent) → is_some (sensed_row event (state_of phase o t r)) ≡ true
 has_row (phase.Moving _ true) o t r event.Begun = refl
 has_row (phase.Moving _ false) o t r event.Begun = refl
 has_row phase.Idle o t r event.Begun = refl
@@ -172,7 +168,7 @@ has_row _ _ _ _ _ = refl
 abbrev Follows : Bool → OutState → OutInput → OutRow → Type 0
 Follows between s input row = Agrees between s → Agrees (between_after between input row.act.deed) row.after
 
-row_follows : (between : Bool) (s : OutState) (input : OutInput) (row : OutRow) → Row s input row → Follows between s input row
+row_follows : (between : Bool) (s : OutState) (input : OutInput) (row : OutRow) → IsOutletRow s input row → Follows between s input row
 row_follows between s input row shape agrees =
     let tracks = row_tracks s input row shape in
     (rw agrees at tracks) ∙ row_forgets between s input row shape
@@ -195,14 +191,14 @@ agrees_after_all between s (input ∷ inputs) agrees =
 abbrev SensedAt : Bool → OutState → OutInput → OutRow → Type 0
 SensedAt between s input row = IsSensed (holding s && between) input row.act.deed → IsSensed between input row.act.deed
 
-row_sensed_at : (between : Bool) (s : OutState) (input : OutInput) (row : OutRow) → Row s input row → SensedAt between s input row
+row_sensed_at : (between : Bool) (s : OutState) (input : OutInput) (row : OutRow) → IsOutletRow s input row → SensedAt between s input row
 row_sensed_at _ _ _ _ offers sensed = sensed
 row_sensed_at _ _ _ _ _ sensed = sensed
 
 abbrev IsRight : OutState → OutInput → OutRow → Type 0
 IsRight s input row = IsSensed (lies_between s.phase) input row.act.deed
 
-row_right : (s : OutState) (input : OutInput) (row : OutRow) → Row s input row → IsRight s input row
+row_right : (s : OutState) (input : OutInput) (row : OutRow) → IsOutletRow s input row → IsRight s input row
 row_right _ _ _ left_moving = refl
 row_right _ _ _ left_stuck = refl
 row_right _ _ _ left_stopped = refl
@@ -214,7 +210,7 @@ row_right _ _ _ taken_unlinked = (refl, refl)
 row_right _ _ _ back_stuck = refl
 row_right _ _ _ back_stopped = refl
 row_right _ _ _ back_unlinked = refl
-row_right _ _ _ stop_home = refl
+row_right _ _ _ (stop_home _) = refl
 row_right _ _ _ fault_home = refl
 row_right _ _ _ closed_home = refl
 row_right _ _ _ _ = tt
@@ -222,7 +218,7 @@ row_right _ _ _ _ = tt
 abbrev Senses : Bool → OutState → OutInput → OutRow → Type 0
 Senses between s input row = Agrees between s → IsSensed between input row.act.deed
 
-row_senses : (between : Bool) (s : OutState) (input : OutInput) (row : OutRow) → Row s input row → Senses between s input row
+row_senses : (between : Bool) (s : OutState) (input : OutInput) (row : OutRow) → IsOutletRow s input row → Senses between s input row
 row_senses between s input row shape agrees =
     row_sensed_at between s input row shape (let right = row_right s input row shape in rw agrees at right)
 
@@ -236,8 +232,8 @@ deeds_are_sensed inputs input =
 
 -- a close keeps the record of a board between the machines
 
-closes_between : (phase : Phase) (o t : Option ℕ) (r between : Bool) → Agrees between (state phase o t r) → between ≡ true
-    → ((step (state phase o t r) input.Closed).act.deed ≡ None) × (held (step (state phase o t r) input.Closed).after ≡ held (state phase o t r))
+closes_between : (phase : Phase) (o t : Option ℕ) (r between : Bool) → Agrees between (state_of phase o t r) → between ≡ true
+    → ((step (state_of phase o t r) input.Closed).act.deed ≡ None) × (held (step (state_of phase o t r) input.Closed).after ≡ held (state_of phase o t r))
 closes_between (phase.Moving board false) o t r between agrees lies = cc
 closes_between (phase.Moving board true) o t r between agrees lies = (refl, refl)
 closes_between (phase.Stuck board l p) o t r between agrees lies = (refl, refl)
@@ -262,24 +258,24 @@ between_deed true _ _ = refl
 between_deed false _ _ = refl
 
 pub stop_ends : (board : Record) (begun : Bool) (o t : Option ℕ) (r : Bool) (said : Transfer)
-    → (step (state (phase.Moving board begun) o t r) (input.Stop said board.id)).act.deed ≡ deed_of_end (out_ends (own_of begun) said) board.id
+    → (step (state_of (phase.Moving board begun) o t r) (input.Stop said board.id)).act.deed ≡ deed_of_end (out_ends (own_of begun) said) board.id
 stop_ends board false o t r said = home_deed _ _ _ _ _ _ (eq-eqb board.id board.id refl)
 stop_ends board true o t r said = between_deed _ _ _
 
 pub fault_ends : (board : Record) (begun : Bool) (o t : Option ℕ) (r : Bool) (said : Transfer)
-    → (step (state (phase.Moving board begun) o t r) input.Fault).act.deed ≡ deed_of_end (out_ends (own_of begun) said) board.id
+    → (step (state_of (phase.Moving board begun) o t r) input.Fault).act.deed ≡ deed_of_end (out_ends (own_of begun) said) board.id
 fault_ends board false o t r said = refl
 fault_ends board true o t r said = refl
 
 pub close_ends : (board : Record) (begun : Bool) (o t : Option ℕ) (r : Bool) (said : Transfer)
-    → (step (state (phase.Moving board begun) o t r) input.Closed).act.deed ≡ deed_of_end (out_ends (own_of begun) said) board.id
+    → (step (state_of (phase.Moving board begun) o t r) input.Closed).act.deed ≡ deed_of_end (out_ends (own_of begun) said) board.id
 close_ends board false o t r said = refl
 close_ends board true o t r said = refl
 
 -- what is given is what has a row
 
 given_of : (phase : Phase) (o t : Option ℕ) (r : Bool) (input : OutInput) → breach_of input ≡ None
-    → IsSome (outlet_row (state phase o t r) input) ↔ IsGiven (state phase o t r) input
+    → IsSome (outlet_row (state_of phase o t r) input) ↔ IsGiven (state_of phase o t r) input
 given_of phase.Idle None t r (input.Offer id) _ = (λ _. (refl, refl), λ _. refl)
 given_of phase.Idle (Some _) t r (input.Offer id) _ = (λ found. cc, λ given. cc)
 given_of phase.Idle None t r input.Revoke _ = (λ found. cc, λ given. cc)

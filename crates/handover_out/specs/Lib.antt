@@ -1,8 +1,13 @@
 pub mod State
 pub mod Act
+pub mod Breach
 pub mod Row
+pub mod Table
 pub mod Given
 pub mod Run
+pub mod Together
 pub mod Records
+pub mod Deeds
 pub mod Offers
+pub mod Links
 pub mod Sensors

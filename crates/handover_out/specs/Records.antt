@@ -22,7 +22,7 @@ abbrev pub goes_in : Option OutDeed → OutInput → List Record
 goes_in (Some (Opens _)) input = list_of (board_of_input input)
 goes_in _ _ = []
 
--- the record that comes out: given back, or handed on as the board leaves or is lost
+-- the record that comes out: given back, or let go as the board leaves or is lost
 abbrev pub comes_out : Option OutDeed → OutState → OutAct → List Record
 comes_out (Some (Returns _)) _ act = list_of act.back
 comes_out (Some (Leaves _)) s _ = list_of (held s)

@@ -2,12 +2,12 @@ ghost use Rattle.std.specs.Prelude.{◌≡◌, false};
 ghost use Rattle.handover_out.specs.Row.{closed_row, row};
 
 use crate::act::OutAct;
-use crate::outlet::Outlet;
 use crate::phase::Phase;
+use crate::state::State;
 use board_record::Record;
 use std::mem;
 
-impl Outlet {
+impl State {
     pub(crate) fn close(&mut self) -> OutAct
         ensures { closed_row self.old.phase ≡ row self.new result }
     {

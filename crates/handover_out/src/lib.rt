@@ -13,6 +13,7 @@ mod offer;
 mod outlet;
 mod phase;
 mod sensor;
+mod state;
 #[cfg(test)]
 mod tests;
 mod transport;

@@ -5,11 +5,11 @@ ghost use Rattle.handover_out.specs.Row.{offer_row, revoke_row, machine_ready_ro
 use crate::act::{OutAct, OutSend};
 use crate::breach::OutBreach;
 use crate::input::OutInput;
-use crate::outlet::Outlet;
 use crate::phase::Phase;
+use crate::state::State;
 use board_record::BoardId;
 
-impl Outlet {
+impl State {
     pub(crate) fn offer(&mut self, id: BoardId) -> OutAct
         requires { IsGiven self.old (OutInput.Offer id) }
         ensures { offer_row self.old.phase self.old id ≡ row self.new result }

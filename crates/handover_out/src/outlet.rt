@@ -1,5 +1,6 @@
-ghost use Rattle.std.specs.Prelude.{◌≡◌, ◌↔◌, IfOk, IfErr, OnErr, IsTrue, None, Some, option_map};
-ghost use Rattle.handover_out.specs.State.{OutState, at_rest, name_of_phase, held, is_idle_phase, is_stopped_phase, would_open};
+ghost use Rattle.std.specs.Prelude.{◌≡◌, IfOk, IfErr, OnErr, IsSome, None, Some, option_map};
+ghost use Rattle.handover_out.specs.State.{at_rest, name_of_phase, held, is_stopped_phase, would_open};
+ghost use Rattle.handover_out.specs.Together.{IsOutletTogether};
 ghost use Rattle.handover_out.specs.Row.{outlet_row, row};
 ghost use Rattle.handover_out.specs.Given.{IsGiven, breach_of};
 
@@ -7,6 +8,7 @@ use crate::act::OutAct;
 use crate::breach::OutBreach;
 use crate::input::OutInput;
 use crate::phase::{OutPhase, Phase};
+use crate::state::State;
 use board_record::{BoardId, Record};
 use std::marker::Model;
 
@@ -16,42 +18,52 @@ use std::marker::Model;
 /// downstream machine is ready.
 #[derive(Debug, PartialEq, Eq, Drop)]
 pub struct Outlet {
-    pub(crate) phase: Phase,
-    pub(crate) offered: Option<BoardId>,
-    /// The board last offered, until an ended handover or a closed connection clears it.
-    pub(crate) touched: Option<BoardId>,
-    /// Whether the downstream machine said that it is ready.
-    pub(crate) ready: bool,
+    state: State,
 }
 
 impl Model for Outlet {
     ghost use Rattle.handover_out.specs.State.{OutState};
+    ghost use Rattle.handover_out.specs.Together.{IsOutletTogether};
 
     ghost Value = { OutState };
 
-    ghost view = { λ outlet. record { phase = outlet.phase; offered = outlet.offered; touched = outlet.touched; ready = outlet.ready } };
+    ghost view = { λ outlet. outlet.state };
 
-    ghost inverse = { λ state. record { phase = state.phase; offered = state.offered; touched = state.touched; ready = state.ready } };
+    ghost invariant = { λ outlet. IsOutletTogether outlet.state };
+
+    ghost inverse = { λ value. record { state = value } };
 }
 
 impl Outlet {
     /// No handover, and nothing offered.
+    #[tactic(auto, using(crate::proofs::Together::new_together))]
     pub fn new() -> Outlet
         ensures { result ≡ at_rest }
     {
         Outlet {
-            phase: Phase::Idle,
-            offered: None,
-            touched: None,
-            ready: false,
+            state: State::at_rest(),
         }
+    }
+
+    /// What stands together in every outlet: a board is offered, and the downstream machine is
+    /// ready, only while no handover is open; and the board that is offered, or held while its
+    /// connection stands, is the one last offered.
+    ///
+    /// It does nothing: a caller that knows that a board is offered knows behind it that `Revoke` has
+    /// its row, whatever the phase.
+    #[tactic(auto, using(crate::proofs::Together::revoke_given))]
+    pub fn together(&self)
+        ensures together { IsOutletTogether self.now }
+        ensures revocable { IsSome self.now.offered → IsGiven self.now OutInput.Revoke }
+    {
+        let _state = &self.state;
     }
 
     /// Its phase, without the phase's parts.
     pub fn phase(&self) -> OutPhase
         ensures { result ≡ name_of_phase self.now.phase }
     {
-        match &self.phase {
+        match &self.state.phase {
             Phase::Idle => OutPhase::Idle,
             Phase::Moving { .. } => OutPhase::Moving,
             Phase::Stuck { .. } => OutPhase::Stuck,
@@ -63,7 +75,7 @@ impl Outlet {
     pub fn holds(&self) -> Option<&Record>
         ensures { option_map (λ board. board.now) result ≡ held self.now }
     {
-        match &self.phase {
+        match &self.state.phase {
             Phase::Moving { board, .. } => Some(board),
             Phase::Stuck { board, .. } => Some(board),
             _ => None,
@@ -74,7 +86,7 @@ impl Outlet {
     pub fn offered(&self) -> Option<BoardId>
         ensures { result ≡ self.now.offered }
     {
-        self.offered
+        self.state.offered
     }
 
     /// The board last offered, until an ended handover or a closed connection clears it. Its
@@ -82,21 +94,21 @@ impl Outlet {
     pub fn touched(&self) -> Option<BoardId>
         ensures { result ≡ self.now.touched }
     {
-        self.touched
+        self.state.touched
     }
 
     /// Whether the downstream machine is ready for a board.
     pub fn ready(&self) -> bool
         ensures { result ≡ self.now.ready }
     {
-        self.ready
+        self.state.ready
     }
 
     /// Whether it is stuck and the downstream machine said its stop.
     pub fn stopped(&self) -> bool
         ensures { result ≡ is_stopped_phase self.now.phase }
     {
-        matches!(&self.phase, Phase::Stuck { stopped: true, .. })
+        matches!(&self.state.phase, Phase::Stuck { stopped: true, .. })
     }
 
     /// Whether a start for this board opens the outlet: it is idle, the downstream machine is
@@ -104,7 +116,7 @@ impl Outlet {
     pub fn would_open(&self, id: BoardId) -> bool
         ensures { result ≡ would_open self.now id }
     {
-        self.is_idle() && self.ready && self.offered == Some(id)
+        self.state.is_idle() && self.state.ready && self.state.offered == Some(id)
     }
 
     /// Does what the outlet table says of this input, and answers the acts. A breach exactly
@@ -118,23 +130,6 @@ impl Outlet {
         ensures breach { IfErr result (λ why. (outlet_row self.old input ≡ None) × (breach_of input ≡ Some why)) }
         ensures unchanged { OnErr result (self.new ≡ self.old) }
     {
-        match input {
-            OutInput::Offer(id) => Ok(self.offer(id)),
-            OutInput::Revoke => Ok(self.revoke()),
-            OutInput::MachineReady => self.machine_ready(),
-            OutInput::RevokeMachineReady => self.revoke_machine_ready(),
-            OutInput::Start { id, board } => self.start(id, board),
-            OutInput::Stop { id, .. } => self.stop(id),
-            OutInput::Sensed(event) => Ok(self.sense(event)),
-            OutInput::Fault => Ok(self.fault()),
-            OutInput::Closed => Ok(self.close()),
-        }
-    }
-
-    /// Whether no handover is under way.
-    pub(crate) fn is_idle(&self) -> bool
-        ensures { result ≡ is_idle_phase self.now.phase }
-    {
-        matches!(&self.phase, Phase::Idle)
+        self.state.meet(input)
     }
 }

@@ -2,13 +2,13 @@ ghost use Rattle.std.specs.Prelude.{◌≡◌};
 ghost use Rattle.handover_out.specs.Row.{begun_row, left_row, back_row, taken_row, sensed_row, fault_row, over_when_stuck, row};
 
 use crate::act::{OutAct, OutSend, finished};
-use crate::outlet::Outlet;
 use crate::phase::Phase;
+use crate::state::State;
 use board_record::BoardId;
 use line_base::{SensorEvent, Transfer};
 use std::mem;
 
-impl Outlet {
+impl State {
     pub(crate) fn sense(&mut self, event: SensorEvent) -> OutAct
         ensures { sensed_row event self.old ≡ row self.new result }
     {

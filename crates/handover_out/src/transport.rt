@@ -4,13 +4,13 @@ ghost use Rattle.handover_out.specs.Row.{start_row, stop_row, row};
 
 use crate::act::{OutAct, OutDeed, OutSend, finished};
 use crate::breach::OutBreach;
-use crate::outlet::Outlet;
 use crate::phase::Phase;
+use crate::state::State;
 use board_record::{BoardId, Record};
 use line_base::Transfer;
 use std::mem;
 
-impl Outlet {
+impl State {
     pub(crate) fn start(&mut self, id: BoardId, board: Option<Record>) -> Result<OutAct, OutBreach>
         requires { IsSome board ↔ IsTrue (would_open self.old id) }
         ensures row { IfOk result (λ act. start_row self.old.phase self.old id board ≡ row self.new act) }
