@@ -60,6 +60,14 @@ along-set_gap (x ∷ xs) [] i gap d h = refl
 along-set_gap (x ∷ xs) (g ∷ gs) zero gap d h = rw h refl
 along-set_gap (x ∷ xs) (g ∷ gs) (suc i) gap d h = rw (along-set_gap xs gs i gap d h) refl
 
+-- and the boards all that counts of a machine
+pub along-set_machine : (machines : List AtMachine) (gaps : List AtGap) (i : ℕ) (machine d : AtMachine) → machine.boards ≡ (get_or machines i d).boards → boards_along (slice_set machines i machine) gaps ≡ boards_along machines gaps
+along-set_machine [] gaps i machine d h = refl
+along-set_machine (x ∷ xs) [] zero machine d h = rw h refl
+along-set_machine (x ∷ xs) (g ∷ gs) zero machine d h = rw h refl
+along-set_machine (x ∷ xs) [] (suc i) machine d h = rw (along-set_machine xs [] i machine d h) refl
+along-set_machine (x ∷ xs) (g ∷ gs) (suc i) machine d h = rw (along-set_machine xs gs i machine d h) refl
+
 -- one machine more, with its gap, changes nothing
 pub along_more : (machines : List AtMachine) (gaps : List AtGap) → length gaps + 1 ≡ length machines → boards_along (machines ++ empty_machine ∷ []) (gaps ++ free_gap ∷ []) ≡ boards_along machines gaps
 along_more [] gaps h = absurd (omega (arith, h))

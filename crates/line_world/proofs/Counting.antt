@@ -7,7 +7,7 @@ use Rattle.line_world.specs.declared.gap.AtGap.{AtGap}
 use Rattle.line_world.specs.FloorPlan.{AtMachine, empty_machine, free_gap}
 use Rattle.line_world.specs.Boards.{LosesBoard, boards_along}
 use Rattle.line_world.specs.Counted.{IsCounted}
-use Rattle.line_world.proofs.Along.{machine_hole, along_at, along_more, length_along-set, along-set_gap}
+use Rattle.line_world.proofs.Along.{machine_hole, along_at, along_more, length_along-set, along-set_gap, along-set_machine}
 
 pub length_lost : {old new : List Board} {board : Board} → LosesBoard old new board → length old ≡ length new + 1
 length_lost {old} {new} {board} loss =
@@ -29,6 +29,13 @@ counted_set_gap machines gaps count i gap was counted is same =
       whole = rw length-set counted.whole;
       all = rw (along-set_gap machines gaps i gap was lies) counted.all;
     }
+
+-- what leaves a gap's board, or a machine's boards, as they were leaves those of the line
+pub along_same_gap : (machines : List AtMachine) (gaps : List AtGap) (i : ℕ) (gap was : AtGap) → was ≡ get_or gaps i was → gap.lies ≡ was.lies → boards_along machines (slice_set gaps i gap) ≡ boards_along machines gaps
+along_same_gap machines gaps i gap was is same = along-set_gap machines gaps i gap was (same ∙ ap (λ (g : AtGap). g.lies) is)
+
+pub along_same_machine : (machines : List AtMachine) (gaps : List AtGap) (i : ℕ) (machine was : AtMachine) → was ≡ get_or machines i was → machine.boards ≡ was.boards → boards_along (slice_set machines i machine) gaps ≡ boards_along machines gaps
+along_same_machine machines gaps i machine was is same = along-set_machine machines gaps i machine was (same ∙ ap (λ (m : AtMachine). m.boards) is)
 
 pub counted_within : (machines : List AtMachine) (gaps : List AtGap) (count i : ℕ) (was : AtMachine) → IsCounted machines gaps count → i < length machines → was ≡ get_or machines i was → length was.boards ≤ count
 counted_within machines gaps count i was counted h is =

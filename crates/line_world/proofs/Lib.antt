@@ -2,5 +2,8 @@ pub mod Along
 pub mod Counting
 pub mod Moving
 pub mod Keeping
+pub mod Inverting
+pub mod Telling
 pub mod Placing
+pub mod Differing
 pub mod Splitting

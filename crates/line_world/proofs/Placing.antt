@@ -43,7 +43,7 @@ pub same_places : (id : ℕ) (old new : FloorPlan) → boards_on new ≡ boards_
 same_places id old new same h = one_place_of id new (ap (λ boards. length (filter (has_id id) boards)) same ∙ boards_of_one_place id old h)
 
 -- the boards with an id, before and after one board is lost
-lost_with : (id : ℕ) (front back : List Board) (board : Board) (has : Bool) → has_id id board ≡ has → length (filter (has_id id) (front ++ board ∷ back)) ≡ length (filter (has_id id) (front ++ back)) + cond has 1 0
+pub lost_with : (id : ℕ) (front back : List Board) (board : Board) (has : Bool) → has_id id board ≡ has → length (filter (has_id id) (front ++ board ∷ back)) ≡ length (filter (has_id id) (front ++ back)) + cond has 1 0
 lost_with id front back board true h = simp (filter-append, length-append) (rw h (omega arith))
 lost_with id front back board false h = simp (filter-append, length-append) (rw h (omega arith))
 
@@ -63,7 +63,7 @@ loses_by id old new board false loss h one =
 pub loses_place : (old new : FloorPlan) (board : Board) → LosesBoard (boards_on old) (boards_on new) board → LosesPlace old new board
 loses_place old new board loss = λ id one. loses_by id old new board (has_id id board) loss refl one
 
-boards_of_nowhere : (id : ℕ) (plan : FloorPlan) → IsNowhere id plan → length (filter (has_id id) (boards_on plan)) ≡ 0
+pub boards_of_nowhere : (id : ℕ) (plan : FloorPlan) → IsNowhere id plan → length (filter (has_id id) (boards_on plan)) ≡ 0
 boards_of_nowhere id plan h = sym (length_places id 1 plan.machines plan.gaps) ∙ ap length h
 
 pub gains_place : (old new : FloorPlan) (board : Board) → LosesBoard (boards_on new) (boards_on old) board → GainsPlace old new board
@@ -128,7 +128,7 @@ has_one_id : (was id : ℕ) (own : Option ℕ) → has_id was (record { id = own
 has_one_id was id None h apart = absurd (cc)
 has_one_id was id (Some own) h apart = ne_eqb own id (λ e. apart (sym e ∙ eqb-true own was h))
 
-changed_with : (id : ℕ) (front back : List Board) (was now : Board) (had has : Bool) → has_id id was ≡ had → has_id id now ≡ has → length (filter (has_id id) (front ++ now ∷ back)) + cond had 1 0 ≡ length (filter (has_id id) (front ++ was ∷ back)) + cond has 1 0
+pub changed_with : (id : ℕ) (front back : List Board) (was now : Board) (had has : Bool) → has_id id was ≡ had → has_id id now ≡ has → length (filter (has_id id) (front ++ now ∷ back)) + cond had 1 0 ≡ length (filter (has_id id) (front ++ was ∷ back)) + cond has 1 0
 changed_with id front back was now had has h k = omega (arith, lost_with id front back was had h, lost_with id front back now has k)
 
 pub changes_place : (was now : ℕ) (old new : FloorPlan) → ChangesId was now (boards_on old) (boards_on new) → ChangesPlace was now old new

@@ -1,5 +1,5 @@
 -- A move on the floor by one around its gap.
-use Rattle.std.proofs.Common.{◌≡◌, ◌∙◌, ℕ, ◌+◌, ◌-◌, ◌<◌, ◌≤◌, ◌++◌, List, length, get_or, refl, sym, ap, arith, length-append, length-set}
+use Rattle.std.proofs.Common.{◌≡◌, ◌∙◌, ℕ, ◌+◌, ◌-◌, ◌<◌, ◌≤◌, ◌++◌, List, length, get_or, refl, sym, ap, subst, arith, length-append, length-set}
 use Rattle.std.specs.Prelude.{Result, Ok, Err, IsOk, slice_set}
 use Rattle.std.proofs.lemmas.List.{get_or_default, get_or_append_left, get_or-append_right, set-append_left, set-append_right}
 use Rattle.line_world.specs.declared.gap.AtGap.{AtGap}
@@ -9,7 +9,7 @@ use Rattle.line_world.specs.declared.moves.MoveError.{MoveError}
 use Rattle.line_world.specs.declared.moves.MoveError.TheVariants as errors
 use Rattle.line_world.specs.FloorPlan.{AtMachine, FloorPlan, IsGap, IsWhole, empty_machine, free_gap}
 use Rattle.line_world.specs.Moves.{Answers, AnswersAround, AnswersFloor, Around, around_move, around_of, floor_after, floor_move, with_around}
-use Rattle.line_world.proofs.Keeping.{has_gap_of, with_around_same}
+use Rattle.line_world.proofs.Keeping.{around_there, has_gap_of, with_around_same}
 
 floor_move_at : (gap : ℕ) (step : Move) (plan : FloorPlan) → IsGap plan gap → floor_move gap step plan ≡ floor_after plan gap (around_move step (around_of plan gap))
 floor_move_at gap step plan is = rw (has_gap_of plan gap is) refl
@@ -21,8 +21,8 @@ floor_after_ok plan gap (Err why) h = h
 -- what a call of a move around a gap answers, it answers for the floor
 pub answers_floor : (gap : ℕ) (step : Move) (plan : FloorPlan) (after : Around) (result : Result (Unit {0}) MoveError) → IsGap plan gap → Answers (around_move step (around_of plan gap)) (around_of plan gap) after result → AnswersFloor gap step plan (with_around plan gap after) result
 answers_floor gap step plan after (Ok _) is h = floor_move_at gap step plan is ∙ ap (floor_after plan gap) h
-answers_floor gap step plan after (Err (errors.No why)) is h = (floor_move_at gap step plan is ∙ ap (floor_after plan gap) h.0, ap (with_around plan gap) h.1 ∙ with_around_same plan gap)
-answers_floor gap step plan after (Err errors.Memory) is h = (rw (floor_move_at gap step plan is) (floor_after_ok plan gap _ h.0), ap (with_around plan gap) h.1 ∙ with_around_same plan gap)
+answers_floor gap step plan after (Err (errors.No why)) is h = (floor_move_at gap step plan is ∙ ap (floor_after plan gap) h.0, ap (with_around plan gap) h.1 ∙ with_around_same plan gap is.counted)
+answers_floor gap step plan after (Err errors.Memory) is h = (rw (floor_move_at gap step plan is) (floor_after_ok plan gap _ h.0), ap (with_around plan gap) h.1 ∙ with_around_same plan gap is.counted)
 
 -- the machines on either side, set where the list was split behind the upstream one
 split_set : (front back : List AtMachine) (gap : ℕ) (up down : AtMachine) → 1 ≤ gap → length front ≡ gap → slice_set (slice_set (front ++ back) (gap - 1) up) (gap + 1 - 1) down ≡ slice_set front (gap - 1) up ++ slice_set back 0 down
@@ -48,4 +48,5 @@ joined front back gaps gap step above between below up down now result is whole 
     let plan : FloorPlan = record { machines = front ++ back; gaps = gaps } in
     let after : Around = record { up = up; between = now; down = down } in
     let around = rw (up_is, between_is, down_is) at h in
-    rw (← split_set front back gap up down is.counted long) (answers_floor gap step plan after result is around)
+    let there = around_there plan gap is.counted in
+    rw (← split_set front back gap up down is.counted long) (answers_floor gap step plan after result is (let P : Around → Type 0 = λ (a : Around). Answers (around_move step a) a after result in subst P (sym there) around))

@@ -1,4 +1,4 @@
-use Rattle.std.specs.Prelude.{◌≡◌, ◌≢◌, ◌+◌, ◌≤◌, ◌++◌, ◌∷◌, [], ℕ, Bool, true, false, List, if◌then◌else◌}
+use Rattle.std.specs.Prelude.{◌≡◌, ◌≢◌, ◌+◌, ◌++◌, ◌∷◌, [], ℕ, Bool, true, false, List, if◌then◌else◌}
 use Rattle.line_base.specs.declared.states.Side.{Side}
 use Rattle.line_base.specs.declared.states.Side.TheVariants as sides
 use Rattle.line_base.specs.declared.states.SensorEvent.{SensorEvent}
@@ -42,4 +42,42 @@ unread_of plan machine = (machine_at plan machine).unread
 pub record ReachesBothSides (gap : ℕ) (step : Move) (old new : FloorPlan) : Type 0 where
   pub exit : unread_of new gap ≡ unread_of old gap ++ seen_at sides.Exit (event_of step)
   pub entry : unread_of new (gap + 1) ≡ unread_of old (gap + 1) ++ seen_at sides.Entry (event_of step)
-  pub others : (machine : ℕ) → 1 ≤ machine → machine ≢ gap → machine ≢ gap + 1 → unread_of new machine ≡ unread_of old machine
+  pub others : (machine : ℕ) → machine ≢ gap → machine ≢ gap + 1 → unread_of new machine ≡ unread_of old machine
+
+-- the same said by move and side: a board that has left is seen at the exit alone, and one that is
+-- wholly inside at the entry alone
+abbrev pub told_at : Side → Move → List SensorEvent
+told_at sides.Exit moves.Begin = sensors.Begun ∷ []
+told_at sides.Exit moves.Left = sensors.Left ∷ []
+told_at sides.Exit moves.Enter = []
+told_at sides.Exit moves.Back = sensors.Back ∷ []
+told_at sides.Exit moves.HandIn = []
+told_at sides.Exit moves.Take = sensors.Taken ∷ []
+told_at sides.Entry moves.Begin = sensors.Begun ∷ []
+told_at sides.Entry moves.Left = []
+told_at sides.Entry moves.Enter = sensors.Full ∷ []
+told_at sides.Entry moves.Back = sensors.Back ∷ []
+told_at sides.Entry moves.HandIn = sensors.Full ∷ []
+told_at sides.Entry moves.Take = sensors.Taken ∷ []
+
+-- the events of one side of a machine, out of those of both
+abbrev pub before_event : Side → Side → SensorEvent → List SensorEvent → List SensorEvent
+before_event sides.Exit sides.Exit event events = event ∷ events
+before_event sides.Exit sides.Entry event events = events
+before_event sides.Entry sides.Exit event events = events
+before_event sides.Entry sides.Entry event events = event ∷ events
+
+abbrev pub events_at : Side → List Sensed → List SensorEvent
+events_at side [] = []
+events_at side (sensed ∷ more) = before_event side sensed.side sensed.event (events_at side more)
+
+abbrev pub unread_at : FloorPlan → ℕ → Side → List SensorEvent
+unread_at plan machine side = events_at side (unread_of plan machine)
+
+-- a move is told at the exit of the upstream machine and at the entry of the downstream one, each
+-- as the last that is to be read there; at their other sides nothing is
+pub record TellsBothSides (gap : ℕ) (step : Move) (old new : FloorPlan) : Type 0 where
+  pub exit : unread_at new gap sides.Exit ≡ unread_at old gap sides.Exit ++ told_at sides.Exit step
+  pub entry : unread_at new (gap + 1) sides.Entry ≡ unread_at old (gap + 1) sides.Entry ++ told_at sides.Entry step
+  pub upstream_entry : unread_at new gap sides.Entry ≡ unread_at old gap sides.Entry
+  pub downstream_exit : unread_at new (gap + 1) sides.Exit ≡ unread_at old (gap + 1) sides.Exit

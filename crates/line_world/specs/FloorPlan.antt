@@ -1,4 +1,4 @@
-use Rattle.std.specs.Prelude.{◌≡◌, ◌-◌, ◌<◌, ◌≤◌, ◌++◌, ◌∷◌, [], ℕ, Bool, false, List, Option, Some, None, nat_eq, length, position, remove, slice_get, slice_index_or, slice_set}
+use Rattle.std.specs.Prelude.{◌≡◌, ◌-◌, ◌<◌, ◌≤◌, ◌++◌, ◌∷◌, [], ℕ, Bool, false, List, Option, Some, None, nat_eq, nat_lt, length, position, remove, slice_get, slice_index_or, slice_set, if◌then◌else◌}
 use Rattle.line_base.specs.declared.states.Side.{Side}
 use Rattle.line_base.specs.declared.states.Side.TheVariants as sides
 use Rattle.board_record.specs.declared.sensed.Sensed.{Sensed}
@@ -39,17 +39,19 @@ pub record IsGap (plan : FloorPlan) (gap : ℕ) : Type 0 where
 abbrev pub IsWhole : FloorPlan → Type 0
 IsWhole plan = length plan.gaps ≡ length plan.machines - 1
 
+-- what has no such number, 0 among them, is an empty machine or a free gap, and no change of it
+-- changes the floor
 abbrev pub machine_at : FloorPlan → ℕ → AtMachine
-machine_at plan machine = slice_index_or plan.machines (machine - 1) empty_machine
+machine_at plan machine = if nat_lt 0 machine then slice_index_or plan.machines (machine - 1) empty_machine else empty_machine
 
 abbrev pub gap_at : FloorPlan → ℕ → AtGap
-gap_at plan gap = slice_index_or plan.gaps (gap - 1) free_gap
+gap_at plan gap = if nat_lt 0 gap then slice_index_or plan.gaps (gap - 1) free_gap else free_gap
 
 abbrev pub with_machine : FloorPlan → ℕ → AtMachine → FloorPlan
-with_machine plan machine now = record plan { machines = slice_set plan.machines (machine - 1) now }
+with_machine plan machine now = if nat_lt 0 machine then record plan { machines = slice_set plan.machines (machine - 1) now } else plan
 
 abbrev pub with_gap : FloorPlan → ℕ → AtGap → FloorPlan
-with_gap plan gap now = record plan { gaps = slice_set plan.gaps (gap - 1) now }
+with_gap plan gap now = if nat_lt 0 gap then record plan { gaps = slice_set plan.gaps (gap - 1) now } else plan
 
 -- one more machine at the downstream end, and a gap before it where it isn't the first
 abbrev pub gaps_before : List AtMachine → List AtGap → List AtGap

@@ -3,7 +3,7 @@ ghost use Rattle.std.specs.Bool.{OnTrue};
 ghost use Rattle.line_world.specs.FloorPlan.{FloorPlan, IsGap, IsMachine, IsWhole, board_found, drive_of, gap_at, machine_at, no_floor, one_machine_more, place_of, with_boards, with_drive, with_gap, with_new_id, with_unread, without_board};
 ghost use Rattle.line_world.specs.Moves.{AnswersFloor};
 ghost use Rattle.line_world.specs.Boards.{ChangesId, ChangesPlace, GainsPlace, KeepsBoards, KeepsPlaces, LosesBoard, LosesPlace, boards_on};
-ghost use Rattle.line_world.specs.Events.{ReachesBothSides};
+ghost use Rattle.line_world.specs.Events.{ReachesBothSides, TellsBothSides};
 
 use crate::around::apply_around;
 use crate::board::Board;
@@ -150,6 +150,11 @@ impl Floor {
         ensures places { OnOk result (KeepsPlaces step (gap_at self.old gap).lies self.old self.new) }
 
         ensures events { OnOk result (ReachesBothSides gap step self.old self.new) }
+
+        // said by side: `Left` comes to the exit alone, `Full` to the entry alone
+        ensures told { OnOk result (TellsBothSides gap step self.old self.new) }
+
+        ensures machines { length self.new.machines ≡ length self.old.machines }
         ensures refused { OnErr result (self.new ≡ self.old) }
     {
         if gap == 0 || gap >= self.machines.len() {
@@ -166,7 +171,9 @@ impl Floor {
     /// downstream one.
     pub fn set_drive(&mut self, gap: usize, side: Side, on: bool)
         requires { IsGap self.old gap }
-        ensures { self.new ≡ with_gap self.old gap (with_drive (gap_at self.old gap) side on) }
+        ensures after { self.new ≡ with_gap self.old gap (with_drive (gap_at self.old gap) side on) }
+        ensures boards { boards_on self.new ≡ boards_on self.old }
+        ensures machines { length self.new.machines ≡ length self.old.machines }
     {
         self.gaps[gap - 1].set_drive(side, on);
     }
@@ -178,6 +185,8 @@ impl Floor {
         ensures events { IfOk result (λ events. events ≡ (machine_at self.old machine).unread) }
         ensures ok { OnOk result (self.new ≡ with_unread self.old machine []) }
         ensures memory { OnErr result (self.new ≡ self.old) }
+        ensures boards { boards_on self.new ≡ boards_on self.old }
+        ensures machines { length self.new.machines ≡ length self.old.machines }
     {
         self.machines[machine - 1].read_all(self.alloc)
     }
@@ -190,6 +199,7 @@ impl Floor {
         ensures memory { OnErr result (self.new ≡ self.old) }
         ensures boards { OnOk result (LosesBoard (boards_on self.new) (boards_on self.old) board) }
         ensures places { OnOk result (GainsPlace self.old self.new board) }
+        ensures machines { length self.new.machines ≡ length self.old.machines }
     {
         if self.boards == usize::MAX {
             return Err(Memory);
@@ -207,6 +217,7 @@ impl Floor {
         ensures left { self.new ≡ with_boards self.old machine (without_board id (machine_at self.old machine).boards) }
         ensures boards { IfSome result (LosesBoard (boards_on self.old) (boards_on self.new)) }
         ensures places { IfSome result (LosesPlace self.old self.new) }
+        ensures machines { length self.new.machines ≡ length self.old.machines }
     {
         let board = self.machines[machine - 1].remove(id)?;
         self.boards -= 1;
@@ -221,6 +232,7 @@ impl Floor {
         ensures after { self.new ≡ with_boards self.old machine (with_new_id old new (machine_at self.old machine).boards) }
         ensures boards { OnTrue result (ChangesId old new (boards_on self.old) (boards_on self.new)) }
         ensures places { OnTrue result (ChangesPlace old new self.old self.new) }
+        ensures machines { length self.new.machines ≡ length self.old.machines }
     {
         self.machines[machine - 1].replace(old, new)
     }
@@ -231,6 +243,8 @@ impl Floor {
         requires { IsMachine self.old machine }
         ensures ok { OnOk result (self.new ≡ with_unread self.old machine ((machine_at self.old machine).unread ++ sensed ∷ [])) }
         ensures memory { OnErr result (self.new ≡ self.old) }
+        ensures boards { boards_on self.new ≡ boards_on self.old }
+        ensures machines { length self.new.machines ≡ length self.old.machines }
     {
         self.machines[machine - 1].tell(sensed)
     }
@@ -243,6 +257,7 @@ impl Floor {
         ensures after { self.new ≡ with_boards self.old machine (drop 1 (machine_at self.old machine).boards) }
         ensures boards { IfSome result (LosesBoard (boards_on self.old) (boards_on self.new)) }
         ensures places { IfSome result (LosesPlace self.old self.new) }
+        ensures machines { length self.new.machines ≡ length self.old.machines }
     {
         let board = self.machines[machine - 1].take_front()?;
         self.boards -= 1;

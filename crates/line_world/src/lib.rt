@@ -9,11 +9,10 @@ mod around;
 mod board;
 mod floor;
 mod gap;
+pub mod laws;
 mod moves;
 mod sensors;
 mod station;
-#[cfg(test)]
-mod tests;
 
 pub use board::Board;
 pub use floor::Floor;

@@ -1,4 +1,5 @@
-use Rattle.line_world.proofs.Keeping.{counted_moved, counted_taken, keeps_boards, reaches_both_sides}
+use Rattle.line_world.proofs.Keeping.{counted_moved, counted_taken, keeps_boards, machines_kept, reaches_both_sides}
+use Rattle.line_world.proofs.Telling.{tells_both_sides}
 use Rattle.line_world.proofs.Placing.{keeps_places}
 use Rattle.line_world.proofs.floor.Floor.apply.Goals as goal
 
@@ -19,6 +20,12 @@ returns-in-Take-clause-places c =
     let boards = keeps_boards c.args.gap c.args.step (record { machines = c.self.inside.machines.items; gaps = c.self.inside.gaps.items }) (record { machines = c.apply_at.new.machines.items; gaps = c.apply_at.new.gaps.items }) c.self.invariant.whole c.in_ok-apply_at.ensures in
     rw (← c.self.view_is) (keeps_places c.args.step _ (record { machines = c.self.inside.machines.items; gaps = c.self.inside.gaps.items }) (record { machines = c.apply_at.new.machines.items; gaps = c.apply_at.new.gaps.items }) boards)
 
+pub returns-in-Take-clause-told : goal.returns-in-Take-clause-told
+returns-in-Take-clause-told c = rw (← c.self.view_is) (tells_both_sides c.args.gap c.args.step (record { machines = c.self.inside.machines.items; gaps = c.self.inside.gaps.items }) (record { machines = c.apply_at.new.machines.items; gaps = c.apply_at.new.gaps.items }) (reaches_both_sides c.args.gap c.args.step (record { machines = c.self.inside.machines.items; gaps = c.self.inside.gaps.items }) (record { machines = c.apply_at.new.machines.items; gaps = c.apply_at.new.gaps.items }) c.in_ok-apply_at.ensures))
+
+pub returns-in-Take-clause-machines : goal.returns-in-Take-clause-machines
+returns-in-Take-clause-machines c = rw (← c.self.view_is) (machines_kept c.args.gap c.args.step (record { machines = c.self.inside.machines.items; gaps = c.self.inside.gaps.items }) (record { machines = c.apply_at.new.machines.items; gaps = c.apply_at.new.gaps.items }) c.in_ok-apply_at.ensures)
+
 pub returns-in_default : goal.returns-in_default
 returns-in_default c =
     let moved = c.in_ok-apply_at.ensures in
@@ -28,5 +35,7 @@ returns-in_default c =
       boards = boards;
       places = keeps_places c.args.step _ (record { machines = c.self.inside.machines.items; gaps = c.self.inside.gaps.items }) (record { machines = c.apply_at.new.machines.items; gaps = c.apply_at.new.gaps.items }) boards;
       events = reaches_both_sides c.args.gap c.args.step (record { machines = c.self.inside.machines.items; gaps = c.self.inside.gaps.items }) (record { machines = c.apply_at.new.machines.items; gaps = c.apply_at.new.gaps.items }) moved;
+      told = tells_both_sides c.args.gap c.args.step (record { machines = c.self.inside.machines.items; gaps = c.self.inside.gaps.items }) (record { machines = c.apply_at.new.machines.items; gaps = c.apply_at.new.gaps.items }) (reaches_both_sides c.args.gap c.args.step (record { machines = c.self.inside.machines.items; gaps = c.self.inside.gaps.items }) (record { machines = c.apply_at.new.machines.items; gaps = c.apply_at.new.gaps.items }) moved);
+      machines = machines_kept c.args.gap c.args.step (record { machines = c.self.inside.machines.items; gaps = c.self.inside.gaps.items }) (record { machines = c.apply_at.new.machines.items; gaps = c.apply_at.new.gaps.items }) moved;
       refused = tt;
     })
