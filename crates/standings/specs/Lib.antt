@@ -1,0 +1,5 @@
+pub mod Marks
+pub mod Standing
+pub mod Told
+pub mod Deeds
+pub mod Ledger
