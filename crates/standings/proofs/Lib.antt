@@ -1,1 +1,4 @@
 pub mod Standings
+pub mod Entries
+pub mod Machines
+pub mod Ids

@@ -1,5 +1,5 @@
 -- The ledger: the marks as someone knows them who reads the deeds of a report, and nothing else.
-use Rattle.std.specs.Prelude.{◌≡◌, ℕ, ◌==◌, Bool, true, false, not, ◌&&◌, ◌||◌, List, [], ◌∷◌, ◌++◌, Option, None, Some, filter, map, option_to_list}
+use Rattle.std.specs.Prelude.{◌≡◌, ℕ, ◌==◌, Bool, true, false, not, ◌&&◌, List, [], ◌∷◌, ◌++◌, Option, None, Some, filter, option_to_list}
 use Rattle.std.specs.List.{list_any}
 use Rattle.standings.specs.declared.mark.Mark.{Mark}
 use Rattle.standings.specs.declared.entry.Entry.{Entry}
@@ -27,6 +27,11 @@ has_entry entry marks = list_any (λ other. is_same_entry other entry) marks
 abbrev pub mark_of_id : Bool → Mark → List Mark → List Mark
 mark_of_id true mark marks = mark ∷ marks
 mark_of_id false mark marks = marks
+
+-- an entry is this one, where there is one
+abbrev pub is_entry : Option Entry → Entry → Bool
+is_entry None entry = false
+is_entry (Some other) entry = is_same_entry other entry
 
 -- the marks of an id in the ledger
 abbrev pub marks_in : ℕ → List Entry → List Mark
@@ -81,3 +86,23 @@ ledger_after_all ledger (deed ∷ deeds) = ledger_after_all (ledger_after ledger
 abbrev pub AreLegal : Ledger → List Deed → Type 0
 AreLegal ledger [] = Unit {0}
 AreLegal ledger (deed ∷ deeds) = IsLegal ledger deed × AreLegal (ledger_after ledger deed) deeds
+
+-- the ids that deeds make
+abbrev pub made_by_all : List Deed → List ℕ
+made_by_all [] = []
+made_by_all (deed ∷ deeds) = option_to_list (made deed) ++ made_by_all deeds
+
+-- ids of which none was seen
+abbrev pub are_new : List ℕ → List ℕ → Bool
+are_new seen [] = true
+are_new seen (id ∷ ids) = not (has_id id seen) && are_new seen ids
+
+-- ids differ from one another
+abbrev pub are_different : List ℕ → Bool
+are_different [] = true
+are_different (id ∷ ids) = not (has_id id ids) && are_different ids
+
+-- no entry stands twice
+abbrev pub stand_once : List Entry → Bool
+stand_once [] = true
+stand_once (entry ∷ marks) = not (has_entry entry marks) && stand_once marks

@@ -1,5 +1,5 @@
 -- The marks of an id: which machines have its record, and in which of three places.
-use Rattle.std.specs.Prelude.{ℕ, ◌+◌, ◌==◌, Bool, true, false, List, [], ◌∷◌, ◌++◌, Option, None, Some, if◌then◌else◌}
+use Rattle.std.specs.Prelude.{ℕ, ◌+◌, ◌==◌, zero, suc, Bool, true, false, List, [], ◌∷◌, ◌++◌, Option, None, Some}
 use Rattle.std.specs.List.{list_any}
 use Rattle.standings.specs.declared.mark.Mark.{Mark}
 use Rattle.standings.specs.declared.mark.Mark.TheVariants.{Kept, Outlet, Intake}
@@ -51,3 +51,27 @@ is_same_mark (Intake _) (Outlet _) = false
 -- a mark is among some
 abbrev pub has_mark : Mark → List Mark → Bool
 has_mark mark marks = list_any (λ other. is_same_mark other mark) marks
+
+-- the three places in which a machine has ids
+pub data Where : Type 0 where
+  kept : Where
+  outlet : Where
+  intake : Where
+
+-- the mark of a place at a machine
+abbrev pub mark_at : Where → ℕ → Mark
+mark_at kept machine = Kept machine
+mark_at outlet machine = Outlet machine
+mark_at intake machine = Intake machine
+
+-- a machine has an id in a place
+abbrev pub has_at : Where → Owned → ℕ → Bool
+has_at kept owned id = has_id id owned.kept
+has_at outlet owned id = is_held id owned.held
+has_at intake owned id = is_held id owned.taking
+
+-- what the machine behind so many others has: nothing where there is no such machine
+abbrev pub owned_at : List Owned → ℕ → Owned
+owned_at [] before = record { kept = []; held = None; taking = None }
+owned_at (owned ∷ line) zero = owned
+owned_at (owned ∷ line) (suc before) = owned_at line before

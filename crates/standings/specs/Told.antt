@@ -1,5 +1,5 @@
 -- What a report tells of an id's standing after a line.
-use Rattle.std.specs.Prelude.{ℕ, ◌==◌, Bool, true, false, List, [], ◌∷◌, Option, None, Some, if◌then◌else◌}
+use Rattle.std.specs.Prelude.{◌==◌, Bool, true, false, List, [], ◌∷◌, Option, None, Some, if◌then◌else◌}
 use Rattle.standings.specs.declared.mark.Mark.{Mark}
 use Rattle.standings.specs.declared.standing.Standing.{Standing}
 use Rattle.standings.specs.declared.standing.Standing.TheVariants as standings

@@ -9,6 +9,7 @@
 
 mod deed;
 mod entry;
+pub mod laws;
 mod mark;
 mod standing;
 mod told;
