@@ -1,0 +1,8 @@
+use Rattle.custody.proofs.ExitEvents.{described_contents, holds_in_a_handshake}
+use Rattle.custody.proofs.keeps.an_exit_hears_a_description.Goals as goal
+
+pub returns-clause-contents : goal.returns-clause-contents
+returns-clause-contents c = λ gone l service answer rest kept c. described_contents l service answer rest kept c
+
+pub returns-clause-held : goal.returns-clause-held
+returns-clause-held c = λ g l service rest q k x held. holds_in_a_handshake g l service rest q k x held

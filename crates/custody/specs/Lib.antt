@@ -1,0 +1,16 @@
+pub mod Words
+pub mod Place
+pub mod Floor
+pub mod Flight
+pub mod Shape
+pub mod Apart
+pub mod Talks
+pub mod Pair
+pub mod Contents
+pub mod Facts
+pub mod LookBack
+pub mod Steps
+pub mod Events
+pub mod Hands
+pub mod CutAfterInside
+pub mod Bytes
