@@ -116,22 +116,26 @@ says_unready {Gone = Gone} {above = above} g l k i r =
     entry_step g (with_unread_down l []) in_input.Unready [] l.down k e
 
 -- and that a transport starts of the board that is offered
+start_said : {Gone : ℕ → Type 0} {above : List Record} (g : Ghost) (l : LinkState)
+    → EntryBegan Gone in_input.Start l.intake l.around.between.entry_drive l.stands l.exit l.outlet.phase l.outlet.offered l.outlet.ready l.entry (events_at sides.Exit l.around.up.unread) l.around.between.exit_drive l.around.between.lies g.place (up_words l.up) (down_words l.down)
+    → StartSaid Gone above g (with_unread_down l [])
+start_said {above = above} g l e = record {
+  row = e.row;
+  is = e.is;
+  after = record { place = e.place; board = e.board };
+  pair = λ ms same. record { out = e.out; «in» = e.in; gap = e.gap; talk = rw (sent_up l.stands ms l.up, same) e.talk };
+  body = λ o p kept boards s. body_entry (e.body kept) s;
+  above_body = λ kept i q boards s. body_exit (e.above kept) s;
+  contents = λ ms same c. rw (sent_up l.stands ms l.up, same) (e.contents above l.outlet.touched c);
+  lets = e.lets;
+  recalls = e.recalls;
+  asked = λ ms same last dropped. rw (sent_up l.stands ms l.up, same) (e.asked last dropped);
+}
+
 pub says_start : {Gone : ℕ → Type 0} {above : List Record} (g : Ghost) (l : LinkState) (q : Record) → Pair g (with_unread_down l []) → l.intake.phase ≡ inn.Idle → l.intake.offer ≡ Some q → l.intake.ready ≡ true
     → StartSaid Gone above g (with_unread_down l [])
 says_start {Gone = Gone} {above = above} g l q k i f r =
     let y : l.entry ≡ Standing = ready_stands (rw (i, r) at k.talk) in
     let P : SessionState → In → Option Record → Bool → Type 0 = λ y i f r. EntryBegan Gone in_input.Start (intake i f r) l.around.between.entry_drive l.stands l.exit l.outlet.phase l.outlet.offered l.outlet.ready y (events_at sides.Exit l.around.up.unread) l.around.between.exit_drive l.around.between.lies g.place (up_words l.up) (down_words l.down) in
     let d : P Standing inn.Idle (Some q) true = announce_start (rw (y, i, f, r) at k.talk) (rw i at k.in) k.out k.gap in
-    let e : P l.entry l.intake.phase l.intake.offer l.intake.ready = rw (y, i, f, r) d in
-    record {
-      row = e.row;
-      is = e.is;
-      after = record { place = e.place; board = e.board };
-      pair = λ ms same. record { out = e.out; «in» = e.in; gap = e.gap; talk = rw (sent_up l.stands ms l.up, same) e.talk };
-      body = λ o p kept boards s. body_entry (e.body kept) s;
-      above_body = λ kept i q boards s. body_exit (e.above kept) s;
-      contents = λ ms same c. rw (sent_up l.stands ms l.up, same) (e.contents above l.outlet.touched c);
-      lets = e.lets;
-      recalls = e.recalls;
-      asked = λ ms same last dropped. rw (sent_up l.stands ms l.up, same) (e.asked last dropped);
-    }
+    start_said g l (rw (y, i, f, r) d)

@@ -8,13 +8,14 @@ use Rattle.board_record.specs.declared.record.Record.{Record}
 use Rattle.session_core.specs.declared.state.SessionState.{SessionState}
 use Rattle.session_core.specs.declared.state.SessionState.TheVariants.{Standing}
 use Rattle.line_world.specs.declared.gap.Gap.{Gap}
+use Rattle.handover_out.specs.State.{is_id, would_open}
 use Rattle.handover_out.specs.declared.input.OutInput.TheVariants as out_input
 use Rattle.handover_out.specs.declared.phase.Phase.{Phase as Out}
 use Rattle.handover_in.specs.State.{board_of_phase as held_in}
 use Rattle.handover_in.specs.declared.phase.Phase.{Phase as In}
 use Rattle.handover_in.specs.declared.phase.Phase.TheVariants as inn
 use Rattle.custody.specs.Apart.{exit_finished, exit_finished_stop_sent, exit_idle, exit_stop_sent, exit_transporting}
-use Rattle.custody.specs.Contents.{Contents, Kept, Looks, Named, OffersFront, kept_first, looks_front, looks_past, named_front, named_gone, offers_front, offers_nothing}
+use Rattle.custody.specs.Contents.{Contents, Kept, Looks, Named, OffersFront, front_if, kept_first, looks_front, looks_past, named_front, named_gone, offers_front, offers_nothing}
 use Rattle.custody.specs.Flight.{fits_fresh, readies_none, starts_now}
 use Rattle.custody.specs.Floor.{EntryFloor, ExitFloor, GapAt, at_start, in_free, in_stopped, in_taken_in, in_taking, out_ended, out_idle}
 use Rattle.custody.specs.LookBack.{is_not_beyond, not_beyond_fresh}
@@ -93,3 +94,18 @@ hear_start {t = t} (live s) looks front floor c h n g = hear_live_start s (bring
 hear_start {t = t} (apart_start a w) looks front floor c h n g = hear_late_start (apart_start a w) (brings_late looks front) h n g t
 hear_start {t = t} (apart_start_stop a w) looks front floor c h n g = hear_late_start (apart_start_stop a w) (brings_late looks front) h n g t
 hear_start (apart (exit_idle a) _) _ _ _ _ _ _ _ = elim a [ ]
+
+finds_front : {kept : List Record} (of : Option ℕ) (z : ℕ) (test : Bool) → is_id of z ≡ test → OffersFront of kept → Looks of kept z (front_if test kept)
+finds_front of z true e offers_front = looks_front e
+finds_front of z true e offers_nothing = cc
+finds_front of z false e _ = looks_past e
+
+-- what a machine looks up for a start is what it finds for one that would open its outlet
+pub start_finds : {b : Bool} {x y : SessionState} {o : Out} {of : Option ℕ} {rd : Bool} {i : In} {f : Option Record} {ri : Bool} {p : Place} {up : List UpWord} {down : List DownWord} {z : ℕ} {kept : List Record} (t : Option ℕ)
+    → Talks b x o of rd y i f ri p (StartTransport z ∷ up) down → OffersFront of kept → Looks of kept z (front_if (would_open (outlet o of t rd) z) kept)
+start_finds {of = of} {z = z} t (live (start_sent starts_now _)) front = finds_front of z (is_id of z) refl front
+start_finds {of = of} {z = z} t (live (start_and_stop_sent starts_now _)) front = finds_front of z (is_id of z) refl front
+start_finds {of = of} {z = z} t (apart_start starts_now _) front = finds_front of z (is_id of z) refl front
+start_finds {of = of} {z = z} t (apart_start_stop starts_now _) front = finds_front of z (is_id of z) refl front
+start_finds t (live (no_handover a _)) _ = elim a [ ]
+start_finds t (apart (exit_idle a) _) _ = elim a [ ]

@@ -43,7 +43,7 @@ pub mod EntryEvents
 pub mod LinkEvents
 pub mod Promised
 pub mod Recalls
-pub mod Bytes
+pub mod Texts
 pub mod Hands
 pub mod HandsContents
 pub mod MovesKeep

@@ -10,7 +10,7 @@ use Rattle.line_world.specs.declared.gap.Gap.TheVariants as gaps
 use Rattle.line_world.specs.declared.moves.Move.TheVariants as moves
 use Rattle.handover_out.specs.declared.phase.Phase.{Phase as Out}
 use Rattle.handover_in.specs.declared.phase.Phase.{Phase as In}
-use Rattle.custody.specs.Events.{Lifted, parts_around}
+use Rattle.custody.specs.Floors.{Lifted, parts_around}
 use Rattle.custody.specs.LookBack.{is_not_beyond, not_beyond_home, not_beyond_lost, not_beyond_stolen}
 use Rattle.custody.specs.Pair.{Body, Ghost, LinkState, Pair}
 use Rattle.custody.specs.Place.{Home, Lost, Place, Stolen}

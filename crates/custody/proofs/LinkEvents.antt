@@ -1,22 +1,18 @@
 -- The events of a link: it is connected, and cut.
-use Rattle.std.proofs.Common.{List, None, [], false, refl, true, ℕ, ◌∷◌, ◌≡◌}
-use Rattle.board_record.specs.Record.{plain_record}
+use Rattle.std.proofs.Common.{List, [], refl, true, ℕ, ◌∷◌, ◌≡◌}
 use Rattle.board_record.specs.declared.record.Record.{Record}
 use Rattle.hermes_horizontal.specs.declared.message.Horizontal.{Horizontal}
 use Rattle.hermes_horizontal.specs.declared.message.Horizontal.TheVariants as message
 use Rattle.hermes_horizontal.specs.declared.message.Service.{Service}
 use Rattle.session_core.specs.declared.state.SessionState.TheVariants.{Handshake, NotConnected}
-use Rattle.line_world.specs.declared.gap.Gap.TheVariants as gaps
-use Rattle.handover_out.specs.declared.phase.Phase.TheVariants as out
 use Rattle.handover_in.specs.State.{may_connect}
-use Rattle.handover_in.specs.declared.phase.Phase.TheVariants as inn
 use Rattle.custody.specs.Apart.{entry_none, exit_none}
 use Rattle.custody.specs.Contents.{open_none}
 use Rattle.custody.specs.Events.{IsContent, called_on, cut_on}
 use Rattle.custody.specs.Floor.{gap_fresh, in_free, no_full_none, none_taken, out_idle}
+use Rattle.custody.specs.Floors.{new_link, nobody}
 use Rattle.custody.specs.Pair.{Ghost, LinkState, Pair}
 use Rattle.custody.specs.Place.{Fresh, not_across_fresh, not_begun_fresh}
-use Rattle.custody.specs.Steps.{intake, outlet}
 use Rattle.custody.specs.Talks.{apart}
 use Rattle.custody.specs.Words.{down_words, sent, starts_in, up_words}
 use Rattle.custody.proofs.Connect.{call, connect, may, take_call}
@@ -73,12 +69,6 @@ says_aside_up g l ms e k = record { out = k.out; «in» = k.in; gap = k.gap; tal
 pub says_aside_down : (g : Ghost) (l : LinkState) (ms : List Horizontal) → down_words ms ≡ [] → Pair g l → Pair g (record l { down = sent ms l.stands l.down })
 says_aside_down g l ms e k = record { out = k.out; «in» = k.in; gap = k.gap; talk = rw (sent_down l.stands ms l.down, e) k.talk }
 
--- a new link, between machines that have nothing
-pub nobody : Record
-nobody = plain_record 0 [] None
-
-abbrev pub new_link : LinkState
-new_link = record { exit = NotConnected; outlet = outlet out.Idle None None false; entry = NotConnected; intake = intake inn.Idle None false; stands = false; around = record { up = record { boards = []; unread = [] }; between = record { lies = gaps.Free; exit_drive = false; entry_drive = false }; down = record { boards = []; unread = [] } }; up = []; down = [] }
-
+-- a new link
 pub new_pair : Pair (record { place = Fresh; board = nobody }) new_link
 new_pair = record { out = out_idle none_taken not_begun_fresh; «in» = in_free no_full_none not_across_fresh; gap = gap_fresh; talk = apart exit_none entry_none }

@@ -6,7 +6,7 @@ use Rattle.line_world.specs.declared.moves.Move.{Move}
 use Rattle.line_world.specs.declared.moves.Move.TheVariants as moves
 use Rattle.handover_out.specs.declared.phase.Phase.{Phase as Out}
 use Rattle.handover_in.specs.declared.phase.Phase.{Phase as In}
-use Rattle.custody.specs.Events.{Lifted}
+use Rattle.custody.specs.Floors.{Lifted}
 use Rattle.custody.specs.Pair.{Body, Ghost, LinkState, Pair}
 use Rattle.custody.specs.Place.{Place}
 use Rattle.custody.proofs.LiftBack.{lift_back, lift_take}

@@ -1,5 +1,5 @@
 -- The laws, as the contracts in src/laws.rt state them.
-use Rattle.std.proofs.Common.{List, None, Option, Some, [], ap, subst, sym, ℕ, ◌∙◌, ◌∷◌, ◌≡◌}
+use Rattle.std.proofs.Common.{Bool, List, None, Option, Some, [], ap, is_some, not, subst, sym, ℕ, ◌∙◌, ◌∷◌, ◌≡◌}
 use Rattle.line_base.specs.declared.states.SensorEvent.{SensorEvent}
 use Rattle.line_base.specs.declared.states.Side.TheVariants as sides
 use Rattle.line_base.specs.declared.states.Transfer.{Transfer}
@@ -12,23 +12,26 @@ use Rattle.session_core.specs.declared.state.SessionState.TheVariants.{Handshake
 use Rattle.line_world.specs.Moves.{entry_sees}
 use Rattle.line_world.specs.declared.board.Board.{Board}
 use Rattle.line_world.specs.declared.gap.Gap.TheVariants as gaps
-use Rattle.handover_out.specs.State.{board_of_phase as held_out}
+use Rattle.handover_out.specs.State.{board_of_phase as held_out, would_open}
 use Rattle.handover_out.specs.declared.phase.Phase.{Phase as Out}
 use Rattle.handover_in.specs.Row.{InRow, intake_row}
 use Rattle.handover_in.specs.State.{board_of_phase as held_in}
 use Rattle.handover_in.specs.declared.input.InInput.{InInput}
 use Rattle.handover_in.specs.declared.input.InInput.TheVariants as in_input
 use Rattle.handover_in.specs.declared.phase.Phase.{Phase as In}
-use Rattle.custody.specs.Events.{EntryStep, hearing_down, with_unread_down}
+use Rattle.custody.specs.Contents.{Looks, OffersFront, front_if}
+use Rattle.custody.specs.Events.{EntryStep, IsAsked, hearing_down, hearing_up, with_unread_down}
 use Rattle.custody.specs.Facts.{Has, HasDown, TellsOf}
 use Rattle.custody.specs.Floor.{GapAt}
 use Rattle.custody.specs.LookBack.{IsSaid, LetGo, Recalls, Settles, Since, since_after}
 use Rattle.custody.specs.Pair.{Ghost, LinkState, Pair}
 use Rattle.custody.specs.Place.{Place, beyond_inside}
 use Rattle.custody.specs.Words.{TransportFinished, UpstreamService, down_words, events_at}
+use Rattle.custody.proofs.Asked.{heard_is_last}
 use Rattle.custody.proofs.Behind.{holds_or_stale, nothing_behind_a_description, nothing_behind_an_end}
 use Rattle.custody.proofs.EntryEvents.{hears_finished, hears_upstream, reads_entry}
 use Rattle.custody.proofs.Facts.{begun_held_upstream, begun_id, gone_is_unread, in_holds, left_held_downstream, left_id, out_holds}
+use Rattle.custody.proofs.HearStart.{start_finds}
 use Rattle.custody.proofs.Lets.{settles_what_left}
 
 pub board_begun : (g : Ghost) (l : LinkState) (a : Board) → Pair g l → l.around.between.lies ≡ gaps.Begun a → (held_out l.outlet.phase ≡ Some g.board) × (a.id ≡ Some g.board.id)
@@ -95,3 +98,11 @@ end_was_said g l t z rest row q s k is keep = (end_settles g l t z rest row q k 
 
 pub description_was_said : (g : Ghost) (l : LinkState) (service : Service) (rest : List Horizontal) (row : InRow) (q : Record) (s : Since) → Pair g (hearing_down l (message.ServiceDescription service) rest) → intake_row l.intake in_input.Stand ≡ Some row → row.act.keep ≡ Some q → Recalls l.intake.phase s → IsSaid (since_after in_input.Stand s)
 description_was_said g l service rest row q s k is keep = (description_settles g l service rest row q k is keep).said s
+
+-- a start that is heard is the last that was said, and its board is held unless it was dropped since
+pub start_is_last : (l : LinkState) (z : ℕ) (rest : List Horizontal) (last : Option ℕ) (dropped : Bool) → IsAsked (hearing_up l (message.StartTransport z) rest) last dropped → (last ≡ Some z) × (is_some (held_in l.intake.phase) ≡ not dropped)
+start_is_last l z rest last dropped a = heard_is_last a
+
+-- the front, where it is what the outlet offers, is what a machine finds for a start
+pub finds_for_a_start : (g : Ghost) (l : LinkState) (z : ℕ) (rest : List Horizontal) (kept : List Record) → Pair g (hearing_up l (message.StartTransport z) rest) → OffersFront l.outlet.offered kept → Looks l.outlet.offered kept z (front_if (would_open l.outlet z) kept)
+finds_for_a_start g l z rest kept k front = start_finds l.outlet.touched k.talk front

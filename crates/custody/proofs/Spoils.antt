@@ -1,10 +1,11 @@
 -- A NUL that is put before the next byte to arrive is in the next frame, and what has a NUL in it is refused.
-use Rattle.std.proofs.Common.{Bool, List, None, Option, Some, [], ap, append-nil, arith, drop, false, inl, inr, length, option_map, refl, subst, suc, sym, take, true, zero, ℕ, ◌++◌, ◌+◌, ◌<◌, ◌∙◌, ◌∷◌, ◌≡◌, ◌≤◌, ◌⊎◌}
+use Rattle.std.proofs.Common.{Bool, List, None, Option, Some, [], ap, append-nil, append_assoc, arith, drop, false, inl, inr, length, option_map, refl, subst, suc, sym, take, true, zero, ℕ, ◌++◌, ◌+◌, ◌<◌, ◌∙◌, ◌∷◌, ◌≡◌, ◌≤◌, ◌⊎◌}
 use Rattle.std.proofs.lemmas.Bool.{cases_lt, cond-false, cond-true}
 use Rattle.std.proofs.lemmas.List.{take-append-drop, take-append-le, take-take, take_all}
 use Rattle.hermes_stream.proofs.Ends.{begins-append, first_end-within}
-use Rattle.hermes_stream.proofs.Streams.{answer_of-need_more, has_frame, without_blanks-again, without_blanks-append}
-use Rattle.hermes_stream.specs.Frames.{Frame, NeedMore, answer_of, begins_with_end, end_within, first_end, most_bytes, without_blanks}
+use Rattle.hermes_stream.proofs.Streams.{answer_of-need_more, frames_of-frame, frames_of-need_more, frames_of-too_long, has_frame, without_blanks-again, without_blanks-append}
+use Rattle.hermes_stream.specs.Cutter.{GivesFrame, WantsMore}
+use Rattle.hermes_stream.specs.Frames.{Answer, Frame, NeedMore, TooLong, answer_of, begins_with_end, end_within, first_end, frames_of, left_of, most_bytes, without_blanks}
 use Rattle.custody.specs.Bytes.{HasNul, Spoiled}
 
 mapped : (o : Option ℕ) (n : ℕ) → option_map (λ m. m + 1) o ≡ Some n → (m : ℕ) × (o ≡ Some m) × (m + 1 ≡ n)
@@ -70,6 +71,33 @@ nul_in_frame w y f none some =
     let is : take h.count (without_blanks w ++ (0 ∷ y)) ≡ f = ap (take h.count) (sym (blanks_before w y)) ∙ h.is in
     subst HasNul is (nul_behind (without_blanks w) y h.count (end_beyond (without_blanks w) (0 ∷ y) h.count no.0 no.1 ends))
 
--- so the next frame of a direction that was spoiled has the NUL in it
-pub spoiled_frame : (w f : List ℕ) → Spoiled w [] → answer_of w ≡ Frame f → HasNul f
-spoiled_frame w f s some = nul_in_frame s.front s.rest f s.none (ap answer_of (sym s.is ∙ append-nil w) ∙ some)
+-- a NUL is put before the next byte to arrive, where the bytes of the receiver come to no frame
+pub puts_a_nul : (w c : List ℕ) → answer_of w ≡ NeedMore → Spoiled w (0 ∷ c)
+puts_a_nul w c none = record { front = w; rest = c; none = none; same = λ later. refl }
+
+-- bytes arrive, more is wanted, and more is sent: it is there still
+pub nul_arrives : (w p c : List ℕ) → Spoiled w (p ++ c) → Spoiled (w ++ p) c
+nul_arrives w p c s = record { front = s.front; rest = s.rest; none = s.none; same = λ later. ap frames_of (append_assoc w p (c ++ later) ∙ ap (λ z. w ++ z) (sym (append_assoc p c later))) ∙ s.same later }
+
+pub nul_waits : (w c : List ℕ) → WantsMore w → Spoiled w c → Spoiled (left_of w) c
+nul_waits w c g s = record { front = s.front; rest = s.rest; none = s.none; same = λ later. sym (g.frames (c ++ later)) ∙ s.same later }
+
+pub nul_stays : (w c t : List ℕ) → Spoiled w c → Spoiled w (c ++ t)
+nul_stays w c t s = record { front = s.front; rest = s.rest ++ t; none = s.none; same = λ later. ap (λ z. frames_of (w ++ z)) (append_assoc c t later) ∙ s.same (t ++ later) ∙ ap (λ z. frames_of (s.front ++ (0 ∷ z))) (sym (append_assoc s.rest t later)) }
+
+same_frame : {f g : List ℕ} {fs gs : List (List ℕ)} → f ∷ fs ≡ g ∷ gs → g ≡ f
+same_frame e = cc
+
+no_frame : {X : Type 0} {f : List ℕ} {fs : List (List ℕ)} → f ∷ fs ≡ [] → X
+no_frame e = cc
+
+nul_first : (x y f : List ℕ) (fs : List (List ℕ)) → answer_of x ≡ NeedMore → f ∷ fs ≡ (frames_of (x ++ (0 ∷ y))).messages → (answer : Answer) → answer_of (x ++ (0 ∷ y)) ≡ answer → HasNul f
+nul_first x y f fs none e (Frame g) is = subst HasNul (same_frame (e ∙ ap (λ z. z.messages) (frames_of-frame (x ++ (0 ∷ y)) g is))) (nul_in_frame x y g none is)
+nul_first x y f fs none e NeedMore is = no_frame (e ∙ ap (λ z. z.messages) (frames_of-need_more (x ++ (0 ∷ y)) is))
+nul_first x y f fs none e TooLong is = no_frame (e ∙ ap (λ z. z.messages) (frames_of-too_long (x ++ (0 ∷ y)) is))
+
+-- and the next frame has it in it
+pub nul_is_cut : (w c f : List ℕ) → GivesFrame w f → Spoiled w c → HasNul f
+nul_is_cut w c f g s =
+    let e : f ∷ (frames_of (left_of w ++ (c ++ []))).messages ≡ (frames_of (s.front ++ (0 ∷ (s.rest ++ [])))).messages = ap (λ z. z.messages) (sym (g.frames (c ++ [])) ∙ s.same []) in
+    nul_first s.front (s.rest ++ []) f (frames_of (left_of w ++ (c ++ []))).messages s.none e (answer_of (s.front ++ (0 ∷ (s.rest ++ [])))) refl

@@ -18,9 +18,9 @@ pub record HasNul (bytes : List ℕ) : Type 0 where
   pub rest : List ℕ
   pub is : bytes ≡ front ++ (0 ∷ rest)
 
--- a NUL is in the next frame, if there is one: the bytes of the receiver come to no frame before it
+-- a NUL stands behind bytes that come to no frame, whatever follows: so it is in the next frame, if there is one
 pub record Spoiled (waiting coming : List ℕ) : Type 0 where
   pub front : List ℕ
   pub rest : List ℕ
   pub none : answer_of front ≡ NeedMore
-  pub is : waiting ++ coming ≡ front ++ (0 ∷ rest)
+  pub same : (later : List ℕ) → frames_of (waiting ++ (coming ++ later)) ≡ frames_of (front ++ (0 ∷ (rest ++ later)))

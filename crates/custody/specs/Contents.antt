@@ -51,3 +51,9 @@ pub data OffersFront : Option ℕ → List Record → Type 0 where
 pub data Looks : Option ℕ → List Record → ℕ → Option Record → Type 0 where
   looks_front : {o : Option ℕ} {q : Record} {ks : List Record} {z : ℕ} → is_id o z ≡ true → Looks o (q ∷ ks) z (Some q)
   looks_past : {o : Option ℕ} {ks : List Record} {z : ℕ} → is_id o z ≡ false → Looks o ks z None
+
+-- the front, where a test passes: what a machine brings to a start that would open its outlet
+abbrev pub front_if : Bool → List Record → Option Record
+front_if true (q ∷ ks) = Some q
+front_if true [] = None
+front_if false ks = None

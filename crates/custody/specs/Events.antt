@@ -6,9 +6,7 @@ use Rattle.hermes_horizontal.specs.declared.message.Horizontal.{Horizontal}
 use Rattle.hermes_horizontal.specs.declared.message.Horizontal.TheVariants as message
 use Rattle.hermes_horizontal.specs.declared.message.Service.{Service}
 use Rattle.session_core.specs.declared.state.SessionState.TheVariants.{Handshake, NotConnected, Standing}
-use Rattle.line_world.specs.Moves.{Around}
 use Rattle.line_world.specs.declared.board.Board.{Board}
-use Rattle.line_world.specs.declared.gap.Gap.{Gap}
 use Rattle.handover_out.specs.Row.{OutRow, outlet_row}
 use Rattle.handover_out.specs.State.{board_of_phase as held_out}
 use Rattle.handover_out.specs.declared.input.OutInput.{OutInput}
@@ -179,16 +177,3 @@ called_on l service = record l { entry = Handshake; up = message.ServiceDescript
 -- a link that is cut
 abbrev pub cut_on : LinkState → LinkState
 cut_on l = record l { stands = false; up = []; down = [] }
-
--- what is around a gap, by its parts: the boards and unread events upstream, what lies in the gap with the drives of
--- exit and entry, the boards and unread events downstream
-abbrev pub parts_around : List Board → List Sensed → Gap → Bool → Bool → List Board → List Sensed → Around
-parts_around ub uu lies xd ed db du = record { up = record { boards = ub; unread = uu }; between = record { lies = lies; exit_drive = xd; entry_drive = ed }; down = record { boards = db; unread = du } }
-
--- a link and its two machines after a move: all is as it was but what is around the gap
-pub record Lifted (l : LinkState) (g : Ghost) (kept : List Record) (j : In) (q : Place) (kept2 : List Record) (o2 : Out) (p2 : Place) (a : Around) : Type 0 where
-  pub place : Place
-  pub pair : Pair (record { place = place; board = g.board }) (record l { around = a })
-  pub body : Body l.outlet.phase place kept j q a.up.boards
-  pub below : Body o2 p2 kept2 l.intake.phase place a.down.boards
-  pub lets : (last : Option Record) → LetGo g.place l.outlet.phase g.board last → LetGo place l.outlet.phase g.board last

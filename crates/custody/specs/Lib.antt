@@ -11,6 +11,7 @@ pub mod Facts
 pub mod LookBack
 pub mod Steps
 pub mod Events
+pub mod Floors
 pub mod Hands
 pub mod CutAfterInside
 pub mod Bytes

@@ -27,7 +27,8 @@ ghost use Rattle.custody.specs.Place.{Place};
 ghost use Rattle.custody.specs.Pair.{Body, Ghost, LinkState, Pair, board_of};
 ghost use Rattle.custody.specs.Contents.{Kept, Looks, OffersFront};
 ghost use Rattle.custody.specs.Hands.{IsOther, PutFor, TakenOut};
-ghost use Rattle.custody.specs.Events.{EntryShut, EntryStep, ExitShut, ExitStep, IsContent, Lifted, StartSaid, StartStep, called_on, cut_on, described_on, gone_by, hearing_down, hearing_up, offered_on, revoked_on, with_unread_down, with_unread_up};
+ghost use Rattle.custody.specs.Events.{EntryShut, EntryStep, ExitShut, ExitStep, IsContent, StartSaid, StartStep, called_on, cut_on, described_on, gone_by, hearing_down, hearing_up, offered_on, revoked_on, with_unread_down, with_unread_up};
+ghost use Rattle.custody.specs.Floors.{Lifted};
 
 /// A machine reads an event of its exit: the link below goes on, and the link above sees no difference.
 #[tactic(auto, using(crate::proofs::ExitEvents::reads_exit, crate::proofs::ExitEvents::skips_exit))]

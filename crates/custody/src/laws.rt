@@ -1,6 +1,6 @@
 //! What holds of a link whatever it meets. Each law is a contract over the relation of the link.
 
-ghost use Rattle.std.specs.Prelude.{◌≡◌, ◌∷◌, List, Option, Some, None, ℕ};
+ghost use Rattle.std.specs.Prelude.{◌≡◌, ◌∷◌, Bool, List, Option, Some, None, is_some, not, ℕ};
 ghost use Rattle.line_base.specs.declared.states.Side.TheVariants.{Exit};
 ghost use Rattle.line_base.specs.declared.states.SensorEvent.{SensorEvent as Event};
 ghost use Rattle.line_base.specs.declared.states.Transfer.{Transfer as End};
@@ -12,7 +12,7 @@ ghost use Rattle.hermes_horizontal.specs.declared.message.Service.{Service as De
 ghost use Rattle.line_world.specs.declared.board.Board.{Board};
 ghost use Rattle.line_world.specs.declared.gap.Gap.TheVariants.{Begun, Left};
 ghost use Rattle.line_world.specs.Moves.{entry_sees};
-ghost use Rattle.handover_out.specs.State.{board_of_phase as held_out};
+ghost use Rattle.handover_out.specs.State.{board_of_phase as held_out, would_open};
 ghost use Rattle.handover_in.specs.Row.{InRow, intake_row};
 ghost use Rattle.handover_in.specs.State.{board_of_phase as held_in};
 ghost use Rattle.handover_in.specs.declared.input.InInput.TheVariants as in_input;
@@ -22,7 +22,9 @@ ghost use Rattle.custody.specs.CutAfterInside.{ghost_at, link_across, link_answe
 ghost use Rattle.custody.specs.Facts.{Has, HasDown, TellsOf};
 ghost use Rattle.custody.specs.Pair.{Ghost, LinkState, Pair};
 ghost use Rattle.custody.specs.LookBack.{IsSaid, LetGo, Recalls, Since, since_after};
-ghost use Rattle.custody.specs.Events.{hearing_down, with_unread_down};
+ghost use Rattle.custody.specs.Contents.{Looks, OffersFront, front_if};
+ghost use Rattle.custody.specs.Events.{IsAsked, hearing_down, hearing_up, with_unread_down};
+ghost use Rattle.custody.specs.Floors.{new_link, nobody};
 
 /// The board that lies begun in the gap is the outlet's.
 pub fn a_board_in_the_gap_is_held_upstream()
@@ -86,4 +88,22 @@ pub fn a_cut_after_the_board_is_in()
     ensures connected { (a : Record) (service : Description) → Pair (ghost_at Inside a) (link_connected a service) }
     ensures answered { (a : Record) (service : Description) → Pair (ghost_at Inside a) (link_answered a service) }
     ensures settled { (a : Record) → Pair (ghost_at Inside a) (link_settled a) }
+{}
+
+/// A start that is heard is the last that the downstream machine said, and nothing answered it yet; its board is held
+/// there, unless it was dropped since.
+pub fn a_start_that_is_heard_is_the_last()
+    ensures { (l : LinkState) (z : ℕ) (rest : List Message) (last : Option ℕ) (dropped : Bool) → IsAsked (hearing_up l (message.StartTransport z) rest) last dropped → (last ≡ Some z) × (is_some (held_in l.intake.phase) ≡ not dropped) }
+{}
+
+/// A machine that looks for the front of its boards where a start would open its outlet finds the board that is offered.
+#[tactic(auto, using(crate::proofs::Promised::finds_for_a_start))]
+pub fn a_start_finds_what_is_offered()
+    ensures { (g : Ghost) (l : LinkState) (z : ℕ) (rest : List Message) (kept : List Record) → Pair g (hearing_up l (message.StartTransport z) rest) → OffersFront l.outlet.offered kept → Looks l.outlet.offered kept z (front_if (would_open l.outlet z) kept) }
+{}
+
+/// The relation stands on a new link, between machines that have nothing.
+#[tactic(auto, using(crate::proofs::LinkEvents::new_pair))]
+pub fn a_new_link_stands()
+    ensures { Pair (record { place = Fresh; board = nobody }) new_link }
 {}

@@ -2,5 +2,6 @@
 //! floor and the two machines meet. There is no code here: each law is the contract of a function without a body.
 #![tactic(auto)]
 
+pub mod bytes;
 pub mod keeps;
 pub mod laws;

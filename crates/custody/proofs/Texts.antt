@@ -2,7 +2,7 @@
 use Rattle.std.proofs.Common.{List, None, Option, Some, [], ap, append-nil, append_assoc, refl, sym, ℕ, ◌++◌, ◌∙◌, ◌∷◌, ◌≡◌}
 use Rattle.hermes_stream.proofs.Streams.{frames_of-frame_append, frames_of-need_more, frames_of-need_more_append, frames_of-too_long_append}
 use Rattle.hermes_stream.specs.Cutter.{GivesFrame, StaysTooLong, WantsMore}
-use Rattle.hermes_stream.specs.Frames.{Answer, Frame, Frames, NeedMore, TooLong, answer_of, behind, frames_of, left_of}
+use Rattle.hermes_stream.specs.Frames.{Answer, Frame, Frames, IsOneFrame, NeedMore, TooLong, answer_of, behind, frames_of, left_of}
 use Rattle.custody.specs.Bytes.{Flows, Next}
 
 same_messages : {a c : List (List ℕ)} {k l : Option (List ℕ)} → ◌≡◌ {A = Frames} (record { messages = a; rest = k }) (record { messages = c; rest = l }) → a ≡ c
@@ -65,6 +65,14 @@ comes_behind (t ∷ ts) x y (Frame f) a e =
     frames_of-frame_append x y f a ∙ ap (behind (f ∷ [])) again ∙ ap (λ g. behind (g ∷ ts) (frames_of y)) (first_text (ap (λ r. r.messages) first))
 comes_behind texts x y NeedMore a e = after_nothing texts (left_of x) x y (sym (frames_of-need_more x a) ∙ e) (frames_of-need_more_append x y a)
 
--- a text that is a message by itself, sent on a link
+-- the text of a message, sent on a link
 pub sends_a_text : (texts : List (List ℕ)) (w c t : List ℕ) → Flows w c texts → frames_of t ≡ record { messages = t ∷ []; rest = Some [] } → Flows w (c ++ t) (texts ++ (t ∷ []))
 sends_a_text texts w c t k e = record { frames = rw (sym (append_assoc w c t)) (comes_behind texts (w ++ c) t (answer_of (w ++ c)) refl k.frames ∙ ap (behind texts) e) }
+
+pub sends_one_frame : (w c t : List ℕ) (texts : List (List ℕ)) → IsOneFrame t → Flows w c texts → Flows w (c ++ t) (texts ++ (t ∷ []))
+sends_one_frame w c t texts one k = sends_a_text texts w c t k one.frames
+
+-- nothing is on its way
+pub nothing_flows : Flows [] [] []
+unfolding answer_of left_of
+nothing_flows = record { frames = frames_of-need_more [] refl }
