@@ -77,7 +77,8 @@ pub fn holds_from_start_to_end()
     ensures { (s : InState) (inputs : List Input) → id_of (held (after_all s inputs)) ≡ held_by_all (id_of (held s)) s inputs }
 {}
 
-/// A transport starts exactly where the machine says so, is ready, and a board is offered.
+/// A transport starts exactly where the machine says so while no handover is open, it is ready, and
+/// a board is offered.
 #[tactic(auto, using(crate::proofs::IntakeLaws::starts_exactly))]
 pub fn starts_where_ready_and_offered()
     ensures { (s : InState) (input : Input) → is_start (step s input).act.deed ≡ starts_at s input }
