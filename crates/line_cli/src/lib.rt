@@ -12,8 +12,6 @@ mod script_run;
 mod status;
 mod step;
 mod stream_reader;
-#[cfg(test)]
-mod tests;
 
 pub use command::line_main;
 pub use status::{InputWhy, Status};

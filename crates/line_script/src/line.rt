@@ -35,7 +35,8 @@ pub enum ScriptLine {
     Show,
 }
 
-/// Why a line is refused, in the order in which the reasons are tested.
+/// Why a line is refused. The reasons are tested in this order, but the last four, of which the first
+/// that holds for the words from the left counts.
 #[derive(Clone, Copy, Debug, PartialEq, Eq, Error)]
 pub enum LineWhy {
     /// It has more than 4,096 bytes.
