@@ -10,3 +10,4 @@ pub mod IdLaws
 pub mod Names
 pub mod ReadFrames
 pub mod ReadSteps
+pub mod ReadOnce

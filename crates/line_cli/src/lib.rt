@@ -3,6 +3,7 @@
 
 mod command;
 mod happening;
+mod laws;
 mod line;
 mod machine;
 mod reading;
@@ -14,4 +15,5 @@ mod step;
 mod stream_reader;
 
 pub use command::line_main;
+pub use laws::read_once;
 pub use status::{InputWhy, Status};
