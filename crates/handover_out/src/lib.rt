@@ -14,8 +14,6 @@ mod outlet;
 mod phase;
 mod sensor;
 mod state;
-#[cfg(test)]
-mod tests;
 mod transport;
 
 pub use act::{OutAct, OutDeed, OutSend};
