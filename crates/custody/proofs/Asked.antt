@@ -32,11 +32,13 @@ exit_starts exit_finished = refl
 exit_starts (exit_finished_stop_sent a) = readies_start_nothing a
 
 -- where the end was heard, no start is on its way
-pub taking_starts : {b : Bool} {x y : SessionState} {o : Out} {of : Option ℕ} {rd : Bool} {f : Option Record} {ri : Bool} {p : Place} {up : List UpWord} {down : List DownWord} {q : Record} {a : Seen} → Talks b x o of rd y (inn.Taking q a true) f ri p up down → starts_in up ≡ []
+pub taking_starts : {b : Bool} {x y : SessionState} {o : Out} {of : Option ℕ} {rd : Bool} {f : Option Record} {ri : Bool} {p : Place} {up : List UpWord} {down : List DownWord} {q : Record} {a : Seen}
+    → Talks b x o of rd y (inn.Taking q a true) f ri p up down → starts_in up ≡ []
 taking_starts (live (finish_heard c)) = refl
 taking_starts (apart a (entry_finish_heard c)) = exit_starts a
 
-pub stopped_starts : {b : Bool} {x y : SessionState} {o : Out} {of : Option ℕ} {rd : Bool} {f : Option Record} {ri : Bool} {p : Place} {up : List UpWord} {down : List DownWord} {q : Record} {e : Transfer} {a : Seen} → Talks b x o of rd y (inn.Stopped q a (Some e)) f ri p up down → starts_in up ≡ []
+pub stopped_starts : {b : Bool} {x y : SessionState} {o : Out} {of : Option ℕ} {rd : Bool} {f : Option Record} {ri : Bool} {p : Place} {up : List UpWord} {down : List DownWord} {q : Record} {e : Transfer} {a : Seen}
+    → Talks b x o of rd y (inn.Stopped q a (Some e)) f ri p up down → starts_in up ≡ []
 stopped_starts (live (inside_awaited_stop_sent c)) = refl
 stopped_starts (live (inside_awaited c d)) = refl
 stopped_starts (apart a (entry_inside_awaited c d)) = exit_starts a

@@ -48,11 +48,13 @@ entry_stale entry_shaking_waiting = stale_none
 entry_stale (entry_transporting s) = s
 entry_stale (entry_stopped s) = s
 
-pub holds_or : {x : SessionState} {o : Out} {of : Option ℕ} {rd : Bool} {y : SessionState} {i : In} {f : Option Record} {ri : Bool} {p : Place} {up : List UpWord} {down : List DownWord} (b : Bool) → Exit b x o of rd up → Entry b y i f ri p down → HoldsOr o down
+pub holds_or : {x : SessionState} {o : Out} {of : Option ℕ} {rd : Bool} {y : SessionState} {i : In} {f : Option Record} {ri : Bool} {p : Place} {up : List UpWord} {down : List DownWord} (b : Bool)
+    → Exit b x o of rd up → Entry b y i f ri p down → HoldsOr o down
 holds_or true a c = holds_nothing (exit_free a)
 holds_or false a c = holds_stale (entry_stale c)
 
-pub holds_or_stale : {b : Bool} {x y : SessionState} {o : Out} {of : Option ℕ} {rd : Bool} {i : In} {f : Option Record} {ri : Bool} {p : Place} {up : List UpWord} {down : List DownWord} → Talks b x o of rd y i f ri p up down → HoldsOr o down
+pub holds_or_stale : {b : Bool} {x y : SessionState} {o : Out} {of : Option ℕ} {rd : Bool} {i : In} {f : Option Record} {ri : Bool} {p : Place} {up : List UpWord} {down : List DownWord}
+    → Talks b x o of rd y i f ri p up down → HoldsOr o down
 holds_or_stale t = let s = split t in holds_or s.flag s.exit s.entry
 
 pub nothing_behind_an_end : {o : Out} {ws : List DownWord} {e : Transfer} {z : ℕ} → HoldsOr o ws → HasDown (TransportFinished e z) ws → held_out o ≡ None

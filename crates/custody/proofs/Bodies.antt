@@ -24,7 +24,8 @@ pub record Begins (o : Out) (r : Record) (kept : List Record) (j : In) (q : Plac
   pub front_is : front ≡ board_of r
   pub body : Body o InGap kept j q rest
 
-pub front_begins : {o : Out} {ue : List SensorEvent} {p : Place} {r : Record} {kept : List Record} {j : In} {q : Place} {front : Board} {rest : List Board} → ExitFloor o ue true p r → GapAt gaps.Free p r → Body o p kept j q (front ∷ rest) → Begins o r kept j q front rest
+pub front_begins : {o : Out} {ue : List SensorEvent} {p : Place} {r : Record} {kept : List Record} {j : In} {q : Place} {front : Board} {rest : List Board}
+    → ExitFloor o ue true p r → GapAt gaps.Free p r → Body o p kept j q (front ∷ rest) → Begins o r kept j q front rest
 front_begins at_start g s = record { front_is = same_front s.same; body = record { same = same_rest s.same } }
 front_begins begun_unread g s = elim g [ ]
 front_begins begun_read g s = elim g [ ]
@@ -35,7 +36,8 @@ fresh_below begun_unread g = refl
 fresh_below begun_read g = refl
 
 -- the board that comes back lay before the kept ones
-pub back_front : {o : Out} {ue : List SensorEvent} {a : Board} {p : Place} {r : Record} {kept : List Record} {j : In} {q : Place} {boards : List Board} → GapAt (gaps.Begun a) p r → ExitFloor o ue false p r → Body o p kept j q boards → Body o Home kept j q (a ∷ boards)
+pub back_front : {o : Out} {ue : List SensorEvent} {a : Board} {p : Place} {r : Record} {kept : List Record} {j : In} {q : Place} {boards : List Board}
+    → GapAt (gaps.Begun a) p r → ExitFloor o ue false p r → Body o p kept j q boards → Body o Home kept j q (a ∷ boards)
 back_front gap_begun (stuck_begun {r = r}) s = record { same = ap (λ xs. board_of r ∷ xs) s.same }
 back_front gap_begun (out_idle _ n) s = elim n [ ]
 back_front gap_begun (out_ended _ n) s = elim n [ ]
@@ -43,10 +45,12 @@ back_front gap_begun (both_unread n) s = elim n [ ]
 back_front gap_begun (left_unread n) s = elim n [ ]
 
 -- a board that is neither before nor behind the kept ones
-pub stays_out : {o : Out} {kept : List Record} {j : In} {q p p2 : Place} {boards : List Board} → is_upstream p ≡ false → is_upstream p2 ≡ false → Body o p kept j q boards → Body o p2 kept j q boards
+pub stays_out : {o : Out} {kept : List Record} {j : In} {q p p2 : Place} {boards : List Board} → is_upstream p ≡ false → is_upstream p2 ≡ false → Body o p kept j q boards
+    → Body o p2 kept j q boards
 stays_out {o = o} {kept = kept} {j = j} {q = q} e e2 s = record { same = s.same ∙ ap (λ t. part (held_out o) t ++ (map board_of kept ++ part (held_in j) (is_inside q))) (e ∙ sym e2) }
 
-pub stays_below : {o : Out} {kept : List Record} {j : In} {p q q2 : Place} {boards : List Board} → is_inside q ≡ false → is_inside q2 ≡ false → Body o p kept j q boards → Body o p kept j q2 boards
+pub stays_below : {o : Out} {kept : List Record} {j : In} {p q q2 : Place} {boards : List Board} → is_inside q ≡ false → is_inside q2 ≡ false → Body o p kept j q boards
+    → Body o p kept j q2 boards
 stays_below {o = o} {kept = kept} {j = j} {p = p} e e2 s = record { same = s.same ∙ ap (λ t. part (held_out o) (is_upstream p) ++ (map board_of kept ++ part (held_in j) t)) (e ∙ sym e2) }
 
 pub begun_below : {a : Board} {p : Place} {r : Record} → GapAt (gaps.Begun a) p r → is_inside p ≡ false
@@ -65,7 +69,8 @@ part_in e = rw e refl
 pub comes_last : (xs ys boards : List Board) (h : Option Record) (r : Record) → boards ≡ xs ++ (ys ++ part h false) → h ≡ Some r → boards ++ (board_of r ∷ []) ≡ xs ++ (ys ++ part h true)
 comes_last xs ys boards h r same e = rw (part_in e, same, part_out e, append-nil ys, append_assoc xs ys (board_of r ∷ []))
 
-pub comes_in : {o : Out} {a : Board} {p q : Place} {r : Record} {kept : List Record} {j : In} {boards : List Board} → GapAt (gaps.Left a) q r → held_in j ≡ Some r → Body o p kept j q boards → Body o p kept j Inside (boards ++ (a ∷ []))
+pub comes_in : {o : Out} {a : Board} {p q : Place} {r : Record} {kept : List Record} {j : In} {boards : List Board}
+    → GapAt (gaps.Left a) q r → held_in j ≡ Some r → Body o p kept j q boards → Body o p kept j Inside (boards ++ (a ∷ []))
 comes_in {o = o} {p = p} {kept = kept} {j = j} {boards = boards} gap_left e s = record { same = comes_last (part (held_out o) (is_upstream p)) (map board_of kept) boards (held_in j) _ s.same e }
 
 pub begun_out : {a : Board} {p : Place} {r : Record} → GapAt (gaps.Begun a) p r → is_upstream p ≡ false

@@ -38,30 +38,49 @@ pub record Rests (s : InState) (ed : Bool) (p : Place) (r : Record) (b : Bool) :
   pub recalls : (s2 : Since) → Recalls s.phase s2 → Recalls row.after.phase (since_after in_input.Closed s2)
   pub asked : (ids : List ℕ) (l : Option ℕ) (d : Bool) → Asked ids l d (is_some (held_in s.phase)) → Asked ids (asked_after row.act.deed l) (dropped_after row.act.deed d) (is_some (held_in row.after.phase))
 
-gone_taking : {r : Record} {own : Seen} {ed : Bool} {p : Place} {q : Record} (b : Bool) → EntryFloor (inn.Taking r own false) [] ed p q → Rests (intake (inn.Taking r own false) None false) ed p q b
-gone_taking b (in_taking sees_fresh) = record { row = _; is = refl; «in» = in_free no_full_none not_across_fresh; entry = entry_none; silent = refl; settles_not = refl; offerless = refl; body = λ ks. refl; recalls = λ s k. shut_recalls s k.0; asked = λ ids l d a. drops_asked a }
-gone_taking b (in_taking sees_home) = record { row = _; is = refl; «in» = in_free no_full_none not_across_home; entry = entry_none; silent = refl; settles_not = refl; offerless = refl; body = λ ks. refl; recalls = λ s k. shut_recalls s k.0; asked = λ ids l d a. drops_asked a }
-gone_taking b (in_taking on_begun) = record { row = _; is = refl; «in» = in_waiting on_begun; entry = entry_waits; silent = refl; settles_not = refl; offerless = refl; body = λ ks. refl; recalls = λ s k. shut_recalls s k.0; asked = λ ids l d a. a }
-gone_taking b (in_taking on_across) = record { row = _; is = refl; «in» = in_waiting on_across; entry = entry_waits; silent = refl; settles_not = refl; offerless = refl; body = λ ks. refl; recalls = λ s k. shut_recalls s k.0; asked = λ ids l d a. a }
+gone_taking : {r : Record} {own : Seen} {ed : Bool} {p : Place} {q : Record} (b : Bool) → EntryFloor (inn.Taking r own false) [] ed p q
+    → Rests (intake (inn.Taking r own false) None false) ed p q b
+gone_taking b (in_taking sees_fresh) =
+    record { row = _; is = refl; «in» = in_free no_full_none not_across_fresh; entry = entry_none; silent = refl; settles_not = refl; offerless = refl; body = λ ks. refl; recalls = λ s k. shut_recalls s k.0; asked = λ ids l d a. drops_asked a }
+gone_taking b (in_taking sees_home) =
+    record { row = _; is = refl; «in» = in_free no_full_none not_across_home; entry = entry_none; silent = refl; settles_not = refl; offerless = refl; body = λ ks. refl; recalls = λ s k. shut_recalls s k.0; asked = λ ids l d a. drops_asked a }
+gone_taking b (in_taking on_begun) =
+    record { row = _; is = refl; «in» = in_waiting on_begun; entry = entry_waits; silent = refl; settles_not = refl; offerless = refl; body = λ ks. refl; recalls = λ s k. shut_recalls s k.0; asked = λ ids l d a. a }
+gone_taking b (in_taking on_across) =
+    record { row = _; is = refl; «in» = in_waiting on_across; entry = entry_waits; silent = refl; settles_not = refl; offerless = refl; body = λ ks. refl; recalls = λ s k. shut_recalls s k.0; asked = λ ids l d a. a }
 gone_taking b (in_taken_in s) = elim s [ ]
 
-gone_stopped : {r : Record} {own : Seen} {ed : Bool} {p : Place} {q : Record} (b : Bool) → EntryFloor (inn.Stopped r own None) [] ed p q → Rests (intake (inn.Stopped r own None) None false) ed p q b
-gone_stopped b (in_stopped sees_fresh) = record { row = _; is = refl; «in» = in_free no_full_none not_across_fresh; entry = entry_none; silent = refl; settles_not = refl; offerless = refl; body = λ ks. refl; recalls = λ s k. shut_recalls s k.0; asked = λ ids l d a. drops_asked a }
-gone_stopped b (in_stopped sees_home) = record { row = _; is = refl; «in» = in_free no_full_none not_across_home; entry = entry_none; silent = refl; settles_not = refl; offerless = refl; body = λ ks. refl; recalls = λ s k. shut_recalls s k.0; asked = λ ids l d a. drops_asked a }
-gone_stopped b (in_stopped on_begun) = record { row = _; is = refl; «in» = in_waiting on_begun; entry = entry_waits; silent = refl; settles_not = refl; offerless = refl; body = λ ks. refl; recalls = λ s k. shut_recalls s k.0; asked = λ ids l d a. a }
-gone_stopped b (in_stopped on_across) = record { row = _; is = refl; «in» = in_waiting on_across; entry = entry_waits; silent = refl; settles_not = refl; offerless = refl; body = λ ks. refl; recalls = λ s k. shut_recalls s k.0; asked = λ ids l d a. a }
-gone_stopped b (in_stopped is_in) = record { row = _; is = refl; «in» = in_waiting is_in; entry = entry_waits_in; silent = refl; settles_not = refl; offerless = refl; body = λ ks. refl; recalls = λ s k. shut_recalls s k.0; asked = λ ids l d a. a }
-gone_stopped b (in_stopped is_gone) = record { row = _; is = refl; «in» = in_free no_full_none not_across_lost; entry = entry_none; silent = refl; settles_not = refl; offerless = refl; body = λ ks. refl; recalls = λ s k. shut_recalls s k.0; asked = λ ids l d a. drops_asked a }
-gone_stopped b (in_stopped is_stolen) = record { row = _; is = refl; «in» = in_free no_full_none not_across_stolen; entry = entry_none; silent = refl; settles_not = refl; offerless = refl; body = λ ks. refl; recalls = λ s k. shut_recalls s k.0; asked = λ ids l d a. drops_asked a }
+gone_stopped : {r : Record} {own : Seen} {ed : Bool} {p : Place} {q : Record} (b : Bool) → EntryFloor (inn.Stopped r own None) [] ed p q
+    → Rests (intake (inn.Stopped r own None) None false) ed p q b
+gone_stopped b (in_stopped sees_fresh) =
+    record { row = _; is = refl; «in» = in_free no_full_none not_across_fresh; entry = entry_none; silent = refl; settles_not = refl; offerless = refl; body = λ ks. refl; recalls = λ s k. shut_recalls s k.0; asked = λ ids l d a. drops_asked a }
+gone_stopped b (in_stopped sees_home) =
+    record { row = _; is = refl; «in» = in_free no_full_none not_across_home; entry = entry_none; silent = refl; settles_not = refl; offerless = refl; body = λ ks. refl; recalls = λ s k. shut_recalls s k.0; asked = λ ids l d a. drops_asked a }
+gone_stopped b (in_stopped on_begun) =
+    record { row = _; is = refl; «in» = in_waiting on_begun; entry = entry_waits; silent = refl; settles_not = refl; offerless = refl; body = λ ks. refl; recalls = λ s k. shut_recalls s k.0; asked = λ ids l d a. a }
+gone_stopped b (in_stopped on_across) =
+    record { row = _; is = refl; «in» = in_waiting on_across; entry = entry_waits; silent = refl; settles_not = refl; offerless = refl; body = λ ks. refl; recalls = λ s k. shut_recalls s k.0; asked = λ ids l d a. a }
+gone_stopped b (in_stopped is_in) =
+    record { row = _; is = refl; «in» = in_waiting is_in; entry = entry_waits_in; silent = refl; settles_not = refl; offerless = refl; body = λ ks. refl; recalls = λ s k. shut_recalls s k.0; asked = λ ids l d a. a }
+gone_stopped b (in_stopped is_gone) =
+    record { row = _; is = refl; «in» = in_free no_full_none not_across_lost; entry = entry_none; silent = refl; settles_not = refl; offerless = refl; body = λ ks. refl; recalls = λ s k. shut_recalls s k.0; asked = λ ids l d a. drops_asked a }
+gone_stopped b (in_stopped is_stolen) =
+    record { row = _; is = refl; «in» = in_free no_full_none not_across_stolen; entry = entry_none; silent = refl; settles_not = refl; offerless = refl; body = λ ks. refl; recalls = λ s k. shut_recalls s k.0; asked = λ ids l d a. drops_asked a }
 
-parted : {s : InState} {ed : Bool} {x : SessionState} {o : Out} {of : Option ℕ} {rd b : Bool} {p : Place} {r : Record} {up : List UpWord} → Rests s ed p r b → Exit b x o of rd up → EntryClosed s ed x o of rd p r up
-parted {up = up} g e = record { row = g.row; is = g.is; silent = g.silent; settles_not = g.settles_not; offerless = g.offerless; «in» = g.in; talk = apart e g.entry; body = g.body; recalls = g.recalls; asked = g.asked (starts_in up) }
+parted : {s : InState} {ed : Bool} {x : SessionState} {o : Out} {of : Option ℕ} {rd b : Bool} {p : Place} {r : Record} {up : List UpWord}
+    → Rests s ed p r b → Exit b x o of rd up → EntryClosed s ed x o of rd p r up
+parted {up = up} g e =
+    record { row = g.row; is = g.is; silent = g.silent; settles_not = g.settles_not; offerless = g.offerless; «in» = g.in; talk = apart e g.entry; body = g.body; recalls = g.recalls; asked = g.asked (starts_in up) }
 
-pub close_entry : {b : Bool} {x y : SessionState} {o : Out} {of : Option ℕ} {rd : Bool} {i : In} {f : Option Record} {ri : Bool} {p : Place} {r : Record} {up : List UpWord} {down : List DownWord} {ed : Bool} → Talks b x o of rd y i f ri p up down → EntryFloor i [] ed p r → EntryClosed (intake i f ri) ed x o of rd p r up
-close_entry (live (no_handover a c)) h = record { row = _; is = refl; «in» = h; talk = apart (exit_idle a) entry_none; silent = refl; settles_not = refl; offerless = refl; body = λ ks. refl; recalls = λ s k. shut_recalls s k.0; asked = λ l d a. a }
-close_entry (live (start_sent a c)) (in_taking sees_fresh) = record { row = _; is = refl; «in» = in_free no_full_none not_across_fresh; talk = apart_start a away_none; silent = refl; settles_not = refl; offerless = refl; body = λ ks. refl; recalls = λ s k. shut_recalls s k.0; asked = λ l d a. drops_asked a }
+pub close_entry : {b : Bool} {x y : SessionState} {o : Out} {of : Option ℕ} {rd : Bool} {i : In} {f : Option Record} {ri : Bool} {p : Place} {r : Record} {up : List UpWord} {down : List DownWord} {ed : Bool}
+    → Talks b x o of rd y i f ri p up down → EntryFloor i [] ed p r → EntryClosed (intake i f ri) ed x o of rd p r up
+close_entry (live (no_handover a c)) h =
+    record { row = _; is = refl; «in» = h; talk = apart (exit_idle a) entry_none; silent = refl; settles_not = refl; offerless = refl; body = λ ks. refl; recalls = λ s k. shut_recalls s k.0; asked = λ l d a. a }
+close_entry (live (start_sent a c)) (in_taking sees_fresh) =
+    record { row = _; is = refl; «in» = in_free no_full_none not_across_fresh; talk = apart_start a away_none; silent = refl; settles_not = refl; offerless = refl; body = λ ks. refl; recalls = λ s k. shut_recalls s k.0; asked = λ l d a. drops_asked a }
 close_entry (live (start_sent a c)) (in_taken_in s) = elim s [ ]
-close_entry (live (start_and_stop_sent a c)) (in_stopped sees_fresh) = record { row = _; is = refl; «in» = in_free no_full_none not_across_fresh; talk = apart_start_stop a away_none; silent = refl; settles_not = refl; offerless = refl; body = λ ks. refl; recalls = λ s k. shut_recalls s k.0; asked = λ l d a. drops_asked a }
+close_entry (live (start_and_stop_sent a c)) (in_stopped sees_fresh) =
+    record { row = _; is = refl; «in» = in_free no_full_none not_across_fresh; talk = apart_start_stop a away_none; silent = refl; settles_not = refl; offerless = refl; body = λ ks. refl; recalls = λ s k. shut_recalls s k.0; asked = λ l d a. drops_asked a }
 close_entry (live (transporting c)) h = parted (gone_taking false h) exit_transporting
 close_entry (live (stop_sent c)) h = parted (gone_stopped false h) exit_stop_sent
 close_entry (live (stuck_transporting c)) h = parted (gone_taking false h) exit_stuck
@@ -70,38 +89,60 @@ close_entry (live (stuck_stop_heard c)) h = parted (gone_stopped false h) exit_s
 close_entry (live (finish_sent c)) h = parted (gone_taking true h) exit_finished
 close_entry (live (finish_and_stop_sent c)) h = parted (gone_stopped true h) (exit_finished_stop_sent readies_none)
 close_entry (live (stop_heard c d)) h = parted (gone_stopped true h) (exit_idle readies_none)
-close_entry (live (finish_heard fits_across)) (in_taking on_across) = record { row = _; is = refl; «in» = in_waiting_on; talk = apart exit_finished (entry_waits_heard fits_across); silent = refl; settles_not = refl; offerless = refl; body = λ ks. refl; recalls = λ s k. shut_recalls s k.0; asked = λ l d a. a }
+close_entry (live (finish_heard fits_across)) (in_taking on_across) =
+    record { row = _; is = refl; «in» = in_waiting_on; talk = apart exit_finished (entry_waits_heard fits_across); silent = refl; settles_not = refl; offerless = refl; body = λ ks. refl; recalls = λ s k. shut_recalls s k.0; asked = λ l d a. a }
 close_entry (live (finish_heard fits_across)) (in_taken_in s) = elim s [ ]
 close_entry (live (finish_heard fits_inside)) (in_taking s) = elim s [ ]
 close_entry (live (finish_heard fits_inside)) (in_taken_in s) = elim s [ ]
-close_entry (live (intake_done a)) h = record { row = _; is = refl; «in» = h; talk = apart (exit_finished_stop_sent a) entry_none; silent = refl; settles_not = refl; offerless = refl; body = λ ks. refl; recalls = λ s k. shut_recalls s k.0; asked = λ l d a. a }
-close_entry (live (inside_awaited_stop_sent c)) (in_stopped s) = record { row = _; is = refl; «in» = in_waiting s; talk = apart (exit_finished_stop_sent readies_none) (entry_waits_heard c); silent = refl; settles_not = refl; offerless = refl; body = λ ks. refl; recalls = λ s k. shut_recalls s k.0; asked = λ l d a. a }
-close_entry (live (inside_awaited c d)) (in_stopped s) = record { row = _; is = refl; «in» = in_waiting s; talk = apart (exit_idle readies_none) (entry_waits_heard c); silent = refl; settles_not = refl; offerless = refl; body = λ ks. refl; recalls = λ s k. shut_recalls s k.0; asked = λ l d a. a }
-close_entry shaking_idle h = record { row = _; is = refl; «in» = h; talk = apart exit_described entry_none; silent = refl; settles_not = refl; offerless = refl; body = λ ks. refl; recalls = λ s k. shut_recalls s k.0; asked = λ l d a. a }
-close_entry shaking_waiting h = record { row = _; is = refl; «in» = h; talk = apart exit_described entry_waits_in; silent = refl; settles_not = refl; offerless = refl; body = λ ks. refl; recalls = λ s k. shut_recalls s k.0; asked = λ l d a. a }
-close_entry shaking_stuck h = record { row = _; is = refl; «in» = h; talk = apart exit_described_stuck entry_none; silent = refl; settles_not = refl; offerless = refl; body = λ ks. refl; recalls = λ s k. shut_recalls s k.0; asked = λ l d a. a }
-close_entry (described c) h = record { row = _; is = refl; «in» = h; talk = apart (exit_idle readies_none) entry_none; silent = refl; settles_not = refl; offerless = refl; body = λ ks. refl; recalls = λ s k. shut_recalls s k.0; asked = λ l d a. a }
-close_entry (described_waiting c) h = record { row = _; is = refl; «in» = h; talk = apart (exit_idle readies_none) entry_waits_in; silent = refl; settles_not = refl; offerless = refl; body = λ ks. refl; recalls = λ s k. shut_recalls s k.0; asked = λ l d a. a }
-close_entry (apart_start a c) h = record { row = _; is = refl; «in» = h; talk = apart_start a away_none; silent = refl; settles_not = refl; offerless = refl; body = λ ks. refl; recalls = λ s k. shut_recalls s k.0; asked = λ l d a. a }
-close_entry (apart_start_stop a c) h = record { row = _; is = refl; «in» = h; talk = apart_start_stop a away_none; silent = refl; settles_not = refl; offerless = refl; body = λ ks. refl; recalls = λ s k. shut_recalls s k.0; asked = λ l d a. a }
-close_entry (apart a entry_none) h = record { row = _; is = refl; «in» = h; talk = apart a entry_none; silent = refl; settles_not = refl; offerless = refl; body = λ ks. refl; recalls = λ s k. shut_recalls s k.0; asked = λ l d a. a }
-close_entry (apart a entry_waits) h = record { row = _; is = refl; «in» = h; talk = apart a entry_waits; silent = refl; settles_not = refl; offerless = refl; body = λ ks. refl; recalls = λ s k. shut_recalls s k.0; asked = λ l d a. a }
-close_entry (apart a entry_waits_in) h = record { row = _; is = refl; «in» = h; talk = apart a entry_waits_in; silent = refl; settles_not = refl; offerless = refl; body = λ ks. refl; recalls = λ s k. shut_recalls s k.0; asked = λ l d a. a }
-close_entry (apart a (entry_waits_heard c)) h = record { row = _; is = refl; «in» = h; talk = apart a (entry_waits_heard c); silent = refl; settles_not = refl; offerless = refl; body = λ ks. refl; recalls = λ s k. shut_recalls s k.0; asked = λ l d a. a }
-close_entry (apart a entry_shaking) h = record { row = _; is = refl; «in» = h; talk = apart a entry_none; silent = refl; settles_not = refl; offerless = refl; body = λ ks. refl; recalls = λ s k. shut_recalls s k.0; asked = λ l d a. a }
-close_entry (apart a entry_shaking_waiting) h = record { row = _; is = refl; «in» = h; talk = apart a entry_waits_in; silent = refl; settles_not = refl; offerless = refl; body = λ ks. refl; recalls = λ s k. shut_recalls s k.0; asked = λ l d a. a }
-close_entry (apart a (entry_described c)) h = record { row = _; is = refl; «in» = h; talk = apart a entry_none; silent = refl; settles_not = refl; offerless = refl; body = λ ks. refl; recalls = λ s k. shut_recalls s k.0; asked = λ l d a. a }
-close_entry (apart a (entry_described_waiting c)) h = record { row = _; is = refl; «in» = h; talk = apart a entry_waits_in; silent = refl; settles_not = refl; offerless = refl; body = λ ks. refl; recalls = λ s k. shut_recalls s k.0; asked = λ l d a. a }
-close_entry (apart a (entry_idle c)) h = record { row = _; is = refl; «in» = h; talk = apart a entry_none; silent = refl; settles_not = refl; offerless = refl; body = λ ks. refl; recalls = λ s k. shut_recalls s k.0; asked = λ l d a. a }
+close_entry (live (intake_done a)) h =
+    record { row = _; is = refl; «in» = h; talk = apart (exit_finished_stop_sent a) entry_none; silent = refl; settles_not = refl; offerless = refl; body = λ ks. refl; recalls = λ s k. shut_recalls s k.0; asked = λ l d a. a }
+close_entry (live (inside_awaited_stop_sent c)) (in_stopped s) =
+    record { row = _; is = refl; «in» = in_waiting s; talk = apart (exit_finished_stop_sent readies_none) (entry_waits_heard c); silent = refl; settles_not = refl; offerless = refl; body = λ ks. refl; recalls = λ s k. shut_recalls s k.0; asked = λ l d a. a }
+close_entry (live (inside_awaited c d)) (in_stopped s) =
+    record { row = _; is = refl; «in» = in_waiting s; talk = apart (exit_idle readies_none) (entry_waits_heard c); silent = refl; settles_not = refl; offerless = refl; body = λ ks. refl; recalls = λ s k. shut_recalls s k.0; asked = λ l d a. a }
+close_entry shaking_idle h =
+    record { row = _; is = refl; «in» = h; talk = apart exit_described entry_none; silent = refl; settles_not = refl; offerless = refl; body = λ ks. refl; recalls = λ s k. shut_recalls s k.0; asked = λ l d a. a }
+close_entry shaking_waiting h =
+    record { row = _; is = refl; «in» = h; talk = apart exit_described entry_waits_in; silent = refl; settles_not = refl; offerless = refl; body = λ ks. refl; recalls = λ s k. shut_recalls s k.0; asked = λ l d a. a }
+close_entry shaking_stuck h =
+    record { row = _; is = refl; «in» = h; talk = apart exit_described_stuck entry_none; silent = refl; settles_not = refl; offerless = refl; body = λ ks. refl; recalls = λ s k. shut_recalls s k.0; asked = λ l d a. a }
+close_entry (described c) h =
+    record { row = _; is = refl; «in» = h; talk = apart (exit_idle readies_none) entry_none; silent = refl; settles_not = refl; offerless = refl; body = λ ks. refl; recalls = λ s k. shut_recalls s k.0; asked = λ l d a. a }
+close_entry (described_waiting c) h =
+    record { row = _; is = refl; «in» = h; talk = apart (exit_idle readies_none) entry_waits_in; silent = refl; settles_not = refl; offerless = refl; body = λ ks. refl; recalls = λ s k. shut_recalls s k.0; asked = λ l d a. a }
+close_entry (apart_start a c) h =
+    record { row = _; is = refl; «in» = h; talk = apart_start a away_none; silent = refl; settles_not = refl; offerless = refl; body = λ ks. refl; recalls = λ s k. shut_recalls s k.0; asked = λ l d a. a }
+close_entry (apart_start_stop a c) h =
+    record { row = _; is = refl; «in» = h; talk = apart_start_stop a away_none; silent = refl; settles_not = refl; offerless = refl; body = λ ks. refl; recalls = λ s k. shut_recalls s k.0; asked = λ l d a. a }
+close_entry (apart a entry_none) h =
+    record { row = _; is = refl; «in» = h; talk = apart a entry_none; silent = refl; settles_not = refl; offerless = refl; body = λ ks. refl; recalls = λ s k. shut_recalls s k.0; asked = λ l d a. a }
+close_entry (apart a entry_waits) h =
+    record { row = _; is = refl; «in» = h; talk = apart a entry_waits; silent = refl; settles_not = refl; offerless = refl; body = λ ks. refl; recalls = λ s k. shut_recalls s k.0; asked = λ l d a. a }
+close_entry (apart a entry_waits_in) h =
+    record { row = _; is = refl; «in» = h; talk = apart a entry_waits_in; silent = refl; settles_not = refl; offerless = refl; body = λ ks. refl; recalls = λ s k. shut_recalls s k.0; asked = λ l d a. a }
+close_entry (apart a (entry_waits_heard c)) h =
+    record { row = _; is = refl; «in» = h; talk = apart a (entry_waits_heard c); silent = refl; settles_not = refl; offerless = refl; body = λ ks. refl; recalls = λ s k. shut_recalls s k.0; asked = λ l d a. a }
+close_entry (apart a entry_shaking) h =
+    record { row = _; is = refl; «in» = h; talk = apart a entry_none; silent = refl; settles_not = refl; offerless = refl; body = λ ks. refl; recalls = λ s k. shut_recalls s k.0; asked = λ l d a. a }
+close_entry (apart a entry_shaking_waiting) h =
+    record { row = _; is = refl; «in» = h; talk = apart a entry_waits_in; silent = refl; settles_not = refl; offerless = refl; body = λ ks. refl; recalls = λ s k. shut_recalls s k.0; asked = λ l d a. a }
+close_entry (apart a (entry_described c)) h =
+    record { row = _; is = refl; «in» = h; talk = apart a entry_none; silent = refl; settles_not = refl; offerless = refl; body = λ ks. refl; recalls = λ s k. shut_recalls s k.0; asked = λ l d a. a }
+close_entry (apart a (entry_described_waiting c)) h =
+    record { row = _; is = refl; «in» = h; talk = apart a entry_waits_in; silent = refl; settles_not = refl; offerless = refl; body = λ ks. refl; recalls = λ s k. shut_recalls s k.0; asked = λ l d a. a }
+close_entry (apart a (entry_idle c)) h =
+    record { row = _; is = refl; «in» = h; talk = apart a entry_none; silent = refl; settles_not = refl; offerless = refl; body = λ ks. refl; recalls = λ s k. shut_recalls s k.0; asked = λ l d a. a }
 close_entry (apart a (entry_transporting c)) h = parted (gone_taking _ h) a
 close_entry (apart a (entry_finish_sent c)) h = parted (gone_taking _ h) a
-close_entry (apart a (entry_finish_heard fits_across)) (in_taking on_across) = record { row = _; is = refl; «in» = in_waiting_on; talk = apart a (entry_waits_heard fits_across); silent = refl; settles_not = refl; offerless = refl; body = λ ks. refl; recalls = λ s k. shut_recalls s k.0; asked = λ l d a. a }
+close_entry (apart a (entry_finish_heard fits_across)) (in_taking on_across) =
+    record { row = _; is = refl; «in» = in_waiting_on; talk = apart a (entry_waits_heard fits_across); silent = refl; settles_not = refl; offerless = refl; body = λ ks. refl; recalls = λ s k. shut_recalls s k.0; asked = λ l d a. a }
 close_entry (apart a (entry_finish_heard fits_across)) (in_taken_in s) = elim s [ ]
 close_entry (apart a (entry_finish_heard fits_inside)) (in_taking s) = elim s [ ]
 close_entry (apart a (entry_finish_heard fits_inside)) (in_taken_in s) = elim s [ ]
 close_entry (apart a (entry_stopped c)) h = parted (gone_stopped _ h) a
 close_entry (apart a (entry_stopped_finish_sent c d)) h = parted (gone_stopped _ h) a
-close_entry (apart a (entry_inside_awaited c d)) (in_stopped s) = record { row = _; is = refl; «in» = in_waiting s; talk = apart a (entry_waits_heard c); silent = refl; settles_not = refl; offerless = refl; body = λ ks. refl; recalls = λ s k. shut_recalls s k.0; asked = λ l d a. a }
+close_entry (apart a (entry_inside_awaited c d)) (in_stopped s) =
+    record { row = _; is = refl; «in» = in_waiting s; talk = apart a (entry_waits_heard c); silent = refl; settles_not = refl; offerless = refl; body = λ ks. refl; recalls = λ s k. shut_recalls s k.0; asked = λ l d a. a }
 
 -- and what was offered: on a closed entry nothing is, and the outlet that goes on by itself may keep anything
 pub contents_left : {Gone : ℕ → Type 0} {ks : List Record} {t : Option ℕ} {i : In} {f : Option Record} {up : List UpWord} → f ≡ None → Contents Gone false ks t i f up []

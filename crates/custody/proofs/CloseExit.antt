@@ -19,10 +19,15 @@ use Rattle.custody.proofs.Split.{split}
 closed_exit : {Gone : ℕ → Type 0} {s : Bool} {x : SessionState} {o : Out} {of : Option ℕ} {rd : Bool} {y : SessionState} {i : In} {f : Option Record} {ri : Bool} {p : Place} {r : Record} {before : List UpWord} {down : List DownWord} {xd b : Bool} (t : Option ℕ)
     → ExitFloor o [] xd p r → Exit b x o of rd [] → Entry b y i f ri p down → ExitClosed Gone (outlet o of t rd) xd s y i f ri p r before down
 closed_exit t (out_idle a n) e c = record { row = _; is = refl; out = out_idle a n; talk = apart exit_none (anywhere e c); silent = refl; body = λ ks. refl; contents = λ ks c. contents_back None c; lets = λ l n. n }
-closed_exit t (out_ended a n) e c = record { row = _; is = refl; out = out_idle a n; talk = apart exit_none (anywhere_ended e c); silent = refl; body = λ ks. refl; contents = λ ks c. contents_back None c; lets = λ l n. lets_ended n }
-closed_exit t at_start e c = record { row = _; is = refl; out = out_idle none_taken not_begun_fresh; talk = apart exit_none (anywhere_moving e c); silent = refl; body = λ ks. refl; contents = λ ks c. contents_back (Some _) c; lets = λ l _. is_not_beyond not_beyond_fresh }
-closed_exit t begun_read e c = record { row = _; is = refl; out = stuck_begun; talk = apart exit_none_stuck (held_moving e c); silent = refl; body = λ ks. refl; contents = λ ks c. contents_back None c; lets = λ l _. lets_not still_stuck }
-closed_exit t stuck_begun e c = record { row = _; is = refl; out = stuck_begun; talk = apart exit_none_stuck (held_stuck e c); silent = refl; body = λ ks. refl; contents = λ ks c. contents_back None c; lets = λ l _. lets_not still_stuck }
+closed_exit t (out_ended a n) e c =
+    record { row = _; is = refl; out = out_idle a n; talk = apart exit_none (anywhere_ended e c); silent = refl; body = λ ks. refl; contents = λ ks c. contents_back None c; lets = λ l n. lets_ended n }
+closed_exit t at_start e c =
+    record { row = _; is = refl; out = out_idle none_taken not_begun_fresh; talk = apart exit_none (anywhere_moving e c); silent = refl; body = λ ks. refl; contents = λ ks c. contents_back (Some _) c; lets = λ l _. is_not_beyond not_beyond_fresh }
+closed_exit t begun_read e c =
+    record { row = _; is = refl; out = stuck_begun; talk = apart exit_none_stuck (held_moving e c); silent = refl; body = λ ks. refl; contents = λ ks c. contents_back None c; lets = λ l _. lets_not still_stuck }
+closed_exit t stuck_begun e c =
+    record { row = _; is = refl; out = stuck_begun; talk = apart exit_none_stuck (held_stuck e c); silent = refl; body = λ ks. refl; contents = λ ks c. contents_back None c; lets = λ l _. lets_not still_stuck }
 
-pub close_exit : {Gone : ℕ → Type 0} {b : Bool} {x y : SessionState} {o : Out} {of : Option ℕ} {rd : Bool} {i : In} {f : Option Record} {ri : Bool} {p : Place} {r : Record} {up : List UpWord} {down : List DownWord} {xd : Bool} → Talks b x o of rd y i f ri p up down → ExitFloor o [] xd p r → (t : Option ℕ) → ExitClosed Gone (outlet o of t rd) xd b y i f ri p r up down
+pub close_exit : {Gone : ℕ → Type 0} {b : Bool} {x y : SessionState} {o : Out} {of : Option ℕ} {rd : Bool} {i : In} {f : Option Record} {ri : Bool} {p : Place} {r : Record} {up : List UpWord} {down : List DownWord} {xd : Bool}
+    → Talks b x o of rd y i f ri p up down → ExitFloor o [] xd p r → (t : Option ℕ) → ExitClosed Gone (outlet o of t rd) xd b y i f ri p r up down
 close_exit t h touched = let s = split t in closed_exit touched h s.exit s.entry

@@ -32,7 +32,8 @@ may (inn.Taking _ _ _) e = cc
 may (inn.Stopped _ _ _) e = cc
 
 -- the entry opens a connection; an exit that has one already stays as it is
-pub connect : {b : Bool} {x : SessionState} {o : Out} {of : Option ℕ} {rd : Bool} {i : In} {f : Option Record} {ri : Bool} {p : Place} {up : List UpWord} {down : List DownWord} → May i → Talks b x o of rd NotConnected i f ri p up down
+pub connect : {b : Bool} {x : SessionState} {o : Out} {of : Option ℕ} {rd : Bool} {i : In} {f : Option Record} {ri : Bool} {p : Place} {up : List UpWord} {down : List DownWord}
+    → May i → Talks b x o of rd NotConnected i f ri p up down
     → Talks b x o of rd Handshake i f ri p up down
 connect m (apart_start a away_none) = apart_start a away_shaking
 connect m (apart_start_stop a away_none) = apart_start_stop a away_shaking
@@ -42,7 +43,8 @@ connect m (apart a entry_waits_in) = apart a entry_shaking_waiting
 connect m (apart a (entry_waits_heard _)) = elim m [ ]
 
 -- the entry calls and describes itself, and the exit has not taken the connection yet
-pub call : {b : Bool} {o : Out} {of : Option ℕ} {rd : Bool} {i : In} {f : Option Record} {ri : Bool} {p : Place} {up : List UpWord} {down : List DownWord} → May i → Talks b NotConnected o of rd NotConnected i f ri p up down
+pub call : {b : Bool} {o : Out} {of : Option ℕ} {rd : Bool} {i : In} {f : Option Record} {ri : Bool} {p : Place} {up : List UpWord} {down : List DownWord}
+    → May i → Talks b NotConnected o of rd NotConnected i f ri p up down
     → Talks b NotConnected o of rd Handshake i f ri p (DownstreamService ∷ []) down
 call m (apart exit_none entry_none) = apart exit_called entry_shaking
 call m (apart exit_none entry_waits) = elim m [ ]
@@ -60,7 +62,8 @@ call m (apart exit_called_stuck entry_waits) = elim m [ ]
 call m (apart exit_called_stuck entry_waits_in) = apart exit_called_stuck entry_shaking_waiting
 
 -- the exit takes it
-pub take_call : {b : Bool} {o : Out} {of : Option ℕ} {rd : Bool} {i : In} {f : Option Record} {ri : Bool} {p : Place} {r : Record} {up : List UpWord} {ue un : List SensorEvent} {xd ed : Bool} → Talks b NotConnected o of rd Handshake i f ri p (DownstreamService ∷ up) [] → ExitFloor o ue xd p r → EntryFloor i un ed p r
+pub take_call : {b : Bool} {o : Out} {of : Option ℕ} {rd : Bool} {i : In} {f : Option Record} {ri : Bool} {p : Place} {r : Record} {up : List UpWord} {ue un : List SensorEvent} {xd ed : Bool}
+    → Talks b NotConnected o of rd Handshake i f ri p (DownstreamService ∷ up) [] → ExitFloor o ue xd p r → EntryFloor i un ed p r
     → Talks true Handshake o of rd Handshake i f ri p (DownstreamService ∷ up) []
 take_call (apart exit_called entry_shaking) _ _ = shaking_idle
 take_call (apart exit_called entry_shaking_waiting) _ _ = shaking_waiting
@@ -68,7 +71,8 @@ take_call (apart exit_called_stuck entry_shaking) _ _ = shaking_stuck
 take_call (apart exit_called_stuck entry_shaking_waiting) h (in_waiting is_in) = elim h [ ]
 
 -- both at once
-pub accept : {b : Bool} {o : Out} {of : Option ℕ} {rd : Bool} {i : In} {f : Option Record} {ri : Bool} {p : Place} {r : Record} {ue un : List SensorEvent} {xd ed : Bool} → Talks b NotConnected o of rd Handshake i f ri p [] [] → ExitFloor o ue xd p r → EntryFloor i un ed p r
+pub accept : {b : Bool} {o : Out} {of : Option ℕ} {rd : Bool} {i : In} {f : Option Record} {ri : Bool} {p : Place} {r : Record} {ue un : List SensorEvent} {xd ed : Bool}
+    → Talks b NotConnected o of rd Handshake i f ri p [] [] → ExitFloor o ue xd p r → EntryFloor i un ed p r
     → Talks true Handshake o of rd Handshake i f ri p (DownstreamService ∷ []) []
 accept (apart exit_none entry_shaking) _ _ = shaking_idle
 accept (apart exit_none entry_shaking_waiting) _ _ = shaking_waiting
@@ -76,5 +80,6 @@ accept (apart exit_none_stuck entry_shaking) _ _ = shaking_stuck
 accept (apart exit_none_stuck entry_shaking_waiting) h (in_waiting is_in) = elim h [ ]
 
 -- nothing is offered on a new connection
-pub contents_new : {Gone : ℕ → Type 0} {b c : Bool} {ks : List Record} {t : Option ℕ} {i : In} {f : Option Record} {up us : List UpWord} → starts_in us ≡ [] → Contents Gone b ks t i f up [] → f ≡ None → Contents Gone c ks t i f us []
+pub contents_new : {Gone : ℕ → Type 0} {b c : Bool} {ks : List Record} {t : Option ℕ} {i : In} {f : Option Record} {up us : List UpWord}
+    → starts_in us ≡ [] → Contents Gone b ks t i f up [] → f ≡ None → Contents Gone c ks t i f us []
 contents_new quiet h e = record { offers = open_none; offer = none_open e; start = λ r _ _ some. absurd (some quiet) }

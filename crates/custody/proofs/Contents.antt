@@ -14,7 +14,8 @@ pub any_open : {Q : Record → Type 0} {b : Bool} {ws : List DownWord} → OpenA
 any_open = open_map (λ r n. absurd n)
 
 -- where nothing is open and no start is on its way, any kept boards and any touch will do
-pub contents_free : {Gone : ℕ → Type 0} {b : Bool} {kept : List Record} {t : Option ℕ} {i : In} {f : Option Record} {up : List UpWord} {down : List DownWord} → NothingOpen i f down → starts_in up ≡ [] → Contents Gone b kept t i f up down
+pub contents_free : {Gone : ℕ → Type 0} {b : Bool} {kept : List Record} {t : Option ℕ} {i : In} {f : Option Record} {up : List UpWord} {down : List DownWord}
+    → NothingOpen i f down → starts_in up ≡ [] → Contents Gone b kept t i f up down
 contents_free n quiet = record { offers = any_open n.offers; offer = none_open n.offer; start = λ r _ _ some. absurd (some quiet) }
 
 pub contents_map : {Gone Gone2 : ℕ → Type 0} {b c : Bool} {kept kept2 : List Record} {t t2 : Option ℕ} {i : In} {f : Option Record} {up : List UpWord} {down : List DownWord}
@@ -23,7 +24,8 @@ pub contents_map : {Gone Gone2 : ℕ → Type 0} {b c : Bool} {kept kept2 : List
 contents_map m stands m2 h = record { offers = open_map m h.offers; offer = offer_map m h.offer; start = λ r s e u. m2 r (h.start r (stands s) e u) s }
 
 -- a word is heard that is no start
-pub contents_heard : {Gone : ℕ → Type 0} {b : Bool} {kept : List Record} {t : Option ℕ} {i : In} {f : Option Record} {before up : List UpWord} {down : List DownWord} → starts_in before ≡ starts_in up → Contents Gone b kept t i f before down → Contents Gone b kept t i f up down
+pub contents_heard : {Gone : ℕ → Type 0} {b : Bool} {kept : List Record} {t : Option ℕ} {i : In} {f : Option Record} {before up : List UpWord} {down : List DownWord}
+    → starts_in before ≡ starts_in up → Contents Gone b kept t i f before down → Contents Gone b kept t i f up down
 contents_heard e h = record { offers = h.offers; offer = h.offer; start = λ r s k some. h.start r s k (λ none. some (sym e ∙ none)) }
 
 -- an offer of the front touches it
@@ -37,7 +39,8 @@ kept_more : {x : ℕ} {ks : List Record} (n : Record) → Kept x ks → Kept x (
 kept_more n kept_first = kept_first
 kept_more n (kept_later k) = kept_later (kept_more n k)
 
-pub named_behind : {Gone Gone2 : ℕ → Type 0} {b : Bool} {ks : List Record} {t : Option ℕ} (n : Record) (r : Record) → (Gone r.id → Gone2 r.id) → Named Gone b ks t r → Named Gone2 b (ks ++ (n ∷ [])) t r
+pub named_behind : {Gone Gone2 : ℕ → Type 0} {b : Bool} {ks : List Record} {t : Option ℕ} (n : Record) (r : Record)
+    → (Gone r.id → Gone2 r.id) → Named Gone b ks t r → Named Gone2 b (ks ++ (n ∷ [])) t r
 named_behind n r m named_front = named_front
 named_behind n r m (named_gone g) = named_gone (m g)
 named_behind n r m (named_kept k) = named_kept (kept_more n k)
@@ -57,7 +60,8 @@ named_back (Some q) r (named_kept k) = named_kept (kept_later k)
 pub not_standing : false ≡ true → ⊥
 not_standing e = cc
 
-pub contents_back : {Gone : ℕ → Type 0} {b : Bool} (q : Option Record) {ks : List Record} {t t2 : Option ℕ} {i : In} {f : Option Record} {before up : List UpWord} {down : List DownWord} → Contents Gone b ks t i f before down → Contents Gone false (back_to q ks) t2 i f up down
+pub contents_back : {Gone : ℕ → Type 0} {b : Bool} (q : Option Record) {ks : List Record} {t t2 : Option ℕ} {i : In} {f : Option Record} {before up : List UpWord} {down : List DownWord}
+    → Contents Gone b ks t i f before down → Contents Gone false (back_to q ks) t2 i f up down
 contents_back q h = record { offers = open_map (named_back q) h.offers; offer = offer_map (named_back q) h.offer; start = λ r s _ _. absurd (not_standing s) }
 
 -- ids that are gone stay gone

@@ -36,13 +36,15 @@ use Rattle.custody.proofs.Sessions.{entry_shakes, entry_stands, ready_stands}
 use Rattle.custody.proofs.Steps.{body_entry, body_exit, entry_contents, entry_step, still_starts}
 
 -- the machine reads an event of its entry: the link of its exit sees no difference
-pub reads_entry : {Gone : ℕ → Type 0} {above : List Record} (g : Ghost) (l : LinkState) (e : SensorEvent) (rest : List Sensed) → Pair g (with_unread_down l (entry_sees e ∷ rest)) → EntryStep Gone above g (with_unread_down l (entry_sees e ∷ rest)) (in_input.Sensed e) rest l.down
+pub reads_entry : {Gone : ℕ → Type 0} {above : List Record} (g : Ghost) (l : LinkState) (e : SensorEvent) (rest : List Sensed)
+    → Pair g (with_unread_down l (entry_sees e ∷ rest)) → EntryStep Gone above g (with_unread_down l (entry_sees e ∷ rest)) (in_input.Sensed e) rest l.down
 reads_entry g l e rest k = entry_step g (with_unread_down l (entry_sees e ∷ rest)) (in_input.Sensed e) rest l.down k (read_entry k.in k.talk)
 
 pub skips_entry : (g : Ghost) (l : LinkState) (e : SensorEvent) (rest : List Sensed) → Pair g (with_unread_up l (entry_sees e ∷ rest)) → Pair g (with_unread_up l rest)
 skips_entry g l e rest k = record { out = k.out; «in» = k.in; gap = k.gap; talk = k.talk }
 
-pub fails_entry : {Gone : ℕ → Type 0} {above : List Record} (g : Ghost) (l : LinkState) → Pair g (with_unread_down l []) → EntryStep Gone above g (with_unread_down l []) in_input.Fault [] l.down
+pub fails_entry : {Gone : ℕ → Type 0} {above : List Record} (g : Ghost) (l : LinkState) → Pair g (with_unread_down l [])
+    → EntryStep Gone above g (with_unread_down l []) in_input.Fault [] l.down
 fails_entry g l k = entry_step g (with_unread_down l []) in_input.Fault [] l.down k (fault_entry k.in k.talk)
 
 pub hears_available : {Gone : ℕ → Type 0} {above : List Record} (g : Ghost) (l : LinkState) (q : Record) (rest : List Horizontal) → Pair g (hearing_down l (message.BoardAvailable q) rest)
@@ -53,12 +55,14 @@ pub hears_revoke_available : {Gone : ℕ → Type 0} {above : List Record} (g : 
     → (l.entry ≡ Standing) × EntryStep Gone above g (hearing_down l message.RevokeBoardAvailable rest) in_input.RevokeBoardAvailable [] rest
 hears_revoke_available g l rest k = (entry_stands k.talk is_revoke_available, entry_step g (hearing_down l message.RevokeBoardAvailable rest) in_input.RevokeBoardAvailable [] rest k (hear_revoke_available k.talk k.in))
 
-pub hears_finished : {Gone : ℕ → Type 0} {above : List Record} (g : Ghost) (l : LinkState) (s : Transfer) (z : ℕ) (rest : List Horizontal) → Pair g (hearing_down l (message.TransportFinished s z) rest)
+pub hears_finished : {Gone : ℕ → Type 0} {above : List Record} (g : Ghost) (l : LinkState) (s : Transfer) (z : ℕ) (rest : List Horizontal)
+    → Pair g (hearing_down l (message.TransportFinished s z) rest)
     → (l.entry ≡ Standing) × EntryStep Gone above g (hearing_down l (message.TransportFinished s z) rest) (in_input.Finished s z) [] rest
 hears_finished g l s z rest k = (entry_stands k.talk is_finished, entry_step g (hearing_down l (message.TransportFinished s z) rest) (in_input.Finished s z) [] rest k (hear_finished k.talk k.in))
 
 -- the upstream machine describes itself: the session stands, and the intake hears that there is a new connection
-pub hears_upstream : {Gone : ℕ → Type 0} {above : List Record} (g : Ghost) (l : LinkState) (service : Service) (rest : List Horizontal) → Pair g (hearing_down l (message.ServiceDescription service) rest)
+pub hears_upstream : {Gone : ℕ → Type 0} {above : List Record} (g : Ghost) (l : LinkState) (service : Service) (rest : List Horizontal)
+    → Pair g (hearing_down l (message.ServiceDescription service) rest)
     → (l.entry ≡ Handshake) × EntryStep Gone above g (record (hearing_down l (message.ServiceDescription service) rest) { entry = Standing }) in_input.Stand [] rest
 hears_upstream {Gone = Gone} {above = above} g l service rest k =
     let m : LinkState = hearing_down l (message.ServiceDescription service) rest in
@@ -98,7 +102,8 @@ closes_entry g l k =
     }
 
 -- the entry announces that it is ready, and that it is not any more
-pub says_ready : {Gone : ℕ → Type 0} {above : List Record} (g : Ghost) (l : LinkState) → Pair g (with_unread_down l []) → l.entry ≡ Standing → l.intake.phase ≡ inn.Idle → l.intake.ready ≡ false
+pub says_ready : {Gone : ℕ → Type 0} {above : List Record} (g : Ghost) (l : LinkState) → Pair g (with_unread_down l []) → l.entry ≡ Standing → l.intake.phase ≡ inn.Idle
+    → l.intake.ready ≡ false
     → EntryStep Gone above g (with_unread_down l []) in_input.Ready [] l.down
 says_ready {Gone = Gone} {above = above} g l k y i r =
     let P : SessionState → In → Bool → Type 0 = λ y i r. EntryDid (Named Gone l.stands above l.outlet.touched) in_input.Ready (intake i l.intake.offer r) [] l.around.between.entry_drive l.stands l.exit l.outlet.phase l.outlet.offered l.outlet.ready y g.place g.board (up_words l.up) (down_words l.down) (down_words l.down) in
@@ -132,7 +137,8 @@ start_said {above = above} g l e = record {
   asked = λ ms same last dropped. rw (sent_up l.stands ms l.up, same) (e.asked last dropped);
 }
 
-pub says_start : {Gone : ℕ → Type 0} {above : List Record} (g : Ghost) (l : LinkState) (q : Record) → Pair g (with_unread_down l []) → l.intake.phase ≡ inn.Idle → l.intake.offer ≡ Some q → l.intake.ready ≡ true
+pub says_start : {Gone : ℕ → Type 0} {above : List Record} (g : Ghost) (l : LinkState) (q : Record) → Pair g (with_unread_down l []) → l.intake.phase ≡ inn.Idle
+    → l.intake.offer ≡ Some q → l.intake.ready ≡ true
     → StartSaid Gone above g (with_unread_down l [])
 says_start {Gone = Gone} {above = above} g l q k i f r =
     let y : l.entry ≡ Standing = ready_stands (rw (i, r) at k.talk) in

@@ -34,7 +34,8 @@ use Rattle.custody.proofs.Sessions.{exit_stands, offered_stands}
 use Rattle.custody.proofs.Steps.{body_entry, body_exit, exit_step}
 
 -- the machine reads an event of its exit: the link of its entry sees no difference
-pub reads_exit : {Gone : ℕ → Type 0} (g : Ghost) (l : LinkState) (e : SensorEvent) (rest : List Sensed) → Pair g (with_unread_up l (exit_sees e ∷ rest)) → ExitStep Gone g (with_unread_up l (exit_sees e ∷ rest)) (out_input.Sensed e) rest l.up
+pub reads_exit : {Gone : ℕ → Type 0} (g : Ghost) (l : LinkState) (e : SensorEvent) (rest : List Sensed) → Pair g (with_unread_up l (exit_sees e ∷ rest))
+    → ExitStep Gone g (with_unread_up l (exit_sees e ∷ rest)) (out_input.Sensed e) rest l.up
 reads_exit g l e rest k = exit_step g (with_unread_up l (exit_sees e ∷ rest)) (out_input.Sensed e) rest l.up k (read_exit k.out k.in k.talk l.outlet.touched)
 
 pub skips_exit : (g : Ghost) (l : LinkState) (e : SensorEvent) (rest : List Sensed) → Pair g (with_unread_down l (exit_sees e ∷ rest)) → Pair g (with_unread_down l rest)
@@ -56,7 +57,8 @@ pub hears_stop : {Gone : ℕ → Type 0} (g : Ghost) (l : LinkState) (s : Transf
 hears_stop g l s z rest k = (exit_stands k.talk is_stop, exit_step g (hearing_up l (message.StopTransport s z) rest) (out_input.Stop s z) [] rest k (hear_stop k.talk k.out l.outlet.touched s))
 
 -- a start: the front of the kept boards is what was offered, and no board that is kept is gone from the floor
-pub hears_start : {Gone : ℕ → Type 0} (g : Ghost) (l : LinkState) (z : ℕ) (brought : Option Record) (kept : List Record) (rest : List Horizontal) → Pair g (hearing_up l (message.StartTransport z) rest)
+pub hears_start : {Gone : ℕ → Type 0} (g : Ghost) (l : LinkState) (z : ℕ) (brought : Option Record) (kept : List Record) (rest : List Horizontal)
+    → Pair g (hearing_up l (message.StartTransport z) rest)
     → Looks l.outlet.offered kept z brought → OffersFront l.outlet.offered kept → ((x : ℕ) → Kept x kept → Gone x → ⊥) → IsContent Gone (hearing_up l (message.StartTransport z) rest) kept
     → (l.exit ≡ Standing) × StartStep Gone g (hearing_up l (message.StartTransport z) rest) z brought rest
 hears_start g l z brought kept rest k looks front floor c =
@@ -77,7 +79,8 @@ hears_start g l z brought kept rest k looks front floor c =
     )
 
 -- the downstream machine describes itself, and the outlet holds nothing: the session stands, and the answer is sent
-pub hears_downstream : (g : Ghost) (l : LinkState) (service answer : Service) (rest : List Horizontal) → Pair g (hearing_up l (message.ServiceDescription service) rest) → l.exit ≡ Handshake → l.outlet.phase ≡ out.Idle
+pub hears_downstream : (g : Ghost) (l : LinkState) (service answer : Service) (rest : List Horizontal) → Pair g (hearing_up l (message.ServiceDescription service) rest)
+    → l.exit ≡ Handshake → l.outlet.phase ≡ out.Idle
     → Pair g (described_on l service answer rest)
 hears_downstream g l service answer rest k x e =
     let t = subst (λ x. Talks l.stands x out.Idle l.outlet.offered l.outlet.ready l.entry l.intake.phase l.intake.offer l.intake.ready g.place (DownstreamService ∷ up_words rest) (down_words l.down)) x (subst (λ o. Talks l.stands l.exit o l.outlet.offered l.outlet.ready l.entry l.intake.phase l.intake.offer l.intake.ready g.place (DownstreamService ∷ up_words rest) (down_words l.down)) e k.talk) in
@@ -88,11 +91,13 @@ hears_downstream g l service answer rest k x e =
       talk = rw (sent_down l.stands (message.ServiceDescription answer ∷ []) l.down) (subst (λ o. Talks l.stands Standing o l.outlet.offered l.outlet.ready l.entry l.intake.phase l.intake.offer l.intake.ready g.place (up_words rest) (sent (UpstreamService ∷ []) l.stands (down_words l.down))) (sym e) (hear_downstream_service t));
     }
 
-pub described_contents : {Gone : ℕ → Type 0} (l : LinkState) (service answer : Service) (rest : List Horizontal) (kept : List Record) → IsContent Gone (hearing_up l (message.ServiceDescription service) rest) kept
+pub described_contents : {Gone : ℕ → Type 0} (l : LinkState) (service answer : Service) (rest : List Horizontal) (kept : List Record)
+    → IsContent Gone (hearing_up l (message.ServiceDescription service) rest) kept
     → IsContent Gone (described_on l service answer rest) kept
 described_contents l service answer rest kept c = rw (sent_down l.stands (message.ServiceDescription answer ∷ []) l.down) (contents_described l.stands c)
 
-pub holds_in_a_handshake : (g : Ghost) (l : LinkState) (service : Service) (rest : List Horizontal) (q : Record) → Pair g (hearing_up l (message.ServiceDescription service) rest) → l.exit ≡ Handshake → held_out l.outlet.phase ≡ Some q → l.outlet.phase ≡ out.Stuck q false false
+pub holds_in_a_handshake : (g : Ghost) (l : LinkState) (service : Service) (rest : List Horizontal) (q : Record)
+    → Pair g (hearing_up l (message.ServiceDescription service) rest) → l.exit ≡ Handshake → held_out l.outlet.phase ≡ Some q → l.outlet.phase ≡ out.Stuck q false false
 holds_in_a_handshake g l service rest q k x held = held_in_a_handshake (rw x at k.talk) held
 
 -- what is said at a close is a Notification, and no word
@@ -114,7 +119,8 @@ closes_exit {Gone = Gone} g l k =
     }
 
 -- the exit announces: it offers the front of the kept boards, and takes its offer back
-pub offers_front_board : {Gone : ℕ → Type 0} (g : Ghost) (l : LinkState) (q : Record) (ks : List Record) → Pair g l → l.exit ≡ Standing → l.outlet.phase ≡ out.Idle → l.outlet.offered ≡ None → IsContent Gone l (q ∷ ks)
+pub offers_front_board : {Gone : ℕ → Type 0} (g : Ghost) (l : LinkState) (q : Record) (ks : List Record) → Pair g l → l.exit ≡ Standing → l.outlet.phase ≡ out.Idle
+    → l.outlet.offered ≡ None → IsContent Gone l (q ∷ ks)
     → Pair g (offered_on l q) × IsContent Gone (offered_on l q) (q ∷ ks)
 offers_front_board {Gone = Gone} g l q ks k x o none c =
     let at : SessionState → Out → Option ℕ → List DownWord → Type 0 = λ x o of ws. Talks l.stands x o of l.outlet.ready l.entry l.intake.phase l.intake.offer l.intake.ready g.place (up_words l.up) ws in

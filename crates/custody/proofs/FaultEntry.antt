@@ -11,19 +11,26 @@ use Rattle.custody.specs.Steps.{EntryDid, intake}
 use Rattle.custody.specs.Talks.{Talks}
 use Rattle.custody.specs.Words.{DownWord, UpWord}
 use Rattle.custody.proofs.Facts.{no_board}
+use Rattle.custody.proofs.Passed.{passed}
 use Rattle.custody.proofs.TurnsEntry.{at_place, past_across, past_gap, past_home, starts_stopped, stops_taking, taking_heard, waits_taking}
 
-pub fault_entry : {Q : Record → Type 0} {b : Bool} {x y : SessionState} {o : Out} {of : Option ℕ} {rd : Bool} {i : In} {f : Option Record} {ri : Bool} {p : Place} {r : Record} {up : List UpWord} {down : List DownWord} {ed : Bool} → EntryFloor i [] ed p r → Talks b x o of rd y i f ri p up down
+pub fault_entry : {Q : Record → Type 0} {b : Bool} {x y : SessionState} {o : Out} {of : Option ℕ} {rd : Bool} {i : In} {f : Option Record} {ri : Bool} {p : Place} {r : Record} {up : List UpWord} {down : List DownWord} {ed : Bool}
+    → EntryFloor i [] ed p r → Talks b x o of rd y i f ri p up down
     → EntryDid Q in_input.Fault (intake i f ri) [] ed b x o of rd y p r up down down
-fault_entry (in_free a n) k = record { row = _; is = refl; «in» = in_free a n; talk = k; body = λ ks. refl; opened = λ k j. (k, j); holds = λ q e. e; quiet = refl; settles = λ q e. absurd (no_board e); recalls = λ s k. k; asked = λ l d a. a }
-fault_entry (in_stopped s) k = record { row = _; is = refl; «in» = in_stopped s; talk = k; body = λ ks. refl; opened = λ k j. (k, j); holds = λ q e. e; quiet = refl; settles = λ q e. absurd (no_board e); recalls = λ s k. k; asked = λ l d a. a }
-fault_entry (in_waiting s) k = record { row = _; is = refl; «in» = in_waiting s; talk = k; body = λ ks. refl; opened = λ k j. (k, j); holds = λ q e. e; quiet = refl; settles = λ q e. absurd (no_board e); recalls = λ s k. k; asked = λ l d a. a }
-fault_entry in_waiting_on k = record { row = _; is = refl; «in» = in_waiting_on; talk = k; body = λ ks. refl; opened = λ k j. (k, j); holds = λ q e. e; quiet = refl; settles = λ q e. absurd (no_board e); recalls = λ s k. k; asked = λ l d a. a }
-fault_entry (in_taking {h = false} sees_fresh) k = record { row = _; is = refl; «in» = in_stopped sees_fresh; talk = starts_stopped k; body = λ ks. refl; opened = λ k j. (k, j); holds = λ q e. e; quiet = refl; settles = λ q e. absurd (no_board e); recalls = λ s k. k; asked = λ l d a. a }
-fault_entry (in_taking {h = false} sees_home) k = record { row = _; is = refl; «in» = in_stopped sees_home; talk = stops_taking past_home k; body = λ ks. refl; opened = λ k j. (k, j); holds = λ q e. e; quiet = refl; settles = λ q e. absurd (no_board e); recalls = λ s k. k; asked = λ l d a. a }
-fault_entry (in_taking {h = false} on_begun) k = record { row = _; is = refl; «in» = in_stopped on_begun; talk = stops_taking past_gap k; body = λ ks. refl; opened = λ k j. (k, j); holds = λ q e. e; quiet = refl; settles = λ q e. absurd (no_board e); recalls = λ s k. k; asked = λ l d a. a }
-fault_entry (in_taking {h = false} on_across) k = record { row = _; is = refl; «in» = in_stopped on_across; talk = stops_taking past_across k; body = λ ks. refl; opened = λ k j. (k, j); holds = λ q e. e; quiet = refl; settles = λ q e. absurd (no_board e); recalls = λ s k. k; asked = λ l d a. a }
-fault_entry (in_taking {h = true} on_across) k = record { row = _; is = refl; «in» = in_stopped on_across; talk = waits_taking k; body = λ ks. refl; opened = λ k j. (k, j); holds = λ q e. e; quiet = refl; settles = λ q e. absurd (no_board e); recalls = λ s k. k; asked = λ l d a. a }
+fault_entry (in_free a n) k = passed (λ s. refl) refl (in_free a n) k (λ k j. (k, j))
+fault_entry (in_stopped s) k = passed (λ s. refl) refl (in_stopped s) k (λ k j. (k, j))
+fault_entry (in_waiting s) k = passed (λ s. refl) refl (in_waiting s) k (λ k j. (k, j))
+fault_entry in_waiting_on k = passed (λ s. refl) refl in_waiting_on k (λ k j. (k, j))
+fault_entry (in_taking {h = false} sees_fresh) k =
+    record { row = _; is = refl; «in» = in_stopped sees_fresh; talk = starts_stopped k; body = λ ks. refl; opened = λ k j. (k, j); holds = λ q e. e; quiet = refl; settles = λ q e. absurd (no_board e); recalls = λ s k. k; asked = λ l d a. a }
+fault_entry (in_taking {h = false} sees_home) k =
+    record { row = _; is = refl; «in» = in_stopped sees_home; talk = stops_taking past_home k; body = λ ks. refl; opened = λ k j. (k, j); holds = λ q e. e; quiet = refl; settles = λ q e. absurd (no_board e); recalls = λ s k. k; asked = λ l d a. a }
+fault_entry (in_taking {h = false} on_begun) k =
+    record { row = _; is = refl; «in» = in_stopped on_begun; talk = stops_taking past_gap k; body = λ ks. refl; opened = λ k j. (k, j); holds = λ q e. e; quiet = refl; settles = λ q e. absurd (no_board e); recalls = λ s k. k; asked = λ l d a. a }
+fault_entry (in_taking {h = false} on_across) k =
+    record { row = _; is = refl; «in» = in_stopped on_across; talk = stops_taking past_across k; body = λ ks. refl; opened = λ k j. (k, j); holds = λ q e. e; quiet = refl; settles = λ q e. absurd (no_board e); recalls = λ s k. k; asked = λ l d a. a }
+fault_entry (in_taking {h = true} on_across) k =
+    record { row = _; is = refl; «in» = in_stopped on_across; talk = waits_taking k; body = λ ks. refl; opened = λ k j. (k, j); holds = λ q e. e; quiet = refl; settles = λ q e. absurd (no_board e); recalls = λ s k. k; asked = λ l d a. a }
 fault_entry (in_taking {h = true} sees_fresh) k = elim (taking_heard k) [ at_place s ↦ elim s [ ] ]
 fault_entry (in_taking {h = true} sees_home) k = elim (taking_heard k) [ at_place s ↦ elim s [ ] ]
 fault_entry (in_taking {h = true} on_begun) k = elim (taking_heard k) [ at_place s ↦ elim s [ ] ]

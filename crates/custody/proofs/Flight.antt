@@ -63,7 +63,8 @@ finishes_more w (finishes_offer h) = finishes_offer (finishes_more w h)
 finishes_more w (finishes_revoke h) = finishes_revoke (finishes_more w h)
 
 -- another place that the same ends fit
-pub finishes_moved : {ws : List DownWord} {x : ℕ} {p q : Place} {t u : Bool} {rest : List DownWord} → ((e : Transfer) → Fits e p t → Fits e q u) → Finishes ws x p t rest → Finishes ws x q u rest
+pub finishes_moved : {ws : List DownWord} {x : ℕ} {p q : Place} {t u : Bool} {rest : List DownWord} → ((e : Transfer) → Fits e p t → Fits e q u) → Finishes ws x p t rest
+    → Finishes ws x q u rest
 finishes_moved map (finishes_now f) = finishes_now (map _ f)
 finishes_moved map (finishes_offer h) = finishes_offer (finishes_moved map h)
 finishes_moved map (finishes_revoke h) = finishes_revoke (finishes_moved map h)

@@ -16,7 +16,8 @@ use Rattle.custody.specs.Place.{Place, is_inside, is_upstream}
 inserted : (xs ys : List Board) (b : Board) → (xs ++ (ys ++ [])) ++ (b ∷ []) ≡ xs ++ ((ys ++ (b ∷ [])) ++ [])
 inserted xs ys b = ap (λ z. (xs ++ z) ++ (b ∷ [])) (append-nil ys) ∙ append_assoc xs ys (b ∷ []) ∙ ap (λ z. xs ++ z) (sym (append-nil (ys ++ (b ∷ []))))
 
-pub body_inserted : {o : Out} {p : Place} {kept : List Record} {q : Place} {boards : List Board} (r : Record) → Body o p kept inn.Idle q boards → Body o p (kept ++ (r ∷ [])) inn.Idle q (boards ++ (board_of r ∷ []))
+pub body_inserted : {o : Out} {p : Place} {kept : List Record} {q : Place} {boards : List Board} (r : Record) → Body o p kept inn.Idle q boards
+    → Body o p (kept ++ (r ∷ [])) inn.Idle q (boards ++ (board_of r ∷ []))
 body_inserted {o = o} {p = p} {kept = kept} r s = record {
   same = ap (λ bs. bs ++ (board_of r ∷ [])) s.same ∙ inserted (part (held_out o) (is_upstream p)) (map board_of kept) (board_of r)
       ∙ ap (λ z. part (held_out o) (is_upstream p) ++ (z ++ [])) (sym (map-append board_of kept (r ∷ [])));
@@ -47,7 +48,8 @@ pub record BodyOut (q : Record) (o : Out) (p : Place) (js : List Record) (i : In
   pub out : BoardOut q boards after
   pub body : Body o p js i at after
 
-pub body_removed : {q : Record} {o : Out} {p : Place} {ks js : List Record} {i : In} {at : Place} {boards : List Board} → TakenOut q ks js → IsOther q (held_out o) → Body o p ks i at boards → BodyOut q o p js i at boards
+pub body_removed : {q : Record} {o : Out} {p : Place} {ks js : List Record} {i : In} {at : Place} {boards : List Board}
+    → TakenOut q ks js → IsOther q (held_out o) → Body o p ks i at boards → BodyOut q o p js i at boards
 body_removed {q = q} {o = o} {p = p} {js = js} {i = i} {at = at} t e s = record {
   after = part (held_out o) (is_upstream p) ++ (map board_of js ++ part (held_in i) (is_inside at));
   out = subst (λ bs. BoardOut q bs (part (held_out o) (is_upstream p) ++ (map board_of js ++ part (held_in i) (is_inside at)))) (sym s.same) (out_part (held_out o) (is_upstream p) e (out_kept (part (held_in i) (is_inside at)) t));
@@ -59,7 +61,8 @@ pub record BodyFor (q n : Record) (o : Out) (p : Place) (js : List Record) (i : 
   pub put : BoardFor q n boards after
   pub body : Body o p js i at after
 
-pub body_replaced : {q n : Record} {o : Out} {p : Place} {ks js : List Record} {i : In} {at : Place} {boards : List Board} → PutFor q n ks js → IsOther q (held_out o) → Body o p ks i at boards → BodyFor q n o p js i at boards
+pub body_replaced : {q n : Record} {o : Out} {p : Place} {ks js : List Record} {i : In} {at : Place} {boards : List Board}
+    → PutFor q n ks js → IsOther q (held_out o) → Body o p ks i at boards → BodyFor q n o p js i at boards
 body_replaced {q = q} {n = n} {o = o} {p = p} {js = js} {i = i} {at = at} t e s = record {
   after = part (held_out o) (is_upstream p) ++ (map board_of js ++ part (held_in i) (is_inside at));
   put = subst (λ bs. BoardFor q n bs (part (held_out o) (is_upstream p) ++ (map board_of js ++ part (held_in i) (is_inside at)))) (sym s.same) (for_part (held_out o) (is_upstream p) e (for_kept (part (held_in i) (is_inside at)) t));
@@ -71,5 +74,6 @@ same_boards : {q n : Record} {ks js : List Record} → n.id ≡ q.id → PutFor 
 same_boards e (put_here {ks = ks}) = ap (λ x. record { id = Some x } ∷ map board_of ks) e
 same_boards e (put_later {r = r} _ t) = ap (λ bs. board_of r ∷ bs) (same_boards e t)
 
-pub body_marked : {q n : Record} {o : Out} {p : Place} {ks js : List Record} {i : In} {at : Place} {boards : List Board} → n.id ≡ q.id → PutFor q n ks js → Body o p ks i at boards → Body o p js i at boards
+pub body_marked : {q n : Record} {o : Out} {p : Place} {ks js : List Record} {i : In} {at : Place} {boards : List Board}
+    → n.id ≡ q.id → PutFor q n ks js → Body o p ks i at boards → Body o p js i at boards
 body_marked {o = o} {p = p} {i = i} {at = at} e t s = record { same = s.same ∙ ap (λ bs. part (held_out o) (is_upstream p) ++ (bs ++ part (held_in i) (is_inside at))) (sym (same_boards e t)) }

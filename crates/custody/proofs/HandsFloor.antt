@@ -38,7 +38,8 @@ without_board_is {q = q} {bs = bs} t =
     let r = out_at t in
     ap (λ place. elim place [ None ↦ bs | Some place ↦ remove bs place ]) (placed q bs r.before r.is r.within) ∙ r.left
 
-pub removes_board : {q : Record} {o : Out} {p : Place} {ks js : List Record} {i : In} {at : Place} {boards : List Board} → TakenOut q ks js → IsOther q (held_out o) → Body o p ks i at boards → Body o p js i at (without_board q.id boards)
+pub removes_board : {q : Record} {o : Out} {p : Place} {ks js : List Record} {i : In} {at : Place} {boards : List Board}
+    → TakenOut q ks js → IsOther q (held_out o) → Body o p ks i at boards → Body o p js i at (without_board q.id boards)
 removes_board {o = o} {p = p} {js = js} {i = i} {at = at} t e s = let r = body_removed t e s in subst (λ bs. Body o p js i at bs) (sym (without_board_is r.out)) r.body
 
 -- another id in its place
@@ -60,5 +61,6 @@ with_new_id_is {q = q} {n = n} {bs = bs} t =
     let r = for_at t in
     ap (λ place. elim place [ None ↦ bs | Some place ↦ slice_set bs place (board_of n) ]) (placed q bs r.before r.is r.within) ∙ r.put
 
-pub replaces_board : {q n : Record} {o : Out} {p : Place} {ks js : List Record} {i : In} {at : Place} {boards : List Board} → PutFor q n ks js → IsOther q (held_out o) → Body o p ks i at boards → Body o p js i at (with_new_id q.id n.id boards)
+pub replaces_board : {q n : Record} {o : Out} {p : Place} {ks js : List Record} {i : In} {at : Place} {boards : List Board}
+    → PutFor q n ks js → IsOther q (held_out o) → Body o p ks i at boards → Body o p js i at (with_new_id q.id n.id boards)
 replaces_board {o = o} {p = p} {js = js} {i = i} {at = at} t e s = let r = body_replaced t e s in subst (λ bs. Body o p js i at bs) (sym (with_new_id_is r.put)) r.body

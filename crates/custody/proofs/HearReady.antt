@@ -16,11 +16,13 @@ use Rattle.custody.specs.Talks.{Talks, apart, apart_start, apart_start_stop, liv
 use Rattle.custody.specs.Words.{DownWord, MachineReady, RevokeMachineReady, UpWord}
 use Rattle.custody.proofs.Contents.{contents_heard}
 
-becomes_ready : {Gone : ℕ → Type 0} {b : Bool} {x y : SessionState} {of : Option ℕ} {i : In} {f : Option Record} {ri : Bool} {p : Place} {r : Record} {up : List UpWord} {down : List DownWord} {xd : Bool} (t : Option ℕ) → ExitFloor out.Idle [] xd p r → Talks b x out.Idle of true y i f ri p up down
+becomes_ready : {Gone : ℕ → Type 0} {b : Bool} {x y : SessionState} {of : Option ℕ} {i : In} {f : Option Record} {ri : Bool} {p : Place} {r : Record} {up : List UpWord} {down : List DownWord} {xd : Bool} (t : Option ℕ)
+    → ExitFloor out.Idle [] xd p r → Talks b x out.Idle of true y i f ri p up down
     → ExitDid Gone out_input.MachineReady (outlet out.Idle of t false) [] xd b x y i f ri p r (MachineReady ∷ up) up down
 becomes_ready t h k = record { row = _; is = refl; out = h; talk = k; body = λ ks. refl; contents = λ ks c. contents_heard refl c; lets = λ l n. n; starts = refl; answers = λ l. refl }
 
-pub hear_ready : {Gone : ℕ → Type 0} {b : Bool} {x y : SessionState} {o : Out} {of : Option ℕ} {rd : Bool} {i : In} {f : Option Record} {ri : Bool} {p : Place} {r : Record} {up : List UpWord} {down : List DownWord} {xd : Bool} → (t : Option ℕ) → ExitFloor o [] xd p r → Talks b x o of rd y i f ri p (MachineReady ∷ up) down
+pub hear_ready : {Gone : ℕ → Type 0} {b : Bool} {x y : SessionState} {o : Out} {of : Option ℕ} {rd : Bool} {i : In} {f : Option Record} {ri : Bool} {p : Place} {r : Record} {up : List UpWord} {down : List DownWord} {xd : Bool}
+    → (t : Option ℕ) → ExitFloor o [] xd p r → Talks b x o of rd y i f ri p (MachineReady ∷ up) down
     → ExitDid Gone out_input.MachineReady (outlet o of t rd) [] xd b x y i f ri p r (MachineReady ∷ up) up down
 hear_ready t h (live (no_handover (readies_up a) c)) = becomes_ready t h (live (no_handover a c))
 hear_ready t h (live (start_sent (starts_up a) c)) = becomes_ready t h (live (start_sent a c))
@@ -29,11 +31,13 @@ hear_ready t h (apart_start (starts_up a) c) = becomes_ready t h (apart_start a 
 hear_ready t h (apart_start_stop (starts_up a) c) = becomes_ready t h (apart_start_stop a c)
 hear_ready t h (apart (exit_idle (readies_up a)) c) = becomes_ready t h (apart (exit_idle a) c)
 
-becomes_unready : {Gone : ℕ → Type 0} {b : Bool} {x y : SessionState} {of : Option ℕ} {i : In} {f : Option Record} {ri : Bool} {p : Place} {r : Record} {up : List UpWord} {down : List DownWord} {xd : Bool} (t : Option ℕ) → ExitFloor out.Idle [] xd p r → Talks b x out.Idle of false y i f ri p up down
+becomes_unready : {Gone : ℕ → Type 0} {b : Bool} {x y : SessionState} {of : Option ℕ} {i : In} {f : Option Record} {ri : Bool} {p : Place} {r : Record} {up : List UpWord} {down : List DownWord} {xd : Bool} (t : Option ℕ)
+    → ExitFloor out.Idle [] xd p r → Talks b x out.Idle of false y i f ri p up down
     → ExitDid Gone out_input.RevokeMachineReady (outlet out.Idle of t true) [] xd b x y i f ri p r (RevokeMachineReady ∷ up) up down
 becomes_unready t h k = record { row = _; is = refl; out = h; talk = k; body = λ ks. refl; contents = λ ks c. contents_heard refl c; lets = λ l n. n; starts = refl; answers = λ l. refl }
 
-pub hear_revoke_ready : {Gone : ℕ → Type 0} {b : Bool} {x y : SessionState} {o : Out} {of : Option ℕ} {rd : Bool} {i : In} {f : Option Record} {ri : Bool} {p : Place} {r : Record} {up : List UpWord} {down : List DownWord} {xd : Bool} → (t : Option ℕ) → ExitFloor o [] xd p r → Talks b x o of rd y i f ri p (RevokeMachineReady ∷ up) down
+pub hear_revoke_ready : {Gone : ℕ → Type 0} {b : Bool} {x y : SessionState} {o : Out} {of : Option ℕ} {rd : Bool} {i : In} {f : Option Record} {ri : Bool} {p : Place} {r : Record} {up : List UpWord} {down : List DownWord} {xd : Bool}
+    → (t : Option ℕ) → ExitFloor o [] xd p r → Talks b x o of rd y i f ri p (RevokeMachineReady ∷ up) down
     → ExitDid Gone out_input.RevokeMachineReady (outlet o of t rd) [] xd b x y i f ri p r (RevokeMachineReady ∷ up) up down
 hear_revoke_ready t h (live (no_handover (readies_down a) c)) = becomes_unready t h (live (no_handover a c))
 hear_revoke_ready t h (live (start_sent (starts_down a) c)) = becomes_unready t h (live (start_sent a c))

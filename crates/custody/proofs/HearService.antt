@@ -15,7 +15,8 @@ use Rattle.custody.specs.Talks.{Talks, apart, described, described_waiting, shak
 use Rattle.custody.specs.Words.{DownWord, DownstreamService, UpWord, UpstreamService, sent}
 
 -- the downstream machine describes itself to an exit whose outlet holds nothing, and is answered
-pub hear_downstream_service : {b : Bool} {y : SessionState} {of : Option ℕ} {rd : Bool} {i : In} {f : Option Record} {ri : Bool} {p : Place} {up : List UpWord} {down : List DownWord} → Talks b Handshake out.Idle of rd y i f ri p (DownstreamService ∷ up) down
+pub hear_downstream_service : {b : Bool} {y : SessionState} {of : Option ℕ} {rd : Bool} {i : In} {f : Option Record} {ri : Bool} {p : Place} {up : List UpWord} {down : List DownWord}
+    → Talks b Handshake out.Idle of rd y i f ri p (DownstreamService ∷ up) down
     → Talks b Standing out.Idle of rd y i f ri p up (sent (UpstreamService ∷ []) b down)
 hear_downstream_service shaking_idle = described offers_none
 hear_downstream_service shaking_waiting = described_waiting offers_none
@@ -29,13 +30,15 @@ service_open (open_back h) = open_back (service_open h)
 service_open (open_end h) = open_end (service_open h)
 service_open (open_service h) = open_service (service_open h)
 
-pub contents_described : {Gone : ℕ → Type 0} {kept : List Record} {t : Option ℕ} {i : In} {f : Option Record} {up : List UpWord} {down : List DownWord} (b : Bool) → Contents Gone b kept t i f (DownstreamService ∷ up) down → Contents Gone b kept t i f up (sent (UpstreamService ∷ []) b down)
+pub contents_described : {Gone : ℕ → Type 0} {kept : List Record} {t : Option ℕ} {i : In} {f : Option Record} {up : List UpWord} {down : List DownWord} (b : Bool)
+    → Contents Gone b kept t i f (DownstreamService ∷ up) down → Contents Gone b kept t i f up (sent (UpstreamService ∷ []) b down)
 contents_described true h = record { offers = service_open h.offers; offer = h.offer; start = h.start }
 contents_described false h = record { offers = h.offers; offer = h.offer; start = h.start }
 
 -- an outlet that holds a board is no party to a handshake: the session is closed at the description, and the
 -- exit's close is all that happens
-pub held_in_a_handshake : {b : Bool} {y : SessionState} {o : Out} {of : Option ℕ} {rd : Bool} {i : In} {f : Option Record} {ri : Bool} {p : Place} {up : List UpWord} {down : List DownWord} {q : Record} → Talks b Handshake o of rd y i f ri p (DownstreamService ∷ up) down → held_out o ≡ Some q → o ≡ out.Stuck q false false
+pub held_in_a_handshake : {b : Bool} {y : SessionState} {o : Out} {of : Option ℕ} {rd : Bool} {i : In} {f : Option Record} {ri : Bool} {p : Place} {up : List UpWord} {down : List DownWord} {q : Record}
+    → Talks b Handshake o of rd y i f ri p (DownstreamService ∷ up) down → held_out o ≡ Some q → o ≡ out.Stuck q false false
 held_in_a_handshake shaking_idle e = cc
 held_in_a_handshake shaking_waiting e = cc
 held_in_a_handshake shaking_stuck e = cc

@@ -23,18 +23,29 @@ use Rattle.custody.proofs.Rows.{out_same}
 use Rattle.custody.proofs.Sides.{released}
 use Rattle.custody.proofs.Starts.{readies_start_nothing}
 
-pub hear_stop : {Gone : ℕ → Type 0} {b : Bool} {x y : SessionState} {o : Out} {of : Option ℕ} {rd : Bool} {i : In} {f : Option Record} {ri : Bool} {p : Place} {r : Record} {up : List UpWord} {down : List DownWord} {xd : Bool} {z : ℕ} → Talks b x o of rd y i f ri p (StopTransport z ∷ up) down → ExitFloor o [] xd p r → (t : Option ℕ) (s : Transfer)
+pub hear_stop : {Gone : ℕ → Type 0} {b : Bool} {x y : SessionState} {o : Out} {of : Option ℕ} {rd : Bool} {i : In} {f : Option Record} {ri : Bool} {p : Place} {r : Record} {up : List UpWord} {down : List DownWord} {xd : Bool} {z : ℕ}
+    → Talks b x o of rd y i f ri p (StopTransport z ∷ up) down → ExitFloor o [] xd p r → (t : Option ℕ) (s : Transfer)
     → ExitDid Gone (out_input.Stop s z) (outlet o of t rd) [] xd b x y i f ri p r (StopTransport z ∷ up) up down
-hear_stop (live (stop_sent c)) at_start t s = record { row = _; is = out_same _ _ _; out = out_idle none_taken not_begun_fresh; talk = live (stop_heard (stale_end _ c fits_fresh) offers_none); body = λ ks. refl; contents = λ ks _. contents_free (nothing_open_after true _ _ (nothing_stopped c)) refl; lets = λ l _. is_not_beyond not_beyond_fresh; starts = refl; answers = λ l. refl }
-hear_stop (live (stop_sent c)) begun_read t s = record { row = _; is = out_same _ _ _; out = stuck_begun; talk = live (stuck_stop_heard c); body = λ ks. refl; contents = λ ks _. contents_free (nothing_stopped c) refl; lets = λ l _. lets_not still_stuck; starts = refl; answers = λ l. refl }
-hear_stop (live (stuck_stop_sent c)) stuck_begun t s = record { row = _; is = out_same _ _ _; out = stuck_begun; talk = live (stuck_stop_heard c); body = λ ks. refl; contents = λ ks _. contents_free (nothing_stopped c) refl; lets = λ l _. lets_not still_stuck; starts = refl; answers = λ l. refl }
-hear_stop (live (finish_and_stop_sent c)) (out_ended a n) t s = record { row = _; is = out_same _ _ _; out = out_idle a n; talk = live (stop_heard c offers_none); body = λ ks. refl; contents = λ ks _. contents_free (record { offers = finishes_open c; offer = refl }) refl; lets = λ l n. lets_ended n; starts = refl; answers = λ l. refl }
-hear_stop (live (intake_done c)) (out_ended a n) t s = record { row = _; is = out_same _ _ _; out = out_idle a n; talk = live (no_handover c offers_none); body = λ ks. refl; contents = λ ks _. contents_free nothing_at_all (readies_start_nothing c); lets = λ l n. lets_ended n; starts = refl; answers = λ l. refl }
-hear_stop (live (inside_awaited_stop_sent c)) (out_ended a n) t s = record { row = _; is = out_same _ _ _; out = out_idle a n; talk = live (inside_awaited c offers_none); body = λ ks. refl; contents = λ ks _. contents_free nothing_at_all refl; lets = λ l n. lets_ended n; starts = refl; answers = λ l. refl }
-hear_stop (apart exit_stop_sent c) at_start t s = record { row = _; is = out_same _ _ _; out = out_idle none_taken not_begun_fresh; talk = apart (exit_idle readies_none) (released c); body = λ ks. refl; contents = λ ks k. contents_back (Some _) k; lets = λ l _. is_not_beyond not_beyond_fresh; starts = refl; answers = λ l. refl }
-hear_stop (apart exit_stop_sent c) begun_read t s = record { row = _; is = out_same _ _ _; out = stuck_begun; talk = apart exit_stuck c; body = λ ks. refl; contents = λ ks k. contents_back None k; lets = λ l _. lets_not still_stuck; starts = refl; answers = λ l. refl }
-hear_stop (apart exit_stuck_stop_sent c) stuck_begun t s = record { row = _; is = out_same _ _ _; out = stuck_begun; talk = apart exit_stuck c; body = λ ks. refl; contents = λ ks k. contents_back None k; lets = λ l _. lets_not still_stuck; starts = refl; answers = λ l. refl }
-hear_stop (apart (exit_finished_stop_sent c) d) (out_ended a n) t s = record { row = _; is = out_same _ _ _; out = out_idle a n; talk = apart (exit_idle c) d; body = λ ks. refl; contents = λ ks k. contents_back None k; lets = λ l n. lets_ended n; starts = refl; answers = λ l. refl }
+hear_stop (live (stop_sent c)) at_start t s =
+    record { row = _; is = out_same _ _ _; out = out_idle none_taken not_begun_fresh; talk = live (stop_heard (stale_end _ c fits_fresh) offers_none); body = λ ks. refl; contents = λ ks _. contents_free (nothing_open_after true _ _ (nothing_stopped c)) refl; lets = λ l _. is_not_beyond not_beyond_fresh; starts = refl; answers = λ l. refl }
+hear_stop (live (stop_sent c)) begun_read t s =
+    record { row = _; is = out_same _ _ _; out = stuck_begun; talk = live (stuck_stop_heard c); body = λ ks. refl; contents = λ ks _. contents_free (nothing_stopped c) refl; lets = λ l _. lets_not still_stuck; starts = refl; answers = λ l. refl }
+hear_stop (live (stuck_stop_sent c)) stuck_begun t s =
+    record { row = _; is = out_same _ _ _; out = stuck_begun; talk = live (stuck_stop_heard c); body = λ ks. refl; contents = λ ks _. contents_free (nothing_stopped c) refl; lets = λ l _. lets_not still_stuck; starts = refl; answers = λ l. refl }
+hear_stop (live (finish_and_stop_sent c)) (out_ended a n) t s =
+    record { row = _; is = out_same _ _ _; out = out_idle a n; talk = live (stop_heard c offers_none); body = λ ks. refl; contents = λ ks _. contents_free (record { offers = finishes_open c; offer = refl }) refl; lets = λ l n. lets_ended n; starts = refl; answers = λ l. refl }
+hear_stop (live (intake_done c)) (out_ended a n) t s =
+    record { row = _; is = out_same _ _ _; out = out_idle a n; talk = live (no_handover c offers_none); body = λ ks. refl; contents = λ ks _. contents_free nothing_at_all (readies_start_nothing c); lets = λ l n. lets_ended n; starts = refl; answers = λ l. refl }
+hear_stop (live (inside_awaited_stop_sent c)) (out_ended a n) t s =
+    record { row = _; is = out_same _ _ _; out = out_idle a n; talk = live (inside_awaited c offers_none); body = λ ks. refl; contents = λ ks _. contents_free nothing_at_all refl; lets = λ l n. lets_ended n; starts = refl; answers = λ l. refl }
+hear_stop (apart exit_stop_sent c) at_start t s =
+    record { row = _; is = out_same _ _ _; out = out_idle none_taken not_begun_fresh; talk = apart (exit_idle readies_none) (released c); body = λ ks. refl; contents = λ ks k. contents_back (Some _) k; lets = λ l _. is_not_beyond not_beyond_fresh; starts = refl; answers = λ l. refl }
+hear_stop (apart exit_stop_sent c) begun_read t s =
+    record { row = _; is = out_same _ _ _; out = stuck_begun; talk = apart exit_stuck c; body = λ ks. refl; contents = λ ks k. contents_back None k; lets = λ l _. lets_not still_stuck; starts = refl; answers = λ l. refl }
+hear_stop (apart exit_stuck_stop_sent c) stuck_begun t s =
+    record { row = _; is = out_same _ _ _; out = stuck_begun; talk = apart exit_stuck c; body = λ ks. refl; contents = λ ks k. contents_back None k; lets = λ l _. lets_not still_stuck; starts = refl; answers = λ l. refl }
+hear_stop (apart (exit_finished_stop_sent c) d) (out_ended a n) t s =
+    record { row = _; is = out_same _ _ _; out = out_idle a n; talk = apart (exit_idle c) d; body = λ ks. refl; contents = λ ks k. contents_back None k; lets = λ l n. lets_ended n; starts = refl; answers = λ l. refl }
 hear_stop (live (no_handover a _)) _ t s = elim a [ ]
 hear_stop (live (start_sent a _)) _ t s = elim a [ ]
 hear_stop (live (start_and_stop_sent a _)) _ t s = elim a [ ]

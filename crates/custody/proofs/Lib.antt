@@ -18,6 +18,7 @@ pub mod CloseEntry
 pub mod AnnounceExit
 pub mod AnnounceEntry
 pub mod Connect
+pub mod Passed
 pub mod HearAvailable
 pub mod HearFinished
 pub mod HearUpstream

@@ -34,7 +34,8 @@ pub calls_again : (g : Ghost) (l : LinkState) → Pair g l → may_connect l.int
 calls_again g l k m y = record { out = k.out; «in» = k.in; gap = k.gap; talk = connect (may l.intake.phase m) (rw y at k.talk) }
 
 -- the exit takes the connection: it stands then, and the description is on its way
-pub takes_the_call : (g : Ghost) (l : LinkState) (service : Service) (rest : List Horizontal) → Pair g (record l { up = message.ServiceDescription service ∷ rest; down = [] }) → l.exit ≡ NotConnected → l.entry ≡ Handshake
+pub takes_the_call : (g : Ghost) (l : LinkState) (service : Service) (rest : List Horizontal)
+    → Pair g (record l { up = message.ServiceDescription service ∷ rest; down = [] }) → l.exit ≡ NotConnected → l.entry ≡ Handshake
     → Pair g (record l { exit = Handshake; stands = true; up = message.ServiceDescription service ∷ rest; down = [] })
 takes_the_call g l service rest k x y =
     let t = rw (x, y) at k.talk in
@@ -45,7 +46,8 @@ takes_the_call g l service rest k x y =
 pub call_contents : {Gone : ℕ → Type 0} (l : LinkState) (service : Service) (kept : List Record) → IsContent Gone l kept → IsContent Gone (called_on l service) kept
 call_contents l service kept c = record { offers = c.offers; offer = c.offer; start = λ r _ _ some. absurd (some refl) }
 
-pub taken_call_contents : {Gone : ℕ → Type 0} (g : Ghost) (l : LinkState) (service : Service) (rest : List Horizontal) (kept : List Record) → Pair g (record l { up = message.ServiceDescription service ∷ rest; down = [] }) → l.entry ≡ Handshake → starts_in (up_words rest) ≡ []
+pub taken_call_contents : {Gone : ℕ → Type 0} (g : Ghost) (l : LinkState) (service : Service) (rest : List Horizontal) (kept : List Record)
+    → Pair g (record l { up = message.ServiceDescription service ∷ rest; down = [] }) → l.entry ≡ Handshake → starts_in (up_words rest) ≡ []
     → IsContent Gone (record l { exit = Handshake; stands = true; up = message.ServiceDescription service ∷ rest; down = [] }) kept
 taken_call_contents g l service rest kept k y quiet = record { offers = open_none; offer = none_open (shaking_offerless (rw y at k.talk)); start = λ r _ _ some. absurd (some quiet) }
 
@@ -57,10 +59,12 @@ pub cut_contents : {Gone : ℕ → Type 0} (l : LinkState) (kept : List Record) 
 cut_contents l kept c = contents_cut c
 
 -- a message that is no word: CheckAlive, a Notification, a query of board information and its answer
-pub passes_up : (g : Ghost) (l : LinkState) (m : Horizontal) (rest : List Horizontal) → up_words (m ∷ rest) ≡ up_words rest → Pair g (record l { up = m ∷ rest }) → Pair g (record l { up = rest })
+pub passes_up : (g : Ghost) (l : LinkState) (m : Horizontal) (rest : List Horizontal) → up_words (m ∷ rest) ≡ up_words rest → Pair g (record l { up = m ∷ rest })
+    → Pair g (record l { up = rest })
 passes_up g l m rest e k = record { out = k.out; «in» = k.in; gap = k.gap; talk = rw e at k.talk }
 
-pub passes_down : (g : Ghost) (l : LinkState) (m : Horizontal) (rest : List Horizontal) → down_words (m ∷ rest) ≡ down_words rest → Pair g (record l { down = m ∷ rest }) → Pair g (record l { down = rest })
+pub passes_down : (g : Ghost) (l : LinkState) (m : Horizontal) (rest : List Horizontal) → down_words (m ∷ rest) ≡ down_words rest → Pair g (record l { down = m ∷ rest })
+    → Pair g (record l { down = rest })
 passes_down g l m rest e k = record { out = k.out; «in» = k.in; gap = k.gap; talk = rw e at k.talk }
 
 pub says_aside_up : (g : Ghost) (l : LinkState) (ms : List Horizontal) → up_words ms ≡ [] → Pair g l → Pair g (record l { up = sent ms l.stands l.up })

@@ -34,7 +34,8 @@ in_lost (in_stopped on_begun) = in_stopped on_gone
 in_lost (in_waiting sees_begun) = in_waiting sees_gone
 in_lost (in_waiting on_begun) = in_waiting on_gone
 
-pub move_back : {b : Bool} {x y : SessionState} {o : Out} {of : Option ℕ} {rd : Bool} {i : In} {f : Option Record} {ri : Bool} {p : Place} {r : Record} {up : List UpWord} {down : List DownWord} {ue un : List SensorEvent} {ed : Bool} {a : Board} → GapAt (gaps.Begun a) p r → ExitFloor o ue false p r → EntryFloor i un ed p r → Talks b x o of rd y i f ri p up down
+pub move_back : {b : Bool} {x y : SessionState} {o : Out} {of : Option ℕ} {rd : Bool} {i : In} {f : Option Record} {ri : Bool} {p : Place} {r : Record} {up : List UpWord} {down : List DownWord} {ue un : List SensorEvent} {ed : Bool} {a : Board}
+    → GapAt (gaps.Begun a) p r → ExitFloor o ue false p r → EntryFloor i un ed p r → Talks b x o of rd y i f ri p up down
     → Moved b x o of rd y i f ri r up down (ue ++ (event.Back ∷ [])) (un ++ (event.Back ∷ [])) false ed gaps.Free Home
 move_back gap_begun (out_idle _ n) _ k = elim n [ ]
 move_back gap_begun (out_ended _ n) _ k = elim n [ ]
@@ -42,7 +43,8 @@ move_back gap_begun (both_unread n) _ k = elim n [ ]
 move_back gap_begun (left_unread n) _ k = elim n [ ]
 move_back gap_begun stuck_begun n k = record { out = stuck_back; «in» = in_back n; gap = gap_home; talk = stuck_place k }
 
-pub move_take_begun : {b : Bool} {x y : SessionState} {o : Out} {of : Option ℕ} {rd : Bool} {i : In} {f : Option Record} {ri : Bool} {p : Place} {r : Record} {up : List UpWord} {down : List DownWord} {ue un : List SensorEvent} {ed : Bool} {a : Board} → GapAt (gaps.Begun a) p r → ExitFloor o ue false p r → EntryFloor i un ed p r → Talks b x o of rd y i f ri p up down
+pub move_take_begun : {b : Bool} {x y : SessionState} {o : Out} {of : Option ℕ} {rd : Bool} {i : In} {f : Option Record} {ri : Bool} {p : Place} {r : Record} {up : List UpWord} {down : List DownWord} {ue un : List SensorEvent} {ed : Bool} {a : Board}
+    → GapAt (gaps.Begun a) p r → ExitFloor o ue false p r → EntryFloor i un ed p r → Talks b x o of rd y i f ri p up down
     → Moved b x o of rd y i f ri r up down (ue ++ (event.Taken ∷ [])) (un ++ (event.Taken ∷ [])) false ed gaps.Free Lost
 move_take_begun gap_begun (out_idle _ n) _ k = elim n [ ]
 move_take_begun gap_begun (out_ended _ n) _ k = elim n [ ]

@@ -23,7 +23,8 @@ use Rattle.custody.proofs.MoveOut.{Moved}
 pub to_inside : {e : Transfer} {t : Bool} → Fits e Across t → Fits e Inside t
 to_inside fits_across = fits_inside
 
-pub inside : {b : Bool} {x y : SessionState} {o : Out} {of : Option ℕ} {rd : Bool} {i : In} {f : Option Record} {ri : Bool} {up : List UpWord} {down : List DownWord} → Talks b x o of rd y i f ri Across up down → Talks b x o of rd y i f ri Inside up down
+pub inside : {b : Bool} {x y : SessionState} {o : Out} {of : Option ℕ} {rd : Bool} {i : In} {f : Option Record} {ri : Bool} {up : List UpWord} {down : List DownWord}
+    → Talks b x o of rd y i f ri Across up down → Talks b x o of rd y i f ri Inside up down
 inside (live (no_handover a c)) = live (no_handover a c)
 inside (live (transporting c)) = live (transporting c)
 inside (live (stop_sent c)) = live (stop_sent c)
@@ -80,7 +81,8 @@ in_handed (in_waiting sees_across) = in_waiting sees_full
 in_handed (in_waiting on_across) = in_waiting on_full
 
 -- by its own drive or by hand
-pub move_in : {b : Bool} {x y : SessionState} {o : Out} {of : Option ℕ} {rd : Bool} {i : In} {f : Option Record} {ri : Bool} {p : Place} {r : Record} {up : List UpWord} {down : List DownWord} {ue un : List SensorEvent} {xd : Bool} {a : Board} (ed : Bool) → ExitFloor o ue xd p r → EntryFloor i un ed p r → GapAt (gaps.Left a) p r → Talks b x o of rd y i f ri p up down
+pub move_in : {b : Bool} {x y : SessionState} {o : Out} {of : Option ℕ} {rd : Bool} {i : In} {f : Option Record} {ri : Bool} {p : Place} {r : Record} {up : List UpWord} {down : List DownWord} {ue un : List SensorEvent} {xd : Bool} {a : Board} (ed : Bool)
+    → ExitFloor o ue xd p r → EntryFloor i un ed p r → GapAt (gaps.Left a) p r → Talks b x o of rd y i f ri p up down
     → Moved b x o of rd y i f ri r up down ue (un ++ (event.Full ∷ [])) xd false gaps.Free Inside
 move_in true h n gap_left k = record { out = out_inside h; «in» = in_enters n; gap = gap_inside; talk = inside k }
 move_in false h n gap_left k = record { out = out_inside h; «in» = in_handed n; gap = gap_inside; talk = inside k }

@@ -26,13 +26,15 @@ pub record Moved (b : Bool) (x : SessionState) (o : Out) (of : Option ℕ) (rd :
   pub talk : Talks b x o of rd y i f ri place up down
 
 -- while the outlet holds a board, nothing that is in flight speaks of its place
-pub moving_place : {b : Bool} {x y : SessionState} {of : Option ℕ} {rd : Bool} {i : In} {f : Option Record} {ri : Bool} {p : Place} {up : List UpWord} {down : List DownWord} {q : Record} {c : Bool} {p2 : Place} → Talks b x (out.Moving q c) of rd y i f ri p up down → Talks b x (out.Moving q c) of rd y i f ri p2 up down
+pub moving_place : {b : Bool} {x y : SessionState} {of : Option ℕ} {rd : Bool} {i : In} {f : Option Record} {ri : Bool} {p : Place} {up : List UpWord} {down : List DownWord} {q : Record} {c : Bool} {p2 : Place}
+    → Talks b x (out.Moving q c) of rd y i f ri p up down → Talks b x (out.Moving q c) of rd y i f ri p2 up down
 moving_place (live (transporting c)) = live (transporting c)
 moving_place (live (stop_sent c)) = live (stop_sent c)
 moving_place (apart exit_transporting c) = apart exit_transporting (replaced c)
 moving_place (apart exit_stop_sent c) = apart exit_stop_sent (replaced c)
 
-pub stuck_place : {b : Bool} {x y : SessionState} {of : Option ℕ} {rd : Bool} {i : In} {f : Option Record} {ri : Bool} {p : Place} {up : List UpWord} {down : List DownWord} {q : Record} {l s : Bool} {p2 : Place} → Talks b x (out.Stuck q l s) of rd y i f ri p up down → Talks b x (out.Stuck q l s) of rd y i f ri p2 up down
+pub stuck_place : {b : Bool} {x y : SessionState} {of : Option ℕ} {rd : Bool} {i : In} {f : Option Record} {ri : Bool} {p : Place} {up : List UpWord} {down : List DownWord} {q : Record} {l s : Bool} {p2 : Place}
+    → Talks b x (out.Stuck q l s) of rd y i f ri p up down → Talks b x (out.Stuck q l s) of rd y i f ri p2 up down
 stuck_place (live (stuck_transporting c)) = live (stuck_transporting c)
 stuck_place (live (stuck_stop_sent c)) = live (stuck_stop_sent c)
 stuck_place (live (stuck_stop_heard c)) = live (stuck_stop_heard c)
@@ -74,7 +76,8 @@ in_begins (in_taken_in s) = elim s [ ]
 in_begins (in_stopped sees_fresh) = in_stopped sees_begun
 in_begins (in_waiting sees_fresh) = in_waiting sees_begun
 
-pub move_begin : {b : Bool} {x y : SessionState} {o : Out} {of : Option ℕ} {rd : Bool} {i : In} {f : Option Record} {ri : Bool} {p : Place} {r : Record} {up : List UpWord} {down : List DownWord} {ue un : List SensorEvent} {ed : Bool} → ExitFloor o ue true p r → EntryFloor i un ed p r → GapAt gaps.Free p r → Talks b x o of rd y i f ri p up down
+pub move_begin : {b : Bool} {x y : SessionState} {o : Out} {of : Option ℕ} {rd : Bool} {i : In} {f : Option Record} {ri : Bool} {p : Place} {r : Record} {up : List UpWord} {down : List DownWord} {ue un : List SensorEvent} {ed : Bool}
+    → ExitFloor o ue true p r → EntryFloor i un ed p r → GapAt gaps.Free p r → Talks b x o of rd y i f ri p up down
     → Moved b x o of rd y i f ri r up down (ue ++ (event.Begun ∷ [])) (un ++ (event.Begun ∷ [])) true ed (gaps.Begun (record { id = Some r.id })) InGap
 move_begin at_start n g k = record { out = begun_unread; «in» = in_begins n; gap = gap_begun; talk = moving_place k }
 move_begin begun_unread n g k = elim g [ ]
@@ -84,7 +87,8 @@ pub in_leaves : {i : In} {un : List SensorEvent} {r : Record} → EntryFloor i u
 in_leaves (in_taking sees_begun) = in_taking sees_across
 in_leaves (in_taking on_begun) = in_taking on_across
 
-pub move_left : {b : Bool} {x y : SessionState} {o : Out} {of : Option ℕ} {rd : Bool} {i : In} {f : Option Record} {ri : Bool} {p : Place} {r : Record} {up : List UpWord} {down : List DownWord} {ue un : List SensorEvent} {g : Board} → ExitFloor o ue true p r → EntryFloor i un true p r → GapAt (gaps.Begun g) p r → Talks b x o of rd y i f ri p up down
+pub move_left : {b : Bool} {x y : SessionState} {o : Out} {of : Option ℕ} {rd : Bool} {i : In} {f : Option Record} {ri : Bool} {p : Place} {r : Record} {up : List UpWord} {down : List DownWord} {ue un : List SensorEvent} {g : Board}
+    → ExitFloor o ue true p r → EntryFloor i un true p r → GapAt (gaps.Begun g) p r → Talks b x o of rd y i f ri p up down
     → Moved b x o of rd y i f ri r up down (ue ++ (event.Left ∷ [])) un false true (gaps.Left (record { id = Some r.id })) Across
 move_left at_start n g k = elim g [ ]
 move_left begun_unread n _ k = record { out = both_unread beyond_across; «in» = in_leaves n; gap = gap_left; talk = moving_place k }

@@ -52,7 +52,8 @@ to_stolen fits_across = fits_stolen
 pub ended_stolen : {ws : List DownWord} {z : ℕ} {rest : List DownWord} → Finishes ws z Across false rest → Finishes ws z Stolen false rest
 ended_stolen = finishes_moved (λ _. to_stolen)
 
-pub stolen : {b : Bool} {x y : SessionState} {o : Out} {of : Option ℕ} {rd : Bool} {i : In} {f : Option Record} {ri : Bool} {up : List UpWord} {down : List DownWord} → Resting i → Talks b x o of rd y i f ri Across up down → Talks b x o of rd y i f ri Stolen up down
+pub stolen : {b : Bool} {x y : SessionState} {o : Out} {of : Option ℕ} {rd : Bool} {i : In} {f : Option Record} {ri : Bool} {up : List UpWord} {down : List DownWord}
+    → Resting i → Talks b x o of rd y i f ri Across up down → Talks b x o of rd y i f ri Stolen up down
 stolen resting_stopped (live (stop_sent c)) = live (stop_sent c)
 stolen resting_stopped (live (stuck_stop_sent c)) = live (stuck_stop_sent c)
 stolen resting_stopped (live (stuck_stop_heard c)) = live (stuck_stop_heard c)
@@ -72,6 +73,7 @@ stolen resting_waiting (apart a (entry_waits_heard c)) = apart a (entry_waits_he
 stolen resting_waiting (apart a entry_shaking_waiting) = apart a entry_shaking_waiting
 stolen resting_waiting (apart a (entry_described_waiting c)) = apart a (entry_described_waiting c)
 
-pub move_take_left : {b : Bool} {x y : SessionState} {o : Out} {of : Option ℕ} {rd : Bool} {i : In} {f : Option Record} {ri : Bool} {p : Place} {r : Record} {up : List UpWord} {down : List DownWord} {ue un : List SensorEvent} {xd : Bool} {a : Board} → GapAt (gaps.Left a) p r → ExitFloor o ue xd p r → EntryFloor i un false p r → Talks b x o of rd y i f ri p up down
+pub move_take_left : {b : Bool} {x y : SessionState} {o : Out} {of : Option ℕ} {rd : Bool} {i : In} {f : Option Record} {ri : Bool} {p : Place} {r : Record} {up : List UpWord} {down : List DownWord} {ue un : List SensorEvent} {xd : Bool} {a : Board}
+    → GapAt (gaps.Left a) p r → ExitFloor o ue xd p r → EntryFloor i un false p r → Talks b x o of rd y i f ri p up down
     → Moved b x o of rd y i f ri r up down (ue ++ (event.Taken ∷ [])) (un ++ (event.Taken ∷ [])) xd false gaps.Free Stolen
 move_take_left gap_left h n k = record { out = out_stolen h; «in» = in_stolen n; gap = gap_stolen; talk = stolen (rests n) k }

@@ -84,13 +84,15 @@ entry_open entry_shaking_waiting = record { offers = open_none; offer = refl }
 entry_open (entry_transporting s) = record { offers = stale_open s; offer = refl }
 entry_open (entry_stopped s) = record { offers = stale_open s; offer = refl }
 
-pub moving_open : {b : Bool} {x y : SessionState} {of : Option ℕ} {rd : Bool} {i : In} {f : Option Record} {ri : Bool} {p : Place} {up : List UpWord} {down : List DownWord} {q : Record} {c : Bool} → Talks b x (out.Moving q c) of rd y i f ri p up down → NothingOpen i f down
+pub moving_open : {b : Bool} {x y : SessionState} {of : Option ℕ} {rd : Bool} {i : In} {f : Option Record} {ri : Bool} {p : Place} {up : List UpWord} {down : List DownWord} {q : Record} {c : Bool}
+    → Talks b x (out.Moving q c) of rd y i f ri p up down → NothingOpen i f down
 moving_open (live (transporting s)) = record { offers = stale_open s; offer = refl }
 moving_open (live (stop_sent s)) = record { offers = stale_open s; offer = refl }
 moving_open (apart exit_transporting c) = entry_open c
 moving_open (apart exit_stop_sent c) = entry_open c
 
-pub stuck_open : {b : Bool} {x y : SessionState} {of : Option ℕ} {rd : Bool} {i : In} {f : Option Record} {ri : Bool} {p : Place} {up : List UpWord} {down : List DownWord} {q : Record} {l s : Bool} → Talks b x (out.Stuck q l s) of rd y i f ri p up down → NothingOpen i f down
+pub stuck_open : {b : Bool} {x y : SessionState} {of : Option ℕ} {rd : Bool} {i : In} {f : Option Record} {ri : Bool} {p : Place} {up : List UpWord} {down : List DownWord} {q : Record} {l s : Bool}
+    → Talks b x (out.Stuck q l s) of rd y i f ri p up down → NothingOpen i f down
 stuck_open (live (stuck_transporting s)) = record { offers = stale_open s; offer = refl }
 stuck_open (live (stuck_stop_sent s)) = record { offers = stale_open s; offer = refl }
 stuck_open (live (stuck_stop_heard s)) = record { offers = stale_open s; offer = refl }
@@ -109,7 +111,8 @@ finishes_open (finishes_offer h) = open_passed (finishes_open h)
 finishes_open (finishes_revoke h) = open_back (finishes_open h)
 
 -- a standing link whose outlet awaits a stop: nothing is open, so `touched` may be cleared at it
-pub ended_open : {of : Option ℕ} {rd : Bool} {i : In} {f : Option Record} {ri : Bool} {p : Place} {z : ℕ} {up : List UpWord} {down : List DownWord} → Shape (out.Ended z) of rd i f ri p up down → NothingOpen i f down
+pub ended_open : {of : Option ℕ} {rd : Bool} {i : In} {f : Option Record} {ri : Bool} {p : Place} {z : ℕ} {up : List UpWord} {down : List DownWord}
+    → Shape (out.Ended z) of rd i f ri p up down → NothingOpen i f down
 ended_open (finish_sent c) = record { offers = finishes_open c; offer = refl }
 ended_open (finish_and_stop_sent c) = record { offers = finishes_open c; offer = refl }
 ended_open (finish_heard c) = record { offers = open_none; offer = refl }
@@ -117,7 +120,8 @@ ended_open (intake_done c) = record { offers = open_none; offer = refl }
 ended_open (inside_awaited_stop_sent c) = record { offers = open_none; offer = refl }
 
 -- and as a start is heard, so that the front may go into the outlet
-pub started_open : {b : Bool} {x y : SessionState} {of : Option ℕ} {rd : Bool} {i : In} {f : Option Record} {ri : Bool} {p : Place} {up : List UpWord} {down : List DownWord} {z : ℕ} → Talks b x out.Idle of rd y i f ri p (StartTransport z ∷ up) down → NothingOpen i f down
+pub started_open : {b : Bool} {x y : SessionState} {of : Option ℕ} {rd : Bool} {i : In} {f : Option Record} {ri : Bool} {p : Place} {up : List UpWord} {down : List DownWord} {z : ℕ}
+    → Talks b x out.Idle of rd y i f ri p (StartTransport z ∷ up) down → NothingOpen i f down
 started_open (live (no_handover a _)) = elim a [ ]
 started_open (live (start_sent _ s)) = record { offers = stale_open s; offer = refl }
 started_open (live (start_and_stop_sent _ s)) = record { offers = stale_open s; offer = refl }
@@ -134,7 +138,8 @@ open_after_end e z (open_back h) = open_back (open_after_end e z h)
 open_after_end e z (open_end h) = open_end (open_after_end e z h)
 open_after_end e z (open_service h) = open_service (open_after_end e z h)
 
-pub nothing_open_after : {i : In} {f : Option Record} {down : List DownWord} (b : Bool) (e : Transfer) (z : ℕ) → NothingOpen i f down → NothingOpen i f (sent (TransportFinished e z ∷ []) b down)
+pub nothing_open_after : {i : In} {f : Option Record} {down : List DownWord} (b : Bool) (e : Transfer) (z : ℕ) → NothingOpen i f down
+    → NothingOpen i f (sent (TransportFinished e z ∷ []) b down)
 nothing_open_after true e z n = record { offers = open_after_end e z n.offers; offer = n.offer }
 nothing_open_after false e z n = n
 
@@ -149,13 +154,15 @@ pub nothing_at_all : {i : In} → NothingOpen i None []
 nothing_at_all = record { offers = open_none; offer = refl }
 
 -- an outlet that holds a board has heard the start: none is on its way
-pub moving_starts : {b : Bool} {x y : SessionState} {of : Option ℕ} {rd : Bool} {i : In} {f : Option Record} {ri : Bool} {p : Place} {up : List UpWord} {down : List DownWord} {q : Record} {c : Bool} → Talks b x (out.Moving q c) of rd y i f ri p up down → starts_in up ≡ []
+pub moving_starts : {b : Bool} {x y : SessionState} {of : Option ℕ} {rd : Bool} {i : In} {f : Option Record} {ri : Bool} {p : Place} {up : List UpWord} {down : List DownWord} {q : Record} {c : Bool}
+    → Talks b x (out.Moving q c) of rd y i f ri p up down → starts_in up ≡ []
 moving_starts (live (transporting _)) = refl
 moving_starts (live (stop_sent _)) = refl
 moving_starts (apart exit_transporting _) = refl
 moving_starts (apart exit_stop_sent _) = refl
 
-pub stuck_starts : {b : Bool} {x y : SessionState} {of : Option ℕ} {rd : Bool} {i : In} {f : Option Record} {ri : Bool} {p : Place} {up : List UpWord} {down : List DownWord} {q : Record} {l s : Bool} → Talks b x (out.Stuck q l s) of rd y i f ri p up down → starts_in up ≡ []
+pub stuck_starts : {b : Bool} {x y : SessionState} {of : Option ℕ} {rd : Bool} {i : In} {f : Option Record} {ri : Bool} {p : Place} {up : List UpWord} {down : List DownWord} {q : Record} {l s : Bool}
+    → Talks b x (out.Stuck q l s) of rd y i f ri p up down → starts_in up ≡ []
 stuck_starts (live (stuck_transporting _)) = refl
 stuck_starts (live (stuck_stop_sent _)) = refl
 stuck_starts (live (stuck_stop_heard _)) = refl

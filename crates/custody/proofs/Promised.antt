@@ -40,7 +40,8 @@ board_begun g l a k e = let gap = subst (λ t. GapAt t g.place g.board) e k.gap 
 pub board_across : (g : Ghost) (l : LinkState) (a : Board) → Pair g l → l.around.between.lies ≡ gaps.Left a → (held_in l.intake.phase ≡ Some g.board) × (a.id ≡ Some g.board.id)
 board_across g l a k e = let gap = subst (λ t. GapAt t g.place g.board) e k.gap in (left_held_downstream gap k.in, left_id gap)
 
-pub board_gone : (g : Ghost) (l : LinkState) (q : Record) (e : SensorEvent) → Pair g l → held_out l.outlet.phase ≡ Some q → TellsOf g.place e → Has e (events_at sides.Exit l.around.up.unread)
+pub board_gone : (g : Ghost) (l : LinkState) (q : Record) (e : SensorEvent) → Pair g l → held_out l.outlet.phase ≡ Some q → TellsOf g.place e
+    → Has e (events_at sides.Exit l.around.up.unread)
 board_gone g l q e k held tells = gone_is_unread k.out tells held
 
 pub free_behind_an_end : (g : Ghost) (l : LinkState) (e : Transfer) (z : ℕ) → Pair g l → HasDown (TransportFinished e z) (down_words l.down) → held_out l.outlet.phase ≡ None
@@ -67,42 +68,59 @@ nowhere : ℕ → Type 0
 nowhere _ = ⊥
 
 -- what an event of the entry settles, whichever row it has
-read_settles : (g : Ghost) (l : LinkState) (e : SensorEvent) (rest : List Sensed) (row : InRow) (q : Record) → Pair g (with_unread_down l (entry_sees e ∷ rest)) → intake_row l.intake (in_input.Sensed e) ≡ Some row → row.act.keep ≡ Some q
+read_settles : (g : Ghost) (l : LinkState) (e : SensorEvent) (rest : List Sensed) (row : InRow) (q : Record) → Pair g (with_unread_down l (entry_sees e ∷ rest))
+    → intake_row l.intake (in_input.Sensed e) ≡ Some row → row.act.keep ≡ Some q
     → Settles l.outlet.phase g.place g.board q (in_input.Sensed e) l.intake.phase
 read_settles g l e rest row q k is keep = let d : EntryStep nowhere [] g (with_unread_down l (entry_sees e ∷ rest)) (in_input.Sensed e) rest l.down = reads_entry g l e rest k in d.settles q (keeps_same d.is is keep)
 
-end_settles : (g : Ghost) (l : LinkState) (s : Transfer) (z : ℕ) (rest : List Horizontal) (row : InRow) (q : Record) → Pair g (hearing_down l (message.TransportFinished s z) rest) → intake_row l.intake (in_input.Finished s z) ≡ Some row → row.act.keep ≡ Some q
+end_settles : (g : Ghost) (l : LinkState) (s : Transfer) (z : ℕ) (rest : List Horizontal) (row : InRow) (q : Record)
+    → Pair g (hearing_down l (message.TransportFinished s z) rest) → intake_row l.intake (in_input.Finished s z) ≡ Some row → row.act.keep ≡ Some q
     → Settles l.outlet.phase g.place g.board q (in_input.Finished s z) l.intake.phase
 end_settles g l s z rest row q k is keep = let d : (l.entry ≡ Standing) × EntryStep nowhere [] g (hearing_down l (message.TransportFinished s z) rest) (in_input.Finished s z) [] rest = hears_finished g l s z rest k in d.1.settles q (keeps_same d.1.is is keep)
 
-description_settles : (g : Ghost) (l : LinkState) (service : Service) (rest : List Horizontal) (row : InRow) (q : Record) → Pair g (hearing_down l (message.ServiceDescription service) rest) → intake_row l.intake in_input.Stand ≡ Some row → row.act.keep ≡ Some q
+description_settles : (g : Ghost) (l : LinkState) (service : Service) (rest : List Horizontal) (row : InRow) (q : Record)
+    → Pair g (hearing_down l (message.ServiceDescription service) rest) → intake_row l.intake in_input.Stand ≡ Some row → row.act.keep ≡ Some q
     → Settles l.outlet.phase g.place g.board q in_input.Stand l.intake.phase
 description_settles g l service rest row q k is keep = let d : (l.entry ≡ Handshake) × EntryStep nowhere [] g (record (hearing_down l (message.ServiceDescription service) rest) { entry = Standing }) in_input.Stand [] rest = hears_upstream g l service rest k in d.1.settles q (keeps_same d.1.is is keep)
 
 -- it was let go last
-pub read_was_let_go : (g : Ghost) (l : LinkState) (e : SensorEvent) (rest : List Sensed) (row : InRow) (q : Record) (last : Option Record) → Pair g (with_unread_down l (entry_sees e ∷ rest)) → intake_row l.intake (in_input.Sensed e) ≡ Some row → row.act.keep ≡ Some q → LetGo g.place l.outlet.phase g.board last → last ≡ Some q
+pub read_was_let_go : (g : Ghost) (l : LinkState) (e : SensorEvent) (rest : List Sensed) (row : InRow) (q : Record) (last : Option Record)
+    → Pair g (with_unread_down l (entry_sees e ∷ rest)) → intake_row l.intake (in_input.Sensed e) ≡ Some row → row.act.keep ≡ Some q
+    → LetGo g.place l.outlet.phase g.board last → last ≡ Some q
 read_was_let_go g l e rest row q last k is keep lets = settled_by (read_settles g l e rest row q k is keep) lets
 
-pub end_was_let_go : (g : Ghost) (l : LinkState) (s : Transfer) (z : ℕ) (rest : List Horizontal) (row : InRow) (q : Record) (last : Option Record) → Pair g (hearing_down l (message.TransportFinished s z) rest) → intake_row l.intake (in_input.Finished s z) ≡ Some row → row.act.keep ≡ Some q → LetGo g.place l.outlet.phase g.board last → last ≡ Some q
+pub end_was_let_go : (g : Ghost) (l : LinkState) (s : Transfer) (z : ℕ) (rest : List Horizontal) (row : InRow) (q : Record) (last : Option Record)
+    → Pair g (hearing_down l (message.TransportFinished s z) rest) → intake_row l.intake (in_input.Finished s z) ≡ Some row → row.act.keep ≡ Some q
+    → LetGo g.place l.outlet.phase g.board last → last ≡ Some q
 end_was_let_go g l s z rest row q last k is keep lets = settled_by (end_settles g l s z rest row q k is keep) lets
 
-pub description_was_let_go : (g : Ghost) (l : LinkState) (service : Service) (rest : List Horizontal) (row : InRow) (q : Record) (last : Option Record) → Pair g (hearing_down l (message.ServiceDescription service) rest) → intake_row l.intake in_input.Stand ≡ Some row → row.act.keep ≡ Some q → LetGo g.place l.outlet.phase g.board last → last ≡ Some q
+pub description_was_let_go : (g : Ghost) (l : LinkState) (service : Service) (rest : List Horizontal) (row : InRow) (q : Record) (last : Option Record)
+    → Pair g (hearing_down l (message.ServiceDescription service) rest) → intake_row l.intake in_input.Stand ≡ Some row → row.act.keep ≡ Some q
+    → LetGo g.place l.outlet.phase g.board last → last ≡ Some q
 description_was_let_go g l service rest row q last k is keep lets = settled_by (description_settles g l service rest row q k is keep) lets
 
 -- and the upstream machine said so
-pub read_was_said : (g : Ghost) (l : LinkState) (e : SensorEvent) (rest : List Sensed) (row : InRow) (q : Record) (s : Since) → Pair g (with_unread_down l (entry_sees e ∷ rest)) → intake_row l.intake (in_input.Sensed e) ≡ Some row → row.act.keep ≡ Some q → Recalls l.intake.phase s → IsSaid (since_after (in_input.Sensed e) s)
+pub read_was_said : (g : Ghost) (l : LinkState) (e : SensorEvent) (rest : List Sensed) (row : InRow) (q : Record) (s : Since)
+    → Pair g (with_unread_down l (entry_sees e ∷ rest)) → intake_row l.intake (in_input.Sensed e) ≡ Some row → row.act.keep ≡ Some q → Recalls l.intake.phase s
+    → IsSaid (since_after (in_input.Sensed e) s)
 read_was_said g l e rest row q s k is keep = (read_settles g l e rest row q k is keep).said s
 
-pub end_was_said : (g : Ghost) (l : LinkState) (t : Transfer) (z : ℕ) (rest : List Horizontal) (row : InRow) (q : Record) (s : Since) → Pair g (hearing_down l (message.TransportFinished t z) rest) → intake_row l.intake (in_input.Finished t z) ≡ Some row → row.act.keep ≡ Some q → Recalls l.intake.phase s → IsSaid (since_after (in_input.Finished t z) s)
+pub end_was_said : (g : Ghost) (l : LinkState) (t : Transfer) (z : ℕ) (rest : List Horizontal) (row : InRow) (q : Record) (s : Since)
+    → Pair g (hearing_down l (message.TransportFinished t z) rest) → intake_row l.intake (in_input.Finished t z) ≡ Some row → row.act.keep ≡ Some q
+    → Recalls l.intake.phase s → IsSaid (since_after (in_input.Finished t z) s)
 end_was_said g l t z rest row q s k is keep = (end_settles g l t z rest row q k is keep).said s
 
-pub description_was_said : (g : Ghost) (l : LinkState) (service : Service) (rest : List Horizontal) (row : InRow) (q : Record) (s : Since) → Pair g (hearing_down l (message.ServiceDescription service) rest) → intake_row l.intake in_input.Stand ≡ Some row → row.act.keep ≡ Some q → Recalls l.intake.phase s → IsSaid (since_after in_input.Stand s)
+pub description_was_said : (g : Ghost) (l : LinkState) (service : Service) (rest : List Horizontal) (row : InRow) (q : Record) (s : Since)
+    → Pair g (hearing_down l (message.ServiceDescription service) rest) → intake_row l.intake in_input.Stand ≡ Some row → row.act.keep ≡ Some q → Recalls l.intake.phase s
+    → IsSaid (since_after in_input.Stand s)
 description_was_said g l service rest row q s k is keep = (description_settles g l service rest row q k is keep).said s
 
 -- a start that is heard is the last that was said, and its board is held unless it was dropped since
-pub start_is_last : (l : LinkState) (z : ℕ) (rest : List Horizontal) (last : Option ℕ) (dropped : Bool) → IsAsked (hearing_up l (message.StartTransport z) rest) last dropped → (last ≡ Some z) × (is_some (held_in l.intake.phase) ≡ not dropped)
+pub start_is_last : (l : LinkState) (z : ℕ) (rest : List Horizontal) (last : Option ℕ) (dropped : Bool)
+    → IsAsked (hearing_up l (message.StartTransport z) rest) last dropped → (last ≡ Some z) × (is_some (held_in l.intake.phase) ≡ not dropped)
 start_is_last l z rest last dropped a = heard_is_last a
 
 -- the front, where it is what the outlet offers, is what a machine finds for a start
-pub finds_for_a_start : (g : Ghost) (l : LinkState) (z : ℕ) (rest : List Horizontal) (kept : List Record) → Pair g (hearing_up l (message.StartTransport z) rest) → OffersFront l.outlet.offered kept → Looks l.outlet.offered kept z (front_if (would_open l.outlet z) kept)
+pub finds_for_a_start : (g : Ghost) (l : LinkState) (z : ℕ) (rest : List Horizontal) (kept : List Record) → Pair g (hearing_up l (message.StartTransport z) rest)
+    → OffersFront l.outlet.offered kept → Looks l.outlet.offered kept z (front_if (would_open l.outlet z) kept)
 finds_for_a_start g l z rest kept k front = start_finds l.outlet.touched k.talk front

@@ -34,7 +34,8 @@ now_ended true ended e = cc
 pub said_now : (s : Since) → (true ≡ true → s.closed ≡ false) → not s.closed || s.ended ≡ true
 said_now s open_still = now_ended s.closed s.ended (open_still refl)
 
-pub ended_now : (s : Since) → (true ≡ true → s.closed ≡ false) → (false ≡ true → s.closed ≡ true) → (true ≡ true → not s.closed || s.ended ≡ true) × (true ≡ true → s.closed ≡ false) × (false ≡ true → s.closed ≡ true)
+pub ended_now : (s : Since) → (true ≡ true → s.closed ≡ false) → (false ≡ true → s.closed ≡ true)
+    → (true ≡ true → not s.closed || s.ended ≡ true) × (true ≡ true → s.closed ≡ false) × (false ≡ true → s.closed ≡ true)
 ended_now s open_still shut = (λ _. said_now s open_still, open_still, shut)
 
 -- the connection is closed
@@ -46,11 +47,13 @@ pub kept_is : {r q : Record} → ◌≡◌ {A = Option Record} (Some r) (Some q)
 kept_is e = cc
 
 -- where the end was heard, the outlet holds nothing
-pub free_taking : {b : Bool} {x y : SessionState} {o : Out} {of : Option ℕ} {rd : Bool} {f : Option Record} {ri : Bool} {p : Place} {up : List UpWord} {down : List DownWord} {q : Record} {a : Seen} → Talks b x o of rd y (inn.Taking q a true) f ri p up down → held_out o ≡ None
+pub free_taking : {b : Bool} {x y : SessionState} {o : Out} {of : Option ℕ} {rd : Bool} {f : Option Record} {ri : Bool} {p : Place} {up : List UpWord} {down : List DownWord} {q : Record} {a : Seen}
+    → Talks b x o of rd y (inn.Taking q a true) f ri p up down → held_out o ≡ None
 free_taking (live (finish_heard c)) = refl
 free_taking (apart a (entry_finish_heard c)) = exit_free a
 
-pub free_stopped : {b : Bool} {x y : SessionState} {o : Out} {of : Option ℕ} {rd : Bool} {f : Option Record} {ri : Bool} {p : Place} {up : List UpWord} {down : List DownWord} {q : Record} {e : Transfer} {a : Seen} → Talks b x o of rd y (inn.Stopped q a (Some e)) f ri p up down → held_out o ≡ None
+pub free_stopped : {b : Bool} {x y : SessionState} {o : Out} {of : Option ℕ} {rd : Bool} {f : Option Record} {ri : Bool} {p : Place} {up : List UpWord} {down : List DownWord} {q : Record} {e : Transfer} {a : Seen}
+    → Talks b x o of rd y (inn.Stopped q a (Some e)) f ri p up down → held_out o ≡ None
 free_stopped (live (inside_awaited_stop_sent c)) = refl
 free_stopped (live (inside_awaited c d)) = refl
 free_stopped (apart a (entry_inside_awaited c d)) = exit_free a

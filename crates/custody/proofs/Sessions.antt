@@ -14,7 +14,8 @@ use Rattle.custody.specs.Shape.{finish_and_stop_sent, finish_sent, inside_awaite
 use Rattle.custody.specs.Talks.{Talks, apart, apart_start, apart_start_stop, described, described_waiting, live, shaking_idle, shaking_stuck, shaking_waiting}
 use Rattle.custody.specs.Words.{DownWord, DownstreamService, UpWord, UpstreamService}
 
-pub exit_stands : {b : Bool} {x y : SessionState} {o : Out} {of : Option ℕ} {rd : Bool} {i : In} {f : Option Record} {ri : Bool} {p : Place} {up : List UpWord} {down : List DownWord} {w : UpWord} → Talks b x o of rd y i f ri p (w ∷ up) down → IsTraffic w → x ≡ Standing
+pub exit_stands : {b : Bool} {x y : SessionState} {o : Out} {of : Option ℕ} {rd : Bool} {i : In} {f : Option Record} {ri : Bool} {p : Place} {up : List UpWord} {down : List DownWord} {w : UpWord}
+    → Talks b x o of rd y i f ri p (w ∷ up) down → IsTraffic w → x ≡ Standing
 exit_stands (live _) _ = refl
 exit_stands shaking_idle n = elim n [ ]
 exit_stands shaking_waiting n = elim n [ ]
@@ -31,7 +32,8 @@ exit_stands (apart exit_stuck_stop_sent _) _ = refl
 exit_stands (apart (exit_finished_stop_sent _) _) _ = refl
 
 -- a description finds a session that shakes hands, and the outlet holds or not
-pub exit_shakes : {b : Bool} {x y : SessionState} {o : Out} {of : Option ℕ} {rd : Bool} {i : In} {f : Option Record} {ri : Bool} {p : Place} {up : List UpWord} {down : List DownWord} → Talks b x o of rd y i f ri p (DownstreamService ∷ up) down → IsOpen x → x ≡ Handshake
+pub exit_shakes : {b : Bool} {x y : SessionState} {o : Out} {of : Option ℕ} {rd : Bool} {i : In} {f : Option Record} {ri : Bool} {p : Place} {up : List UpWord} {down : List DownWord}
+    → Talks b x o of rd y i f ri p (DownstreamService ∷ up) down → IsOpen x → x ≡ Handshake
 exit_shakes (live (no_handover a _)) _ = elim a [ ]
 exit_shakes (live (start_sent a _)) _ = elim a [ ]
 exit_shakes (live (start_and_stop_sent a _)) _ = elim a [ ]
@@ -46,7 +48,8 @@ exit_shakes (apart exit_described _) _ = refl
 exit_shakes (apart exit_described_stuck _) _ = refl
 exit_shakes (apart (exit_idle a) _) _ = elim a [ ]
 
-pub entry_stands : {b : Bool} {x y : SessionState} {o : Out} {of : Option ℕ} {rd : Bool} {i : In} {f : Option Record} {ri : Bool} {p : Place} {up : List UpWord} {down : List DownWord} {w : DownWord} → Talks b x o of rd y i f ri p up (w ∷ down) → IsTold w → y ≡ Standing
+pub entry_stands : {b : Bool} {x y : SessionState} {o : Out} {of : Option ℕ} {rd : Bool} {i : In} {f : Option Record} {ri : Bool} {p : Place} {up : List UpWord} {down : List DownWord} {w : DownWord}
+    → Talks b x o of rd y i f ri p up (w ∷ down) → IsTold w → y ≡ Standing
 entry_stands (live _) _ = refl
 entry_stands (described _) n = elim n [ ]
 entry_stands (described_waiting _) n = elim n [ ]
@@ -59,7 +62,8 @@ entry_stands (apart _ (entry_stopped _)) _ = refl
 entry_stands (apart _ (entry_stopped_finish_sent _ _)) _ = refl
 entry_stands (apart _ (entry_inside_awaited _ _)) _ = refl
 
-pub entry_shakes : {b : Bool} {x y : SessionState} {o : Out} {of : Option ℕ} {rd : Bool} {i : In} {f : Option Record} {ri : Bool} {p : Place} {up : List UpWord} {down : List DownWord} → Talks b x o of rd y i f ri p up (UpstreamService ∷ down) → y ≡ Handshake
+pub entry_shakes : {b : Bool} {x y : SessionState} {o : Out} {of : Option ℕ} {rd : Bool} {i : In} {f : Option Record} {ri : Bool} {p : Place} {up : List UpWord} {down : List DownWord}
+    → Talks b x o of rd y i f ri p up (UpstreamService ∷ down) → y ≡ Handshake
 entry_shakes (live (no_handover _ a)) = elim a [ ]
 entry_shakes (live (start_sent _ a)) = elim a [ ]
 entry_shakes (live (start_and_stop_sent _ a)) = elim a [ ]
@@ -84,7 +88,8 @@ entry_shakes (apart _ (entry_stopped_finish_sent a _)) = elim a [ ]
 entry_shakes (apart _ (entry_inside_awaited _ a)) = elim a [ ]
 
 -- what is offered, and a machine that said it is ready, have a standing session
-pub offered_stands : {b : Bool} {x y : SessionState} {z : ℕ} {rd : Bool} {i : In} {f : Option Record} {ri : Bool} {p : Place} {up : List UpWord} {down : List DownWord} → Talks b x out.Idle (Some z) rd y i f ri p up down → x ≡ Standing
+pub offered_stands : {b : Bool} {x y : SessionState} {z : ℕ} {rd : Bool} {i : In} {f : Option Record} {ri : Bool} {p : Place} {up : List UpWord} {down : List DownWord}
+    → Talks b x out.Idle (Some z) rd y i f ri p up down → x ≡ Standing
 offered_stands (live _) = refl
 offered_stands (described _) = refl
 offered_stands (described_waiting _) = refl
@@ -92,12 +97,14 @@ offered_stands (apart_start _ _) = refl
 offered_stands (apart_start_stop _ _) = refl
 offered_stands (apart (exit_idle _) _) = refl
 
-pub ready_stands : {b : Bool} {x y : SessionState} {o : Out} {of : Option ℕ} {rd : Bool} {f : Option Record} {p : Place} {up : List UpWord} {down : List DownWord} → Talks b x o of rd y inn.Idle f true p up down → y ≡ Standing
+pub ready_stands : {b : Bool} {x y : SessionState} {o : Out} {of : Option ℕ} {rd : Bool} {f : Option Record} {p : Place} {up : List UpWord} {down : List DownWord}
+    → Talks b x o of rd y inn.Idle f true p up down → y ≡ Standing
 ready_stands (live _) = refl
 ready_stands (apart _ (entry_idle _)) = refl
 
 -- an entry that shakes hands has no offer
-pub shaking_offerless : {b : Bool} {x : SessionState} {o : Out} {of : Option ℕ} {rd : Bool} {i : In} {f : Option Record} {ri : Bool} {p : Place} {up : List UpWord} {down : List DownWord} → Talks b x o of rd Handshake i f ri p up down → f ≡ None
+pub shaking_offerless : {b : Bool} {x : SessionState} {o : Out} {of : Option ℕ} {rd : Bool} {i : In} {f : Option Record} {ri : Bool} {p : Place} {up : List UpWord} {down : List DownWord}
+    → Talks b x o of rd Handshake i f ri p up down → f ≡ None
 shaking_offerless shaking_idle = refl
 shaking_offerless shaking_waiting = refl
 shaking_offerless shaking_stuck = refl

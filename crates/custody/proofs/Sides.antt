@@ -93,21 +93,26 @@ emptied (entry_inside_awaited c d) = entry_inside_awaited c (same_offer _)
 -- an entry beside an outlet that holds nothing, or holds one
 
 -- an entry beside an outlet that holds nothing, or holds a board
-pub anywhere : {b : Bool} {x : SessionState} {of : Option ℕ} {rd : Bool} {y : SessionState} {i : In} {f : Option Record} {ri : Bool} {p : Place} {down : List DownWord} → Exit b x out.Idle of rd [] → Entry b y i f ri p down → Entry true y i f ri p down
+pub anywhere : {b : Bool} {x : SessionState} {of : Option ℕ} {rd : Bool} {y : SessionState} {i : In} {f : Option Record} {ri : Bool} {p : Place} {down : List DownWord}
+    → Exit b x out.Idle of rd [] → Entry b y i f ri p down → Entry true y i f ri p down
 anywhere exit_none c = c
 anywhere exit_shaking c = c
 anywhere (exit_idle a) c = c
 
-pub anywhere_ended : {b : Bool} {x : SessionState} {of : Option ℕ} {rd : Bool} {y : SessionState} {i : In} {f : Option Record} {ri : Bool} {p : Place} {down : List DownWord} {z : ℕ} → Exit b x (out.Ended z) of rd [] → Entry b y i f ri p down → Entry true y i f ri p down
+pub anywhere_ended : {b : Bool} {x : SessionState} {of : Option ℕ} {rd : Bool} {y : SessionState} {i : In} {f : Option Record} {ri : Bool} {p : Place} {down : List DownWord} {z : ℕ}
+    → Exit b x (out.Ended z) of rd [] → Entry b y i f ri p down → Entry true y i f ri p down
 anywhere_ended exit_finished c = c
 
-pub anywhere_moving : {b : Bool} {x : SessionState} {of : Option ℕ} {rd : Bool} {y : SessionState} {i : In} {f : Option Record} {ri : Bool} {p : Place} {down : List DownWord} {q : Record} {c : Bool} → Exit b x (out.Moving q c) of rd [] → Entry b y i f ri p down → Entry true y i f ri p down
+pub anywhere_moving : {b : Bool} {x : SessionState} {of : Option ℕ} {rd : Bool} {y : SessionState} {i : In} {f : Option Record} {ri : Bool} {p : Place} {down : List DownWord} {q : Record} {c : Bool}
+    → Exit b x (out.Moving q c) of rd [] → Entry b y i f ri p down → Entry true y i f ri p down
 anywhere_moving exit_transporting c = released c
 
-pub held_moving : {b : Bool} {x : SessionState} {of : Option ℕ} {rd : Bool} {y : SessionState} {i : In} {f : Option Record} {ri : Bool} {p : Place} {down : List DownWord} {q : Record} {c : Bool} → Exit b x (out.Moving q c) of rd [] → Entry b y i f ri p down → Entry false y i f ri p down
+pub held_moving : {b : Bool} {x : SessionState} {of : Option ℕ} {rd : Bool} {y : SessionState} {i : In} {f : Option Record} {ri : Bool} {p : Place} {down : List DownWord} {q : Record} {c : Bool}
+    → Exit b x (out.Moving q c) of rd [] → Entry b y i f ri p down → Entry false y i f ri p down
 held_moving exit_transporting c = c
 
-pub held_stuck : {b : Bool} {x : SessionState} {of : Option ℕ} {rd : Bool} {y : SessionState} {i : In} {f : Option Record} {ri : Bool} {p : Place} {down : List DownWord} {q : Record} {l s : Bool} → Exit b x (out.Stuck q l s) of rd [] → Entry b y i f ri p down → Entry false y i f ri p down
+pub held_stuck : {b : Bool} {x : SessionState} {of : Option ℕ} {rd : Bool} {y : SessionState} {i : In} {f : Option Record} {ri : Bool} {p : Place} {down : List DownWord} {q : Record} {l s : Bool}
+    → Exit b x (out.Stuck q l s) of rd [] → Entry b y i f ri p down → Entry false y i f ri p down
 held_stuck exit_none_stuck c = c
 held_stuck exit_shaking_stuck c = c
 held_stuck exit_stuck c = c
@@ -118,7 +123,8 @@ pub record Aimed (o : Out) (ue : List SensorEvent) (xd : Bool) (p : Place) (q : 
   pub out : ExitFloor o ue xd Fresh q
   pub above : (ks : List Record) → listed o p ks ≡ listed o Fresh ks
 
-pub aimed : {x : SessionState} {o : Out} {of : Option ℕ} {rd : Bool} {up : List UpWord} {ue : List SensorEvent} {xd : Bool} {p : Place} {r : Record} (q : Record) → Exit true x o of rd up → ExitFloor o ue xd p r → Aimed o ue xd p q
+pub aimed : {x : SessionState} {o : Out} {of : Option ℕ} {rd : Bool} {up : List UpWord} {ue : List SensorEvent} {xd : Bool} {p : Place} {r : Record} (q : Record)
+    → Exit true x o of rd up → ExitFloor o ue xd p r → Aimed o ue xd p q
 aimed q exit_none (out_idle e n) = record { before = n; out = out_idle e not_begun_fresh; above = λ ks. refl }
 aimed q exit_called (out_idle e n) = record { before = n; out = out_idle e not_begun_fresh; above = λ ks. refl }
 aimed q exit_shaking (out_idle e n) = record { before = n; out = out_idle e not_begun_fresh; above = λ ks. refl }

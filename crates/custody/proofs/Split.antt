@@ -21,7 +21,8 @@ pub record Split (x : SessionState) (o : Out) (of : Option ℕ) (rd : Bool) (y :
   pub exit : Exit flag x o of rd []
   pub entry : Entry flag y i f ri p down
 
-pub split : {b : Bool} {x y : SessionState} {o : Out} {of : Option ℕ} {rd : Bool} {i : In} {f : Option Record} {ri : Bool} {p : Place} {up : List UpWord} {down : List DownWord} → Talks b x o of rd y i f ri p up down → Split x o of rd y i f ri p down
+pub split : {b : Bool} {x y : SessionState} {o : Out} {of : Option ℕ} {rd : Bool} {i : In} {f : Option Record} {ri : Bool} {p : Place} {up : List UpWord} {down : List DownWord}
+    → Talks b x o of rd y i f ri p up down → Split x o of rd y i f ri p down
 split (live (no_handover a c)) = record { flag = true; exit = exit_idle readies_none; entry = entry_idle c }
 split (live (start_sent a c)) = record { flag = true; exit = exit_idle readies_none; entry = entry_transporting c }
 split (live (start_and_stop_sent a c)) = record { flag = true; exit = exit_idle readies_none; entry = entry_stopped c }
@@ -47,8 +48,10 @@ split (apart_start_stop a c) = record { flag = true; exit = exit_idle readies_no
 split (apart a c) = record { flag = _; exit = emptied_exit a; entry = c }
 
 -- a cut: what flows either way is gone
-pub cut : {b : Bool} {x y : SessionState} {o : Out} {of : Option ℕ} {rd : Bool} {i : In} {f : Option Record} {ri : Bool} {p : Place} {up : List UpWord} {down : List DownWord} → Talks b x o of rd y i f ri p up down → Talks false x o of rd y i f ri p [] []
+pub cut : {b : Bool} {x y : SessionState} {o : Out} {of : Option ℕ} {rd : Bool} {i : In} {f : Option Record} {ri : Bool} {p : Place} {up : List UpWord} {down : List DownWord}
+    → Talks b x o of rd y i f ri p up down → Talks false x o of rd y i f ri p [] []
 cut t = let s = split t in apart s.exit (emptied s.entry)
 
-pub contents_cut : {Gone : ℕ → Type 0} {b : Bool} {ks : List Record} {t : Option ℕ} {i : In} {f : Option Record} {up : List UpWord} {down : List DownWord} → Contents Gone b ks t i f up down → Contents Gone false ks t i f [] []
+pub contents_cut : {Gone : ℕ → Type 0} {b : Bool} {ks : List Record} {t : Option ℕ} {i : In} {f : Option Record} {up : List UpWord} {down : List DownWord}
+    → Contents Gone b ks t i f up down → Contents Gone false ks t i f [] []
 contents_cut h = record { offers = open_none; offer = offer_map named_cut h.offer; start = λ r s _ _. absurd (not_standing s) }

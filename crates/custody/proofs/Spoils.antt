@@ -83,7 +83,8 @@ pub nul_waits : (w c : List ℕ) → WantsMore w → Spoiled w c → Spoiled (le
 nul_waits w c g s = record { front = s.front; rest = s.rest; none = s.none; same = λ later. sym (g.frames (c ++ later)) ∙ s.same later }
 
 pub nul_stays : (w c t : List ℕ) → Spoiled w c → Spoiled w (c ++ t)
-nul_stays w c t s = record { front = s.front; rest = s.rest ++ t; none = s.none; same = λ later. ap (λ z. frames_of (w ++ z)) (append_assoc c t later) ∙ s.same (t ++ later) ∙ ap (λ z. frames_of (s.front ++ (0 ∷ z))) (sym (append_assoc s.rest t later)) }
+nul_stays w c t s =
+    record { front = s.front; rest = s.rest ++ t; none = s.none; same = λ later. ap (λ z. frames_of (w ++ z)) (append_assoc c t later) ∙ s.same (t ++ later) ∙ ap (λ z. frames_of (s.front ++ (0 ∷ z))) (sym (append_assoc s.rest t later)) }
 
 same_frame : {f g : List ℕ} {fs gs : List (List ℕ)} → f ∷ fs ≡ g ∷ gs → g ≡ f
 same_frame e = cc

@@ -34,13 +34,15 @@ pub pair_entry : {Q : Record → Type 0} {before : List DownWord} (g : Ghost) (l
 pair_entry g l w unread down ms k did e = record { out = k.out; «in» = did.in; gap = k.gap; talk = rw (sent_up l.stands ms l.up, e) did.talk }
 
 -- the boards of a machine up to the kept ones, and from them on
-pub body_exit : {o o2 : Out} {p p2 : Place} {kept kept2 : List Record} {i : In} {q : Place} {boards : List Board} → listed o p kept ≡ listed o2 p2 kept2 → Body o p kept i q boards → Body o2 p2 kept2 i q boards
+pub body_exit : {o o2 : Out} {p p2 : Place} {kept kept2 : List Record} {i : In} {q : Place} {boards : List Board}
+    → listed o p kept ≡ listed o2 p2 kept2 → Body o p kept i q boards → Body o2 p2 kept2 i q boards
 body_exit {o = o} {o2 = o2} {p = p} {p2 = p2} {kept = kept} {kept2 = kept2} {i = i} {q = q} e s = record {
   same = s.same ∙ sym (append_assoc (part (held_out o) (is_upstream p)) (map board_of kept) (part (held_in i) (is_inside q)))
       ∙ ap (λ xs. xs ++ part (held_in i) (is_inside q)) e ∙ append_assoc (part (held_out o2) (is_upstream p2)) (map board_of kept2) (part (held_in i) (is_inside q));
 }
 
-pub body_entry : {o : Out} {p : Place} {kept kept2 : List Record} {i i2 : In} {q q2 : Place} {boards : List Board} → listed_last i q kept ≡ listed_last i2 q2 kept2 → Body o p kept i q boards → Body o p kept2 i2 q2 boards
+pub body_entry : {o : Out} {p : Place} {kept kept2 : List Record} {i i2 : In} {q q2 : Place} {boards : List Board}
+    → listed_last i q kept ≡ listed_last i2 q2 kept2 → Body o p kept i q boards → Body o p kept2 i2 q2 boards
 body_entry {o = o} {p = p} e s = record { same = s.same ∙ ap (λ xs. part (held_out o) (is_upstream p) ++ xs) e }
 
 pub exit_step : {Gone : ℕ → Type 0} (g : Ghost) (l : LinkState) (w : OutInput) (unread : List Sensed) (rest : List Horizontal) → Pair g l

@@ -52,10 +52,12 @@ rebuilt z m r = λ i. record { messages = m i; rest = r i }
 same_some : {a c : List ℕ} → ◌≡◌ {A = Option (List ℕ)} (Some a) (Some c) → a ≡ c
 same_some e = cc
 
-after_nothing : (texts : List (List ℕ)) (left x y : List ℕ) → ◌≡◌ {A = Frames} (record { messages = []; rest = Some left }) (record { messages = texts; rest = Some [] }) → frames_of (x ++ y) ≡ frames_of (left ++ y) → frames_of (x ++ y) ≡ behind texts (frames_of y)
+after_nothing : (texts : List (List ℕ)) (left x y : List ℕ) → ◌≡◌ {A = Frames} (record { messages = []; rest = Some left }) (record { messages = texts; rest = Some [] })
+    → frames_of (x ++ y) ≡ frames_of (left ++ y) → frames_of (x ++ y) ≡ behind texts (frames_of y)
 after_nothing texts left x y e k = k ∙ ap (λ l. frames_of (l ++ y)) (same_some (ap (λ r. r.rest) e)) ∙ ap (λ ts. behind ts (frames_of y)) (ap (λ r. r.messages) e)
 
-pub comes_behind : (texts : List (List ℕ)) (x y : List ℕ) (answer : Answer) → answer_of x ≡ answer → frames_of x ≡ record { messages = texts; rest = Some [] } → frames_of (x ++ y) ≡ behind texts (frames_of y)
+pub comes_behind : (texts : List (List ℕ)) (x y : List ℕ) (answer : Answer) → answer_of x ≡ answer → frames_of x ≡ record { messages = texts; rest = Some [] }
+    → frames_of (x ++ y) ≡ behind texts (frames_of y)
 comes_behind texts x y TooLong a e = absurd (no_rest (ap (λ r. r.rest) (sym (frames_of-too_long_append x [] a) ∙ nothing_after x ∙ e)))
 comes_behind [] x y (Frame f) a e = absurd (no_first (ap (λ r. r.messages) (sym (frames_of-frame_append x [] f a) ∙ nothing_after x ∙ e)))
 comes_behind (t ∷ ts) x y (Frame f) a e =

@@ -24,34 +24,41 @@ use Rattle.custody.proofs.Open.{NothingOpen, nothing_open_after}
 use Rattle.custody.proofs.Sides.{released}
 
 -- a board in an outlet that is moving is seen to begin
-pub begins_moving : {b : Bool} {x y : SessionState} {of : Option ℕ} {rd : Bool} {i : In} {f : Option Record} {ri : Bool} {p : Place} {up : List UpWord} {down : List DownWord} {q : Record} → Talks b x (out.Moving q false) of rd y i f ri p up down → Talks b x (out.Moving q true) of rd y i f ri p up down
+pub begins_moving : {b : Bool} {x y : SessionState} {of : Option ℕ} {rd : Bool} {i : In} {f : Option Record} {ri : Bool} {p : Place} {up : List UpWord} {down : List DownWord} {q : Record}
+    → Talks b x (out.Moving q false) of rd y i f ri p up down → Talks b x (out.Moving q true) of rd y i f ri p up down
 begins_moving (live (transporting c)) = live (transporting c)
 begins_moving (live (stop_sent c)) = live (stop_sent c)
 begins_moving (apart exit_transporting c) = apart exit_transporting c
 begins_moving (apart exit_stop_sent c) = apart exit_stop_sent c
 
 -- a board's transport has ended: the outlet moves no more
-pub ends_moving : {b : Bool} {x y : SessionState} {of : Option ℕ} {rd : Bool} {i : In} {f : Option Record} {ri : Bool} {p : Place} {up : List UpWord} {down : List DownWord} {e : Transfer} {q : Record} {c : Bool} → ((t : Bool) → Fits e p t) → Talks b x (out.Moving q c) of rd y i f ri p up down → Talks b x (out.Ended q.id) of rd y i f ri p up (sent (TransportFinished e q.id ∷ []) b down)
+pub ends_moving : {b : Bool} {x y : SessionState} {of : Option ℕ} {rd : Bool} {i : In} {f : Option Record} {ri : Bool} {p : Place} {up : List UpWord} {down : List DownWord} {e : Transfer} {q : Record} {c : Bool}
+    → ((t : Bool) → Fits e p t) → Talks b x (out.Moving q c) of rd y i f ri p up down
+    → Talks b x (out.Ended q.id) of rd y i f ri p up (sent (TransportFinished e q.id ∷ []) b down)
 ends_moving fit (live (transporting c)) = live (finish_sent (stale_end _ c (fit true)))
 ends_moving fit (live (stop_sent c)) = live (finish_and_stop_sent (stale_end _ c (fit false)))
 ends_moving fit (apart exit_transporting c) = apart exit_finished (released c)
 ends_moving fit (apart exit_stop_sent c) = apart (exit_finished_stop_sent readies_none) (released c)
 
 -- the same where it was taken out after it had left: no intake takes it any more
-pub ends_stolen : {b : Bool} {x y : SessionState} {of : Option ℕ} {rd : Bool} {i : In} {f : Option Record} {ri : Bool} {up : List UpWord} {down : List DownWord} {q : Record} {c : Bool} {un : List SensorEvent} {ed : Bool} {r : Record} → Talks b x (out.Moving q c) of rd y i f ri Stolen up down → EntryFloor i un ed Stolen r → Talks b x (out.Ended q.id) of rd y i f ri Stolen up (sent (TransportFinished transfer.Complete q.id ∷ []) b down)
+pub ends_stolen : {b : Bool} {x y : SessionState} {of : Option ℕ} {rd : Bool} {i : In} {f : Option Record} {ri : Bool} {up : List UpWord} {down : List DownWord} {q : Record} {c : Bool} {un : List SensorEvent} {ed : Bool} {r : Record}
+    → Talks b x (out.Moving q c) of rd y i f ri Stolen up down → EntryFloor i un ed Stolen r
+    → Talks b x (out.Ended q.id) of rd y i f ri Stolen up (sent (TransportFinished transfer.Complete q.id ∷ []) b down)
 ends_stolen (live (transporting c)) (in_taking s) = elim s [ ]
 ends_stolen (live (transporting c)) (in_taken_in s) = elim s [ ]
 ends_stolen (live (stop_sent c)) _ = live (finish_and_stop_sent (stale_end _ c fits_stolen))
 ends_stolen (apart exit_transporting c) _ = apart exit_finished (released c)
 ends_stolen (apart exit_stop_sent c) _ = apart (exit_finished_stop_sent readies_none) (released c)
 
-pub out_over : {r : Record} {p : Place} (q : Record) (of t : Option ℕ) (rd : Bool) (l s : Bool) → NotBegun p → ExitFloor (over_when_stuck (outlet (out.Stuck q l s) of t rd) q.id l s).phase [] false p r
+pub out_over : {r : Record} {p : Place} (q : Record) (of t : Option ℕ) (rd : Bool) (l s : Bool) → NotBegun p
+    → ExitFloor (over_when_stuck (outlet (out.Stuck q l s) of t rd) q.id l s).phase [] false p r
 out_over q of t rd true false n = out_ended none_taken n
 out_over q of t rd true true n = out_idle none_taken n
 out_over q of t rd false _ n = out_idle none_taken n
 
 -- a board of an outlet that is stuck came back or was taken out
-pub ends_stuck : {b : Bool} {x y : SessionState} {of : Option ℕ} {rd : Bool} {i : In} {f : Option Record} {ri : Bool} {p : Place} {up : List UpWord} {down : List DownWord} {e : Transfer} {q : Record} {l s : Bool} (touched : Option ℕ) → ((t : Bool) → Fits e p t) → Talks b x (out.Stuck q l s) of rd y i f ri p up down
+pub ends_stuck : {b : Bool} {x y : SessionState} {of : Option ℕ} {rd : Bool} {i : In} {f : Option Record} {ri : Bool} {p : Place} {up : List UpWord} {down : List DownWord} {e : Transfer} {q : Record} {l s : Bool} (touched : Option ℕ)
+    → ((t : Bool) → Fits e p t) → Talks b x (out.Stuck q l s) of rd y i f ri p up down
     → let k : OutState = over_when_stuck (outlet (out.Stuck q l s) of touched rd) q.id l s in Talks b x k.phase k.offered k.ready y i f ri p up (sent (out_says (finished l e q.id) None) b down)
 ends_stuck t fit (live (stuck_transporting c)) = live (finish_sent (stale_end _ c (fit true)))
 ends_stuck t fit (live (stuck_stop_sent c)) = live (finish_and_stop_sent (stale_end _ c (fit false)))
@@ -66,14 +73,16 @@ ends_stuck t fit (apart (exit_stuck {s = true}) c) = apart (exit_idle readies_no
 ends_stuck t fit (apart exit_stuck_stop_sent c) = apart (exit_finished_stop_sent readies_none) (released c)
 
 -- and a fault stops its drive
-pub stuck_moving : {b : Bool} {x y : SessionState} {of : Option ℕ} {rd : Bool} {i : In} {f : Option Record} {ri : Bool} {p : Place} {up : List UpWord} {down : List DownWord} {q : Record} {c : Bool} → Talks b x (out.Moving q c) of rd y i f ri p up down → Talks b x (out.Stuck q true false) of rd y i f ri p up down
+pub stuck_moving : {b : Bool} {x y : SessionState} {of : Option ℕ} {rd : Bool} {i : In} {f : Option Record} {ri : Bool} {p : Place} {up : List UpWord} {down : List DownWord} {q : Record} {c : Bool}
+    → Talks b x (out.Moving q c) of rd y i f ri p up down → Talks b x (out.Stuck q true false) of rd y i f ri p up down
 stuck_moving (live (transporting c)) = live (stuck_transporting c)
 stuck_moving (live (stop_sent c)) = live (stuck_stop_sent c)
 stuck_moving (apart exit_transporting c) = apart exit_stuck c
 stuck_moving (apart exit_stop_sent c) = apart exit_stuck_stop_sent c
 
 -- an end that is told, where the connection still stands, leaves nothing open
-pub nothing_open_told : {i : In} {f : Option Record} {down : List DownWord} (l b : Bool) (e : Transfer) (z : ℕ) → NothingOpen i f down → NothingOpen i f (sent (out_says (finished l e z) None) b down)
+pub nothing_open_told : {i : In} {f : Option Record} {down : List DownWord} (l b : Bool) (e : Transfer) (z : ℕ)
+    → NothingOpen i f down → NothingOpen i f (sent (out_says (finished l e z) None) b down)
 nothing_open_told true b e z n = nothing_open_after b e z n
 nothing_open_told false b e z n = n
 
@@ -89,12 +98,14 @@ pub beyond_body : {p : Place} (q : Record) → Beyond p → (ks : List Record) �
 beyond_body q beyond_across ks = refl
 beyond_body q beyond_inside ks = refl
 
-pub home_body : (q : Record) (of t : Option ℕ) (rd l s : Bool) (ks : List Record) → listed (out.Stuck q l s) Home ks ≡ listed (over_when_stuck (outlet (out.Stuck q l s) of t rd) q.id l s).phase Home (q ∷ ks)
+pub home_body : (q : Record) (of t : Option ℕ) (rd l s : Bool) (ks : List Record)
+    → listed (out.Stuck q l s) Home ks ≡ listed (over_when_stuck (outlet (out.Stuck q l s) of t rd) q.id l s).phase Home (q ∷ ks)
 home_body q of t rd true false ks = refl
 home_body q of t rd true true ks = refl
 home_body q of t rd false s ks = refl
 
-pub lost_body : (q : Record) (of t : Option ℕ) (rd l s : Bool) (ks : List Record) → listed (out.Stuck q l s) Lost ks ≡ listed (over_when_stuck (outlet (out.Stuck q l s) of t rd) q.id l s).phase Lost ks
+pub lost_body : (q : Record) (of t : Option ℕ) (rd l s : Bool) (ks : List Record)
+    → listed (out.Stuck q l s) Lost ks ≡ listed (over_when_stuck (outlet (out.Stuck q l s) of t rd) q.id l s).phase Lost ks
 lost_body q of t rd true false ks = refl
 lost_body q of t rd true true ks = refl
 lost_body q of t rd false s ks = refl

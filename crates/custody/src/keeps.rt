@@ -23,8 +23,9 @@ ghost use Rattle.handover_in.specs.State.{may_connect};
 ghost use Rattle.handover_in.specs.declared.input.InInput.TheVariants as in_input;
 ghost use Rattle.handover_in.specs.declared.phase.Phase.{Phase as In};
 ghost use Rattle.handover_in.specs.declared.phase.Phase.TheVariants as inn;
+ghost use Rattle.custody.specs.Words.{down_words, sent, starts_in, up_words};
 ghost use Rattle.custody.specs.Place.{Place};
-ghost use Rattle.custody.specs.Pair.{Body, Ghost, LinkState, Pair, board_of};
+ghost use Rattle.custody.specs.Pair.{Body, Ghost, LinkState, Pair, board_of, keep_at};
 ghost use Rattle.custody.specs.Contents.{Kept, Looks, OffersFront};
 ghost use Rattle.custody.specs.Hands.{IsOther, PutFor, TakenOut};
 ghost use Rattle.custody.specs.Events.{EntryShut, EntryStep, ExitShut, ExitStep, IsContent, StartSaid, StartStep, called_on, cut_on, described_on, gone_by, hearing_down, hearing_up, offered_on, revoked_on, with_unread_down, with_unread_up};
@@ -115,6 +116,8 @@ pub fn an_entry_announces()
 pub fn a_link_is_connected()
     ensures call { (g : Ghost) (l : LinkState) (service : Description) → Pair g l → may_connect l.intake.phase ≡ true → l.exit ≡ NotConnected → l.entry ≡ NotConnected → Pair g (called_on l service) }
     ensures take { (g : Ghost) (l : LinkState) (service : Description) (rest : List Message) → Pair g (record l { up = message.ServiceDescription service ∷ rest; down = [] }) → l.exit ≡ NotConnected → l.entry ≡ Handshake → Pair g (record l { exit = Handshake; stands = true; up = message.ServiceDescription service ∷ rest; down = [] }) }
+    ensures called_contents { (gone : ℕ → Bool) (l : LinkState) (service : Description) (kept : List Board) → IsContent (gone_by gone) l kept → IsContent (gone_by gone) (called_on l service) kept }
+    ensures taken_contents { (gone : ℕ → Bool) (g : Ghost) (l : LinkState) (service : Description) (rest : List Message) (kept : List Board) → Pair g (record l { up = message.ServiceDescription service ∷ rest; down = [] }) → l.entry ≡ Handshake → starts_in (up_words rest) ≡ [] → IsContent (gone_by gone) (record l { exit = Handshake; stands = true; up = message.ServiceDescription service ∷ rest; down = [] }) kept }
     ensures second { (g : Ghost) (l : LinkState) → Pair g l → may_connect l.intake.phase ≡ true → l.entry ≡ NotConnected → Pair g (record l { entry = Handshake }) }
 {}
 
@@ -123,6 +126,14 @@ pub fn a_link_is_connected()
 pub fn a_link_is_cut()
     ensures link { (g : Ghost) (l : LinkState) → Pair g l → Pair g (cut_on l) }
     ensures contents { (gone : ℕ → Bool) (l : LinkState) (kept : List Board) → IsContent (gone_by gone) l kept → IsContent (gone_by gone) (cut_on l) kept }
+{}
+
+/// What is no word changes nothing: a sign of life, a notification, a query and its answer, heard or said.
+pub fn what_is_no_word_changes_nothing()
+    ensures heard_upstream { (g : Ghost) (l : LinkState) (m : Message) (rest : List Message) → up_words (m ∷ rest) ≡ up_words rest → Pair g (record l { up = m ∷ rest }) → Pair g (record l { up = rest }) }
+    ensures heard_downstream { (g : Ghost) (l : LinkState) (m : Message) (rest : List Message) → down_words (m ∷ rest) ≡ down_words rest → Pair g (record l { down = m ∷ rest }) → Pair g (record l { down = rest }) }
+    ensures said_upstream { (g : Ghost) (l : LinkState) (ms : List Message) → down_words ms ≡ [] → Pair g l → Pair g (record l { down = sent ms l.stands l.down }) }
+    ensures said_downstream { (g : Ghost) (l : LinkState) (ms : List Message) → up_words ms ≡ [] → Pair g l → Pair g (record l { up = sent ms l.stands l.up }) }
 {}
 
 /// Each move on the floor that is done, at the gap of a link: the link's relation and that of both machines go on. The
@@ -142,10 +153,12 @@ pub fn boards_change_by_hand()
     ensures marked { (q n : Board) (o : Out) (p : Place) (ks js : List Board) (i : In) (at : Place) (boards : List OnFloor) → n.id ≡ q.id → PutFor q n ks js → Body o p ks i at boards → Body o p js i at boards }
 {}
 
-/// And what is offered on the link below goes on.
+/// And what is offered on the link below goes on, also where a board of the link above settles.
 pub fn offers_outlive_changes_by_hand()
     ensures inserted { (gone gone2 : ℕ → Bool) (l : LinkState) (kept : List Board) (n : Board) → ((x : ℕ) → gone x ≡ true → gone2 x ≡ true) → IsContent (gone_by gone) l kept → IsContent (gone_by gone2) l (kept ++ (n ∷ [])) }
     ensures removed { (gone gone2 : ℕ → Bool) (l : LinkState) (q : Board) (ks js : List Board) → ((x : ℕ) → gone x ≡ true → gone2 x ≡ true) → gone2 q.id ≡ true → TakenOut q ks js → IsContent (gone_by gone) l ks → IsContent (gone_by gone2) l js }
     ensures replaced { (gone gone2 : ℕ → Bool) (l : LinkState) (q n : Board) (ks js : List Board) → ((x : ℕ) → gone x ≡ true → gone2 x ≡ true) → gone2 q.id ≡ true → PutFor q n ks js → IsContent (gone_by gone) l ks → IsContent (gone_by gone2) l js }
+    ensures taken { (gone gone2 : ℕ → Bool) (l : LinkState) (c : Around) (kept : List Board) → ((x : ℕ) → gone x ≡ true → gone2 x ≡ true) → IsContent (gone_by gone) l kept → IsContent (gone_by gone2) (record l { around = c }) kept }
+    ensures settled { (gone : ℕ → Bool) (l : LinkState) (q : Option Board) (kept : List Board) → IsContent (gone_by gone) l kept → IsContent (gone_by gone) l (keep_at q kept) }
     ensures marked { (gone : ℕ → Bool) (l : LinkState) (q n : Board) (ks js : List Board) → n.id ≡ q.id → (l.outlet.touched ≡ Some q.id → ⊥) → PutFor q n ks js → IsContent (gone_by gone) l ks → IsContent (gone_by gone) l js }
 {}

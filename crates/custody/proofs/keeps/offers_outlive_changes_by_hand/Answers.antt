@@ -1,4 +1,4 @@
-use Rattle.custody.proofs.HandsContents.{contents_inserted, contents_marked, contents_removed, contents_replaced}
+use Rattle.custody.proofs.HandsContents.{contents_gone, contents_inserted, contents_marked, contents_removed, contents_replaced, contents_settled}
 use Rattle.custody.proofs.keeps.offers_outlive_changes_by_hand.Goals as goal
 
 pub returns-clause-inserted : goal.returns-clause-inserted
@@ -9,6 +9,12 @@ returns-clause-removed c = λ gone gone2 l q ks js m g t h. contents_removed m g
 
 pub returns-clause-replaced : goal.returns-clause-replaced
 returns-clause-replaced c = λ gone gone2 l q n ks js m g t h. contents_replaced m g t h
+
+pub returns-clause-taken : goal.returns-clause-taken
+returns-clause-taken c = λ gone gone2 l c kept m h. contents_gone m h
+
+pub returns-clause-settled : goal.returns-clause-settled
+returns-clause-settled c = λ gone l q kept h. contents_settled q h
 
 pub returns-clause-marked : goal.returns-clause-marked
 returns-clause-marked c = λ gone l q n ks js e free t h. contents_marked e free t h
