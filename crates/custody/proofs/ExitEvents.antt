@@ -17,7 +17,7 @@ use Rattle.handover_out.specs.declared.phase.Phase.{Phase as Out}
 use Rattle.handover_out.specs.declared.phase.Phase.TheVariants as out
 use Rattle.custody.specs.Contents.{Kept, Looks, OffersFront}
 use Rattle.custody.specs.Events.{ExitShut, ExitStep, IsContent, StartStep, described_on, hearing_up, offered_on, revoked_on, with_unread_down, with_unread_up}
-use Rattle.custody.specs.Facts.{is_ready, is_revoke_ready, is_start, is_stop}
+use Rattle.custody.specs.Facts.{IsOpen, is_ready, is_revoke_ready, is_start, is_stop}
 use Rattle.custody.specs.LookBack.{asks_nothing}
 use Rattle.custody.specs.Pair.{Ghost, LinkState, Pair}
 use Rattle.custody.specs.Talks.{Talks}
@@ -25,12 +25,12 @@ use Rattle.custody.specs.Words.{BoardAvailable, DownWord, DownstreamService, Rev
 use Rattle.custody.proofs.AnnounceExit.{announce_offer, announce_revoke, contents_offer, contents_revoke}
 use Rattle.custody.proofs.CloseExit.{close_exit}
 use Rattle.custody.proofs.HearReady.{hear_ready, hear_revoke_ready}
-use Rattle.custody.proofs.HearService.{contents_described, hear_downstream_service, held_in_a_handshake}
+use Rattle.custody.proofs.HearService.{contents_described, free_in_a_handshake, hear_downstream_service, held_in_a_handshake}
 use Rattle.custody.proofs.HearStart.{hear_start}
 use Rattle.custody.proofs.HearStop.{hear_stop}
 use Rattle.custody.proofs.Lists.{sent_down}
 use Rattle.custody.proofs.ReadExit.{fault_exit, read_exit}
-use Rattle.custody.proofs.Sessions.{exit_stands, offered_stands}
+use Rattle.custody.proofs.Sessions.{exit_shakes, exit_stands, offered_stands}
 use Rattle.custody.proofs.Steps.{body_entry, body_exit, exit_step}
 
 -- the machine reads an event of its exit: the link of its entry sees no difference
@@ -80,9 +80,10 @@ hears_start g l z brought kept rest k looks front floor c =
 
 -- the downstream machine describes itself, and the outlet holds nothing: the session stands, and the answer is sent
 pub hears_downstream : (g : Ghost) (l : LinkState) (service answer : Service) (rest : List Horizontal) → Pair g (hearing_up l (message.ServiceDescription service) rest)
-    → l.exit ≡ Handshake → l.outlet.phase ≡ out.Idle
+    → l.exit ≡ Handshake → held_out l.outlet.phase ≡ None
     → Pair g (described_on l service answer rest)
-hears_downstream g l service answer rest k x e =
+hears_downstream g l service answer rest k x free =
+    let e : l.outlet.phase ≡ out.Idle = free_in_a_handshake (rw x at k.talk) free in
     let t = subst (λ x. Talks l.stands x out.Idle l.outlet.offered l.outlet.ready l.entry l.intake.phase l.intake.offer l.intake.ready g.place (DownstreamService ∷ up_words rest) (down_words l.down)) x (subst (λ o. Talks l.stands l.exit o l.outlet.offered l.outlet.ready l.entry l.intake.phase l.intake.offer l.intake.ready g.place (DownstreamService ∷ up_words rest) (down_words l.down)) e k.talk) in
     record {
       out = k.out;
@@ -95,6 +96,10 @@ pub described_contents : {Gone : ℕ → Type 0} (l : LinkState) (service answer
     → IsContent Gone (hearing_up l (message.ServiceDescription service) rest) kept
     → IsContent Gone (described_on l service answer rest) kept
 described_contents l service answer rest kept c = rw (sent_down l.stands (message.ServiceDescription answer ∷ []) l.down) (contents_described l.stands c)
+
+pub finds_a_handshake : (g : Ghost) (l : LinkState) (service : Service) (rest : List Horizontal) → Pair g (hearing_up l (message.ServiceDescription service) rest)
+    → IsOpen l.exit → l.exit ≡ Handshake
+finds_a_handshake g l service rest k is_open = exit_shakes k.talk is_open
 
 pub holds_in_a_handshake : (g : Ghost) (l : LinkState) (service : Service) (rest : List Horizontal) (q : Record)
     → Pair g (hearing_up l (message.ServiceDescription service) rest) → l.exit ≡ Handshake → held_out l.outlet.phase ≡ Some q → l.outlet.phase ≡ out.Stuck q false false

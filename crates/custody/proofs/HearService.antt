@@ -1,5 +1,5 @@
 -- The exit hears the downstream machine's ServiceDescription.
-use Rattle.std.proofs.Common.{Bool, List, Option, Some, [], false, true, ℕ, ◌++◌, ◌∷◌, ◌≡◌}
+use Rattle.std.proofs.Common.{Bool, List, None, Option, Some, [], false, refl, true, ℕ, ◌++◌, ◌∷◌, ◌≡◌}
 use Rattle.board_record.specs.declared.record.Record.{Record}
 use Rattle.session_core.specs.declared.state.SessionState.{SessionState}
 use Rattle.session_core.specs.declared.state.SessionState.TheVariants.{Handshake, Standing}
@@ -44,3 +44,12 @@ held_in_a_handshake shaking_waiting e = cc
 held_in_a_handshake shaking_stuck e = cc
 held_in_a_handshake (apart exit_described _) e = cc
 held_in_a_handshake (apart exit_described_stuck _) e = cc
+
+-- and one that holds none is idle
+pub free_in_a_handshake : {b : Bool} {y : SessionState} {o : Out} {of : Option ℕ} {rd : Bool} {i : In} {f : Option Record} {ri : Bool} {p : Place} {up : List UpWord} {down : List DownWord}
+    → Talks b Handshake o of rd y i f ri p (DownstreamService ∷ up) down → held_out o ≡ None → o ≡ out.Idle
+free_in_a_handshake shaking_idle e = refl
+free_in_a_handshake shaking_waiting e = refl
+free_in_a_handshake shaking_stuck e = cc
+free_in_a_handshake (apart exit_described _) e = refl
+free_in_a_handshake (apart exit_described_stuck _) e = cc

@@ -1,6 +1,7 @@
 -- The laws, as the contracts in src/laws.rt state them.
-use Rattle.std.proofs.Common.{Bool, List, None, Option, Some, [], ap, is_some, not, subst, sym, ℕ, ◌∙◌, ◌∷◌, ◌≡◌}
+use Rattle.std.proofs.Common.{Bool, List, None, Option, Some, [], ap, false, is_some, not, refl, subst, sym, ℕ, ◌∙◌, ◌∷◌, ◌≡◌}
 use Rattle.line_base.specs.declared.states.SensorEvent.{SensorEvent}
+use Rattle.line_base.specs.declared.states.SensorEvent.TheVariants as event
 use Rattle.line_base.specs.declared.states.Side.TheVariants as sides
 use Rattle.line_base.specs.declared.states.Transfer.{Transfer}
 use Rattle.board_record.specs.declared.record.Record.{Record}
@@ -14,18 +15,20 @@ use Rattle.line_world.specs.declared.board.Board.{Board}
 use Rattle.line_world.specs.declared.gap.Gap.TheVariants as gaps
 use Rattle.handover_out.specs.State.{board_of_phase as held_out, would_open}
 use Rattle.handover_out.specs.declared.phase.Phase.{Phase as Out}
+use Rattle.handover_out.specs.declared.phase.Phase.TheVariants as out
 use Rattle.handover_in.specs.Row.{InRow, intake_row}
 use Rattle.handover_in.specs.State.{board_of_phase as held_in}
 use Rattle.handover_in.specs.declared.input.InInput.{InInput}
 use Rattle.handover_in.specs.declared.input.InInput.TheVariants as in_input
 use Rattle.handover_in.specs.declared.phase.Phase.{Phase as In}
-use Rattle.custody.specs.Contents.{Looks, OffersFront, front_if}
-use Rattle.custody.specs.Events.{EntryStep, IsAsked, hearing_down, hearing_up, with_unread_down}
-use Rattle.custody.specs.Facts.{Has, HasDown, TellsOf}
-use Rattle.custody.specs.Floor.{GapAt}
-use Rattle.custody.specs.LookBack.{IsSaid, LetGo, Recalls, Settles, Since, since_after}
+use Rattle.custody.specs.Contents.{Looks, OffersFront, front_if, no_offer, open_none}
+use Rattle.custody.specs.Events.{EntryStep, IsAsked, IsContent, hearing_down, hearing_up, with_unread_down}
+use Rattle.custody.specs.Facts.{Has, HasDown, TellsOf, tells_across}
+use Rattle.custody.specs.Floor.{GapAt, gap_left}
+use Rattle.custody.specs.Floors.{new_link, nobody}
+use Rattle.custody.specs.LookBack.{IsSaid, LetGo, Recalls, Settles, Since, asks_nothing, is_not_beyond, not_beyond_fresh, since_after}
 use Rattle.custody.specs.Pair.{Ghost, LinkState, Pair}
-use Rattle.custody.specs.Place.{Place, beyond_inside}
+use Rattle.custody.specs.Place.{Fresh, Place, beyond_inside}
 use Rattle.custody.specs.Words.{TransportFinished, UpstreamService, down_words, events_at}
 use Rattle.custody.proofs.Asked.{heard_is_last}
 use Rattle.custody.proofs.Behind.{holds_or_stale, nothing_behind_a_description, nothing_behind_an_end}
@@ -40,9 +43,16 @@ board_begun g l a k e = let gap = subst (λ t. GapAt t g.place g.board) e k.gap 
 pub board_across : (g : Ghost) (l : LinkState) (a : Board) → Pair g l → l.around.between.lies ≡ gaps.Left a → (held_in l.intake.phase ≡ Some g.board) × (a.id ≡ Some g.board.id)
 board_across g l a k e = let gap = subst (λ t. GapAt t g.place g.board) e k.gap in (left_held_downstream gap k.in, left_id gap)
 
+tells_of_left : {a : Board} {p : Place} {r : Record} → GapAt (gaps.Left a) p r → TellsOf p event.Left
+tells_of_left gap_left = tells_across
+
 pub board_gone : (g : Ghost) (l : LinkState) (q : Record) (e : SensorEvent) → Pair g l → held_out l.outlet.phase ≡ Some q → TellsOf g.place e
     → Has e (events_at sides.Exit l.around.up.unread)
 board_gone g l q e k held tells = gone_is_unread k.out tells held
+
+pub board_left : (g : Ghost) (l : LinkState) (q : Record) (a : Board) → Pair g l → held_out l.outlet.phase ≡ Some q → l.around.between.lies ≡ gaps.Left a
+    → Has event.Left (events_at sides.Exit l.around.up.unread)
+board_left g l q a k held e = gone_is_unread k.out (tells_of_left (subst (λ t. GapAt t g.place g.board) e k.gap)) held
 
 pub free_behind_an_end : (g : Ghost) (l : LinkState) (e : Transfer) (z : ℕ) → Pair g l → HasDown (TransportFinished e z) (down_words l.down) → held_out l.outlet.phase ≡ None
 free_behind_an_end g l e z k has = nothing_behind_an_end (holds_or_stale k.talk) has
@@ -124,3 +134,13 @@ start_is_last l z rest last dropped a = heard_is_last a
 pub finds_for_a_start : (g : Ghost) (l : LinkState) (z : ℕ) (rest : List Horizontal) (kept : List Record) → Pair g (hearing_up l (message.StartTransport z) rest)
     → OffersFront l.outlet.offered kept → Looks l.outlet.offered kept z (front_if (would_open l.outlet z) kept)
 finds_for_a_start g l z rest kept k front = start_finds l.outlet.touched k.talk front
+
+-- what holds of a new link
+pub new_contents : (Gone : ℕ → Type 0) → IsContent Gone new_link []
+new_contents Gone = record { offers = open_none; offer = no_offer; start = λ r _ _ some. absurd (some refl) }
+
+pub new_lets : LetGo Fresh out.Idle nobody None
+new_lets = is_not_beyond not_beyond_fresh
+
+pub new_asked : IsAsked new_link None false
+new_asked = asks_nothing refl

@@ -14,17 +14,16 @@ use Rattle.handover_in.specs.declared.phase.Phase.{Phase as In}
 use Rattle.handover_in.specs.declared.phase.Phase.TheVariants as inn
 use Rattle.custody.specs.Apart.{entry_none, entry_waits, entry_waits_heard, entry_waits_in}
 use Rattle.custody.specs.Floor.{EntryFloor, in_free, in_stopped, in_taken_in, in_taking, in_waiting, is_gone, is_in, is_stolen, no_full_back, no_full_begun, no_full_none, no_full_taken, on_across, on_back, on_begun, on_full, on_gone, on_stolen, sees_across, sees_back, sees_begun, sees_full, sees_gone, sees_home, sees_stolen}
-use Rattle.custody.specs.LookBack.{asks_nothing, by_end}
+use Rattle.custody.specs.LookBack.{by_end}
 use Rattle.custody.specs.Place.{Inside, Place, Stolen, not_across_home, not_across_inside, not_across_lost, not_across_stolen}
 use Rattle.custody.specs.Steps.{EntryDid, intake}
 use Rattle.custody.specs.Talks.{Talks, apart, live}
 use Rattle.custody.specs.Words.{DownWord, UpWord}
-use Rattle.custody.proofs.Asked.{drops_asked, exit_starts, stopped_starts, taking_starts}
+use Rattle.custody.proofs.Asked.{exit_starts, stopped_starts, taking_starts}
 use Rattle.custody.proofs.Behind.{exit_free}
 use Rattle.custody.proofs.Facts.{no_board}
-use Rattle.custody.proofs.Passed.{passed}
-use Rattle.custody.proofs.Recalls.{free_stopped, free_taking, idle_recalls, kept_is}
-use Rattle.custody.proofs.Rows.{settled_last}
+use Rattle.custody.proofs.Passed.{is_dropped, is_settled, passed}
+use Rattle.custody.proofs.Recalls.{free_stopped, free_taking}
 use Rattle.custody.proofs.TurnsEntry.{Left, at_place, ends_late, has_left, left_late, never_begun, not_home, not_lost, own_stopped, own_taking, past_across, past_gap, past_home, past_inside, past_lost, past_stolen, settles_taking, stops_taking, taking_heard, waits_begun}
 
 pub begun_taking_is : (h : Bool) (q : Record) (f : Option Record) (ri : Bool)
@@ -41,14 +40,12 @@ back_taking_is false q f ri = refl
 pub inside_late : {Q : Record → Type 0} {b : Bool} {x y : SessionState} {o : Out} {of : Option ℕ} {rd : Bool} {f : Option Record} {ri : Bool} {up : List UpWord} {down : List DownWord} {q : Record} {e : Transfer}
     → Left e Inside → Talks b x o of rd y (inn.Stopped q seen.Incomplete (Some e)) f ri Inside up down
     → EntryDid Q (in_input.Sensed event.Full) (intake (inn.Stopped q seen.Incomplete (Some e)) f ri) [] false b x o of rd y Inside q up down down
-inside_late (has_left _) k =
-    record { row = _; is = refl; «in» = in_free no_full_none not_across_inside; talk = ends_late k; body = settled_last _; opened = λ k j. (k, j); holds = λ q e. absurd (no_board e); quiet = refl; settles = λ q e. record { same = kept_is e; inside = refl; free = free_stopped k; said = λ s k. by_end (k.0 refl) }; recalls = λ s k. idle_recalls; asked = λ l d _. asks_nothing (stopped_starts k) }
+inside_late (has_left _) k = is_settled refl refl refl (in_free no_full_none not_across_inside) (ends_late k) (λ k. k) (free_stopped k) (stopped_starts k) (λ s k. by_end (k.0 refl))
 
 pub stolen_late : {Q : Record → Type 0} {b : Bool} {x y : SessionState} {o : Out} {of : Option ℕ} {rd : Bool} {f : Option Record} {ri : Bool} {r : Record} {up : List UpWord} {down : List DownWord} {q : Record} {e : Transfer}
     → Left e Stolen → Talks b x o of rd y (inn.Stopped q seen.Incomplete (Some e)) f ri Stolen up down
     → EntryDid Q (in_input.Sensed event.Taken) (intake (inn.Stopped q seen.Incomplete (Some e)) f ri) [] false b x o of rd y Stolen r up down down
-stolen_late (has_left _) k =
-    record { row = _; is = refl; «in» = in_free no_full_none not_across_stolen; talk = ends_late k; body = λ ks. refl; opened = λ k j. (k, j); holds = λ q e. absurd (no_board e); quiet = refl; settles = λ q e. absurd (no_board e); recalls = λ s k. idle_recalls; asked = λ l d a. drops_asked a }
+stolen_late (has_left _) k = is_dropped refl refl refl (in_free no_full_none not_across_stolen) refl (ends_late k) (λ k. k)
 
 pub read_entry : {Q : Record → Type 0} {b : Bool} {x y : SessionState} {o : Out} {of : Option ℕ} {rd : Bool} {i : In} {f : Option Record} {ri : Bool} {p : Place} {r : Record} {up : List UpWord} {down : List DownWord} {ed : Bool} {e : SensorEvent} {un : List SensorEvent}
     → EntryFloor i (e ∷ un) ed p r → Talks b x o of rd y i f ri p up down
@@ -70,8 +67,7 @@ read_entry (in_taking {h = h} on_back) k =
     record { row = _; is = back_taking_is h _ _ _; «in» = in_taking sees_home; talk = own_taking past_home k; body = λ ks. refl; opened = λ k j. (k, j); holds = λ q e. e; quiet = refl; settles = λ q e. absurd (no_board e); recalls = λ s k. k; asked = λ l d a. a }
 read_entry (in_taken_in {h = false} on_full) k =
     record { row = _; is = refl; «in» = in_stopped is_in; talk = stops_taking past_inside k; body = λ ks. refl; opened = λ k j. (k, j); holds = λ q e. e; quiet = refl; settles = λ q e. absurd (no_board e); recalls = λ s k. k; asked = λ l d a. a }
-read_entry (in_taken_in {h = true} on_full) k =
-    record { row = _; is = refl; «in» = in_free no_full_none not_across_inside; talk = settles_taking k; body = settled_last _; opened = λ k j. (k, j); holds = λ q e. absurd (no_board e); quiet = refl; settles = λ q e. record { same = kept_is e; inside = refl; free = free_taking k; said = λ s k. by_end (k.0 refl) }; recalls = λ s k. idle_recalls; asked = λ l d _. asks_nothing (taking_starts k) }
+read_entry (in_taken_in {h = true} on_full) k = is_settled refl refl refl (in_free no_full_none not_across_inside) (settles_taking k) (λ k. k) (free_taking k) (taking_starts k) (λ s k. by_end (k.0 refl))
 read_entry (in_taking {h = false} on_gone) k =
     record { row = _; is = refl; «in» = in_stopped is_gone; talk = stops_taking past_lost k; body = λ ks. refl; opened = λ k j. (k, j); holds = λ q e. e; quiet = refl; settles = λ q e. absurd (no_board e); recalls = λ s k. k; asked = λ l d a. a }
 read_entry (in_taking {h = true} on_gone) k = elim (taking_heard k) [ at_place s ↦ elim s [ ] ]
@@ -113,18 +109,13 @@ read_entry (in_waiting sees_stolen) k = absurd (waits_begun k)
 read_entry (in_waiting sees_full) k = absurd (waits_begun k)
 read_entry (in_waiting on_full) (apart a entry_waits) =
     record { row = _; is = refl; «in» = in_waiting is_in; talk = apart a entry_waits_in; body = λ ks. refl; opened = λ k j. (k, j); holds = λ q e. e; quiet = refl; settles = λ q e. absurd (no_board e); recalls = λ s k. k; asked = λ l d a. a }
-read_entry (in_waiting on_full) (apart a (entry_waits_heard _)) =
-    record { row = _; is = refl; «in» = in_free no_full_none not_across_inside; talk = apart a entry_none; body = settled_last _; opened = λ k j. (k, j); holds = λ q e. absurd (no_board e); quiet = refl; settles = λ q e. record { same = kept_is e; inside = refl; free = exit_free a; said = λ s k. by_end (k.0 refl) }; recalls = λ s k. idle_recalls; asked = λ l d _. asks_nothing (exit_starts a) }
-read_entry (in_waiting on_back) (apart a entry_waits) =
-    record { row = _; is = refl; «in» = in_free no_full_none not_across_home; talk = apart a entry_none; body = λ ks. refl; opened = λ k j. (k, j); holds = λ q e. absurd (no_board e); quiet = refl; settles = λ q e. absurd (no_board e); recalls = λ s k. idle_recalls; asked = λ l d a. drops_asked a }
+read_entry (in_waiting on_full) (apart a (entry_waits_heard _)) = is_settled refl refl refl (in_free no_full_none not_across_inside) (apart a entry_none) (λ k. k) (exit_free a) (exit_starts a) (λ s k. by_end (k.0 refl))
+read_entry (in_waiting on_back) (apart a entry_waits) = is_dropped refl refl refl (in_free no_full_none not_across_home) refl (apart a entry_none) (λ k. k)
 read_entry (in_waiting on_back) (apart a (entry_waits_heard s)) = elim s [ ]
-read_entry (in_waiting on_gone) (apart a entry_waits) =
-    record { row = _; is = refl; «in» = in_free no_full_none not_across_lost; talk = apart a entry_none; body = λ ks. refl; opened = λ k j. (k, j); holds = λ q e. absurd (no_board e); quiet = refl; settles = λ q e. absurd (no_board e); recalls = λ s k. idle_recalls; asked = λ l d a. drops_asked a }
+read_entry (in_waiting on_gone) (apart a entry_waits) = is_dropped refl refl refl (in_free no_full_none not_across_lost) refl (apart a entry_none) (λ k. k)
 read_entry (in_waiting on_gone) (apart a (entry_waits_heard s)) = elim s [ ]
-read_entry (in_waiting on_stolen) (apart a entry_waits) =
-    record { row = _; is = refl; «in» = in_free no_full_none not_across_stolen; talk = apart a entry_none; body = λ ks. refl; opened = λ k j. (k, j); holds = λ q e. absurd (no_board e); quiet = refl; settles = λ q e. absurd (no_board e); recalls = λ s k. idle_recalls; asked = λ l d a. drops_asked a }
-read_entry (in_waiting on_stolen) (apart a (entry_waits_heard _)) =
-    record { row = _; is = refl; «in» = in_free no_full_none not_across_stolen; talk = apart a entry_none; body = λ ks. refl; opened = λ k j. (k, j); holds = λ q e. absurd (no_board e); quiet = refl; settles = λ q e. absurd (no_board e); recalls = λ s k. idle_recalls; asked = λ l d a. drops_asked a }
+read_entry (in_waiting on_stolen) (apart a entry_waits) = is_dropped refl refl refl (in_free no_full_none not_across_stolen) refl (apart a entry_none) (λ k. k)
+read_entry (in_waiting on_stolen) (apart a (entry_waits_heard _)) = is_dropped refl refl refl (in_free no_full_none not_across_stolen) refl (apart a entry_none) (λ k. k)
 read_entry (in_waiting on_back) (live s) = elim s [ ]
 read_entry (in_waiting on_full) (live s) = elim s [ ]
 read_entry (in_waiting on_gone) (live s) = elim s [ ]

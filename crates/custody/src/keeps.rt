@@ -27,6 +27,7 @@ ghost use Rattle.custody.specs.Words.{down_words, sent, starts_in, up_words};
 ghost use Rattle.custody.specs.Place.{Place};
 ghost use Rattle.custody.specs.Pair.{Body, Ghost, LinkState, Pair, board_of, keep_at};
 ghost use Rattle.custody.specs.Contents.{Kept, Looks, OffersFront};
+ghost use Rattle.custody.specs.Facts.{IsOpen};
 ghost use Rattle.custody.specs.Hands.{IsOther, PutFor, TakenOut};
 ghost use Rattle.custody.specs.Events.{EntryShut, EntryStep, ExitShut, ExitStep, IsContent, StartSaid, StartStep, called_on, cut_on, described_on, gone_by, hearing_down, hearing_up, offered_on, revoked_on, with_unread_down, with_unread_up};
 ghost use Rattle.custody.specs.Floors.{Lifted};
@@ -60,11 +61,13 @@ pub fn an_exit_hears_a_start()
     ensures { (gone : ℕ → Bool) (g : Ghost) (l : LinkState) (z : ℕ) (brought : Option Board) (kept : List Board) (rest : List Message) → Pair g (hearing_up l (message.StartTransport z) rest) → Looks l.outlet.offered kept z brought → OffersFront l.outlet.offered kept → ((x : ℕ) → Kept x kept → gone x ≡ true → ⊥) → IsContent (gone_by gone) (hearing_up l (message.StartTransport z) rest) kept → (l.exit ≡ Standing) × StartStep (gone_by gone) g (hearing_up l (message.StartTransport z) rest) z brought rest }
 {}
 
-/// An exit hears the description of the downstream machine: an outlet that is idle answers with its own, and the
-/// session stands. An outlet that holds a board is stuck there, and its connection is closed.
+/// An exit hears the description of the downstream machine: its session is in the handshake. Where the outlet holds no
+/// board the machine answers with its own, and the session stands. An outlet that holds one is stuck, and its connection
+/// is closed.
 #[tactic(auto, using(crate::proofs::ExitEvents::hears_downstream))]
 pub fn an_exit_hears_a_description()
-    ensures answered { (g : Ghost) (l : LinkState) (service answer : Description) (rest : List Message) → Pair g (hearing_up l (message.ServiceDescription service) rest) → l.exit ≡ Handshake → l.outlet.phase ≡ out.Idle → Pair g (described_on l service answer rest) }
+    ensures handshake { (g : Ghost) (l : LinkState) (service : Description) (rest : List Message) → Pair g (hearing_up l (message.ServiceDescription service) rest) → IsOpen l.exit → l.exit ≡ Handshake }
+    ensures answered { (g : Ghost) (l : LinkState) (service answer : Description) (rest : List Message) → Pair g (hearing_up l (message.ServiceDescription service) rest) → l.exit ≡ Handshake → held_out l.outlet.phase ≡ None → Pair g (described_on l service answer rest) }
     ensures contents { (gone : ℕ → Bool) (l : LinkState) (service answer : Description) (rest : List Message) (kept : List Board) → IsContent (gone_by gone) (hearing_up l (message.ServiceDescription service) rest) kept → IsContent (gone_by gone) (described_on l service answer rest) kept }
     ensures held { (g : Ghost) (l : LinkState) (service : Description) (rest : List Message) (q : Board) → Pair g (hearing_up l (message.ServiceDescription service) rest) → l.exit ≡ Handshake → held_out l.outlet.phase ≡ Some q → l.outlet.phase ≡ out.Stuck q false false }
 {}

@@ -1,8 +1,9 @@
 //! What holds of a link whatever it meets. Each law is a contract over the relation of the link.
 
-ghost use Rattle.std.specs.Prelude.{◌≡◌, ◌∷◌, Bool, List, Option, Some, None, is_some, not, ℕ};
+ghost use Rattle.std.specs.Prelude.{◌≡◌, ◌∷◌, [], Bool, List, Option, Some, None, false, is_some, not, ℕ};
 ghost use Rattle.line_base.specs.declared.states.Side.TheVariants.{Exit};
 ghost use Rattle.line_base.specs.declared.states.SensorEvent.{SensorEvent as Event};
+ghost use Rattle.line_base.specs.declared.states.SensorEvent.TheVariants as event;
 ghost use Rattle.line_base.specs.declared.states.Transfer.{Transfer as End};
 ghost use Rattle.board_record.specs.declared.record.Record.{Record};
 ghost use Rattle.board_record.specs.declared.sensed.Sensed.{Sensed as Sight};
@@ -13,6 +14,7 @@ ghost use Rattle.line_world.specs.declared.board.Board.{Board};
 ghost use Rattle.line_world.specs.declared.gap.Gap.TheVariants.{Begun, Left};
 ghost use Rattle.line_world.specs.Moves.{entry_sees};
 ghost use Rattle.handover_out.specs.State.{board_of_phase as held_out, would_open};
+ghost use Rattle.handover_out.specs.declared.phase.Phase.TheVariants as out;
 ghost use Rattle.handover_in.specs.Row.{InRow, intake_row};
 ghost use Rattle.handover_in.specs.State.{board_of_phase as held_in};
 ghost use Rattle.handover_in.specs.declared.input.InInput.TheVariants as in_input;
@@ -23,7 +25,7 @@ ghost use Rattle.custody.specs.Facts.{Has, HasDown, TellsOf};
 ghost use Rattle.custody.specs.Pair.{Ghost, LinkState, Pair};
 ghost use Rattle.custody.specs.LookBack.{IsSaid, LetGo, Recalls, Since, since_after};
 ghost use Rattle.custody.specs.Contents.{Looks, OffersFront, front_if};
-ghost use Rattle.custody.specs.Events.{IsAsked, hearing_down, hearing_up, with_unread_down};
+ghost use Rattle.custody.specs.Events.{IsAsked, IsContent, gone_by, hearing_down, hearing_up, with_unread_down};
 ghost use Rattle.custody.specs.Floors.{new_link, nobody};
 
 /// The board that lies begun in the gap is the outlet's.
@@ -37,10 +39,11 @@ pub fn a_board_across_the_gap_is_held_downstream()
 {}
 
 /// An outlet that still holds a board which is gone from its machine has that unread: that it has left, or that it was
-/// taken out by hand.
-#[tactic(auto, using(crate::proofs::Promised::board_gone))]
+/// taken out by hand. A board that lies across the gap has left.
+#[tactic(auto, using(crate::proofs::Promised::board_gone, crate::proofs::Promised::board_left))]
 pub fn a_board_that_is_gone_is_unread_at_the_exit()
-    ensures { (g : Ghost) (l : LinkState) (q : Record) (e : Event) → Pair g l → held_out l.outlet.phase ≡ Some q → TellsOf g.place e → Has e (events_at Exit l.around.up.unread) }
+    ensures across { (g : Ghost) (l : LinkState) (q : Record) (a : Board) → Pair g l → held_out l.outlet.phase ≡ Some q → l.around.between.lies ≡ Left a → Has event.Left (events_at Exit l.around.up.unread) }
+    ensures gone { (g : Ghost) (l : LinkState) (q : Record) (e : Event) → Pair g l → held_out l.outlet.phase ≡ Some q → TellsOf g.place e → Has e (events_at Exit l.around.up.unread) }
 {}
 
 /// While the end of a transfer, or the upstream machine's description of itself, is in flight to an intake that can
@@ -102,8 +105,11 @@ pub fn a_start_finds_what_is_offered()
     ensures { (g : Ghost) (l : LinkState) (z : ℕ) (rest : List Message) (kept : List Record) → Pair g (hearing_up l (message.StartTransport z) rest) → OffersFront l.outlet.offered kept → Looks l.outlet.offered kept z (front_if (would_open l.outlet z) kept) }
 {}
 
-/// The relation stands on a new link, between machines that have nothing.
-#[tactic(auto, using(crate::proofs::LinkEvents::new_pair))]
+/// The relation stands on a new link, between machines that have nothing; nothing is offered, was let go or is asked.
+#[tactic(auto, using(crate::proofs::LinkEvents::new_pair, crate::proofs::Promised::new_lets, crate::proofs::Promised::new_asked))]
 pub fn a_new_link_stands()
-    ensures { Pair (record { place = Fresh; board = nobody }) new_link }
+    ensures link { Pair (record { place = Fresh; board = nobody }) new_link }
+    ensures contents { (gone : ℕ → Bool) → IsContent (gone_by gone) new_link [] }
+    ensures lets { LetGo Fresh out.Idle nobody None }
+    ensures asked { IsAsked new_link None false }
 {}
