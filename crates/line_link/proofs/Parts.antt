@@ -1,6 +1,6 @@
 -- Texts that stand in a block of bytes: what adding, taking and putting in does to them.
-use Rattle.std.proofs.Common.{◌≡◌, refl, sym, ◌∙◌, ap, subst, arith, zero, suc, ℕ, ◌+◌, ◌-◌, ◌<◌, ◌≤◌, Bool, true, false, ◌&&◌, List, [], ◌∷◌, ◌++◌, Option, Some, None, drop, get_or, insert, length, nat_lt, set, slice_get, take, lt-ltb, ltb-true}
-use Rattle.std.proofs.lemmas.List.{append_assoc, append-nil, drop-append-le, drop-drop, drop-take, drop_all, drop_at, length-append, length-drop, length-take-le, nil_from_length, take-append-drop, take-append-le, take_all, take_at, take-take}
+use Rattle.std.proofs.Common.{◌≡◌, refl, sym, ◌∙◌, ap, subst, arith, zero, suc, ℕ, ◌+◌, ◌-◌, ◌<◌, ◌≤◌, Bool, true, false, ◌&&◌, List, [], ◌∷◌, ◌++◌, drop, get_or, insert, length, nat_lt, set, take, lt-ltb, ltb-true}
+use Rattle.std.proofs.lemmas.List.{append-nil, drop-append-le, drop-drop, drop-take, length-append, length-drop, length-take-le, nil_from_length, take-append-drop, take-append-le, take_all}
 use Rattle.std.specs.List.{list_all}
 use Rattle.line_link.specs.Texts.{bytes_of, is_filled, with_byte_at, with_byte_in_first}
 use Rattle.line_link.specs.Parts.{IsCutUp, parts, total}

@@ -1,7 +1,7 @@
 -- What of some texts has arrived.
-use Rattle.std.proofs.Common.{◌≡◌, refl, sym, ◌∙◌, ap, subst, arith, ℕ, ◌+◌, ◌-◌, ◌<◌, ◌≤◌, Bool, true, false, List, [], ◌∷◌, ◌++◌, Option, Some, None, drop, length, nat_lt, option_map, slice_get, take, if◌then◌else◌, lt-ltb, le-ltb}
+use Rattle.std.proofs.Common.{◌≡◌, refl, sym, subst, arith, ℕ, ◌-◌, ◌<◌, ◌≤◌, Bool, true, false, List, [], ◌∷◌, Some, None, drop, length, nat_lt, option_map, slice_get, if◌then◌else◌, lt-ltb, le-ltb}
 use Rattle.std.proofs.lemmas.Option.{none-some, same_Some}
-use Rattle.line_link.specs.Flow.{Stream, dry, is_begun, reached}
+use Rattle.line_link.specs.Flow.{Stream, is_begun, reached}
 
 -- not all of the first text has arrived
 pub reached_here : (count first : ℕ) (texts : List (List ℕ)) → Some first ≡ option_map length (slice_get texts 0) → count < first → reached count texts ≡ record { texts = texts; arrived = count }

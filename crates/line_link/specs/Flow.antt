@@ -1,5 +1,5 @@
 -- What flows in one direction of a link.
-use Rattle.std.specs.Prelude.{◌≡◌, ℕ, ◌+◌, ◌-◌, ◌==◌, Bool, List, [], ◌∷◌, ◌++◌, Option, None, Some, drop, length, min, nat_lt, if◌then◌else◌}
+use Rattle.std.specs.Prelude.{ℕ, ◌+◌, ◌-◌, ◌==◌, Bool, List, [], ◌∷◌, ◌++◌, Option, None, Some, drop, length, min, nat_lt, if◌then◌else◌}
 use Rattle.line_link.specs.Texts.{bytes_of, with_byte_in_first}
 
 -- the texts that were sent and have not wholly arrived, the oldest first, and how many bytes of the oldest have arrived

@@ -5,6 +5,7 @@
 #![tactic(auto)]
 
 mod flow;
+pub mod laws;
 mod link;
 mod texts;
 
