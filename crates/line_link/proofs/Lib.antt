@@ -1,3 +1,4 @@
 pub mod Parts
 pub mod Reaching
 pub mod Coming
+pub mod Together

@@ -1,5 +1,7 @@
 -- What flows in one direction of a link.
 use Rattle.std.specs.Prelude.{ℕ, ◌+◌, ◌-◌, ◌==◌, Bool, List, [], ◌∷◌, ◌++◌, Option, None, Some, drop, length, min, nat_lt, if◌then◌else◌}
+use Rattle.line_base.specs.declared.states.Role.{Role}
+use Rattle.line_base.specs.declared.states.Role.TheVariants.{Upstream, Downstream}
 use Rattle.line_link.specs.Texts.{bytes_of, with_byte_in_first}
 
 -- the texts that were sent and have not wholly arrived, the oldest first, and how many bytes of the oldest have arrived
@@ -51,3 +53,21 @@ with_nul stream = nul_put stream.texts stream.arrived
 abbrev pub is_begun : List (List ℕ) → ℕ → Bool
 is_begun [] arrived = arrived == 0
 is_begun (text ∷ texts) arrived = nat_lt arrived (length text)
+
+-- what flows to each end of a link
+pub record Streams : Type 0 where
+  pub to_upstream : Stream
+  pub to_downstream : Stream
+
+-- nothing flows
+abbrev pub both_dry : Streams
+both_dry = record { to_upstream = dry; to_downstream = dry }
+
+-- what flows to the end of this role
+abbrev pub stream_to : Role → Streams → Stream
+stream_to Upstream streams = streams.to_upstream
+stream_to Downstream streams = streams.to_downstream
+
+abbrev pub with_stream_to : Role → Stream → Streams → Streams
+with_stream_to Upstream stream streams = record streams { to_upstream = stream }
+with_stream_to Downstream stream streams = record streams { to_downstream = stream }

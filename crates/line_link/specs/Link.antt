@@ -1,12 +1,12 @@
 -- A link and its events.
-use Rattle.std.specs.Prelude.{◌≡◌, ◌≤◌, ℕ, ◌+◌, Bool, true, false, List, Option, None, Some, length, min, nat_lt, if◌then◌else◌}
+use Rattle.std.specs.Prelude.{◌≡◌, ◌≤◌, ℕ, ◌+◌, ◌==◌, Bool, true, false, List, [], ◌∷◌, Option, None, Some, length, min, nat_lt, if◌then◌else◌}
 use Rattle.line_base.specs.declared.states.Role.{Role}
 use Rattle.line_base.specs.declared.states.Role.TheVariants.{Upstream, Downstream}
 use Rattle.line_link.specs.declared.link.Sent.{Sent}
 use Rattle.line_link.specs.declared.link.Sent.TheVariants.{Vanishes, Flows, Cuts}
 use Rattle.line_link.specs.declared.link.Connected.{Connected}
 use Rattle.line_link.specs.declared.link.Connected.TheVariants.{Accepted, Second}
-use Rattle.line_link.specs.Flow.{Stream, coming, dry, flowing, with_arrival, with_nul, with_text}
+use Rattle.line_link.specs.Flow.{Stream, Streams, both_dry, coming, dry, flowing, is_begun, stream_to, with_arrival, with_nul, with_stream_to, with_text}
 
 -- a link: for each end the number of its connection, or none; whether it stands; what flows to each end; and how many
 -- connections were made on it
@@ -14,13 +14,12 @@ pub record LinkParts : Type 0 where
   pub upstream : Option ℕ
   pub downstream : Option ℕ
   pub stands : Bool
-  pub to_upstream : Stream
-  pub to_downstream : Stream
+  pub flows : Streams
   pub made : ℕ
 
 -- nothing is connected
 abbrev pub no_link : LinkParts
-no_link = record { upstream = None; downstream = None; stands = false; to_upstream = dry; to_downstream = dry; made = 0 }
+no_link = record { upstream = None; downstream = None; stands = false; flows = both_dry; made = 0 }
 
 -- the end of this role, and the other
 abbrev pub across : Role → Role
@@ -33,12 +32,10 @@ number_of Downstream link = link.downstream
 
 -- what flows to an end
 abbrev pub flow_to : Role → LinkParts → Stream
-flow_to Upstream link = link.to_upstream
-flow_to Downstream link = link.to_downstream
+flow_to to link = stream_to to link.flows
 
 abbrev pub with_flow_to : Role → Stream → LinkParts → LinkParts
-with_flow_to Upstream stream link = record link { to_upstream = stream }
-with_flow_to Downstream stream link = record link { to_downstream = stream }
+with_flow_to to stream link = record link { flows = with_stream_to to stream link.flows }
 
 -- the most bytes that may be on their way in a direction
 abbrev pub most_in_flight : ℕ
@@ -46,7 +43,7 @@ most_in_flight = 1048576
 
 -- a cut: the link stands no more, and what flowed is lost
 abbrev pub cut : LinkParts → LinkParts
-cut link = record link { stands = false; to_upstream = dry; to_downstream = dry }
+cut link = record link { stands = false; flows = both_dry }
 
 -- more bytes are on their way to an end than may be
 abbrev pub is_too_much : Role → LinkParts → Bool
@@ -102,9 +99,12 @@ abbrev pub spoil_sent : Role → LinkParts → Sent
 spoil_sent to link = fate to (nulled to link)
 
 -- an end closes: it has no connection, the link stands no more, and what flowed to the end is lost
+abbrev pub without_number : Role → LinkParts → LinkParts
+without_number Upstream link = record link { upstream = None }
+without_number Downstream link = record link { downstream = None }
+
 abbrev pub after_close : Role → LinkParts → LinkParts
-after_close Upstream link = record link { upstream = None; stands = false; to_upstream = dry }
-after_close Downstream link = record link { downstream = None; stands = false; to_downstream = dry }
+after_close end link = record (without_number end link) { stands = false; flows = with_stream_to end dry link.flows }
 
 -- the number of the next connection. The count stands still at its type's end
 abbrev pub next_number : ℕ → ℕ
@@ -123,20 +123,28 @@ abbrev pub connected_of : Option ℕ → Connected
 connected_of None = Accepted
 connected_of (Some _) = Second
 
--- where an end has no connection nothing flows to it
-abbrev pub is_dry_without : Option ℕ → Stream → Type 0
-is_dry_without None stream = stream ≡ dry
-is_dry_without (Some _) stream = Unit {0}
-
 -- the two ends of a link that stands have one connection
-abbrev pub AreJoined : Bool → Option ℕ → Option ℕ → Type 0
-AreJoined false upstream downstream = Unit {0}
-AreJoined true upstream downstream = (number : ℕ) × (upstream ≡ Some number) × (downstream ≡ Some number)
+abbrev pub are_joined : Bool → Option ℕ → Option ℕ → Bool
+are_joined false upstream downstream = true
+are_joined true None downstream = false
+are_joined true (Some number) None = false
+are_joined true (Some number) (Some other) = number == other
+
+-- where an end has no connection nothing flows to it
+abbrev pub is_dry_without : Option ℕ → List (List ℕ) → Bool
+is_dry_without None [] = true
+is_dry_without None (text ∷ texts) = false
+is_dry_without (Some number) texts = true
 
 -- what can stand together in a link
 pub record IsLinkTogether (link : LinkParts) : Type 0 where
-  pub joined : AreJoined link.stands link.upstream link.downstream
-  pub upstream : is_dry_without link.upstream link.to_upstream
-  pub downstream : is_dry_without link.downstream link.to_downstream
-  pub to_upstream : length (coming link.to_upstream) ≤ most_in_flight
-  pub to_downstream : length (coming link.to_downstream) ≤ most_in_flight
+  pub joined : are_joined link.stands link.upstream link.downstream ≡ true
+  pub dry_upstream : is_dry_without link.upstream link.flows.to_upstream.texts ≡ true
+  pub dry_downstream : is_dry_without link.downstream link.flows.to_downstream.texts ≡ true
+  pub upstream_within : length (coming link.flows.to_upstream) ≤ most_in_flight
+  pub downstream_within : length (coming link.flows.to_downstream) ≤ most_in_flight
+
+-- and of the oldest text in each direction not all has arrived
+pub record AreBegun (streams : Streams) : Type 0 where
+  pub upstream : is_begun streams.to_upstream.texts streams.to_upstream.arrived ≡ true
+  pub downstream : is_begun streams.to_downstream.texts streams.to_downstream.arrived ≡ true

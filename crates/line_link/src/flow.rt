@@ -1,5 +1,5 @@
-ghost use Rattle.std.specs.Prelude.{◌≡◌, ◌+◌, ◌^◌, ◌<◌, ◌≤◌, [], OnOk, OnErr, length, take};
-ghost use Rattle.line_link.specs.Flow.{coming, dry, flowing, reached, with_arrival, with_nul, with_text};
+ghost use Rattle.std.specs.Prelude.{◌≡◌, ◌+◌, ◌^◌, ◌<◌, ◌≤◌, [], OnOk, OnErr, length, take, true};
+ghost use Rattle.line_link.specs.Flow.{coming, dry, flowing, is_begun, reached, with_arrival, with_nul, with_text};
 
 use crate::texts::Texts;
 use line_base::Memory;
@@ -34,6 +34,13 @@ impl Flow {
             texts: Texts::new(alloc),
             arrived: 0,
         }
+    }
+
+    /// Of the oldest text not all has arrived, and where there is none nothing has.
+    pub fn together(&self)
+        ensures { is_begun self.now.texts self.now.arrived ≡ true }
+    {
+        let _arrived = self.arrived;
     }
 
     /// How many bytes have not arrived.

@@ -5,6 +5,7 @@
 #![tactic(auto)]
 
 mod flow;
+mod flows;
 pub mod laws;
 mod link;
 mod texts;

@@ -1,8 +1,8 @@
-ghost use Rattle.std.specs.Prelude.{◌≡◌, None, IfOk, OnOk, OnErr, length, take};
+ghost use Rattle.std.specs.Prelude.{◌≡◌, None, IfOk, IsSome, OnErr, length, take, true};
 ghost use Rattle.line_link.specs.Flow.{coming, flowing};
-ghost use Rattle.line_link.specs.Link.{IsLinkTogether, after_answer, after_close, after_connect, after_flow, after_send, after_spoil, answer_sent, connected_of, cut, fate, flow_to, most_in_flight, no_link, number_of, nulled, sent_of, spoil_sent, texted, within_limit};
+ghost use Rattle.line_link.specs.Link.{AreBegun, IsLinkTogether, after_answer, after_close, after_connect, after_flow, after_send, after_spoil, answer_sent, connected_of, cut, fate, flow_to, no_link, number_of, sent_of, spoil_sent, texted, within_limit};
 
-use crate::flow::Flow;
+use crate::flows::Flows;
 use line_base::{Memory, Role};
 use std::alloc::Global;
 use std::marker::Model;
@@ -39,17 +39,18 @@ pub struct Link {
     upstream: Option<u64>,
     downstream: Option<u64>,
     stands: bool,
-    to_upstream: Flow,
-    to_downstream: Flow,
+    flows: Flows,
     made: u64,
 }
 
 impl Model for Link {
-    ghost use Rattle.line_link.specs.Link.{LinkParts};
+    ghost use Rattle.line_link.specs.Link.{IsLinkTogether, LinkParts};
 
     ghost Value = { LinkParts };
 
-    ghost view = { λ link. record { upstream = link.upstream; downstream = link.downstream; stands = link.stands; to_upstream = link.to_upstream; to_downstream = link.to_downstream; made = link.made } };
+    ghost view = { λ link. record { upstream = link.upstream; downstream = link.downstream; stands = link.stands; flows = link.flows; made = link.made } };
+
+    ghost invariant = { λ link. IsLinkTogether (record { upstream = link.upstream; downstream = link.downstream; stands = link.stands; flows = link.flows; made = link.made }) };
 }
 
 impl Link {
@@ -61,10 +62,18 @@ impl Link {
             upstream: None,
             downstream: None,
             stands: false,
-            to_upstream: Flow::new(alloc),
-            to_downstream: Flow::new(alloc),
+            flows: Flows::new(alloc),
             made: 0,
         }
+    }
+
+    /// What can stand together: a link that stands has one connection at both ends, nothing flows
+    /// to an end without a connection, and at most 1,048,576 bytes are on their way in a direction.
+    pub fn together(&self)
+        ensures together { IsLinkTogether self.now }
+        ensures begun { AreBegun self.now.flows }
+    {
+        self.flows.together();
     }
 
     /// The number of an end's connection.
@@ -88,7 +97,7 @@ impl Link {
     pub fn coming(&self, to: Role) -> usize
         ensures { result ≡ length (coming (flow_to to self.now)) }
     {
-        self.flow(to).coming()
+        self.flows.coming(to)
     }
 
     /// The bytes that arrive at an end next: so many or what there is, or the rest of the oldest
@@ -96,24 +105,14 @@ impl Link {
     pub fn next(&self, to: Role, count: Option<u32>) -> &[u8]
         ensures { result.now ≡ take (flowing count (flow_to to self.now)) (coming (flow_to to self.now)) }
     {
-        let flow = self.flow(to);
-        flow.next(flow.flowing(count))
+        self.flows.next(to, count)
     }
 
     /// Bytes arrive at an end: so many or what there is, or the rest of the oldest text.
     pub fn arrive(&mut self, to: Role, count: Option<u32>)
         ensures { self.new ≡ after_flow to count self.old }
     {
-        match to {
-            Role::Upstream => {
-                let count = self.to_upstream.flowing(count);
-                self.to_upstream.arrive(count);
-            }
-            Role::Downstream => {
-                let count = self.to_downstream.flowing(count);
-                self.to_downstream.arrive(count);
-            }
-        }
+        self.flows.arrive(to, count);
     }
 
     /// An end sends a text. It vanishes where the link doesn't stand, and cuts the link where it
@@ -146,16 +145,25 @@ impl Link {
         }
     }
 
-    /// A NUL byte is put before the next byte to arrive at an end: into the oldest text, or as a
-    /// text of its own where none is on its way. It cuts the link where it lets more than 1,048,576
-    /// bytes be on their way. `Memory` where there is no room; the link is then as it was.
+    /// A NUL byte is put before the next byte to arrive at an end of a link that stands: into the
+    /// oldest text, or as a text of its own where none is on its way. It cuts the link where it
+    /// lets more than 1,048,576 bytes be on their way. `Memory` where there is no room; the link is
+    /// then as it was.
     pub fn spoil(&mut self, to: Role) -> Result<Sent, Memory>
+        requires { self.old.stands ≡ true }
         ensures after { IfOk result (λ _. self.new ≡ after_spoil to self.old) }
         ensures sent { IfOk result (λ sent. sent ≡ spoil_sent to self.old) }
         ensures memory { OnErr result (self.new ≡ self.old) }
     {
-        self.put_nul(to)?;
-        Ok(self.limit(to))
+        if let Err(Memory) = self.flows.put_nul(to) {
+            return Err(Memory);
+        }
+        if self.flows.coming(to) > MOST_IN_FLIGHT {
+            self.stands = false;
+            self.flows.clear();
+            return Ok(Sent::Cuts);
+        }
+        Ok(Sent::Flows)
     }
 
     /// The link is cut: it stands no more, and what is on its way is lost.
@@ -163,8 +171,7 @@ impl Link {
         ensures { self.new ≡ cut self.old }
     {
         self.stands = false;
-        self.to_upstream.clear();
-        self.to_downstream.clear();
+        self.flows.clear();
     }
 
     /// An end closes: it has no connection, the link stands no more, and what is on its way to
@@ -174,15 +181,10 @@ impl Link {
     {
         self.stands = false;
         match end {
-            Role::Upstream => {
-                self.upstream = None;
-                self.to_upstream.clear();
-            }
-            Role::Downstream => {
-                self.downstream = None;
-                self.to_downstream.clear();
-            }
+            Role::Upstream => self.upstream = None,
+            Role::Downstream => self.downstream = None,
         }
+        self.flows.clear_to(end);
     }
 
     /// The downstream end connects, and gets a new number. Where the upstream end has no
@@ -208,55 +210,21 @@ impl Link {
         }
     }
 
-    fn flow(&self, to: Role) -> &Flow
-        ensures { result.now ≡ flow_to to self.now }
-    {
-        match to {
-            Role::Upstream => &self.to_upstream,
-            Role::Downstream => &self.to_downstream,
-        }
-    }
-
-    /// A text is on its way to an end, within the limit.
+    /// A text is on its way to an end that has a connection, within the limit.
     fn text(&mut self, to: Role, text: &[u8]) -> Result<Sent, Memory>
+        requires { IsSome (number_of to self.old) }
         ensures after { IfOk result (λ _. self.new ≡ within_limit to (texted to text.now self.old)) }
         ensures sent { IfOk result (λ sent. sent ≡ fate to (texted to text.now self.old)) }
         ensures memory { OnErr result (self.new ≡ self.old) }
     {
-        self.push(to, text)?;
-        Ok(self.limit(to))
-    }
-
-    fn push(&mut self, to: Role, text: &[u8]) -> Result<(), Memory>
-        ensures ok { OnOk result (self.new ≡ texted to text.now self.old) }
-        ensures memory { OnErr result (self.new ≡ self.old) }
-    {
-        match to {
-            Role::Upstream => self.to_upstream.push(text),
-            Role::Downstream => self.to_downstream.push(text),
+        if let Err(Memory) = self.flows.push(to, text) {
+            return Err(Memory);
         }
-    }
-
-    fn put_nul(&mut self, to: Role) -> Result<(), Memory>
-        ensures ok { OnOk result (self.new ≡ nulled to self.old) }
-        ensures memory { OnErr result (self.new ≡ self.old) }
-    {
-        match to {
-            Role::Upstream => self.to_upstream.put_nul(),
-            Role::Downstream => self.to_downstream.put_nul(),
+        if self.flows.coming(to) > MOST_IN_FLIGHT {
+            self.stands = false;
+            self.flows.clear();
+            return Ok(Sent::Cuts);
         }
-    }
-
-    /// Cuts the link where more is on its way to an end than may be.
-    fn limit(&mut self, to: Role) -> Sent
-        ensures after { self.new ≡ within_limit to self.old }
-        ensures sent { result ≡ fate to self.old }
-    {
-        if self.coming(to) > MOST_IN_FLIGHT {
-            self.cut();
-            Sent::Cuts
-        } else {
-            Sent::Flows
-        }
+        Ok(Sent::Flows)
     }
 }
