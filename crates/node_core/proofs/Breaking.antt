@@ -1,0 +1,119 @@
+-- A step breaks off at its first breach.
+use Rattle.std.proofs.Common.{◌≡◌, ◌∙◌, ◌++◌, ℕ, Bool, true, false, List, [], ◌∷◌, Option, Some, None, refl, sym, ap, append_assoc, append-nil}
+use Rattle.std.specs.Prelude.{is_some}
+use Rattle.line_base.specs.declared.states.Side.{Side}
+use Rattle.line_base.specs.declared.states.Side.TheVariants.{Entry, Exit}
+use Rattle.line_base.specs.declared.states.Severity.TheVariants.{Fatal}
+use Rattle.board_record.specs.declared.sensed.Sensed.{Sensed}
+use Rattle.hermes_horizontal.specs.Parts.{kind_of}
+use Rattle.hermes_horizontal.specs.declared.message.Message.{Message}
+use Rattle.session_core.specs.declared.actions.Action.{Action}
+use Rattle.session_core.specs.declared.actions.Action.TheVariants.{SendService, Pong, Ping, Tell, Close, Stand, Pass}
+use Rattle.session_core.specs.declared.actions.Actions.{Actions}
+use Rattle.session_core.specs.Breach.{unexpected}
+use Rattle.session_core.specs.End.{SessionEnd}
+use Rattle.session_core.specs.Input.{Input as SessionInput, heard}
+use Rattle.session_core.specs.Row.{SessionRow, session_row}
+use Rattle.session_core.proofs.RowLaws.{part_stays}
+use Rattle.handover_out.specs.State.{held}
+use Rattle.node_core.specs.declared.act.Act.{Act}
+use Rattle.node_core.specs.declared.act.Act.TheVariants as acts
+use Rattle.node_core.specs.declared.lane.Body.{Body}
+use Rattle.node_core.specs.declared.word.Word.{Word}
+use Rattle.node_core.specs.declared.word.Word.TheVariants.{Says, Wrong}
+use Rattle.node_core.specs.Desk.{Desk}
+use Rattle.node_core.specs.Done.{Done, behind, and_then}
+use Rattle.node_core.specs.Sides.{session_at, with_session, is_open}
+use Rattle.node_core.specs.Halves.{ended}
+use Rattle.node_core.specs.Told.{sends, notification}
+use Rattle.node_core.specs.Session.{breaches}
+use Rattle.node_core.specs.Hears.{rowed, taken, passed, side_took}
+use Rattle.node_core.specs.Reads.{all_read}
+use Rattle.node_core.specs.Announces.{announces}
+use Rattle.node_core.specs.Connect.{if_open}
+use Rattle.node_core.specs.Words.{word_did, all_heard}
+use Rattle.node_core.specs.Event.{Words}
+use Rattle.node_core.specs.Step.{machine_step}
+use Rattle.node_core.specs.Breaking.{has_half_row, has_row, text_unless, breach_of, broken_step, heard_before, BreaksOff}
+use Rattle.node_core.proofs.Opened.{breach_closes}
+use Rattle.node_core.proofs.Hearing.{closed-hears, open-hears}
+
+-- ---- a word that is a breach breaks off
+
+-- a session that took the message doesn't matter: it is at rest then
+ended_same : (desk : Desk) (side : Side) (s : SessionEnd) (body : Body) → s.role ≡ (session_at side body).role → ended desk side (with_session side s body) ≡ ended desk side body
+ended_same desk Entry s body same = ap (λ role. ended desk Entry (with_session Entry (record s { role = role }) body)) same
+ended_same desk Exit s body same = ap (λ role. ended desk Exit (with_session Exit (record s { role = role }) body)) same
+
+breaches_same : (desk : Desk) (side : Side) (text : List ℕ) (s : SessionEnd) (body : Body) → s.role ≡ (session_at side body).role → breaches desk side text (with_session side s body) ≡ breaches desk side text body
+breaches_same desk side text s body same = ap (λ (d : Done). behind (acts.Breaches side text ∷ (sends desk side (notification 1 Fatal text) ++ acts.Closes side ∷ [])) d) (ended_same desk side s body same)
+
+some_text : (a b : List ℕ) → Some a ≡ Some b → a ≡ b
+some_text a b is = cc
+
+passed_breaks : (desk : Desk) (side : Side) (message : Message) (text : List ℕ) (body : Body) (found : Option Done) → text_unless (is_some found) (unexpected (kind_of message.body)) ≡ Some text → passed desk side message body found ≡ breaches desk side text body
+passed_breaks desk side message text body None is = ap (λ (t : List ℕ). breaches desk side t body) (some_text _ text is)
+passed_breaks desk side message text body (Some d) is = cc
+
+taken_breaks : (desk : Desk) (side : Side) (message : Message) (text : List ℕ) (first : Option Action) (actions : Actions) (body : Body) → text_unless (has_half_row desk side first body) (unexpected (kind_of message.body)) ≡ Some text
+    → taken desk side message first actions body ≡ breaches desk side text body
+taken_breaks desk side message text (Some (Pass what)) actions body is = passed_breaks desk side message text body (side_took desk side what body) is
+taken_breaks desk side message text None actions body is = cc
+taken_breaks desk side message text (Some SendService) actions body is = cc
+taken_breaks desk side message text (Some (Pong _)) actions body is = cc
+taken_breaks desk side message text (Some (Ping _)) actions body is = cc
+taken_breaks desk side message text (Some (Tell _)) actions body is = cc
+taken_breaks desk side message text (Some Close) actions body is = cc
+taken_breaks desk side message text (Some Stand) actions body is = cc
+
+rowed_breaks : (desk : Desk) (side : Side) (message : Message) (text : List ℕ) (input : SessionInput) (body : Body) (found : Option SessionRow) → session_row (session_at side body) input ≡ found
+    → text_unless (has_row desk side found body) (unexpected (kind_of message.body)) ≡ Some text → rowed desk side message body found ≡ breaches desk side text body
+rowed_breaks desk side message text input body None row is = ap (λ (t : List ℕ). breaches desk side t body) (some_text _ text is)
+rowed_breaks desk side message text input body (Some r) row is =
+    taken_breaks desk side message text r.actions.first r.actions (with_session side r.after body) is ∙ breaches_same desk side text r.after body (part_stays (session_at side body) input r row)
+
+word_breaks : (desk : Desk) (side : Side) (word : Word) (text : List ℕ) (body : Body) → breach_of desk side word body ≡ Some text → word_did desk side word body ≡ breaches desk side text body
+word_breaks desk side (Wrong said) text body is = ap (λ (t : List ℕ). breaches desk side t body) (some_text said text is)
+word_breaks desk side (Says message) text body is = rowed_breaks desk side message text (heard message.body (is_some (held body.outlet))) body (session_row (session_at side body) (heard message.body (is_some (held body.outlet)))) refl is
+
+-- ---- nothing of the piece behind it counts
+
+breaks_all : (desk : Desk) (side : Side) (word : Word) (others : List Word) (text : List ℕ) (body : Body) → is_open side body ≡ true → breach_of desk side word body ≡ Some text → all_heard desk side (word ∷ others) body ≡ breaches desk side text body
+breaks_all desk side word others text body opened is =
+    let b = breaches desk side text body in
+    open-hears desk side word others body opened
+    ∙ ap (λ (d : Done). and_then d (all_heard desk side others)) (word_breaks desk side word text body is)
+    ∙ ap (λ (d : Done). record { body = d.body; acts = b.acts ++ d.acts }) (closed-hears desk side others b.body (breach_closes desk side text body))
+    ∙ ap (λ (xs : List Act). record { body = b.body; acts = xs }) (append-nil b.acts)
+
+then_is : (test : Bool) (desk : Desk) (side : Side) (one : Done) (front rest : List Word) (body : Body) → is_open side body ≡ test
+    → all_heard desk side (front ++ rest) one.body ≡ and_then (all_heard desk side front one.body) (all_heard desk side rest)
+    → if_open test (and_then one (all_heard desk side (front ++ rest))) body ≡ and_then (if_open test (and_then one (all_heard desk side front)) body) (all_heard desk side rest)
+then_is true desk side one front rest body is same =
+    ap (λ (d : Done). record { body = d.body; acts = one.acts ++ d.acts }) same
+    ∙ ap (λ (xs : List Act). record { body = (all_heard desk side rest (all_heard desk side front one.body).body).body; acts = xs }) (sym (append_assoc one.acts (all_heard desk side front one.body).acts (all_heard desk side rest (all_heard desk side front one.body).body).acts))
+then_is false desk side one front rest body is same = sym (closed-hears desk side rest body is)
+
+heard_append : (desk : Desk) (side : Side) (front rest : List Word) (body : Body) → all_heard desk side (front ++ rest) body ≡ and_then (all_heard desk side front body) (all_heard desk side rest)
+heard_append desk side [] rest body = refl
+heard_append desk side (w ∷ ws) rest body = then_is (is_open side body) desk side (word_did desk side w body) ws rest body refl (heard_append desk side ws rest (word_did desk side w body).body)
+
+pub broken : (desk : Desk) (unread : List Sensed) (side : Side) (front : List Word) (word : Word) (others : List Word) (text : List ℕ) (body : Body)
+    → is_open side (heard_before desk unread side front body) ≡ true → breach_of desk side word (heard_before desk unread side front body) ≡ Some text
+    → machine_step desk unread (Words side (front ++ word ∷ others)) body ≡ broken_step desk unread side front text body
+broken desk unread side front word others text body opened is =
+    let read = all_read desk unread body in
+    let before = all_heard desk side front read.body in
+    let b = breaches desk side text before.body in
+    let told = announces desk b.body in
+    ap (λ (d : Done). and_then read (λ (one : Body). and_then d (announces desk)))
+    (heard_append desk side front (word ∷ others) read.body ∙ ap (λ (d : Done). record { body = d.body; acts = before.acts ++ d.acts }) (breaks_all desk side word others text before.body opened is))
+    ∙ ap (λ (xs : List Act). record { body = told.body; acts = read.acts ++ xs }) (append_assoc before.acts b.acts told.acts)
+    ∙ ap (λ (xs : List Act). record { body = told.body; acts = xs }) (sym (append_assoc read.acts before.acts (b.acts ++ told.acts)))
+
+pub breaks_off : (desk : Desk) (unread : List Sensed) (side : Side) (all : List Word) (before after : Body) (told : List Act)
+    → after ≡ (machine_step desk unread (Words side all) before).body → told ≡ (machine_step desk unread (Words side all) before).acts → BreaksOff desk unread side all before after told
+breaks_off desk unread side all before after now body said = record {
+  body = λ front word others text same opened is. body ∙ ap (λ (ws : List Word). (machine_step desk unread (Words side ws) before).body) same ∙ ap (λ (d : Done). d.body) (broken desk unread side front word others text before opened is);
+  told = λ front word others text same opened is. said ∙ ap (λ (ws : List Word). (machine_step desk unread (Words side ws) before).acts) same ∙ ap (λ (d : Done). d.acts) (broken desk unread side front word others text before opened is);
+}

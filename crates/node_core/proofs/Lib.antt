@@ -1,0 +1,12 @@
+pub mod Opened
+pub mod Rowing
+pub mod Hearing
+pub mod First
+pub mod Offers
+pub mod HalfRows
+pub mod Keeping
+pub mod Sound
+pub mod Stepping
+pub mod Breaking
+pub mod Lasting
+pub mod Computed

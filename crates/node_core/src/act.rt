@@ -1,0 +1,109 @@
+ghost use Rattle.std.specs.Prelude.{◌≡◌, [], ◌∷◌, ◌++◌, OnOk};
+
+use board_record::BoardId;
+use hermes_horizontal::Message;
+use line_base::{Memory, Quality, SensorEvent, Side, Text};
+use std::alloc::Global;
+use std::marker::Model;
+
+/// One thing that a machine does in a step.
+#[derive(Debug, PartialEq, Eq, Drop)]
+pub enum Act {
+    /// It reads a sensor event of this side.
+    Reads(Side, SensorEvent),
+    /// It takes a message.
+    Hears(Side, Message),
+    /// What came on this side is refused with this text, or has no row in the tables.
+    Breaches(Side, Text),
+    /// It sends a message.
+    Sends(Side, Message),
+    /// It closes the connection of this side.
+    Closes(Side),
+    /// It notices that the connection of this side is closed.
+    Notices(Side),
+    /// It connects to its upstream neighbour.
+    Connects,
+    /// A handover goes on.
+    Deed(Deed),
+    /// It switches the drive of this side on or off.
+    Drive(Side, bool),
+    /// A kept record has this quality now.
+    Marks(BoardId, Quality),
+    /// A board was put in by hand.
+    Inserts(BoardId),
+    /// A board was taken out by hand.
+    Removes(BoardId),
+    /// A board, the first, was replaced by hand by another, the second.
+    Replaces(BoardId, BoardId),
+    /// It was told otherwise.
+    Sets(Setting),
+}
+
+/// What becomes of a board at one of the sides.
+#[derive(Clone, Copy, Debug, PartialEq, Eq)]
+pub enum Deed {
+    /// The handover of this board is open at the exit: the outlet holds its record.
+    Opens(BoardId),
+    /// The start of this board is refused.
+    Refuses(BoardId),
+    /// The board is the downstream machine's.
+    Leaves(BoardId),
+    /// The board is in the machine again, and its record is at the front.
+    Returns(BoardId),
+    /// The board was taken out by hand at the exit.
+    Loses(BoardId),
+    /// The transport of this board starts at the entry: the intake holds its record.
+    Starts(BoardId),
+    /// The board is the machine's, and its record is at the back.
+    Settles(BoardId),
+    /// The board didn't come, and its record is dropped.
+    Drops(BoardId),
+}
+
+/// What a machine can be told.
+#[derive(Clone, Copy, Debug, PartialEq, Eq)]
+pub enum Setting {
+    /// Whether it is willing to hand boards over at this side.
+    Will(Side, bool),
+}
+
+/// The acts of a step, in their order. It is seen as their list.
+#[derive(Debug, Drop)]
+pub struct Outputs {
+    acts: Vec<Act>,
+}
+
+impl Model for Outputs {
+    ghost use Rattle.std.specs.Prelude.{List};
+    ghost use Rattle.node_core.specs.declared.act.Act.{Act};
+
+    ghost Value = { List Act };
+
+    ghost view = { λ outputs. outputs.acts.items };
+}
+
+impl Outputs {
+    /// No acts.
+    pub fn new(alloc: Global) -> Outputs
+        ensures { result ≡ [] }
+    {
+        Outputs {
+            acts: Vec::new(alloc),
+        }
+    }
+
+    /// Appends an act. `Memory` where there is none for it.
+    pub fn push(&mut self, act: Act) -> Result<(), Memory>
+        ensures { OnOk result (self.new ≡ self.old ++ act ∷ []) }
+    {
+        self.acts.push(act)?;
+        Ok(())
+    }
+
+    /// The acts, in their order.
+    pub fn list(&self) -> &[Act]
+        ensures { result.now ≡ self.now }
+    {
+        self.acts.as_slice()
+    }
+}

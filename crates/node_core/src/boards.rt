@@ -1,0 +1,131 @@
+ghost use Rattle.std.specs.Prelude.{◌≡◌, ◌==◌, ◌++◌, IfSome, OnOk, None, false, position};
+ghost use Rattle.board_record.specs.declared.record.Record.{Record};
+ghost use Rattle.node_core.specs.Boards.{IsFirstAt, is_kept, inserts, removes, replaces, marks, faults, wills};
+
+use crate::act::{Act, Outputs, Setting};
+use crate::desk::Desk;
+use crate::lane::Body;
+use board_record::{BoardId, Record};
+use handover_in::InInput;
+use handover_out::OutInput;
+use line_base::{Memory, Quality, Side, Text};
+
+fn position_of(kept: &[Record], id: BoardId) -> Option<usize>
+    ensures { result ≡ position (λ (board : Record). board.id == id) kept.now }
+{
+    kept.iter().position(|board| board.id == id)
+}
+
+/// The place of the first record of this id.
+#[tactic(auto, using(crate::proofs::First::position_first, crate::proofs::First::position_none))]
+fn place_of(kept: &[Record], id: BoardId) -> Option<usize>
+    ensures first { IfSome result (IsFirstAt id kept.now) }
+    ensures none { result ≡ None → is_kept id kept.now ≡ false }
+{
+    position_of(kept, id)
+}
+
+impl Body {
+    /// Whether a record of this id is kept.
+    pub(crate) fn keeps(&self, id: BoardId) -> bool
+        ensures { result ≡ is_kept id self.now.kept }
+    {
+        match place_of(self.kept.list(), id) {
+            Some(_) => true,
+            None => false,
+        }
+    }
+
+    /// A board is put in at the back.
+    pub(crate) fn insert(
+        &mut self,
+        desk: &Desk,
+        id: BoardId,
+        barcode: Option<Text>,
+        to: &mut Outputs,
+    ) -> Result<(), Memory>
+        ensures body { OnOk result (self.new ≡ (inserts desk.now id barcode self.old).body) }
+        ensures acts { OnOk result (to.new ≡ to.old ++ (inserts desk.now id barcode self.old).acts) }
+    {
+        let name = desk.name().copy(desk.alloc())?;
+        self.kept.push_back(Record::plain(id, name, barcode))?;
+        to.push(Act::Inserts(id))
+    }
+
+    /// A board is taken out.
+    pub(crate) fn remove(&mut self, id: BoardId, to: &mut Outputs) -> Result<(), Memory>
+        ensures body { OnOk result (self.new ≡ (removes id self.old).body) }
+        ensures acts { OnOk result (to.new ≡ to.old ++ (removes id self.old).acts) }
+    {
+        match place_of(self.kept.list(), id) {
+            Some(place) => {
+                self.kept.remove(place);
+                to.push(Act::Removes(id))
+            }
+            None => Ok(()),
+        }
+    }
+
+    /// Another board comes into the place of a board.
+    pub(crate) fn replace(
+        &mut self,
+        desk: &Desk,
+        old: BoardId,
+        new: BoardId,
+        to: &mut Outputs,
+    ) -> Result<(), Memory>
+        ensures body { OnOk result (self.new ≡ (replaces desk.now old new self.old).body) }
+        ensures acts { OnOk result (to.new ≡ to.old ++ (replaces desk.now old new self.old).acts) }
+    {
+        match place_of(self.kept.list(), old) {
+            Some(place) => {
+                let name = desk.name().copy(desk.alloc())?;
+                self.kept.replace(place, Record::plain(new, name, None));
+                to.push(Act::Replaces(old, new))
+            }
+            None => Ok(()),
+        }
+    }
+
+    /// A board is known to be good or failed.
+    pub(crate) fn mark(
+        &mut self,
+        id: BoardId,
+        quality: Quality,
+        to: &mut Outputs,
+    ) -> Result<(), Memory>
+        ensures body { OnOk result (self.new ≡ (marks id quality self.old).body) }
+        ensures acts { OnOk result (to.new ≡ to.old ++ (marks id quality self.old).acts) }
+    {
+        match place_of(self.kept.list(), id) {
+            Some(place) => {
+                self.kept.set_quality(place, quality);
+                to.push(Act::Marks(id, quality))
+            }
+            None => Ok(()),
+        }
+    }
+
+    /// The drive of a side fails.
+    pub(crate) fn fault(&mut self, desk: &Desk, side: Side, to: &mut Outputs) -> Result<(), Memory>
+        ensures body { OnOk result (self.new ≡ (faults desk.now side self.old).body) }
+        ensures acts { OnOk result (to.new ≡ to.old ++ (faults desk.now side self.old).acts) }
+    {
+        match side {
+            Side::Entry => self.at_intake(desk, InInput::Fault, to),
+            Side::Exit => self.at_outlet(desk, OutInput::Fault, to),
+        }
+    }
+
+    /// The machine's will at a side changes.
+    pub(crate) fn will(&mut self, side: Side, on: bool, to: &mut Outputs) -> Result<(), Memory>
+        ensures body { OnOk result (self.new ≡ (wills side on self.old).body) }
+        ensures acts { OnOk result (to.new ≡ to.old ++ (wills side on self.old).acts) }
+    {
+        match side {
+            Side::Entry => self.entry.willing = on,
+            Side::Exit => self.exit.willing = on,
+        }
+        to.push(Act::Sets(Setting::Will(side, on)))
+    }
+}

@@ -1,0 +1,71 @@
+use board_record::BoardId;
+use line_base::{Quality, Side, Text};
+use thiserror::Error;
+
+/// What is given to a machine in a step.
+#[derive(Drop)]
+pub enum Input<'a> {
+    /// Nothing but the unread sensor events.
+    Nothing,
+    /// The connection to the upstream neighbour is made.
+    Connect,
+    /// The connection of the downstream neighbour is accepted.
+    Accepted,
+    /// The downstream neighbour connects a second time.
+    Second,
+    /// These bytes arrive at this side.
+    Bytes(Side, &'a [u8]),
+    /// The connection of this side is found closed.
+    Notice(Side),
+    /// The clock ticks.
+    Tick,
+    /// The machine shuts down.
+    Shutdown,
+    /// The drive of this side fails.
+    Fault(Side),
+    /// From now on the machine is willing to hand boards over at this side, or not.
+    Will(Side, bool),
+    /// A board is put in by hand, maybe with a barcode on its top side.
+    Insert(Option<Text>),
+    /// This board is taken out by hand.
+    Remove(BoardId),
+    /// Another board is put into the place of this one by hand.
+    Replace(BoardId),
+    /// This board is known to be good or failed.
+    Mark(BoardId, Quality),
+}
+
+/// Why an input may not be given.
+#[derive(Clone, Copy, Debug, PartialEq, Eq, Error)]
+pub enum No {
+    /// The intake has an open handover.
+    #[error("intake open")]
+    IntakeOpen,
+    /// There is no place for one board more.
+    #[error("full")]
+    Full,
+    /// The machine has made all its ids.
+    #[error("ids used up")]
+    IdsUsedUp,
+    /// The machine keeps no record of this board.
+    #[error("not kept")]
+    NotKept,
+    /// The board was offered, so its record may be known downstream.
+    #[error("offered")]
+    Offered,
+    /// It is so already.
+    #[error("same")]
+    Same,
+    /// That side has a connection.
+    #[error("connected")]
+    Connected,
+    /// The intake has a board between itself and its neighbour.
+    #[error("intake unsettled")]
+    IntakeUnsettled,
+    /// That side, or each of the two, has no connection.
+    #[error("not connected")]
+    NotConnected,
+    /// No board is moving at that side.
+    #[error("no handover")]
+    NoHandover,
+}

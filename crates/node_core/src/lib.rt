@@ -1,0 +1,32 @@
+//! One machine of a board line: the two ends of its sessions, the two halves of its handovers, and the records of the
+//! boards that it keeps, joined into one step.
+//!
+//! A step reads the unread sensor events in order, takes one input, and makes the announcements that are due. What it
+//! did is a list of acts.
+#![tactic(auto)]
+
+mod act;
+mod announce;
+mod boards;
+mod connect;
+mod desk;
+mod halves;
+mod hear;
+mod hermes;
+mod input;
+mod lane;
+mod may;
+mod node;
+mod piece;
+mod profile;
+mod reads;
+mod session;
+mod shelf;
+mod step;
+mod word;
+
+pub use act::{Act, Deed, Outputs, Setting};
+pub use hermes::HermesState;
+pub use input::{Input, No};
+pub use node::Node;
+pub use profile::NodeProfile;

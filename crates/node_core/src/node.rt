@@ -1,0 +1,170 @@
+ghost use Rattle.std.specs.Prelude.{◌≡◌, ◌≤◌, ◌<◌, ◌^◌, true, false, Ok, IsErr, OnErr, IfOk};
+ghost use Rattle.node_core.specs.Sides.{session_at, is_open};
+ghost use Rattle.node_core.specs.Node.{NodeState, new_body, new_node};
+ghost use Rattle.node_core.specs.May.{may_of, may_do};
+ghost use Rattle.node_core.specs.Places.{used};
+ghost use Rattle.node_core.specs.Hermes.{hermes_state};
+ghost use Rattle.node_core.specs.Own.{own_of, own_after};
+ghost use Rattle.node_core.specs.Step.{Steps};
+ghost use Rattle.node_core.specs.Breaking.{IsBrokenOff};
+
+use crate::act::Outputs;
+use crate::desk::Desk;
+use crate::hermes::HermesState;
+use crate::input::Input;
+use crate::lane::{Body, End, Lane};
+use crate::profile::NodeProfile;
+use crate::shelf::Shelf;
+use board_record::{IdMaker, Record, Sensed};
+use handover_in::Intake;
+use handover_out::Outlet;
+use hermes_stream::Cutter;
+use line_base::{Memory, Moment, Role, Side};
+use session_core::Session;
+use std::alloc::Global;
+use std::marker::Model;
+
+/// One machine of a board line.
+///
+/// It is seen as what it knows of itself, its id maker and its lane. After `Memory` it is spent: what it has done by then
+/// is not told, and each later step answers `Memory`.
+#[derive(Drop)]
+pub struct Node {
+    pub(crate) spent: bool,
+    pub(crate) desk: Desk,
+    pub(crate) maker: IdMaker,
+    pub(crate) lane: Lane,
+}
+
+impl Model for Node {
+    ghost use Rattle.std.specs.Prelude.{◌≡◌, false};
+    ghost use Rattle.node_core.specs.Node.{NodeState};
+    ghost use Rattle.node_core.specs.Sound.{IsSound};
+
+    ghost Value = { NodeState };
+
+    ghost view = { λ n. record { spent = n.spent; name = n.desk.name; number = n.desk.lane; capacity = n.desk.capacity; maker = n.maker; lane = n.lane } };
+
+    ghost invariant = { λ n. n.spent ≡ false → IsSound n.desk.capacity n.lane.body };
+}
+
+/// A body that keeps nothing, has no connections, and is willing on both sides.
+fn new_body(alloc: Global) -> Body
+    ensures { result ≡ new_body }
+{
+    Body {
+        kept: Shelf::new(alloc),
+        outlet: Outlet::new(),
+        intake: Intake::new(),
+        entry: End {
+            session: Session::new(Role::Downstream),
+            willing: true,
+        },
+        exit: End {
+            session: Session::new(Role::Upstream),
+            willing: true,
+        },
+    }
+}
+
+impl Node {
+    /// A machine that keeps nothing, without connections, willing on both sides. It takes the memory of two cutters.
+    pub fn new(alloc: Global, profile: NodeProfile) -> Result<Node, Memory>
+        requires least { 1 ≤ profile.capacity }
+        requires most { profile.capacity ≤ 1024 }
+        requires used { profile.used < 2 ^ 48 }
+        requires plain { profile.bridge ≡ false }
+        ensures { IfOk result (λ node. node ≡ new_node profile) }
+    {
+        let entry_bytes = Cutter::new(alloc)?;
+        let exit_bytes = Cutter::new(alloc)?;
+        let desk = Desk::new(
+            alloc,
+            profile.machine,
+            profile.lane,
+            profile.capacity,
+            Moment::of_millis(0),
+        );
+        Ok(Node {
+            spent: false,
+            desk,
+            maker: IdMaker::new(profile.number, profile.used),
+            lane: Lane {
+                body: new_body(alloc),
+                entry_bytes,
+                exit_bytes,
+            },
+        })
+    }
+
+    /// Makes a step at a moment: reads the unread sensor events in order, takes the input, and makes the announcements
+    /// that are due. It answers its acts in their order.
+    ///
+    /// `Memory` where there is none for the acts, for records and texts; the machine is spent then.
+    pub fn step(
+        &mut self,
+        sensed: &[Sensed],
+        input: Input<'_>,
+        moment: Moment,
+    ) -> Result<Outputs, Memory>
+        requires { may_of self.old input ≡ may_do }
+        ensures spent { self.old.spent ≡ true → IsErr result }
+        ensures memory { OnErr result (self.new.spent ≡ true) }
+        ensures again { IfOk result (λ acts. self.new.spent ≡ false) }
+        // what it did is the machine step
+        ensures step { IfOk result (Steps self.old sensed.now input.entry moment self.new) }
+        // bytes that mean no message, and messages without a row, break the connection off and nothing else
+        ensures wrong { IfOk result (IsBrokenOff self.old sensed.now input.entry moment self.new) }
+        // what it owns follows from its acts
+        ensures own { IfOk result (λ acts. own_of self.new.lane.body ≡ own_after (own_of self.old.lane.body) acts) }
+    {
+        if self.spent {
+            return Err(Memory);
+        }
+        self.spent = true;
+        self.desk.set_moment(moment);
+        let acts = self.lane.step(&self.desk, &mut self.maker, sensed, input)?;
+        self.spent = false;
+        Ok(acts)
+    }
+
+    /// The records that are kept, the front first.
+    pub fn kept(&self) -> &[Record]
+        ensures kept { result.now ≡ self.now.lane.body.kept }
+        // with those of open handovers they need no more places than there are
+        ensures bounded { self.now.spent ≡ false → used self.now.lane.body ≤ self.now.capacity }
+    {
+        self.lane.body.kept.list()
+    }
+
+    /// The upstream half of handovers.
+    pub fn outlet(&self) -> &Outlet
+        ensures { result.now ≡ self.now.lane.body.outlet }
+    {
+        &self.lane.body.outlet
+    }
+
+    /// The downstream half of handovers.
+    pub fn intake(&self) -> &Intake
+        ensures { result.now ≡ self.now.lane.body.intake }
+    {
+        &self.lane.body.intake
+    }
+
+    /// The session of a side.
+    pub fn session(&self, side: Side) -> &Session
+        ensures { result.now ≡ session_at side self.now.lane.body }
+    {
+        match side {
+            Side::Entry => &self.lane.body.entry.session,
+            Side::Exit => &self.lane.body.exit.session,
+        }
+    }
+
+    /// How a side stands, in the standard's words.
+    pub fn state(&self, side: Side) -> HermesState
+        ensures { result ≡ hermes_state side self.now.lane.body }
+    {
+        self.lane.body.state(side)
+    }
+}

@@ -1,0 +1,83 @@
+ghost use Rattle.std.specs.Prelude.{◌≡◌, ◌<◌, [], ◌∷◌, ◌++◌, OnOk, drop, length, remove, slice_get, slice_set};
+ghost use Rattle.board_record.specs.Kept.{with_quality};
+
+use board_record::{Kept, Record};
+use line_base::{Memory, Quality};
+use std::alloc::Global;
+use std::marker::Model;
+
+/// The records that a machine keeps, the front first. It is seen as their list alone; what grows takes its memory
+/// itself.
+#[derive(Drop)]
+pub struct Shelf {
+    kept: Kept,
+}
+
+impl Model for Shelf {
+    ghost use Rattle.std.specs.Prelude.{List};
+    ghost use Rattle.board_record.specs.declared.record.Record.{Record};
+
+    ghost Value = { List Record };
+
+    ghost view = { λ shelf. shelf.kept.boards };
+}
+
+impl Shelf {
+    pub(crate) fn new(alloc: Global) -> Shelf
+        ensures { result ≡ [] }
+    {
+        Shelf {
+            kept: Kept::new(alloc),
+        }
+    }
+
+    pub(crate) fn push_back(&mut self, board: Record) -> Result<(), Memory>
+        ensures { OnOk result (self.new ≡ self.old ++ board ∷ []) }
+    {
+        self.kept.reserve_one()?;
+        self.kept.push_back(board);
+        Ok(())
+    }
+
+    pub(crate) fn push_front(&mut self, board: Record) -> Result<(), Memory>
+        ensures { OnOk result (self.new ≡ board ∷ self.old) }
+    {
+        self.kept.reserve_one()?;
+        self.kept.push_front(board);
+        Ok(())
+    }
+
+    pub(crate) fn pop_front(&mut self) -> Option<Record>
+        ensures front { result ≡ slice_get self.old 0 }
+        ensures boards { self.new ≡ drop 1 self.old }
+    {
+        self.kept.pop_front()
+    }
+
+    pub(crate) fn remove(&mut self, place: usize)
+        requires { place < length self.old }
+        ensures { self.new ≡ remove self.old place }
+    {
+        let _removed = self.kept.take(place);
+    }
+
+    pub(crate) fn replace(&mut self, place: usize, board: Record)
+        requires { place < length self.old }
+        ensures { self.new ≡ slice_set self.old place board }
+    {
+        let _replaced = self.kept.replace(place, board);
+    }
+
+    pub(crate) fn set_quality(&mut self, place: usize, quality: Quality)
+        requires { place < length self.old }
+        ensures { self.new ≡ with_quality self.old place quality }
+    {
+        self.kept.set_quality(place, quality);
+    }
+
+    pub(crate) fn list(&self) -> &[Record]
+        ensures { result.now ≡ self.now }
+    {
+        self.kept.list()
+    }
+}

@@ -1,0 +1,142 @@
+ghost use Rattle.std.specs.Prelude.{◌≡◌, ◌++◌, [], OnOk, IfOk};
+ghost use Rattle.line_base.specs.declared.states.Side.TheVariants.{Entry, Exit};
+ghost use Rattle.line_base.specs.declared.states.Role.TheVariants.{Upstream};
+ghost use Rattle.node_core.specs.declared.input.Input.TheVariants as inputs;
+ghost use Rattle.node_core.specs.Halves.{OffersFront};
+ghost use Rattle.node_core.specs.Event.{Connect, Accepted, event_did};
+ghost use Rattle.node_core.specs.Step.{DoesInput, HearsBytes, MeetsInput, StepsLane};
+
+use crate::act::{Act, Outputs};
+use crate::desk::Desk;
+use crate::input::Input;
+use crate::lane::Lane;
+use crate::piece::hear_piece;
+use board_record::{BoardId, IdMaker, Sensed};
+use line_base::{Memory, Side, Text};
+
+impl Lane {
+    /// Bytes arrive at a side; without a connection they are nobody's.
+    #[tactic(auto, using(crate::proofs::Hearing::hears_nothing))]
+    fn hear(
+        &mut self,
+        desk: &Desk,
+        side: Side,
+        piece: &[u8],
+        to: &mut Outputs,
+    ) -> Result<(), Memory>
+        requires { OffersFront self.old.body }
+        ensures { OnOk result (HearsBytes desk.now side piece.now self.old self.new to.old to.new) }
+    {
+        if !self.body.is_open(side) {
+            return Ok(());
+        }
+        match side {
+            Side::Entry => hear_piece(&mut self.body, &mut self.entry_bytes, desk, side, piece, to),
+            Side::Exit => hear_piece(&mut self.body, &mut self.exit_bytes, desk, side, piece, to),
+        }
+    }
+
+    /// The connection to the upstream neighbour is made. It begins without bytes.
+    fn connect(&mut self, desk: &Desk, to: &mut Outputs) -> Result<(), Memory>
+        ensures body { OnOk result (self.new.body ≡ (event_did desk.now Connect self.old.body).body) }
+        ensures acts { OnOk result (to.new ≡ to.old ++ (event_did desk.now Connect self.old.body).acts) }
+        ensures entry { OnOk result (self.new.entry_bytes ≡ []) }
+        ensures exit { OnOk result (self.new.exit_bytes ≡ self.old.exit_bytes) }
+    {
+        self.entry_bytes.clear();
+        to.push(Act::Connects)?;
+        self.body.open(desk, Side::Entry, to)
+    }
+
+    /// The connection of the downstream neighbour is accepted. It begins without bytes.
+    fn accept(&mut self, desk: &Desk, to: &mut Outputs) -> Result<(), Memory>
+        ensures body { OnOk result (self.new.body ≡ (event_did desk.now Accepted self.old.body).body) }
+        ensures acts { OnOk result (to.new ≡ to.old ++ (event_did desk.now Accepted self.old.body).acts) }
+        ensures exit { OnOk result (self.new.exit_bytes ≡ []) }
+        ensures entry { OnOk result (self.new.entry_bytes ≡ self.old.entry_bytes) }
+    {
+        self.exit_bytes.clear();
+        self.body.open(desk, Side::Exit, to)
+    }
+
+    /// A board is put in, with a new id.
+    fn insert(
+        &mut self,
+        desk: &Desk,
+        maker: &mut IdMaker,
+        barcode: Option<Text>,
+        to: &mut Outputs,
+    ) -> Result<(), Memory>
+        ensures { OnOk result (DoesInput desk.now maker.old maker.new (inputs.Insert barcode) self.old self.new to.old to.new) }
+    {
+        match maker.next() {
+            Ok(id) => self.body.insert(desk, id, barcode, to),
+            Err(_) => Ok(()),
+        }
+    }
+
+    /// A board is replaced by another, with a new id.
+    fn replace(
+        &mut self,
+        desk: &Desk,
+        maker: &mut IdMaker,
+        old: BoardId,
+        to: &mut Outputs,
+    ) -> Result<(), Memory>
+        ensures { OnOk result (DoesInput desk.now maker.old maker.new (inputs.Replace old) self.old self.new to.old to.new) }
+    {
+        match maker.next() {
+            Ok(new) => self.body.replace(desk, old, new, to),
+            Err(_) => Ok(()),
+        }
+    }
+
+    /// The input of a step is done.
+    fn meet(
+        &mut self,
+        desk: &Desk,
+        maker: &mut IdMaker,
+        input: Input<'_>,
+        to: &mut Outputs,
+    ) -> Result<(), Memory>
+        requires offers { OffersFront self.old.body }
+        requires upstream { self.old.body.exit.session.role ≡ Upstream }
+        ensures { OnOk result (MeetsInput desk.now maker.old maker.new input.entry self.old self.new to.old to.new) }
+    {
+        match input {
+            Input::Nothing => Ok(()),
+            Input::Connect => self.connect(desk, to),
+            Input::Accepted => self.accept(desk, to),
+            Input::Second => self.body.meet_second(desk, to),
+            Input::Bytes(side, piece) => self.hear(desk, side, piece, to),
+            Input::Notice(side) => self.body.notice(desk, side, to),
+            Input::Tick => self.body.tick_both(desk, to),
+            Input::Shutdown => self.body.shut_down_both(desk, to),
+            Input::Fault(side) => self.body.fault(desk, side, to),
+            Input::Will(side, on) => self.body.will(side, on, to),
+            Input::Insert(barcode) => self.insert(desk, maker, barcode, to),
+            Input::Remove(id) => self.body.remove(id, to),
+            Input::Replace(id) => self.replace(desk, maker, id, to),
+            Input::Mark(id, quality) => self.body.mark(id, quality, to),
+        }
+    }
+
+    /// A step: the unread events in order, the input, the announcements.
+    pub(crate) fn step(
+        &mut self,
+        desk: &Desk,
+        maker: &mut IdMaker,
+        unread: &[Sensed],
+        input: Input<'_>,
+    ) -> Result<Outputs, Memory>
+        requires offers { OffersFront self.old.body }
+        requires upstream { self.old.body.exit.session.role ≡ Upstream }
+        ensures { IfOk result (StepsLane desk.now unread.now input.entry maker.old maker.new self.old self.new) }
+    {
+        let mut acts = Outputs::new(desk.alloc());
+        self.body.read_all(desk, unread, &mut acts)?;
+        self.meet(desk, maker, input, &mut acts)?;
+        self.body.announce(desk, &mut acts)?;
+        Ok(acts)
+    }
+}
