@@ -9,4 +9,5 @@ pub mod Sound
 pub mod Stepping
 pub mod Breaking
 pub mod Lasting
+pub mod Meaning
 pub mod Computed

@@ -15,6 +15,7 @@ mod hear;
 mod hermes;
 mod input;
 mod lane;
+pub mod laws;
 mod may;
 mod node;
 mod piece;
