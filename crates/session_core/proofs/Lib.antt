@@ -2,3 +2,4 @@ pub mod Rows
 pub mod RowLaws
 pub mod Silence
 pub mod States
+pub mod Texts

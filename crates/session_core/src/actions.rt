@@ -45,8 +45,8 @@ pub enum Tell {
 }
 
 impl Tell {
-    /// The Notification's code, as docs/PROFILE.md lists them: an established connection, unspecific, a
-    /// shutdown.
+    /// The Notification's code (docs/PROFILE.md): 2 where there is a connection already, 0 for an
+    /// unsettled handover, and 5 for a shutdown.
     pub fn code(self) -> Code
         ensures { result ≡ tell_code self }
     {

@@ -1,9 +1,11 @@
 //! What holds of an end of a session whatever it meets. Each law is a contract over the
 //! definitions that the calls of `Session` meet.
 
-ghost use Rattle.std.specs.Prelude.{◌≡◌, ◌≢◌, ◌↔◌, ◌≤◌, ◌⊎◌, ◌&&◌, not, ℕ, Bool, true, false, IsSome, List, [], ◌∷◌, Option, Some, None};
+ghost use Rattle.std.specs.Prelude.{◌≡◌, ◌≢◌, ◌↔◌, ◌≤◌, ◌⊎◌, ◌&&◌, not, ℕ, Bool, true, false, IsSome, List, [], ◌∷◌, ◌++◌, codes, Option, Some, None};
 ghost use Rattle.line_base.specs.declared.states.Role.{Role as Part};
 ghost use Rattle.line_base.specs.declared.states.Role.TheVariants.{Upstream};
+ghost use Rattle.hermes_horizontal.specs.declared.kind.Kind.{Kind};
+ghost use Rattle.hermes_horizontal.specs.Rows.{kind_text};
 ghost use Rattle.hermes_horizontal.specs.declared.message.Horizontal.{Horizontal};
 ghost use Rattle.hermes_horizontal.specs.declared.message.Horizontal.TheVariants.{ServiceDescription};
 ghost use Rattle.hermes_horizontal.specs.declared.message.Service.{Service};
@@ -12,6 +14,7 @@ ghost use Rattle.session_core.specs.declared.actions.Action.TheVariants.{Tell, C
 ghost use Rattle.session_core.specs.declared.actions.Tell.TheVariants.{Unsettled};
 ghost use Rattle.session_core.specs.End.{SessionEnd, at_rest, no_features};
 ghost use Rattle.session_core.specs.Acts.{two};
+ghost use Rattle.session_core.specs.Breach.{unexpected};
 ghost use Rattle.session_core.specs.Input.{Input, heard, closed};
 ghost use Rattle.session_core.specs.Row.{SessionRow, session_row, row};
 ghost use Rattle.session_core.specs.Table.{IsSessionRow};
@@ -117,4 +120,10 @@ pub fn an_end_comes_to_stand_at_a_description()
 #[tactic(auto, using(crate::proofs::RowLaws::part_stays))]
 pub fn an_end_keeps_its_part()
     ensures { (s : SessionEnd) (input : Input) (row : SessionRow) → session_row s input ≡ Some row → row.after.role ≡ s.role }
+{}
+
+/// What is told of a breach is `unexpected` and the name of the message.
+#[tactic(auto, using(crate::proofs::Texts::unexpected_names))]
+pub fn a_breach_names_its_message()
+    ensures { (kind : Kind) → unexpected kind ≡ codes "unexpected " ++ kind_text kind }
 {}

@@ -12,8 +12,6 @@ pub mod laws;
 mod message;
 mod session;
 mod state;
-#[cfg(test)]
-mod tests;
 
 pub use actions::{Action, Actions, Tell};
 pub use breach::Breach;
