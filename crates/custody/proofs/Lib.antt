@@ -49,4 +49,5 @@ pub mod Hands
 pub mod HandsContents
 pub mod MovesKeep
 pub mod Spoils
+pub mod Messages
 pub mod HandsFloor

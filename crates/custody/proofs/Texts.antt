@@ -37,13 +37,13 @@ arrives w p c k = record { frames = rw (append_assoc w p c) k.frames }
 nothing_after : (x : List ℕ) → frames_of (x ++ []) ≡ frames_of x
 nothing_after x = ap frames_of (append-nil x)
 
-no_first : {f : List ℕ} {fs : List (List ℕ)} → f ∷ fs ≡ [] → ⊥
+pub no_first : {f : List ℕ} {fs : List (List ℕ)} → f ∷ fs ≡ [] → ⊥
 no_first e = cc
 
-texts_behind : {f t : List ℕ} {fs ts : List (List ℕ)} → f ∷ fs ≡ t ∷ ts → fs ≡ ts
+pub texts_behind : {f t : List ℕ} {fs ts : List (List ℕ)} → f ∷ fs ≡ t ∷ ts → fs ≡ ts
 texts_behind e = cc
 
-first_text : {f t : List ℕ} {fs ts : List (List ℕ)} → f ∷ fs ≡ t ∷ ts → f ≡ t
+pub first_text : {f t : List ℕ} {fs ts : List (List ℕ)} → f ∷ fs ≡ t ∷ ts → f ≡ t
 first_text e = cc
 
 rebuilt : {ts : List (List ℕ)} {k : Option (List ℕ)} (z : Frames) → z.messages ≡ ts → z.rest ≡ k → z ≡ record { messages = ts; rest = k }

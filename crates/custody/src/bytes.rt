@@ -4,7 +4,9 @@
 ghost use Rattle.std.specs.Prelude.{◌≡◌, ◌∷◌, ◌++◌, [], List, ℕ};
 ghost use Rattle.hermes_stream.specs.Frames.{IsOneFrame, NeedMore, answer_of, left_of};
 ghost use Rattle.hermes_stream.specs.Cutter.{GivesFrame, StaysTooLong, WantsMore};
-ghost use Rattle.custody.specs.Bytes.{Flows, HasNul, Next, Spoiled};
+ghost use Rattle.hermes_horizontal.specs.Canonical.{canonical};
+ghost use Rattle.hermes_horizontal.specs.declared.message.Message.{Message};
+ghost use Rattle.custody.specs.Bytes.{Flows, HasNul, IsRefusedFrame, Next, NextMessage, Spoiled, texts_of};
 
 /// The texts that were sent on a link come out of its receiver's cutter whole and in order: a frame that is cut is the
 /// first of those in flight, nothing is ever too long, and it doesn't matter in which pieces the bytes arrive.
@@ -28,3 +30,20 @@ pub fn a_nul_is_in_the_next_frame()
     ensures sent { (waiting coming text : List ℕ) → Spoiled waiting coming → Spoiled waiting (coming ++ text) }
     ensures cut { (waiting coming frame : List ℕ) → GivesFrame waiting frame → Spoiled waiting coming → HasNul frame }
 {}
+
+/// The messages that were sent and not heard come out of the cutter in their order: a frame that is cut is the text of
+/// the first of them. What is sent comes behind, if its text is one message of a stream, as that of every message that a
+/// machine sends is.
+#[tactic(auto, using(crate::proofs::Messages::sends_a_message, crate::proofs::Messages::cuts_the_first_message))]
+pub fn each_frame_is_the_next_message()
+    ensures sent { (waiting coming : List ℕ) (messages : List Message) (message : Message) → IsOneFrame (canonical message) → Flows waiting coming (texts_of messages) → Flows waiting (coming ++ canonical message) (texts_of (messages ++ (message ∷ []))) }
+    ensures cut { (waiting coming frame : List ℕ) (messages : List Message) → GivesFrame waiting frame → Flows waiting coming (texts_of messages) → NextMessage waiting coming messages frame }
+{}
+
+/// The next frame of a side that met a NUL is refused. So a message is refused only where a NUL was put in.
+pub fn a_frame_with_a_nul_is_refused()
+    ensures { (waiting coming frame : List ℕ) → GivesFrame waiting frame → Spoiled waiting coming → IsRefusedFrame frame }
+{
+    a_nul_is_in_the_next_frame();
+    hermes_horizontal::zero_is_refused();
+}
