@@ -1,0 +1,201 @@
+//! What is told of acts and of how a machine stands.
+
+use crate::ids;
+use board_record::BoardId;
+use hermes_horizontal::{Horizontal, Ping};
+use line_base::{Memory, Quality, Side, Text, Transfer};
+use node_core::{Act, Deed, Node, Outputs, Setting};
+use std::io;
+use std::io::Write;
+
+/// Appends the acts of a step.
+pub fn tell_done(done: &Result<Outputs, Memory>, to: &mut Vec<u8>) -> io::Result<()> {
+    to.write_all(b" |")?;
+    match done {
+        Ok(acts) => tell_acts(acts.list(), to),
+        Err(_) => to.write_all(b" out of memory"),
+    }
+}
+
+fn tell_acts(acts: &[Act], to: &mut Vec<u8>) -> io::Result<()> {
+    for (place, act) in acts.iter().enumerate() {
+        tell_one(place, act, to)?;
+    }
+    Ok(())
+}
+
+fn tell_one(place: usize, act: &Act, to: &mut Vec<u8>) -> io::Result<()> {
+    if place > 0 {
+        to.write_all(b",")?;
+    }
+    to.write_all(b" ")?;
+    tell(act, to)
+}
+
+fn tell(act: &Act, to: &mut Vec<u8>) -> io::Result<()> {
+    match act {
+        Act::Reads(side, event) => {
+            let side = word_of(*side);
+            write!(to, "reads {side} {event:?}")
+        }
+        Act::Hears(side, message) => tell_message("hears", *side, &message.body, to),
+        Act::Sends(side, message) => tell_message("sends", *side, &message.body, to),
+        Act::Breaches(side, text) => tell_breach(*side, text, to),
+        Act::Closes(side) => tell_side("closes", *side, to),
+        Act::Notices(side) => tell_side("notices", *side, to),
+        Act::Drive(side, true) => tell_drive(*side, "on", to),
+        Act::Drive(side, false) => tell_drive(*side, "off", to),
+        Act::Sets(Setting::Will(side, true)) => tell_side("go", *side, to),
+        Act::Sets(Setting::Will(side, false)) => tell_side("hold", *side, to),
+        Act::Deed(deed) => tell_deed(*deed, to),
+        _ => tell_by_hand(act, to),
+    }
+}
+
+fn tell_by_hand(act: &Act, to: &mut Vec<u8>) -> io::Result<()> {
+    match act {
+        Act::Connects => write!(to, "connects"),
+        Act::Inserts(id) => about("inserts", *id, to),
+        Act::Removes(id) => about("removes", *id, to),
+        Act::Replaces(old, new) => {
+            about("replaces", *old, to)?;
+            write!(to, " ")?;
+            ids::tell(*new, to)
+        }
+        Act::Marks(id, quality) => {
+            about("marks", *id, to)?;
+            let quality = quality_of(*quality);
+            write!(to, " {quality}")
+        }
+        _ => Ok(()),
+    }
+}
+
+fn quality_of(quality: Quality) -> &'static str {
+    match quality {
+        Quality::Unknown => "unknown",
+        Quality::Good => "good",
+        Quality::Failed => "failed",
+    }
+}
+
+fn word_of(side: Side) -> &'static str {
+    match side {
+        Side::Entry => "in",
+        Side::Exit => "out",
+    }
+}
+
+fn tell_side(what: &str, side: Side, to: &mut Vec<u8>) -> io::Result<()> {
+    let side = word_of(side);
+    write!(to, "{what} {side}")
+}
+
+fn tell_drive(side: Side, level: &str, to: &mut Vec<u8>) -> io::Result<()> {
+    let side = word_of(side);
+    write!(to, "drive {side} {level}")
+}
+
+fn tell_breach(side: Side, text: &Text, to: &mut Vec<u8>) -> io::Result<()> {
+    tell_side("breach", side, to)?;
+    tell_text(text, to)
+}
+
+fn tell_text(text: &Text, to: &mut Vec<u8>) -> io::Result<()> {
+    to.write_all(b" \"")?;
+    to.write_all(text.bytes())?;
+    to.write_all(b"\"")
+}
+
+fn about(what: &str, id: BoardId, to: &mut Vec<u8>) -> io::Result<()> {
+    write!(to, "{what} ")?;
+    ids::tell(id, to)
+}
+
+fn tell_deed(deed: Deed, to: &mut Vec<u8>) -> io::Result<()> {
+    match deed {
+        Deed::Opens(id) => about("opens", id, to),
+        Deed::Refuses(id) => about("refuses", id, to),
+        Deed::Leaves(id) => about("leaves", id, to),
+        Deed::Returns(id) => about("returns", id, to),
+        Deed::Loses(id) => about("loses", id, to),
+        Deed::Starts(id) => about("starts", id, to),
+        Deed::Settles(id) => about("settles", id, to),
+        Deed::Drops(id) => about("drops", id, to),
+    }
+}
+
+fn tell_message(what: &str, side: Side, body: &Horizontal, to: &mut Vec<u8>) -> io::Result<()> {
+    tell_side(what, side, to)?;
+    write!(to, " ")?;
+    match body {
+        Horizontal::Other(_) => write!(to, "Other"),
+        _ => to.write_all(body.name()),
+    }?;
+    tell_contents(body, to)
+}
+
+fn tell_contents(body: &Horizontal, to: &mut Vec<u8>) -> io::Result<()> {
+    match body {
+        Horizontal::CheckAlive { ping, id } => tell_alive(*ping, id, to),
+        Horizontal::Notification {
+            code,
+            severity,
+            text,
+        } => {
+            let number = code.number;
+            write!(to, " {number} {severity:?}")?;
+            tell_text(text, to)
+        }
+        Horizontal::BoardAvailable(board) => tell_id(board.id, to),
+        Horizontal::StartTransport { id } => tell_id(*id, to),
+        Horizontal::StopTransport { state, id } => tell_end(*state, *id, to),
+        Horizontal::TransportFinished { state, id } => tell_end(*state, *id, to),
+        Horizontal::BoardForecast(_) => write!(to, " none"),
+        Horizontal::SendBoardInfo(_) => write!(to, " none"),
+        _ => Ok(()),
+    }
+}
+
+fn tell_alive(ping: Option<Ping>, id: &Option<Text>, to: &mut Vec<u8>) -> io::Result<()> {
+    match ping {
+        Some(Ping::Ask) => write!(to, " 1")?,
+        Some(Ping::Answer) => write!(to, " 2")?,
+        None => {}
+    }
+    match id {
+        Some(id) => tell_text(id, to),
+        None => Ok(()),
+    }
+}
+
+fn tell_id(id: BoardId, to: &mut Vec<u8>) -> io::Result<()> {
+    write!(to, " ")?;
+    ids::tell(id, to)
+}
+
+fn tell_end(state: Transfer, id: BoardId, to: &mut Vec<u8>) -> io::Result<()> {
+    let number = match state {
+        Transfer::NotStarted => 1,
+        Transfer::Incomplete => 2,
+        Transfer::Complete => 3,
+    };
+    write!(to, " {number} ")?;
+    ids::tell(id, to)
+}
+
+/// Appends what a machine keeps, and how its sides stand.
+pub fn stands(node: &Node, to: &mut Vec<u8>) -> io::Result<()> {
+    write!(to, " || kept")?;
+    for board in node.kept() {
+        tell_id(board.id, to)?;
+        match board.quality {
+            Quality::Unknown => {}
+            Quality::Good => write!(to, "+")?,
+            Quality::Failed => write!(to, "-")?,
+        }
+    }
+    let entry = node.state(Side::Entry);
+    let exit = node.state(Side::Exit);
+    write!(to, "; {entry:?}; {exit:?}")
+}
