@@ -1,0 +1,54 @@
+//! The cases of a session: each line names a part and then the words of what an end without a
+//! connection meets in it, and is written again with what the end does at the last of them and how
+//! it stands then.
+#![tactic(auto)]
+
+mod messages;
+mod met;
+mod told;
+
+use line_base::Role;
+use session_core::Session;
+use std::alloc::Global;
+use std::io;
+use std::io::Write;
+
+fn main(rt: HostRuntime) -> io::Result<()> {
+    let mut out = io::writer(&rt);
+    for case in rt.lines(rt.alloc()) {
+        let case = case?;
+        let mut said = Vec::new(rt.alloc());
+        tell_case(rt.alloc(), case.as_str(), &mut said)?;
+        out.write_all(said.as_slice())?;
+    }
+    Ok(())
+}
+
+fn tell_case(alloc: Global, case: &str, to: &mut Vec<u8>) -> io::Result<()> {
+    let mut session = Session::new(part_of(case));
+    tell_after(alloc, &mut session, case, to)
+}
+
+/// The upstream part, unless the line begins with the other's name.
+fn part_of(case: &str) -> Role {
+    match case.split_whitespace().next() {
+        Some("downstream") => Role::Downstream,
+        _ => Role::Upstream,
+    }
+}
+
+fn tell_after(
+    alloc: Global,
+    session: &mut Session,
+    case: &str,
+    to: &mut Vec<u8>,
+) -> io::Result<()> {
+    write!(to, "{case} = ")?;
+    let begin = to.len();
+    for word in case.split_whitespace() {
+        to.truncate(begin);
+        met::meet(alloc, session, word, to)?;
+    }
+    told::stands(session, to)?;
+    writeln!(to)
+}

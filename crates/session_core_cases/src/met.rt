@@ -1,0 +1,98 @@
+//! What the words of a case mean to a session.
+
+ghost use Rattle.std.specs.Prelude.{◌≢◌};
+
+use crate::messages::message_of;
+use crate::told;
+use line_base::Role;
+use session_core::{Session, SessionState};
+use std::alloc::Global;
+use std::io;
+use std::io::Write;
+
+/// Meets a word, and appends what the session does. Nothing is met where the word has no meaning,
+/// and at what doesn't come in this state.
+pub fn meet(alloc: Global, session: &mut Session, word: &str, to: &mut Vec<u8>) -> io::Result<()> {
+    if word == "opens" {
+        return opens(session, to);
+    }
+    if session.state() == SessionState::NotConnected {
+        return nothing(to);
+    }
+    if word == "second" {
+        return second(session, to);
+    }
+    connected(alloc, session, word, to)
+}
+
+fn nothing(to: &mut Vec<u8>) -> io::Result<()> {
+    write!(to, "nothing is met")
+}
+
+fn opens(session: &mut Session, to: &mut Vec<u8>) -> io::Result<()> {
+    if session.state() != SessionState::NotConnected {
+        return nothing(to);
+    }
+    told::actions(&session.on_open(), to)
+}
+
+fn second(session: &mut Session, to: &mut Vec<u8>) -> io::Result<()> {
+    if session.role() != Role::Upstream || session.state() == SessionState::NotConnected {
+        return nothing(to);
+    }
+    told::actions(&session.on_second(), to)
+}
+
+/// A word that a session with a connection may meet.
+fn connected(alloc: Global, session: &mut Session, word: &str, to: &mut Vec<u8>) -> io::Result<()>
+    requires { session.old.state ≢ SessionState.NotConnected }
+{
+    if word == "ticks" {
+        return ticks(session, to);
+    }
+    if word == "shuts-down" {
+        return shuts_down(session, to);
+    }
+    if word == "is-closed" {
+        return closed(session, to);
+    }
+    match word.strip_prefix("holding:") {
+        Some(word) => hears(alloc, session, word, true, to),
+        None => hears(alloc, session, word, false, to),
+    }
+}
+
+fn ticks(session: &mut Session, to: &mut Vec<u8>) -> io::Result<()>
+    requires { session.old.state ≢ SessionState.NotConnected }
+{
+    told::actions(&session.on_tick(), to)
+}
+
+fn shuts_down(session: &mut Session, to: &mut Vec<u8>) -> io::Result<()>
+    requires { session.old.state ≢ SessionState.NotConnected }
+{
+    told::actions(&session.on_shutdown(), to)
+}
+
+fn closed(session: &mut Session, to: &mut Vec<u8>) -> io::Result<()>
+    requires { session.old.state ≢ SessionState.NotConnected }
+{
+    session.on_closed();
+    write!(to, "nothing")
+}
+
+/// A message, while the outlet holds a board or not.
+fn hears(
+    alloc: Global,
+    session: &mut Session,
+    word: &str,
+    holding: bool,
+    to: &mut Vec<u8>,
+) -> io::Result<()>
+    requires { session.old.state ≢ SessionState.NotConnected }
+{
+    match message_of(alloc, word) {
+        Some(message) => told::answer(&session.on_message(message, holding), to),
+        None => nothing(to),
+    }
+}
