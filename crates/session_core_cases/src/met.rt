@@ -5,7 +5,7 @@ ghost use Rattle.std.specs.Prelude.{◌≢◌};
 use crate::messages::message_of;
 use crate::told;
 use line_base::Role;
-use session_core::{Session, SessionState};
+use session_core::{Action, Actions, Breach, Session, SessionState};
 use std::alloc::Global;
 use std::io;
 use std::io::Write;
@@ -33,14 +33,14 @@ fn opens(session: &mut Session, to: &mut Vec<u8>) -> io::Result<()> {
     if session.state() != SessionState::NotConnected {
         return nothing(to);
     }
-    told::actions(&session.on_open(), to)
+    say(session.on_open(), to)
 }
 
 fn second(session: &mut Session, to: &mut Vec<u8>) -> io::Result<()> {
     if session.role() != Role::Upstream || session.state() == SessionState::NotConnected {
         return nothing(to);
     }
-    told::actions(&session.on_second(), to)
+    say(session.on_second(), to)
 }
 
 /// A word that a session with a connection may meet.
@@ -65,13 +65,13 @@ fn connected(alloc: Global, session: &mut Session, word: &str, to: &mut Vec<u8>)
 fn ticks(session: &mut Session, to: &mut Vec<u8>) -> io::Result<()>
     requires { session.old.state ≢ SessionState.NotConnected }
 {
-    told::actions(&session.on_tick(), to)
+    say(session.on_tick(), to)
 }
 
 fn shuts_down(session: &mut Session, to: &mut Vec<u8>) -> io::Result<()>
     requires { session.old.state ≢ SessionState.NotConnected }
 {
-    told::actions(&session.on_shutdown(), to)
+    say(session.on_shutdown(), to)
 }
 
 fn closed(session: &mut Session, to: &mut Vec<u8>) -> io::Result<()>
@@ -79,6 +79,36 @@ fn closed(session: &mut Session, to: &mut Vec<u8>) -> io::Result<()>
 {
     session.on_closed();
     write!(to, "nothing")
+}
+
+/// What is to be done is told, part by part.
+fn say(actions: Actions, to: &mut Vec<u8>) -> io::Result<()> {
+    let Actions {
+        first,
+        second,
+        third,
+    } = actions;
+    let one = say_first(first, to);
+    let two = say_more(second, to);
+    let three = say_more(third, to);
+    one?;
+    two?;
+    three
+}
+
+fn say_first(first: Option<Action>, to: &mut Vec<u8>) -> io::Result<()> {
+    told::first(&first, to)
+}
+
+fn say_more(next: Option<Action>, to: &mut Vec<u8>) -> io::Result<()> {
+    told::more(&next, to)
+}
+
+fn answered(answer: Result<Actions, Breach>, to: &mut Vec<u8>) -> io::Result<()> {
+    match answer {
+        Ok(actions) => say(actions, to),
+        Err(breach) => Ok(to.extend_from_slice(breach.text().as_bytes())?),
+    }
 }
 
 /// A message, while the outlet holds a board or not.
@@ -92,7 +122,7 @@ fn hears(
     requires { session.old.state ≢ SessionState.NotConnected }
 {
     match message_of(alloc, word) {
-        Some(message) => told::answer(&session.on_message(message, holding), to),
+        Some(message) => answered(session.on_message(message, holding), to),
         None => nothing(to),
     }
 }

@@ -3,29 +3,20 @@
 use board_record::BoardId;
 use hermes_horizontal::Horizontal;
 use line_base::{Quality, Severity, Text, Transfer};
-use session_core::{Action, Actions, Breach, Session, SessionState, Tell};
+use session_core::{Action, Session, SessionState, Tell};
 use std::io;
 use std::io::Write;
 
-/// Appends what a session does at a message.
-pub fn answer(answer: &Result<Actions, Breach>, to: &mut Vec<u8>) -> io::Result<()> {
-    match answer {
-        Ok(said) => actions(said, to),
-        Err(breach) => Ok(to.extend_from_slice(breach.text().as_bytes())?),
+/// Appends the first thing that is to be done.
+pub fn first(first: &Option<Action>, to: &mut Vec<u8>) -> io::Result<()> {
+    match first {
+        Some(first) => action(first, to),
+        None => write!(to, "nothing"),
     }
 }
 
-/// Appends what is to be done, in order.
-pub fn actions(actions: &Actions, to: &mut Vec<u8>) -> io::Result<()> {
-    match &actions.first {
-        Some(first) => action(first, to)?,
-        None => write!(to, "nothing")?,
-    }
-    more(&actions.second, to)?;
-    more(&actions.third, to)
-}
-
-fn more(next: &Option<Action>, to: &mut Vec<u8>) -> io::Result<()> {
+/// Appends what is to be done behind it.
+pub fn more(next: &Option<Action>, to: &mut Vec<u8>) -> io::Result<()> {
     match next {
         Some(next) => {
             write!(to, ", ")?;
