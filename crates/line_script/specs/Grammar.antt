@@ -1,32 +1,44 @@
-use Rattle.std.specs.Prelude.{◌==◌, ◌||◌, ℕ, Bool, false, List, [], ◌∷◌, Option, Some, None, Result, Ok, Err, codes, length, nat_lt, nat_eq, if◌then◌else◌}
+use Rattle.std.specs.Prelude.{◌==◌, ◌||◌, ℕ, Bool, true, false, List, [], ◌∷◌, Option, Some, None, Result, Ok, Err, codes, length, nat_lt, nat_eq, if◌then◌else◌}
 use Rattle.std.specs.List.{list_all, list_any}
 use Rattle.std.specs.Str.{bytes_eq}
-use Rattle.line_script.specs.Words.{words_of, is_text_byte, number_in, literal_of, identity_of, token_of}
+use Rattle.line_base.specs.declared.states.Quality.{Quality}
+use Rattle.line_base.specs.declared.states.SensorEvent.{SensorEvent}
+use Rattle.line_base.specs.declared.states.SensorEvent.TheVariants as events
+use Rattle.line_base.specs.declared.states.Side.{Side}
+use Rattle.line_base.specs.declared.states.Side.TheVariants as sides
+use Rattle.line_script.specs.Words.{words_of, is_text_byte, number_in, literal_of, identity_of, token_of, side_of, quality_of, event_of}
 use Rattle.line_script.specs.declared.line.LineWhy.{LineWhy}
 use Rattle.line_script.specs.declared.line.LineWhy.TheVariants as whys
 use Rattle.line_script.specs.declared.line.ScriptLine.{ScriptLine}
 use Rattle.line_script.specs.declared.line.ScriptLine.TheVariants as lines
 
--- the kinds of arguments: a number between two bounds, a board's id, one fixed word, a text word
+-- the kinds of arguments: a number between two bounds, a board's id, one fixed word, a text word, a side of a machine, a
+-- quality, a sensor event
 pub data Kind : Type 0 where
   number : ℕ → ℕ → Kind
   identity : Kind
   literal : List ℕ → Kind
   token : Kind
+  side_word : Kind
+  quality_word : Kind
+  event_word : Kind
 
 -- what an argument says
 pub data Value : Type 0 where
   numeral : ℕ → Value
   board : ℕ → Value
   spelled : List ℕ → Value
+  sided : Side → Value
+  graded : Quality → Value
+  seen : SensorEvent → Value
 
 -- a form of line: its first word, how many arguments it may have, their kinds, and the line that
--- their values make
+-- their values make, or why they make none
 pub record Form : Type 0 where
   pub word : List ℕ
   pub counts : List ℕ
   pub arguments : List Kind
-  pub made : List Value → Option ScriptLine
+  pub made : List Value → Result ScriptLine LineWhy
 
 -- machines are numbered 1 to 64
 abbrev pub machine_number : Kind
@@ -36,58 +48,125 @@ machine_number = number 1 64
 abbrev pub gap_number : Kind
 gap_number = number 1 63
 
-abbrev pub made_machine : List Value → Option ScriptLine
-made_machine (numeral capacity ∷ []) = Some (lines.Machine capacity 0)
-made_machine (numeral capacity ∷ spelled used ∷ numeral count ∷ []) = Some (lines.Machine capacity count)
-made_machine _ = None
+abbrev pub made_machine : List Value → Result ScriptLine LineWhy
+made_machine (numeral capacity ∷ []) = Ok (lines.Machine capacity 0)
+made_machine (numeral capacity ∷ spelled used ∷ numeral count ∷ []) = Ok (lines.Machine capacity count)
+made_machine _ = Err whys.WrongCount
 
-abbrev pub made_insert : List Value → Option ScriptLine
-made_insert (numeral machine ∷ []) = Some (lines.Insert machine None)
-made_insert (numeral machine ∷ spelled barcode ∷ []) = Some (lines.Insert machine (Some barcode))
-made_insert _ = None
+abbrev pub made_insert : List Value → Result ScriptLine LineWhy
+made_insert (numeral machine ∷ []) = Ok (lines.Insert machine None)
+made_insert (numeral machine ∷ spelled barcode ∷ []) = Ok (lines.Insert machine (Some barcode))
+made_insert _ = Err whys.WrongCount
 
-abbrev pub made_remove : List Value → Option ScriptLine
-made_remove (numeral machine ∷ board id ∷ []) = Some (lines.Remove machine id)
-made_remove _ = None
+abbrev pub made_remove : List Value → Result ScriptLine LineWhy
+made_remove (numeral machine ∷ board id ∷ []) = Ok (lines.Remove machine id)
+made_remove _ = Err whys.WrongCount
 
-abbrev pub made_replace : List Value → Option ScriptLine
-made_replace (numeral machine ∷ board id ∷ []) = Some (lines.Replace machine id)
-made_replace _ = None
+abbrev pub made_replace : List Value → Result ScriptLine LineWhy
+made_replace (numeral machine ∷ board id ∷ []) = Ok (lines.Replace machine id)
+made_replace _ = Err whys.WrongCount
 
-abbrev pub made_sense : List Value → Option ScriptLine
-made_sense (numeral machine ∷ []) = Some (lines.Sense machine)
-made_sense _ = None
+abbrev pub made_mark : List Value → Result ScriptLine LineWhy
+made_mark (numeral machine ∷ board id ∷ graded quality ∷ []) = Ok (lines.Mark machine id quality)
+made_mark _ = Err whys.WrongCount
 
-abbrev pub made_begin : List Value → Option ScriptLine
-made_begin (numeral gap ∷ []) = Some (lines.Begin gap)
-made_begin _ = None
+abbrev pub made_hold : List Value → Result ScriptLine LineWhy
+made_hold (numeral machine ∷ sided side ∷ []) = Ok (lines.Hold machine side)
+made_hold _ = Err whys.WrongCount
 
-abbrev pub made_left : List Value → Option ScriptLine
-made_left (numeral gap ∷ []) = Some (lines.Left gap)
-made_left _ = None
+abbrev pub made_go : List Value → Result ScriptLine LineWhy
+made_go (numeral machine ∷ sided side ∷ []) = Ok (lines.Go machine side)
+made_go _ = Err whys.WrongCount
 
-abbrev pub made_enter : List Value → Option ScriptLine
-made_enter (numeral gap ∷ []) = Some (lines.Enter gap)
-made_enter _ = None
+abbrev pub made_connect : List Value → Result ScriptLine LineWhy
+made_connect (numeral machine ∷ []) = Ok (lines.Connect machine)
+made_connect _ = Err whys.WrongCount
 
-abbrev pub made_back : List Value → Option ScriptLine
-made_back (numeral gap ∷ []) = Some (lines.Back gap)
-made_back _ = None
+abbrev pub made_flow : List Value → Result ScriptLine LineWhy
+made_flow (numeral machine ∷ sided side ∷ []) = Ok (lines.Flow machine side None)
+made_flow (numeral machine ∷ sided side ∷ numeral count ∷ []) = Ok (lines.Flow machine side (Some count))
+made_flow _ = Err whys.WrongCount
 
-abbrev pub made_hand_in : List Value → Option ScriptLine
-made_hand_in (numeral gap ∷ []) = Some (lines.HandIn gap)
-made_hand_in _ = None
+abbrev pub made_notice : List Value → Result ScriptLine LineWhy
+made_notice (numeral machine ∷ sided side ∷ []) = Ok (lines.Notice machine side)
+made_notice _ = Err whys.WrongCount
 
-abbrev pub made_take : List Value → Option ScriptLine
-made_take (numeral gap ∷ []) = Some (lines.Take gap)
-made_take _ = None
+abbrev pub made_cut : List Value → Result ScriptLine LineWhy
+made_cut (numeral gap ∷ []) = Ok (lines.Cut gap)
+made_cut _ = Err whys.WrongCount
 
-abbrev pub made_show : List Value → Option ScriptLine
-made_show [] = Some lines.Show
-made_show _ = None
+abbrev pub made_spoil : List Value → Result ScriptLine LineWhy
+made_spoil (numeral machine ∷ sided side ∷ []) = Ok (lines.Spoil machine side)
+made_spoil _ = Err whys.WrongCount
 
--- THE TABLE: `machine c [used u]`, `insert m [barcode]`, `remove m id`, `replace m id`, `sense m`,
--- `begin k`, `left k`, `in k`, `back k`, `hand-in k`, `take k`, `show`
+abbrev pub made_shutdown : List Value → Result ScriptLine LineWhy
+made_shutdown (numeral machine ∷ []) = Ok (lines.Shutdown machine)
+made_shutdown _ = Err whys.WrongCount
+
+abbrev pub made_tick : List Value → Result ScriptLine LineWhy
+made_tick (numeral machine ∷ []) = Ok (lines.Tick machine)
+made_tick _ = Err whys.WrongCount
+
+abbrev pub made_fault : List Value → Result ScriptLine LineWhy
+made_fault (numeral machine ∷ sided side ∷ []) = Ok (lines.Fault machine side)
+made_fault _ = Err whys.WrongCount
+
+-- the entry's sensors see no board leave, and the exit's see none come wholly in
+abbrev pub is_seen_at : Side → SensorEvent → Bool
+is_seen_at sides.Entry events.Begun = true
+is_seen_at sides.Entry events.Left = false
+is_seen_at sides.Entry events.Full = true
+is_seen_at sides.Entry events.Back = true
+is_seen_at sides.Entry events.Taken = true
+is_seen_at sides.Exit events.Begun = true
+is_seen_at sides.Exit events.Left = true
+is_seen_at sides.Exit events.Full = false
+is_seen_at sides.Exit events.Back = true
+is_seen_at sides.Exit events.Taken = true
+
+abbrev pub lie_of : ℕ → Side → SensorEvent → Result ScriptLine LineWhy
+lie_of machine side event = if is_seen_at side event then Ok (lines.Lie machine (record { side = side; event = event })) else Err whys.BadWord
+
+abbrev pub made_lie : List Value → Result ScriptLine LineWhy
+made_lie (numeral machine ∷ sided side ∷ seen event ∷ []) = lie_of machine side event
+made_lie _ = Err whys.WrongCount
+
+abbrev pub made_sense : List Value → Result ScriptLine LineWhy
+made_sense (numeral machine ∷ []) = Ok (lines.Sense machine)
+made_sense _ = Err whys.WrongCount
+
+abbrev pub made_begin : List Value → Result ScriptLine LineWhy
+made_begin (numeral gap ∷ []) = Ok (lines.Begin gap)
+made_begin _ = Err whys.WrongCount
+
+abbrev pub made_left : List Value → Result ScriptLine LineWhy
+made_left (numeral gap ∷ []) = Ok (lines.Left gap)
+made_left _ = Err whys.WrongCount
+
+abbrev pub made_enter : List Value → Result ScriptLine LineWhy
+made_enter (numeral gap ∷ []) = Ok (lines.Enter gap)
+made_enter _ = Err whys.WrongCount
+
+abbrev pub made_back : List Value → Result ScriptLine LineWhy
+made_back (numeral gap ∷ []) = Ok (lines.Back gap)
+made_back _ = Err whys.WrongCount
+
+abbrev pub made_hand_in : List Value → Result ScriptLine LineWhy
+made_hand_in (numeral gap ∷ []) = Ok (lines.HandIn gap)
+made_hand_in _ = Err whys.WrongCount
+
+abbrev pub made_take : List Value → Result ScriptLine LineWhy
+made_take (numeral gap ∷ []) = Ok (lines.Take gap)
+made_take _ = Err whys.WrongCount
+
+abbrev pub made_show : List Value → Result ScriptLine LineWhy
+made_show [] = Ok lines.Show
+made_show _ = Err whys.WrongCount
+
+-- THE TABLE: `machine c [used u]`, `insert m [barcode]`, `remove m id`, `replace m id`,
+-- `mark m id unknown|good|failed`, `hold m side`, `go m side`, `connect m`, `flow m side [n]`, `notice m side`, `cut k`,
+-- `spoil m side`, `shutdown m`, `tick m`, `fault m side`, `lie m side event`, `sense m`, `begin k`, `left k`, `in k`,
+-- `back k`, `hand-in k`, `take k`, `show`
 abbrev pub machine_form : Form
 machine_form = record { word = codes "machine"; counts = 1 ∷ 3 ∷ []; arguments = number 1 1024 ∷ literal (codes "used") ∷ number 0 281474976710655 ∷ []; made = made_machine }
 
@@ -99,6 +178,42 @@ remove_form = record { word = codes "remove"; counts = 2 ∷ []; arguments = mac
 
 abbrev pub replace_form : Form
 replace_form = record { word = codes "replace"; counts = 2 ∷ []; arguments = machine_number ∷ identity ∷ []; made = made_replace }
+
+abbrev pub mark_form : Form
+mark_form = record { word = codes "mark"; counts = 3 ∷ []; arguments = machine_number ∷ identity ∷ quality_word ∷ []; made = made_mark }
+
+abbrev pub hold_form : Form
+hold_form = record { word = codes "hold"; counts = 2 ∷ []; arguments = machine_number ∷ side_word ∷ []; made = made_hold }
+
+abbrev pub go_form : Form
+go_form = record { word = codes "go"; counts = 2 ∷ []; arguments = machine_number ∷ side_word ∷ []; made = made_go }
+
+abbrev pub connect_form : Form
+connect_form = record { word = codes "connect"; counts = 1 ∷ []; arguments = machine_number ∷ []; made = made_connect }
+
+abbrev pub flow_form : Form
+flow_form = record { word = codes "flow"; counts = 2 ∷ 3 ∷ []; arguments = machine_number ∷ side_word ∷ number 1 65536 ∷ []; made = made_flow }
+
+abbrev pub notice_form : Form
+notice_form = record { word = codes "notice"; counts = 2 ∷ []; arguments = machine_number ∷ side_word ∷ []; made = made_notice }
+
+abbrev pub cut_form : Form
+cut_form = record { word = codes "cut"; counts = 1 ∷ []; arguments = gap_number ∷ []; made = made_cut }
+
+abbrev pub spoil_form : Form
+spoil_form = record { word = codes "spoil"; counts = 2 ∷ []; arguments = machine_number ∷ side_word ∷ []; made = made_spoil }
+
+abbrev pub shutdown_form : Form
+shutdown_form = record { word = codes "shutdown"; counts = 1 ∷ []; arguments = machine_number ∷ []; made = made_shutdown }
+
+abbrev pub tick_form : Form
+tick_form = record { word = codes "tick"; counts = 1 ∷ []; arguments = machine_number ∷ []; made = made_tick }
+
+abbrev pub fault_form : Form
+fault_form = record { word = codes "fault"; counts = 2 ∷ []; arguments = machine_number ∷ side_word ∷ []; made = made_fault }
+
+abbrev pub lie_form : Form
+lie_form = record { word = codes "lie"; counts = 3 ∷ []; arguments = machine_number ∷ side_word ∷ event_word ∷ []; made = made_lie }
 
 abbrev pub sense_form : Form
 sense_form = record { word = codes "sense"; counts = 1 ∷ []; arguments = machine_number ∷ []; made = made_sense }
@@ -124,29 +239,32 @@ take_form = record { word = codes "take"; counts = 1 ∷ []; arguments = gap_num
 abbrev pub show_form : Form
 show_form = record { word = codes "show"; counts = 0 ∷ []; arguments = []; made = made_show }
 
--- the rows of reports, with those of the floor before them, and all rows
+-- the rows of reports; with those of the floor before them; with those of what befalls a machine; with those of links;
+-- with those of boards and willingness; and all rows
 abbrev pub report_forms : List Form
 report_forms = show_form ∷ []
 
 abbrev pub floor_forms : List Form
 floor_forms = sense_form ∷ begin_form ∷ left_form ∷ enter_form ∷ back_form ∷ hand_in_form ∷ take_form ∷ report_forms
 
+abbrev pub machine_forms : List Form
+machine_forms = shutdown_form ∷ tick_form ∷ fault_form ∷ lie_form ∷ floor_forms
+
+abbrev pub link_forms : List Form
+link_forms = connect_form ∷ flow_form ∷ notice_form ∷ cut_form ∷ spoil_form ∷ machine_forms
+
+abbrev pub board_forms : List Form
+board_forms = remove_form ∷ replace_form ∷ mark_form ∷ hold_form ∷ go_form ∷ link_forms
+
 abbrev pub forms : List Form
-forms = machine_form ∷ insert_form ∷ remove_form ∷ replace_form ∷ floor_forms
+forms = machine_form ∷ insert_form ∷ board_forms
 
--- the first words of the forms that aren't built yet: those of machines and links, those of the
--- floor and its sensors, and those of supervisors and neighbours
-abbrev pub later_machine_words : List (List ℕ)
-later_machine_words = codes "bridge" ∷ codes "mark" ∷ codes "hold" ∷ codes "go" ∷ codes "signal" ∷ codes "connect" ∷ codes "flow" ∷ codes "notice" ∷ codes "cut" ∷ []
-
-abbrev pub later_floor_words : List (List ℕ)
-later_floor_words = codes "lie" ∷ codes "unseen" ∷ []
-
-abbrev pub later_other_words : List (List ℕ)
-later_other_words = codes "spoil" ∷ codes "shutdown" ∷ codes "tick" ∷ codes "fault" ∷ codes "supervise" ∷ codes "ask" ∷ codes "answer" ∷ codes "forecast" ∷ codes "query" ∷ []
+-- the first words of the forms that aren't built yet
+abbrev pub later_words : List (List ℕ)
+later_words = codes "bridge" ∷ codes "signal" ∷ codes "unseen" ∷ codes "supervise" ∷ codes "ask" ∷ codes "answer" ∷ codes "forecast" ∷ codes "query" ∷ []
 
 abbrev pub is_later : List ℕ → Bool
-is_later first = list_any (bytes_eq first) later_machine_words || list_any (bytes_eq first) later_floor_words || list_any (bytes_eq first) later_other_words
+is_later first = list_any (bytes_eq first) later_words
 
 abbrev pub mapped_ok : {A B : Type 0} → (A → B) → Result A LineWhy → Result B LineWhy
 mapped_ok f (Ok value) = Ok (f value)
@@ -162,6 +280,9 @@ value_as (number low high) word = mapped_ok numeral (number_in low high word)
 value_as identity word = mapped_ok board (identity_of word)
 value_as (literal wanted) word = mapped_ok (λ _. spelled wanted) (literal_of wanted word)
 value_as token word = mapped_ok spelled (token_of word)
+value_as side_word word = mapped_ok sided (side_of word)
+value_as quality_word word = mapped_ok graded (quality_of word)
+value_as event_word word = mapped_ok seen (event_of word)
 
 -- what the words say, tested from the left
 abbrev pub values_as : List Kind → List (List ℕ) → Result (List Value) LineWhy
@@ -169,17 +290,13 @@ values_as kinds [] = Ok []
 values_as [] (word ∷ words) = Err whys.WrongCount
 values_as (kind ∷ kinds) (word ∷ words) = then_ok (value_as kind word) (λ value. mapped_ok (λ values. value ∷ values) (values_as kinds words))
 
-abbrev pub made_line : Option ScriptLine → Result ScriptLine LineWhy
-made_line None = Err whys.WrongCount
-made_line (Some line) = Ok line
-
 -- the same, if there are as many words as there may be
 abbrev pub arguments_as : List ℕ → List Kind → List (List ℕ) → Result (List Value) LineWhy
 arguments_as counts kinds words = if list_any (nat_eq (length words)) counts then values_as kinds words else Err whys.WrongCount
 
 -- the line that the arguments of a form make, or the first refusal
 abbrev pub line_as : Form → List (List ℕ) → Result ScriptLine LineWhy
-line_as form words = then_ok (arguments_as form.counts form.arguments words) (λ values. made_line (form.made values))
+line_as form words = then_ok (arguments_as form.counts form.arguments words) form.made
 
 -- the same, for the form that has this first word
 abbrev pub line_among : List Form → List ℕ → List (List ℕ) → Result ScriptLine LineWhy

@@ -1,4 +1,4 @@
-use Rattle.std.specs.Prelude.{ℕ, ◌≤◌}
+use Rattle.std.specs.Prelude.{ℕ, ◌≤◌, Option, Some, None}
 use Rattle.line_script.specs.declared.line.ScriptLine.{ScriptLine}
 use Rattle.line_script.specs.declared.line.ScriptLine.TheVariants as lines
 
@@ -7,6 +7,11 @@ pub record IsBetween (low high number : ℕ) : Type 0 where
   pub least : low ≤ number
   pub most : number ≤ high
 
+-- a flow of some bytes delivers at most 65,536
+abbrev pub IsFlowCount : Option ℕ → Type 0
+IsFlowCount None = Unit {0}
+IsFlowCount (Some count) = IsBetween 1 65536 count
+
 -- a line's numbers stand within the ranges of the grammar
 abbrev pub IsWithin : ScriptLine → Type 0
 IsWithin lines.Blank = Unit {0}
@@ -14,6 +19,18 @@ IsWithin (lines.Machine capacity used) = IsBetween 1 1024 capacity × IsBetween 
 IsWithin (lines.Insert machine barcode) = IsBetween 1 64 machine
 IsWithin (lines.Remove machine id) = IsBetween 1 64 machine
 IsWithin (lines.Replace machine id) = IsBetween 1 64 machine
+IsWithin (lines.Mark machine id quality) = IsBetween 1 64 machine
+IsWithin (lines.Hold machine side) = IsBetween 1 64 machine
+IsWithin (lines.Go machine side) = IsBetween 1 64 machine
+IsWithin (lines.Connect machine) = IsBetween 1 64 machine
+IsWithin (lines.Flow machine side count) = IsBetween 1 64 machine × IsFlowCount count
+IsWithin (lines.Notice machine side) = IsBetween 1 64 machine
+IsWithin (lines.Cut gap) = IsBetween 1 63 gap
+IsWithin (lines.Spoil machine side) = IsBetween 1 64 machine
+IsWithin (lines.Shutdown machine) = IsBetween 1 64 machine
+IsWithin (lines.Tick machine) = IsBetween 1 64 machine
+IsWithin (lines.Fault machine side) = IsBetween 1 64 machine
+IsWithin (lines.Lie machine sensed) = IsBetween 1 64 machine
 IsWithin (lines.Sense machine) = IsBetween 1 64 machine
 IsWithin (lines.Begin gap) = IsBetween 1 63 gap
 IsWithin (lines.Left gap) = IsBetween 1 63 gap

@@ -2,6 +2,12 @@ use Rattle.std.specs.Prelude.{◌≡◌, ◌==◌, ◌||◌, ◌&&◌, ℕ, Bool
 use Rattle.std.specs.List.{list_all, slice_split}
 use Rattle.std.specs.Str.{bytes_eq}
 use Rattle.line_base.specs.Number.{is_digits, value_of}
+use Rattle.line_base.specs.declared.states.Quality.{Quality}
+use Rattle.line_base.specs.declared.states.Quality.TheVariants as qualities
+use Rattle.line_base.specs.declared.states.SensorEvent.{SensorEvent}
+use Rattle.line_base.specs.declared.states.SensorEvent.TheVariants as events
+use Rattle.line_base.specs.declared.states.Side.{Side}
+use Rattle.line_base.specs.declared.states.Side.TheVariants as sides
 use Rattle.board_record.specs.BoardId.{read_id}
 use Rattle.board_record.specs.declared.id.BadId.{BadId}
 use Rattle.line_script.specs.declared.line.LineWhy.{LineWhy}
@@ -43,6 +49,18 @@ identity_of word = identity_from (read_id word)
 -- a text word has at most 64 bytes
 abbrev pub token_of : List ℕ → Result (List ℕ) LineWhy
 token_of word = if nat_le (length word) 64 && list_all is_text_byte word then Ok word else Err whys.BadWord
+
+-- the side that a word names
+abbrev pub side_of : List ℕ → Result Side LineWhy
+side_of word = if bytes_eq word (codes "in") then Ok sides.Entry else (if bytes_eq word (codes "out") then Ok sides.Exit else Err whys.BadSide)
+
+-- the quality that a word names
+abbrev pub quality_of : List ℕ → Result Quality LineWhy
+quality_of word = if bytes_eq word (codes "unknown") then Ok qualities.Unknown else (if bytes_eq word (codes "good") then Ok qualities.Good else (if bytes_eq word (codes "failed") then Ok qualities.Failed else Err whys.BadWord))
+
+-- the sensor event that a word names
+abbrev pub event_of : List ℕ → Result SensorEvent LineWhy
+event_of word = if bytes_eq word (codes "Begun") then Ok events.Begun else (if bytes_eq word (codes "Left") then Ok events.Left else (if bytes_eq word (codes "Full") then Ok events.Full else (if bytes_eq word (codes "Back") then Ok events.Back else (if bytes_eq word (codes "Taken") then Ok events.Taken else Err whys.BadWord))))
 
 -- what reading answers, unless memory ran out
 abbrev pub Reads : {A : Type 0} → Result A LineWhy → Result A LineError → Type 0

@@ -1,5 +1,5 @@
-use board_record::BoardId;
-use line_base::Text;
+use board_record::{BoardId, Sensed};
+use line_base::{Quality, Side, Text};
 use std::fmt;
 use thiserror::Error;
 
@@ -10,27 +10,111 @@ pub enum ScriptLine {
     /// Nothing: an empty line, or a comment.
     Blank,
     /// Another machine at the line's end, with room for so many boards, that has made `used` ids.
-    Machine { capacity: u32, used: u64 },
+    Machine {
+        capacity: u32,
+        used: u64,
+    },
     /// A new board at the back of a machine, maybe with a top barcode.
-    Insert { machine: u32, barcode: Option<Text> },
+    Insert {
+        machine: u32,
+        barcode: Option<Text>,
+    },
     /// A board taken out of a machine.
-    Remove { machine: u32, id: BoardId },
+    Remove {
+        machine: u32,
+        id: BoardId,
+    },
     /// A new board in the place of another.
-    Replace { machine: u32, id: BoardId },
+    Replace {
+        machine: u32,
+        id: BoardId,
+    },
+    /// A board is known to be good or failed.
+    Mark {
+        machine: u32,
+        id: BoardId,
+        quality: Quality,
+    },
+    /// A machine is willing to hand boards over at this side no more.
+    Hold {
+        machine: u32,
+        side: Side,
+    },
+    /// A machine is willing to hand boards over at this side again.
+    Go {
+        machine: u32,
+        side: Side,
+    },
+    /// A machine connects to its upstream neighbour.
+    Connect {
+        machine: u32,
+    },
+    /// Bytes arrive at this side: so many, or the rest of the oldest text.
+    Flow {
+        machine: u32,
+        side: Side,
+        bytes: Option<u32>,
+    },
+    /// A machine finds the connection of this side closed.
+    Notice {
+        machine: u32,
+        side: Side,
+    },
+    /// The link at the gap is cut.
+    Cut {
+        gap: u32,
+    },
+    /// A NUL byte is put before the next byte to arrive at this side.
+    Spoil {
+        machine: u32,
+        side: Side,
+    },
+    /// A machine shuts down.
+    Shutdown {
+        machine: u32,
+    },
+    /// A machine's clock ticks.
+    Tick {
+        machine: u32,
+    },
+    /// The drive of this side fails.
+    Fault {
+        machine: u32,
+        side: Side,
+    },
+    /// A machine's sensors tell what was not so.
+    Lie {
+        machine: u32,
+        sensed: Sensed,
+    },
     /// A machine reads what its sensors saw.
-    Sense { machine: u32 },
+    Sense {
+        machine: u32,
+    },
     /// The front board of the machine above the gap begins to leave it.
-    Begin { gap: u32 },
+    Begin {
+        gap: u32,
+    },
     /// The board in the gap has wholly left the upstream machine.
-    Left { gap: u32 },
+    Left {
+        gap: u32,
+    },
     /// The board in the gap is wholly inside the downstream machine.
-    Enter { gap: u32 },
+    Enter {
+        gap: u32,
+    },
     /// The board in the gap goes back to the upstream machine.
-    Back { gap: u32 },
+    Back {
+        gap: u32,
+    },
     /// The board in the gap is put into the downstream machine by hand.
-    HandIn { gap: u32 },
+    HandIn {
+        gap: u32,
+    },
     /// The board in the gap is taken off the line by hand.
-    Take { gap: u32 },
+    Take {
+        gap: u32,
+    },
     /// What every machine keeps, in the report.
     Show,
 }

@@ -3,11 +3,11 @@
 ghost use Rattle.std.specs.Prelude.{◌≡◌, IfOk, map};
 ghost use Rattle.std.specs.List.{list_all};
 ghost use Rattle.line_script.specs.Ranges.{IsBetween};
-ghost use Rattle.line_script.specs.Words.{is_blank, is_text_byte, number_in, words_of, ReadsToken, identity_of, literal_of};
+ghost use Rattle.line_script.specs.Words.{is_blank, is_text_byte, number_in, words_of, ReadsToken, identity_of, literal_of, side_of, quality_of, event_of};
 
 use crate::line::{LineError, LineWhy};
 use board_record::BoardId;
-use line_base::{Text, TextError, digits_value, is_digits};
+use line_base::{Quality, SensorEvent, Side, Text, TextError, digits_value, is_digits};
 use std::alloc::{AllocError, Global};
 
 /// The most bytes of a text word.
@@ -75,6 +75,57 @@ pub fn identity(word: &[u8]) -> Result<BoardId, LineWhy>
         Ok(id) => Ok(id),
         Err(_) => Err(LineWhy::BadId),
     }
+}
+
+/// A side of a machine: `in` or `out`. `BadSide` else.
+pub fn side(word: &[u8]) -> Result<Side, LineWhy>
+    ensures { result ≡ side_of word.now }
+{
+    if word == &b"in"[..] {
+        return Ok(Side::Entry);
+    }
+    if word == &b"out"[..] {
+        return Ok(Side::Exit);
+    }
+    Err(LineWhy::BadSide)
+}
+
+/// A quality: `unknown`, `good` or `failed`. `BadWord` else.
+pub fn quality(word: &[u8]) -> Result<Quality, LineWhy>
+    ensures { result ≡ quality_of word.now }
+{
+    if word == &b"unknown"[..] {
+        return Ok(Quality::Unknown);
+    }
+    if word == &b"good"[..] {
+        return Ok(Quality::Good);
+    }
+    if word == &b"failed"[..] {
+        return Ok(Quality::Failed);
+    }
+    Err(LineWhy::BadWord)
+}
+
+/// A sensor event, by its name. `BadWord` where the word is none.
+pub fn event(word: &[u8]) -> Result<SensorEvent, LineWhy>
+    ensures { result ≡ event_of word.now }
+{
+    if word == &b"Begun"[..] {
+        return Ok(SensorEvent::Begun);
+    }
+    if word == &b"Left"[..] {
+        return Ok(SensorEvent::Left);
+    }
+    if word == &b"Full"[..] {
+        return Ok(SensorEvent::Full);
+    }
+    if word == &b"Back"[..] {
+        return Ok(SensorEvent::Back);
+    }
+    if word == &b"Taken"[..] {
+        return Ok(SensorEvent::Taken);
+    }
+    Err(LineWhy::BadWord)
 }
 
 /// A text of at most 64 bytes. `BadWord` where the word is longer.

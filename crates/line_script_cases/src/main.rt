@@ -4,6 +4,7 @@
 mod spelled;
 
 use crate::spelled::spell;
+use line_base::{Quality, SensorEvent, Side};
 use line_script::{ScriptLine, read_line};
 use std::alloc::Global;
 use std::io;
@@ -54,6 +55,88 @@ fn tell(line: &ScriptLine, to: &mut Vec<u8>) -> io::Result<()> {
         ScriptLine::HandIn { gap } => write!(to, "hand-in {gap}"),
         ScriptLine::Take { gap } => write!(to, "take {gap}"),
         ScriptLine::Show => write!(to, "show"),
+        _ => tell_event(line, to),
+    }
+}
+
+/// Appends what a line of machines and links asks for.
+fn tell_event(line: &ScriptLine, to: &mut Vec<u8>) -> io::Result<()> {
+    match line {
+        ScriptLine::Mark {
+            machine,
+            id,
+            quality,
+        } => {
+            let quality = quality_word(*quality);
+            write!(to, "mark {machine} {id} {quality}")
+        },
+        ScriptLine::Hold { machine, side } => {
+            let side = side_word(*side);
+            write!(to, "hold {machine} {side}")
+        },
+        ScriptLine::Go { machine, side } => {
+            let side = side_word(*side);
+            write!(to, "go {machine} {side}")
+        },
+        ScriptLine::Connect { machine } => write!(to, "connect {machine}"),
+        ScriptLine::Flow {
+            machine,
+            side,
+            bytes,
+        } => {
+            let side = side_word(*side);
+            write!(to, "flow {machine} {side}")?;
+            match bytes {
+                Some(bytes) => write!(to, " {bytes}"),
+                None => Ok(()),
+            }
+        }
+        ScriptLine::Notice { machine, side } => {
+            let side = side_word(*side);
+            write!(to, "notice {machine} {side}")
+        }
+        ScriptLine::Cut { gap } => write!(to, "cut {gap}"),
+        ScriptLine::Spoil { machine, side } => {
+            let side = side_word(*side);
+            write!(to, "spoil {machine} {side}")
+        },
+        ScriptLine::Shutdown { machine } => write!(to, "shutdown {machine}"),
+        ScriptLine::Tick { machine } => write!(to, "tick {machine}"),
+        ScriptLine::Fault { machine, side } => {
+            let side = side_word(*side);
+            write!(to, "fault {machine} {side}")
+        },
+        ScriptLine::Lie { machine, sensed } => {
+            let side = side_word(sensed.side);
+            let event = event_word(sensed.event);
+            write!(to, "lie {machine} {side} {event}")
+        }
+        _ => Ok(()),
+    }
+}
+
+fn side_word(side: Side) -> &'static str {
+    match side {
+        Side::Entry => "in",
+        Side::Exit => "out",
+    }
+}
+
+fn quality_word(quality: Quality) -> &'static str {
+    match quality {
+        Quality::Unknown => "unknown",
+        Quality::Good => "good",
+        Quality::Failed => "failed",
+    }
+}
+
+fn event_word(event: SensorEvent) -> &'static str {
+    match event {
+        SensorEvent::Begun => "Begun",
+        SensorEvent::Left => "Left",
+        SensorEvent::Full => "Full",
+        SensorEvent::Back => "Back",
+        SensorEvent::Taken => "Taken",
     }
 }
 
