@@ -1,0 +1,47 @@
+-- A line of the script is done, counted, and its standings are told.
+use Rattle.std.proofs.Common.{◌≡◌, ◌∙◌, ℕ, ◌+◌, ◌-◌, ◌++◌, true, false, List, Bool, sym, ap, subst, arith, map, take, drop}
+use Rattle.std.specs.Prelude.{nat_lt}
+use Rattle.std.specs.List.{drop-map, take-map}
+use Rattle.line_script.specs.declared.line.ScriptLine.{ScriptLine}
+use Rattle.line_report.specs.declared.happening.Happening.{Happening}
+use Rattle.node_core.specs.Node.{NodeState}
+use Rattle.standings.specs.Marks.{Owned}
+use Rattle.line_step.specs.Lines.{LineDoes, LineSteps}
+use Rattle.line_step.specs.Named.{ids_named}
+use Rattle.line_step.specs.State.{LineState, owned, owned_by}
+use Rattle.line_step.proofs.Keeps.{lines_stay}
+use Rattle.line_engine.specs.Before.{changed_told, first_stepped, last_stepped, owned_between, owned_with}
+use Rattle.line_engine.proofs.ChangedStandings.{step_tells}
+
+pub line_steps : (number : ℕ) (line : ScriptLine) (before next : LineState) (first : ℕ) (owns : List Owned) (done now : List Happening)
+    → number ≡ before.lines + 1
+    → first ≡ first_stepped line
+    → owns ≡ owned_between (first_stepped line) (last_stepped line) (owned before)
+    → LineDoes number line before next done
+    → now ≡ done ++ changed_told (ids_named done) (owned_with first owns (owned next)) (owned next)
+    → LineSteps number line before (record next { lines = number }) now
+line_steps number line before next first owns done now numbered first_is owns_is does now_is = record {
+  next = next;
+  done = done;
+  does = does;
+  after_is = ap (λ n. record next { lines = n }) (numbered ∙ ap (λ n. n + 1) (sym (lines_stay number line before next done does)));
+  told_is = step_tells number line before next first owns done now first_is owns_is does now_is;
+}
+
+-- a line that is not spent, seen with what says so
+pub steps_as : (number : ℕ) (line : ScriptLine) (s t : LineState) (told : List Happening) (was is : Bool) → s.spent ≡ false → t.spent ≡ false → was ≡ false → is ≡ false
+    → LineSteps number line s t told → LineSteps number line (record s { spent = was }) (record t { spent = is }) told
+steps_as number line s t told was is s_is t_is was_is is_is steps =
+    let before : s ≡ record s { spent = was } = ap (λ b. record s { spent = b }) (s_is ∙ sym was_is) in
+    let after : t ≡ record t { spent = is } = ap (λ b. record t { spent = b }) (t_is ∙ sym is_is) in
+    subst (λ (v : LineState). LineSteps number line (record s { spent = was }) v told) after (subst (λ (v : LineState). LineSteps number line v t told) before steps)
+
+-- the machines from one number to another
+pub between_is : (first last : ℕ) (machines front behind : List NodeState) (count : ℕ) → (first ≡ 0 → ⊥) → front ≡ take count behind → count ≡ (last + 1) - first → behind ≡ drop (first - 1) machines
+    → map owned_by front ≡ owned_between first last (map owned_by machines)
+between_is first last machines front behind count some front_is count_is behind_is =
+    let test : nat_lt 0 first ≡ true = grind (arith, some) in
+    rw test
+    (ap (map owned_by) (front_is ∙ ap (λ n. take n behind) count_is ∙ ap (take ((last + 1) - first)) behind_is)
+    ∙ sym (take-map owned_by ((last + 1) - first) (drop (first - 1) machines))
+    ∙ ap (take ((last + 1) - first)) (sym (drop-map owned_by (first - 1) machines)))

@@ -1,0 +1,103 @@
+ghost use Rattle.std.specs.Prelude.{◌≡◌, ◌+◌, ◌≤◌, true, false, IfOk, IsErr, OnErr, length};
+ghost use Rattle.line_link.specs.Flow.{coming};
+ghost use Rattle.line_link.specs.Link.{flow_to};
+ghost use Rattle.line_step.specs.World.{end_of, link_at, link_of};
+ghost use Rattle.line_script.specs.Ranges.{IsWithin};
+ghost use Rattle.line_step.specs.Lines.{LineSteps};
+ghost use Rattle.line_step.specs.State.{no_line};
+ghost use Rattle.line_step.specs.Views.{standing_in, summary_of};
+
+use crate::state::State;
+use board_record::BoardId;
+use line_base::{Memory, Side};
+use line_report::{Happened, Summary};
+use line_script::ScriptLine;
+use standings::Standing;
+use std::alloc::Global;
+use std::marker::Model;
+
+/// A line of machines as a script has built it, with the links between them and the floor under them.
+///
+/// Machines are numbered from 1 in downstream direction. After `Memory` a line is spent: what a script line has done by
+/// then is not told, and each later step answers `Memory`.
+#[derive(Drop)]
+pub struct Line {
+    spent: bool,
+    state: State,
+}
+
+impl Model for Line {
+    ghost use Rattle.std.specs.Prelude.{◌≡◌, false};
+    ghost use Rattle.line_step.specs.State.{LineState};
+    ghost use Rattle.line_step.specs.Together.{IsLineTogether};
+
+    ghost Value = { LineState };
+
+    ghost view = { λ line. record line.state { spent = line.spent } };
+
+    ghost invariant = { λ line. line.spent ≡ false → IsLineTogether line.state };
+}
+
+impl Line {
+    /// A line without a machine.
+    pub fn new(alloc: Global) -> Line
+        ensures { result ≡ no_line }
+    {
+        Line {
+            spent: false,
+            state: State::new(alloc),
+        }
+    }
+
+    /// Does a line of the script, which has this number, and answers what happened: what it did or the reason why it did
+    /// nothing, and then the standings that it changed, in ascending order of id.
+    ///
+    /// `Memory` where there is none for what happened, for records and texts; the line is spent then.
+    pub fn step(&mut self, number: u64, line: &ScriptLine) -> Result<Happened, Memory>
+        requires numbered { number ≡ self.old.lines + 1 }
+        requires few { number ≤ 1000000 }
+        requires within { IsWithin line.now }
+        ensures spent { self.old.spent ≡ true → IsErr result }
+        ensures memory { OnErr result (self.new.spent ≡ true) }
+        ensures again { IfOk result (λ told. self.new.spent ≡ false) }
+        ensures counted { IfOk result (λ told. self.new.lines ≡ number) }
+        // what it did is the line step
+        ensures step { IfOk result (LineSteps number line.now self.old self.new) }
+    {
+        if self.spent {
+            return Err(Memory);
+        }
+        self.spent = true;
+        self.state.unspent();
+        let told = self.state.step(number, line)?;
+        self.state.unspent();
+        self.spent = false;
+        Ok(told)
+    }
+
+    /// Where a board's record stands; `None` exactly where its marks give it no standing.
+    pub fn standing(&self, id: BoardId) -> Option<Standing>
+        requires { self.now.spent ≡ false }
+        ensures { result ≡ standing_in self.now id }
+    {
+        self.state.standing(id)
+    }
+
+    /// How many bytes are on their way to a side of a machine; 0 where there is no link. They are never more than
+    /// 1,048,576, since a link with more is cut (`docs/PROFILE.md`, 'The link').
+    pub fn in_flight(&self, machine: u32, side: Side) -> usize
+        requires { self.now.spent ≡ false }
+        ensures count { result ≡ length (coming (flow_to (end_of side) (link_at (link_of machine side) self.now.world))) }
+        ensures bounded { result ≤ 1048576 }
+    {
+        self.state.in_flight(machine, side)
+    }
+
+    /// The numbers of the report's last line.
+    pub fn summary(&self) -> Summary
+        requires { self.now.spent ≡ false }
+        ensures { result ≡ summary_of self.now }
+    {
+        self.state.summary()
+    }
+}

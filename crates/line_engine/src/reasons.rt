@@ -1,0 +1,237 @@
+//! Why a line of the script does nothing: the first reason that holds, on the state before the line.
+
+ghost use Rattle.std.specs.Prelude.{◌≡◌};
+ghost use Rattle.node_core.specs.declared.input.Input.TheVariants as inputs;
+ghost use Rattle.node_core.specs.May.{may_of};
+ghost use Rattle.line_step.specs.Reasons.{behind_own, has_link, has_neighbour, may_add, may_connect, may_cut, may_do, may_flow, may_give, may_lie, may_notice, may_remove, may_replace, may_sense, may_spoil};
+ghost use Rattle.line_step.specs.Together.{IsLineTogether};
+
+use crate::state::State;
+use board_record::BoardId;
+use line_base::Side;
+use line_report::Reason;
+use line_world::MoveNo;
+use node_core::{Input, No, Node};
+
+/// The most machines of a line.
+const MOST_MACHINES: usize = 64;
+
+/// A machine's own reason.
+fn own(may: Result<(), No>) -> Result<(), Reason>
+    ensures { result ≡ behind_own may may_do }
+{
+    match may {
+        Ok(()) => Ok(()),
+        Err(no) => Err(Reason::Node(no)),
+    }
+}
+
+fn node_may_remove(node: &Node, id: BoardId) -> Result<(), No>
+    ensures { result ≡ may_of node.now (inputs.Remove id) }
+{
+    node.may(&Input::Remove(id))
+}
+
+fn node_may_replace(node: &Node, id: BoardId) -> Result<(), No>
+    ensures { result ≡ may_of node.now (inputs.Replace id) }
+{
+    node.may(&Input::Replace(id))
+}
+
+fn node_may_reach(node: &Node, side: Side) -> Result<(), No>
+    ensures { result ≡ may_of node.now (inputs.Notice side) }
+{
+    node.may(&Input::Notice(side))
+}
+
+fn node_may_connect(node: &Node) -> Result<(), No>
+    ensures { result ≡ may_of node.now inputs.Connect }
+{
+    node.may(&Input::Connect)
+}
+
+impl State {
+    /// Whether a side has a neighbour.
+    fn has_neighbour(&self, machine: u32, side: Side) -> bool
+        ensures { result ≡ has_neighbour machine side self.now }
+    {
+        match side {
+            Side::Entry => 1 < machine,
+            Side::Exit => (machine as usize) < self.machines.len(),
+        }
+    }
+
+    /// Whether a link is there.
+    fn has_link(&self, link: u32) -> bool
+        ensures { result ≡ has_link link self.now }
+    {
+        1 <= link && (link as usize) < self.machines.len()
+    }
+
+    /// `LineFull` where there are 64 machines.
+    pub(crate) fn may_add(&self) -> Result<(), Reason>
+        ensures { result ≡ may_add self.now }
+    {
+        if MOST_MACHINES <= self.machines.len() {
+            return Err(Reason::LineFull);
+        }
+        Ok(())
+    }
+
+    /// `NoSuchMachine`, and then the machine's own reasons.
+    pub(crate) fn may_give(&self, machine: u32, input: &Input<'_>) -> Result<(), Reason>
+        ensures { result ≡ may_give machine input.now self.now }
+    {
+        match self.machine(machine) {
+            None => Err(Reason::NoSuchMachine),
+            Some(node) => own(node.may(input)),
+        }
+    }
+
+    /// `NoSuchMachine`, `NotKept`, `NotHere`.
+    pub(crate) fn may_remove(&self, machine: u32, id: BoardId) -> Result<(), Reason>
+        requires { IsLineTogether self.now }
+        ensures { result ≡ may_remove machine id self.now }
+    {
+        let Some(node) = self.machine(machine) else {
+            return Err(Reason::NoSuchMachine);
+        };
+        if let Err(no) = node_may_remove(node, id) {
+            return Err(Reason::Node(no));
+        }
+        if !self.world.is_here(machine, id) {
+            return Err(Reason::NotHere);
+        }
+        Ok(())
+    }
+
+    /// `NoSuchMachine`, `NotKept`, `NotHere`, `IdsUsedUp`.
+    pub(crate) fn may_replace(&self, machine: u32, id: BoardId) -> Result<(), Reason>
+        requires { IsLineTogether self.now }
+        ensures { result ≡ may_replace machine id self.now }
+    {
+        let Some(node) = self.machine(machine) else {
+            return Err(Reason::NoSuchMachine);
+        };
+        if let Err(no) = node_may_remove(node, id) {
+            return Err(Reason::Node(no));
+        }
+        if !self.world.is_here(machine, id) {
+            return Err(Reason::NotHere);
+        }
+        own(node_may_replace(node, id))
+    }
+
+    /// `NoSuchMachine`, `NoNeighbour`, `Connected`, `IntakeUnsettled`.
+    pub(crate) fn may_connect(&self, machine: u32) -> Result<(), Reason>
+        ensures { result ≡ may_connect machine self.now }
+    {
+        let Some(node) = self.machine(machine) else {
+            return Err(Reason::NoSuchMachine);
+        };
+        if !self.has_neighbour(machine, Side::Entry) {
+            return Err(Reason::NoNeighbour);
+        }
+        own(node_may_connect(node))
+    }
+
+    /// `NoSuchMachine`, `NoNeighbour`, `NotConnected`, `NothingInFlight`.
+    pub(crate) fn may_flow(&self, machine: u32, side: Side) -> Result<(), Reason>
+        ensures { result ≡ may_flow machine side self.now }
+    {
+        let Some(node) = self.machine(machine) else {
+            return Err(Reason::NoSuchMachine);
+        };
+        if !self.has_neighbour(machine, side) {
+            return Err(Reason::NoNeighbour);
+        }
+        if let Err(no) = node_may_reach(node, side) {
+            return Err(Reason::Node(no));
+        }
+        if self.world.is_dry_at(machine, side) {
+            return Err(Reason::NothingInFlight);
+        }
+        Ok(())
+    }
+
+    /// `NoSuchMachine`, `NoNeighbour`, `NotConnected`, `Standing`, `TextInFlight`.
+    pub(crate) fn may_notice(&self, machine: u32, side: Side) -> Result<(), Reason>
+        ensures { result ≡ may_notice machine side self.now }
+    {
+        let Some(node) = self.machine(machine) else {
+            return Err(Reason::NoSuchMachine);
+        };
+        if !self.has_neighbour(machine, side) {
+            return Err(Reason::NoNeighbour);
+        }
+        if let Err(no) = node_may_reach(node, side) {
+            return Err(Reason::Node(no));
+        }
+        if self.world.stands_at(machine, side) {
+            return Err(Reason::Standing);
+        }
+        if !self.world.is_dry_at(machine, side) {
+            return Err(Reason::TextInFlight);
+        }
+        Ok(())
+    }
+
+    /// `NoGap`, `NotConnected`.
+    pub(crate) fn may_cut(&self, gap: u32) -> Result<(), Reason>
+        ensures { result ≡ may_cut gap self.now }
+    {
+        if !self.has_link(gap) {
+            return Err(Reason::Move(MoveNo::NoGap));
+        }
+        if self.world.is_loose(gap) {
+            return Err(Reason::Node(No::NotConnected));
+        }
+        Ok(())
+    }
+
+    /// `NoSuchMachine`, `NoNeighbour`, `NotConnected`, `NotStanding`.
+    pub(crate) fn may_spoil(&self, machine: u32, side: Side) -> Result<(), Reason>
+        ensures { result ≡ may_spoil machine side self.now }
+    {
+        let Some(_node) = self.machine(machine) else {
+            return Err(Reason::NoSuchMachine);
+        };
+        if !self.has_neighbour(machine, side) {
+            return Err(Reason::NoNeighbour);
+        }
+        if self.world.is_unlinked(machine, side) {
+            return Err(Reason::Node(No::NotConnected));
+        }
+        if !self.world.stands_at(machine, side) {
+            return Err(Reason::NotStanding);
+        }
+        Ok(())
+    }
+
+    /// `NoSuchMachine`, `NothingToRead`.
+    pub(crate) fn may_sense(&self, machine: u32) -> Result<(), Reason>
+        requires { IsLineTogether self.now }
+        ensures { result ≡ may_sense machine self.now }
+    {
+        let Some(_node) = self.machine(machine) else {
+            return Err(Reason::NoSuchMachine);
+        };
+        if !self.world.has_unread(machine) {
+            return Err(Reason::NothingToRead);
+        }
+        Ok(())
+    }
+
+    /// `NoSuchMachine`, `NoNeighbour`.
+    pub(crate) fn may_lie(&self, machine: u32, side: Side) -> Result<(), Reason>
+        ensures { result ≡ may_lie machine side self.now }
+    {
+        let Some(_node) = self.machine(machine) else {
+            return Err(Reason::NoSuchMachine);
+        };
+        if !self.has_neighbour(machine, side) {
+            return Err(Reason::NoNeighbour);
+        }
+        Ok(())
+    }
+}

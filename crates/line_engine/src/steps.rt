@@ -1,0 +1,338 @@
+//! What a line of the script does.
+
+ghost use Rattle.std.specs.Prelude.{◌≡◌, ◌+◌, ◌-◌, ◌≤◌, ◌<◌, ◌^◌, [], ◌∷◌, ◌++◌, IfOk, OnOk, length};
+ghost use Rattle.node_core.specs.Node.{new_node};
+ghost use Rattle.node_core.specs.declared.input.Input.TheVariants as inputs;
+ghost use Rattle.line_report.specs.declared.happening.Happening.TheVariants as happenings;
+ghost use Rattle.line_script.specs.Ranges.{IsWithin};
+ghost use Rattle.line_step.specs.Lines.{Becomes, Connects, Flows, LineDoes, Moves, Unless, cut_in, first_of, lied, spoil_told, spoiled, unvouched_told};
+ghost use Rattle.line_step.specs.Reasons.{may_add, may_connect, may_cut, may_do, may_flow, may_give, may_lie, may_notice, may_remove, may_replace, may_sense, may_spoil};
+ghost use Rattle.line_step.specs.Shown.{shown};
+ghost use Rattle.line_step.specs.State.{one_more, profile_of};
+ghost use Rattle.line_step.specs.Steps.{MachineSteps};
+ghost use Rattle.line_step.specs.Together.{IsLineTogether};
+ghost use Rattle.line_engine.specs.Given.{IsGiven};
+
+use crate::acts::tell_cut;
+use crate::links::link_of;
+use crate::show::show_all;
+use crate::state::State;
+use board_record::{BoardId, Sensed};
+use line_base::{Memory, Side, Text};
+use line_report::{Happened, Happening, Reason};
+use line_script::ScriptLine;
+use line_world::{Move, MoveError};
+use node_core::{Input, Node, NodeProfile};
+use std::alloc::Global;
+use std::io::Write;
+
+impl State {
+    /// Does a line of the script; the standings that it changed are told elsewhere.
+    pub(crate) fn do_line(&mut self, number: u64, line: &ScriptLine) -> Result<Happened, Memory>
+        requires few { number ≤ 1000000 }
+        requires within { IsWithin line.now }
+        requires together { IsLineTogether self.old }
+        ensures { IfOk result (LineDoes number line.now self.old self.new) }
+    {
+        match line {
+            ScriptLine::Blank => Ok(Happened::new(self.alloc)),
+            ScriptLine::Machine { capacity, used } => self.add_machine(*capacity, *used),
+            ScriptLine::Insert { machine, barcode } => self.insert(number, *machine, barcode),
+            ScriptLine::Remove { machine, id } => self.remove(number, *machine, *id),
+            ScriptLine::Replace { machine, id } => self.replace(number, *machine, *id),
+            ScriptLine::Mark {
+                machine,
+                id,
+                quality,
+            } => self.give(number, *machine, Input::Mark(*id, *quality)),
+            ScriptLine::Hold { machine, side } => {
+                self.give(number, *machine, Input::Will(*side, false))
+            }
+            ScriptLine::Go { machine, side } => {
+                self.give(number, *machine, Input::Will(*side, true))
+            }
+            ScriptLine::Connect { machine } => self.connect(number, *machine),
+            ScriptLine::Flow {
+                machine,
+                side,
+                bytes,
+            } => self.flow(number, *machine, *side, *bytes),
+            ScriptLine::Notice { machine, side } => self.notice(number, *machine, *side),
+            ScriptLine::Cut { gap } => self.cut(*gap),
+            ScriptLine::Spoil { machine, side } => self.spoil(*machine, *side),
+            ScriptLine::Shutdown { machine } => self.give(number, *machine, Input::Shutdown),
+            ScriptLine::Tick { machine } => self.give(number, *machine, Input::Tick),
+            ScriptLine::Fault { machine, side } => {
+                self.give(number, *machine, Input::Fault(*side))
+            }
+            ScriptLine::Lie { machine, sensed } => self.lie(number, *machine, *sensed),
+            ScriptLine::Sense { machine } => self.sense(number, *machine),
+            ScriptLine::Begin { gap } => self.move_board(*gap, Move::Begin),
+            ScriptLine::Left { gap } => self.move_board(*gap, Move::Left),
+            ScriptLine::Enter { gap } => self.move_board(*gap, Move::Enter),
+            ScriptLine::Back { gap } => self.move_board(*gap, Move::Back),
+            ScriptLine::HandIn { gap } => self.move_board(*gap, Move::HandIn),
+            ScriptLine::Take { gap } => self.move_board(*gap, Move::Take),
+            ScriptLine::Show => self.show(),
+        }
+    }
+
+    /// Nothing is done, for this reason.
+    fn refuse(&self, reason: Reason) -> Result<Happened, Memory>
+        ensures { IfOk result (λ told. told ≡ happenings.No reason ∷ []) }
+    {
+        self.only(Happening::No(reason))
+    }
+
+    /// This alone happened.
+    fn only(&self, happening: Happening) -> Result<Happened, Memory>
+        ensures { IfOk result (λ told. told ≡ happening ∷ []) }
+    {
+        let mut told = Happened::new(self.alloc);
+        told.tell(happening)?;
+        Ok(told)
+    }
+
+    // ---- machines
+
+    fn add_machine(&mut self, capacity: u32, used: u64) -> Result<Happened, Memory>
+        requires least { 1 ≤ capacity }
+        requires most { capacity ≤ 1024 }
+        requires used { used < 2 ^ 48 }
+        requires together { IsLineTogether self.old }
+        ensures { IfOk result (λ told. Unless (may_add self.old) self.old self.new told (Becomes (one_more capacity used self.old) (happenings.Machine (length self.old.machines + 1) capacity ∷ []) self.new told)) }
+    {
+        if let Err(reason) = self.may_add() {
+            return self.refuse(reason);
+        }
+        let number = self.machines.len() as u32 + 1;
+        self.world.add_machine()?;
+        add_node(&mut self.machines, number, capacity, used)?;
+        self.only(Happening::Machine { number, capacity })
+    }
+
+    /// A machine is given an input, unless a reason stands against it.
+    fn step_unless(
+        &mut self,
+        may: Result<(), Reason>,
+        number: u64,
+        machine: u32,
+        input: Input<'_>,
+    ) -> Result<Happened, Memory>
+        requires few { number ≤ 1000000 }
+        requires together { IsLineTogether self.old }
+        requires given { may ≡ may_do → IsGiven machine input self.old }
+        ensures { IfOk result (λ told. Unless may self.old self.new told (MachineSteps number machine input.entry self.old self.new told)) }
+    {
+        if let Err(reason) = may {
+            return self.refuse(reason);
+        }
+        self.step_machine(number, machine, input)
+    }
+
+    fn give(&mut self, number: u64, machine: u32, input: Input<'_>) -> Result<Happened, Memory>
+        requires few { number ≤ 1000000 }
+        requires together { IsLineTogether self.old }
+        ensures { IfOk result (λ told. Unless (may_give machine input.entry self.old) self.old self.new told (MachineSteps number machine input.entry self.old self.new told)) }
+    {
+        let may = self.may_give(machine, &input);
+        self.step_unless(may, number, machine, input)
+    }
+
+    fn insert(
+        &mut self,
+        number: u64,
+        machine: u32,
+        barcode: &Option<Text>,
+    ) -> Result<Happened, Memory>
+        requires few { number ≤ 1000000 }
+        requires together { IsLineTogether self.old }
+        ensures { IfOk result (λ told. Unless (may_give machine (inputs.Insert barcode.now) self.old) self.old self.new told (MachineSteps number machine (inputs.Insert barcode.now) self.old self.new told)) }
+    {
+        let barcode = copy_of(self.alloc, barcode)?;
+        self.give(number, machine, Input::Insert(barcode))
+    }
+
+    fn remove(&mut self, number: u64, machine: u32, id: BoardId) -> Result<Happened, Memory>
+        requires few { number ≤ 1000000 }
+        requires together { IsLineTogether self.old }
+        ensures { IfOk result (λ told. Unless (may_remove machine id self.old) self.old self.new told (MachineSteps number machine (inputs.Remove id) self.old self.new told)) }
+    {
+        let may = self.may_remove(machine, id);
+        self.step_unless(may, number, machine, Input::Remove(id))
+    }
+
+    fn replace(&mut self, number: u64, machine: u32, id: BoardId) -> Result<Happened, Memory>
+        requires few { number ≤ 1000000 }
+        requires together { IsLineTogether self.old }
+        ensures { IfOk result (λ told. Unless (may_replace machine id self.old) self.old self.new told (MachineSteps number machine (inputs.Replace id) self.old self.new told)) }
+    {
+        let may = self.may_replace(machine, id);
+        self.step_unless(may, number, machine, Input::Replace(id))
+    }
+
+    fn sense(&mut self, number: u64, machine: u32) -> Result<Happened, Memory>
+        requires few { number ≤ 1000000 }
+        requires together { IsLineTogether self.old }
+        ensures { IfOk result (λ told. Unless (may_sense machine self.old) self.old self.new told (MachineSteps number machine inputs.Nothing self.old self.new told)) }
+    {
+        let may = self.may_sense(machine);
+        self.step_unless(may, number, machine, Input::Nothing)
+    }
+
+    // ---- links
+
+    fn connect(&mut self, number: u64, machine: u32) -> Result<Happened, Memory>
+        requires few { number ≤ 1000000 }
+        requires together { IsLineTogether self.old }
+        ensures { IfOk result (λ told. Unless (may_connect machine self.old) self.old self.new told (Connects number machine self.old self.new told)) }
+    {
+        if let Err(reason) = self.may_connect(machine) {
+            return self.refuse(reason);
+        }
+        self.make_connection(number, machine)
+    }
+
+    fn flow(
+        &mut self,
+        number: u64,
+        machine: u32,
+        side: Side,
+        count: Option<u32>,
+    ) -> Result<Happened, Memory>
+        requires few { number ≤ 1000000 }
+        requires together { IsLineTogether self.old }
+        ensures { IfOk result (λ told. Unless (may_flow machine side self.old) self.old self.new told (Flows number machine side count self.old self.new told)) }
+    {
+        if let Err(reason) = self.may_flow(machine, side) {
+            return self.refuse(reason);
+        }
+        self.hear(number, machine, side, count)
+    }
+
+    fn notice(&mut self, number: u64, machine: u32, side: Side) -> Result<Happened, Memory>
+        requires few { number ≤ 1000000 }
+        requires together { IsLineTogether self.old }
+        ensures { IfOk result (λ told. Unless (may_notice machine side self.old) self.old self.new told (MachineSteps number machine (inputs.Notice side) self.old self.new told)) }
+    {
+        let may = self.may_notice(machine, side);
+        self.step_unless(may, number, machine, Input::Notice(side))
+    }
+
+    fn cut(&mut self, gap: u32) -> Result<Happened, Memory>
+        ensures { IfOk result (λ told. Unless (may_cut gap self.old) self.old self.new told (Becomes (cut_in gap self.old) (happenings.Cut gap ∷ []) self.new told)) }
+    {
+        if let Err(reason) = self.may_cut(gap) {
+            return self.refuse(reason);
+        }
+        self.world.cut(gap);
+        self.only(Happening::Cut { gap })
+    }
+
+    fn spoil(&mut self, machine: u32, side: Side) -> Result<Happened, Memory>
+        ensures { IfOk result (λ told. Unless (may_spoil machine side self.old) self.old self.new told (Becomes (spoiled machine side self.old) (spoil_told machine side self.old) self.new told)) }
+    {
+        if let Err(reason) = self.may_spoil(machine, side) {
+            return self.refuse(reason);
+        }
+        let sent = self.world.spoil(machine, side)?;
+        let mut told = self.only(Happening::Spoils { machine, side })?;
+        tell_cut(link_of(machine, side), sent, &mut told)?;
+        Ok(told)
+    }
+
+    // ---- the floor
+
+    fn move_board(&mut self, gap: u32, step: Move) -> Result<Happened, Memory>
+        ensures { IfOk result (Moves gap step self.old self.new) }
+    {
+        match self.world.move_board(gap, step) {
+            Ok(()) => self.only(Happening::Moved { gap, step }),
+            Err(MoveError::No(why)) => self.refuse(Reason::Move(why)),
+            Err(MoveError::Memory) => Err(Memory),
+        }
+    }
+
+    fn lie(&mut self, number: u64, machine: u32, sensed: Sensed) -> Result<Happened, Memory>
+        requires { IsLineTogether self.old }
+        ensures { IfOk result (λ told. Unless (may_lie machine sensed.side self.old) self.old self.new told (Becomes (lied number machine sensed self.old) (happenings.Lie machine sensed ∷ unvouched_told self.old.unvouched) self.new told)) }
+    {
+        if let Err(reason) = self.may_lie(machine, sensed.side) {
+            return self.refuse(reason);
+        }
+        self.world.lie(machine, sensed)?;
+        let told = self.only(Happening::Lie { machine, sensed })?;
+        self.doubt(number, told)
+    }
+
+    /// The first lie is told as the one from which on nobody vouches for the standings.
+    fn doubt(&mut self, number: u64, mut told: Happened) -> Result<Happened, Memory>
+        ensures told { IfOk result (λ more. more ≡ told ++ unvouched_told self.old.unvouched) }
+        ensures after { IfOk result (λ _. self.new ≡ record self.old { unvouched = first_of number self.old.unvouched }) }
+    {
+        match self.unvouched {
+            Some(_) => Ok(told),
+            None => {
+                self.unvouched = Some(number);
+                told.tell(Happening::Unvouched)?;
+                Ok(told)
+            }
+        }
+    }
+
+    fn show(&self) -> Result<Happened, Memory>
+        requires { IsLineTogether self.now }
+        ensures { IfOk result (λ told. told ≡ shown self.now) }
+    {
+        let mut told = Happened::new(self.alloc);
+        show_all(self.machines.as_slice(), &mut told)?;
+        Ok(told)
+    }
+}
+
+fn copy_of(alloc: Global, barcode: &Option<Text>) -> Result<Option<Text>, Memory>
+    ensures { IfOk result (λ copy. copy ≡ barcode.now) }
+{
+    match barcode {
+        None => Ok(None),
+        Some(text) => Ok(Some(text.copy(alloc)?)),
+    }
+}
+
+/// One machine more. `Memory` where there is no room for it.
+fn add_node(machines: &mut Vec<Node>, number: u32, capacity: u32, used: u64) -> Result<(), Memory>
+    requires least { 1 ≤ capacity }
+    requires most { capacity ≤ 1024 }
+    requires used { used < 2 ^ 48 }
+    ensures { OnOk result (machines.new.items ≡ machines.old.items ++ new_node (profile_of number capacity used) ∷ []) }
+{
+    let node = new_node(*machines.allocator(), number, capacity, used)?;
+    match machines.push(node) {
+        Ok(()) => Ok(()),
+        Err(_) => Err(Memory),
+    }
+}
+
+/// A machine of the line: its id text is `M` and its number.
+#[tactic(auto, using(crate::proofs::Naming::name_is_plain))]
+fn new_node(alloc: Global, number: u32, capacity: u32, used: u64) -> Result<Node, Memory>
+    requires least { 1 ≤ capacity }
+    requires most { capacity ≤ 1024 }
+    requires used { used < 2 ^ 48 }
+    ensures { IfOk result (λ node. node ≡ new_node (profile_of number capacity used)) }
+{
+    let mut name = Vec::new(alloc);
+    match write!(name, "M{number}") {
+        Ok(()) => {}
+        Err(_) => return Err(Memory),
+    }
+    let profile = NodeProfile {
+        number,
+        machine: Text::plain(alloc, name.as_slice())?,
+        lane: 1,
+        capacity,
+        used,
+        bridge: false,
+    };
+    Node::new(alloc, profile)
+}

@@ -1,0 +1,103 @@
+//! A case: its name, and then a script with questions in it.
+
+ghost use Rattle.std.specs.Prelude.{◌≡◌, false, OnOk};
+
+use crate::lines::do_text;
+use board_record::BoardId;
+use line_base::{Memory, Side};
+use line_engine::{Line, write_summary};
+use standings::Standing;
+use std::alloc::Global;
+use std::io::{self, Write};
+
+/// Appends a case's name, what its lines tell, and the last line of the report.
+pub fn tell_case(alloc: Global, case: &str, to: &mut Vec<u8>) -> Result<(), Memory> {
+    let (name, script) = case.split_once('\n').unwrap_or((case, ""));
+    written(write!(to, "=== {name}\n"))?;
+    let mut line = Line::new(alloc);
+    tell_script(alloc, script, &mut line, to)
+}
+
+fn tell_script(alloc: Global, script: &str, line: &mut Line, to: &mut Vec<u8>) -> Result<(), Memory>
+    requires { line.old.spent ≡ false }
+{
+    for text in script.lines() {
+        tell_text(alloc, text, line, to)?;
+    }
+    write_summary(&line.summary(), to)
+}
+
+/// Does a line of the case: `? ID` asks where a board stands, `? M SIDE` how many bytes are on their way to a side, `@N one;
+/// other` does two script lines in turn N times and tells nothing, and any other is a script line.
+fn tell_text(alloc: Global, text: &str, line: &mut Line, to: &mut Vec<u8>) -> Result<(), Memory>
+    requires { line.old.spent ≡ false }
+    ensures { OnOk result (line.new.spent ≡ false) }
+{
+    if let Some(asked) = text.strip_prefix("? ") {
+        return answer(asked, line, to);
+    }
+    match text.strip_prefix('@') {
+        Some(rest) => repeat(alloc, rest, line),
+        None => do_text(alloc, text, line, to),
+    }
+}
+
+fn answer(asked: &str, line: &Line, to: &mut Vec<u8>) -> Result<(), Memory>
+    requires { line.now.spent ≡ false }
+{
+    match asked.split_once(' ') {
+        Some((machine, side)) => tell_in_flight(machine, side, line, to),
+        None => tell_standing(asked, line, to),
+    }
+}
+
+/// Appends how many bytes are on their way to a side.
+fn tell_in_flight(machine: &str, side: &str, line: &Line, to: &mut Vec<u8>) -> Result<(), Memory>
+    requires { line.now.spent ≡ false }
+{
+    let machine = machine.parse().unwrap_or(0);
+    let side = match side {
+        "in" => Side::Entry,
+        _ => Side::Exit,
+    };
+    let count = line.in_flight(machine, side);
+    written(write!(to, "? {count} bytes\n"))
+}
+
+/// Appends where a board stands.
+fn tell_standing(text: &str, line: &Line, to: &mut Vec<u8>) -> Result<(), Memory>
+    requires { line.now.spent ≡ false }
+{
+    match BoardId::read(text.as_bytes()) {
+        Err(_) => written(write!(to, "? no id\n")),
+        Ok(id) => match line.standing(id) {
+            None => written(write!(to, "? nowhere\n")),
+            Some(Standing::With(machine)) => written(write!(to, "? with {machine}\n")),
+            Some(Standing::Between(gap)) => written(write!(to, "? between {gap}\n")),
+        },
+    }
+}
+
+/// Does two script lines in turn, so many times.
+fn repeat(alloc: Global, text: &str, line: &mut Line) -> Result<(), Memory>
+    requires { line.old.spent ≡ false }
+    ensures { OnOk result (line.new.spent ≡ false) }
+{
+    let (count, both) = text.split_once(' ').unwrap_or((text, ""));
+    let (one, other) = both.split_once("; ").unwrap_or((both, ""));
+    let count = count.parse::<u32>().unwrap_or(0);
+    let mut untold = Vec::new(alloc);
+    for _ in 0..count {
+        do_text(alloc, one, line, &mut untold)?;
+        do_text(alloc, other, line, &mut untold)?;
+        untold.clear();
+    }
+    Ok(())
+}
+
+fn written(done: io::Result<()>) -> Result<(), Memory> {
+    match done {
+        Ok(()) => Ok(()),
+        Err(_) => Err(Memory),
+    }
+}

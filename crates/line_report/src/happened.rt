@@ -1,0 +1,49 @@
+ghost use Rattle.std.specs.Prelude.{◌≡◌, [], ◌∷◌, ◌++◌, OnOk};
+
+use crate::happening::Happening;
+use line_base::Memory;
+use std::alloc::Global;
+use std::marker::Model;
+
+/// What happened, in its order. It is seen as the list of its happenings.
+#[derive(Debug, Drop)]
+pub struct Happened {
+    list: Vec<Happening>,
+}
+
+impl Model for Happened {
+    ghost use Rattle.std.specs.Prelude.{List};
+    ghost use Rattle.line_report.specs.declared.happening.Happening.{Happening};
+
+    ghost Value = { List Happening };
+
+    ghost view = { λ happened. happened.list.items };
+}
+
+impl Happened {
+    /// Nothing happened.
+    pub fn new(alloc: Global) -> Happened
+        ensures { result ≡ [] }
+    {
+        Happened {
+            list: Vec::new(alloc),
+        }
+    }
+
+    /// The happenings, in their order.
+    pub fn list(&self) -> &[Happening]
+        ensures { result.now ≡ self.now }
+    {
+        self.list.as_slice()
+    }
+
+    /// Adds what happened next. `Memory` where there is none for it.
+    pub fn tell(&mut self, happening: Happening) -> Result<(), Memory>
+        ensures { OnOk result (self.new ≡ self.old ++ happening ∷ []) }
+    {
+        match self.list.push(happening) {
+            Ok(()) => Ok(()),
+            Err(_) => Err(Memory),
+        }
+    }
+}

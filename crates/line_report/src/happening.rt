@@ -1,0 +1,139 @@
+ghost use Rattle.std.specs.Prelude.{◌≡◌};
+ghost use Rattle.line_report.specs.Texts.{no_text as no_words};
+
+use board_record::{BoardId, Sensed};
+use line_base::{Quality, Side};
+use line_world::{Move, MoveNo};
+use node_core::{Act, No};
+use std::fmt;
+use thiserror::Error;
+
+/// Why a line of a script does nothing.
+#[derive(Clone, Copy, Debug, PartialEq, Eq, Error)]
+pub enum Reason {
+    /// The machine's own reason.
+    Node(No),
+    /// The floor refuses the move.
+    Move(MoveNo),
+    /// There is no machine of that number.
+    NoSuchMachine,
+    /// The line has 64 machines.
+    LineFull,
+    /// The machine keeps the board's record, but the board itself lies elsewhere.
+    NotHere,
+    /// There is no machine at that side.
+    NoNeighbour,
+    /// No bytes are on their way to that side.
+    NothingInFlight,
+    /// The machine's sensors saw nothing that it has not read.
+    NothingToRead,
+    /// The link at that side stands.
+    Standing,
+    /// The link at that side doesn't stand.
+    NotStanding,
+    /// Bytes are on their way to that side.
+    TextInFlight,
+}
+
+/// One thing that a line of a script does. Each is one line of the report.
+#[derive(Debug, PartialEq, Eq, Drop)]
+pub enum Happening {
+    /// A machine was added at the line's end.
+    Machine {
+        number: u32,
+        capacity: u32,
+    },
+    /// A machine did this. It is never the switching of a drive.
+    Done {
+        machine: u32,
+        act: Act,
+    },
+    /// The link at the gap was cut.
+    Cut {
+        gap: u32,
+    },
+    /// What flows to that side was spoiled.
+    Spoils {
+        machine: u32,
+        side: Side,
+    },
+    /// A board on the floor was moved.
+    Moved {
+        gap: u32,
+        step: Move,
+    },
+    /// A machine's sensors told what was not so.
+    Lie {
+        machine: u32,
+        sensed: Sensed,
+    },
+    /// From now on nobody vouches for the standings.
+    Unvouched,
+    /// The line can't be done.
+    No(Reason),
+    /// A machine keeps this board.
+    Shown {
+        machine: u32,
+        id: BoardId,
+        quality: Quality,
+    },
+    /// This board is in the handover at the gap.
+    ShownBetween {
+        gap: u32,
+        id: BoardId,
+    },
+    /// A board's record stands with a machine from now on.
+    With {
+        machine: u32,
+        id: BoardId,
+    },
+    /// A board's record stands in the handover at the gap from now on.
+    Between {
+        gap: u32,
+        id: BoardId,
+    },
+    /// A board's record stands nowhere from now on.
+    Gone {
+        id: BoardId,
+    },
+}
+
+impl fmt::Display for Reason {
+    ghost use Rattle.std.specs.Prelude.{Some};
+    ghost use Rattle.line_report.specs.Texts.{reason_text};
+
+    ghost output = { λ reason. Some (reason_text reason) };
+
+    fn fmt<W: fmt::Write>(&self, f: &mut fmt::Formatter<W>) -> fmt::Result {
+        match self {
+            Reason::Node(no) => f.write_str(no_text(*no)),
+            Reason::Move(no) => f.write_str(no.text()),
+            Reason::NoSuchMachine => f.write_str("no such machine"),
+            Reason::LineFull => f.write_str("line full"),
+            Reason::NotHere => f.write_str("not here"),
+            Reason::NoNeighbour => f.write_str("no neighbour"),
+            Reason::NothingInFlight => f.write_str("nothing in flight"),
+            Reason::NothingToRead => f.write_str("nothing to read"),
+            Reason::Standing => f.write_str("standing"),
+            Reason::NotStanding => f.write_str("not standing"),
+            Reason::TextInFlight => f.write_str("text in flight"),
+        }
+    }
+}
+
+fn no_text(no: No) -> &'static str
+    ensures { result.now ≡ no_words no }
+{
+    match no {
+        No::IntakeOpen => "intake open",
+        No::Full => "full",
+        No::IdsUsedUp => "ids used up",
+        No::NotKept => "not kept",
+        No::Offered => "offered",
+        No::Same => "same",
+        No::Connected => "connected",
+        No::IntakeUnsettled => "intake unsettled",
+        No::NotConnected => "not connected",
+        No::NoHandover => "no handover",
+    }
+}

@@ -1,0 +1,69 @@
+//! The acts of the cases: the word of one, and behind it the words of its values. A message is given by its spelling.
+
+use crate::values::{event_of, id_of, parted, quality_of, side_of};
+use hermes_horizontal::{Message, MessageError, read_horizontal};
+use line_base::{Memory, Side, Text};
+use node_core::{Act, Deed, Setting};
+use std::alloc::Global;
+
+pub fn act_of(alloc: Global, words: &str) -> Result<Act, Memory> {
+    let (what, about) = parted(words);
+    let (first, second) = parted(about);
+    match what {
+        "Hears" => Ok(Act::Hears(side_of(first), message_of(alloc, second)?)),
+        "Sends" => Ok(Act::Sends(side_of(first), message_of(alloc, second)?)),
+        "Breaches" => Ok(Act::Breaches(side_of(first), text_of(alloc, second)?)),
+        "Connects" => Ok(Act::Connects),
+        _ => Ok(sided_of(what, first, second)),
+    }
+}
+
+/// The message that a case spells.
+fn message_of(alloc: Global, spelled: &str) -> Result<Message, Memory> {
+    match read_horizontal(alloc, spelled.as_bytes()) {
+        Ok(message) => Ok(message),
+        Err(MessageError::Refused { .. }) => Err(Memory),
+        Err(MessageError::Memory) => Err(Memory),
+    }
+}
+
+fn text_of(alloc: Global, text: &str) -> Result<Text, Memory> {
+    Text::read(alloc, text.as_bytes()).map_err(|_| Memory)
+}
+
+fn sided_of(what: &str, first: &str, second: &str) -> Act {
+    let side = side_of(first);
+    match what {
+        "Reads" => Act::Reads(side, event_of(second)),
+        "Closes" => Act::Closes(side),
+        "Notices" => Act::Notices(side),
+        "Drive" => Act::Drive(side, second == "on"),
+        "Will" => Act::Sets(Setting::Will(side, second == "on")),
+        _ => by_hand_of(what, first, second),
+    }
+}
+
+fn by_hand_of(what: &str, first: &str, second: &str) -> Act {
+    let id = id_of(first);
+    match what {
+        "Marks" => Act::Marks(id, quality_of(second)),
+        "Inserts" => Act::Inserts(id),
+        "Removes" => Act::Removes(id),
+        "Replaces" => Act::Replaces(id, id_of(second)),
+        _ => Act::Deed(deed_of(what, first)),
+    }
+}
+
+fn deed_of(what: &str, id: &str) -> Deed {
+    let id = id_of(id);
+    match what {
+        "Opens" => Deed::Opens(id),
+        "Refuses" => Deed::Refuses(id),
+        "Leaves" => Deed::Leaves(id),
+        "Returns" => Deed::Returns(id),
+        "Loses" => Deed::Loses(id),
+        "Starts" => Deed::Starts(id),
+        "Settles" => Deed::Settles(id),
+        _ => Deed::Drops(id),
+    }
+}

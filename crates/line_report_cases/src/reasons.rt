@@ -1,0 +1,58 @@
+//! The reasons of the cases, by their words.
+
+use line_report::Reason;
+use line_world::MoveNo;
+use node_core::No;
+
+pub fn reason_of(word: &str) -> Reason {
+    match word {
+        "NoSuchMachine" => Reason::NoSuchMachine,
+        "LineFull" => Reason::LineFull,
+        "NotHere" => Reason::NotHere,
+        "NoNeighbour" => Reason::NoNeighbour,
+        "NothingInFlight" => Reason::NothingInFlight,
+        "NothingToRead" => Reason::NothingToRead,
+        "Standing" => Reason::Standing,
+        "NotStanding" => Reason::NotStanding,
+        "TextInFlight" => Reason::TextInFlight,
+        _ => own_reason_of(word),
+    }
+}
+
+/// A machine's own reason, and else one of the floor.
+fn own_reason_of(word: &str) -> Reason {
+    match no_of(word) {
+        Some(no) => Reason::Node(no),
+        None => Reason::Move(move_no_of(word)),
+    }
+}
+
+fn no_of(word: &str) -> Option<No> {
+    Some(match word {
+        "IntakeOpen" => No::IntakeOpen,
+        "Full" => No::Full,
+        "IdsUsedUp" => No::IdsUsedUp,
+        "NotKept" => No::NotKept,
+        "Offered" => No::Offered,
+        "Same" => No::Same,
+        "Connected" => No::Connected,
+        "IntakeUnsettled" => No::IntakeUnsettled,
+        "NotConnected" => No::NotConnected,
+        "NoHandover" => No::NoHandover,
+        _ => return None,
+    })
+}
+
+fn move_no_of(word: &str) -> MoveNo {
+    match word {
+        "NoGap" => MoveNo::NoGap,
+        "ExitDriveOff" => MoveNo::ExitDriveOff,
+        "GapNotFree" => MoveNo::GapNotFree,
+        "NothingThere" => MoveNo::NothingThere,
+        "NotBegun" => MoveNo::NotBegun,
+        "EntryDriveOff" => MoveNo::EntryDriveOff,
+        "NotLeft" => MoveNo::NotLeft,
+        "ExitDriveOn" => MoveNo::ExitDriveOn,
+        _ => MoveNo::EntryDriveOn,
+    }
+}

@@ -1,0 +1,864 @@
+-- Unique ids, and ids that stay: what each line of the script does to the ids of the boards on the floor.
+use Rattle.std.proofs.Common.{◌≡◌, ◌≢◌, ◌+◌, ◌-◌, ◌<◌, ◌≤◌, ◌++◌, ℕ, zero, suc, Bool, true, false, List, [], ◌∷◌, Option, Some, None, Result, Ok, Err, length, filter, refl, sym, ap, subst, ◌∙◌, append-nil, arith, eqb-true, length-append}
+use Rattle.std.specs.Prelude.{◌==◌, if◌then◌else◌, nat_le, not, slice_get, slice_set}
+use Rattle.std.specs.List.{AllByRecursion, flat_map}
+use Rattle.std.proofs.lemmas.Bool.{leb-false}
+use Rattle.std.proofs.lemmas.List.{length-set}
+use Rattle.std.proofs.lemmas.Option.{slice_get_within}
+use Rattle.line_base.specs.declared.states.Side.{Side}
+use Rattle.line_base.specs.declared.states.Side.TheVariants.{Entry, Exit}
+use Rattle.board_record.specs.declared.record.Record.{Record}
+use Rattle.board_record.specs.Record.{plain_record}
+use Rattle.board_record.specs.declared.sensed.Sensed.{Sensed}
+use Rattle.board_record.specs.declared.maker.IdsUsedUp.{IdsUsedUp}
+use Rattle.board_record.specs.Maker.{Maker, after_next, made_id, next_id}
+use Rattle.line_script.specs.declared.line.ScriptLine.{ScriptLine}
+use Rattle.line_script.specs.declared.line.ScriptLine.TheVariants as lines
+use Rattle.line_world.specs.declared.board.Board.{Board}
+use Rattle.line_world.specs.declared.gap.AtGap.{AtGap}
+use Rattle.line_world.specs.declared.moves.Move.{Move}
+use Rattle.line_world.specs.declared.moves.Move.TheVariants as moves
+use Rattle.line_world.specs.declared.moves.MoveNo.{MoveNo}
+use Rattle.line_world.specs.FloorPlan.{AtMachine, FloorPlan, IsWhole, empty_machine, has_id, machine_at, one_machine_more, place_of, with_new_id, without_board}
+use Rattle.line_world.specs.Moves.{floor_move}
+use Rattle.line_world.specs.Boards.{ChangesId, LosesBoard, boards_along, boards_on}
+use Rattle.line_world.specs.Ids.{HasFreshId, IdsDiffer}
+use Rattle.line_world.proofs.Along.{along_more}
+use Rattle.line_world.proofs.Differing.{changes_differ, gains_differ, loses_differ, same_differ}
+use Rattle.line_world.proofs.Keeping.{as_many_machines, boards_unread, keeps_boards, machines_kept, whole_after}
+use Rattle.line_world.proofs.Placing.{nowhere_of}
+use Rattle.node_core.specs.declared.act.Act.{Act}
+use Rattle.node_core.specs.declared.act.Act.TheVariants as acts
+use Rattle.node_core.specs.declared.input.Input.{Input}
+use Rattle.node_core.specs.declared.input.Input.TheVariants as inputs
+use Rattle.node_core.specs.declared.input.No.{No}
+use Rattle.node_core.specs.declared.lane.Body.{Body}
+use Rattle.node_core.specs.declared.word.Word.{Word}
+use Rattle.node_core.specs.Announces.{announces}
+use Rattle.node_core.specs.Boards.{if_kept, is_kept, replaces, with_instead, with_kept, without}
+use Rattle.node_core.specs.Desk.{Desk}
+use Rattle.node_core.specs.Event.{Insert, Replace, event_did, event_of, maker_after, with_new}
+use Rattle.node_core.specs.Node.{NodeState, desk_of, new_node}
+use Rattle.node_core.specs.Reads.{all_read}
+use Rattle.node_core.specs.May.{may_of}
+use Rattle.standings.specs.declared.told.Told.{Told}
+use Rattle.standings.specs.declared.told.Told.TheVariants as tolds
+use Rattle.standings.specs.Told.{told_of}
+use Rattle.line_link.specs.Link.{after_connect, after_spoil, connected_of, cut, spoil_sent}
+use Rattle.line_link.specs.declared.link.Connected.{Connected}
+use Rattle.line_link.specs.declared.link.Connected.TheVariants as connections
+use Rattle.line_report.specs.declared.happening.Happening.{Happening}
+use Rattle.line_report.specs.declared.happening.Happening.TheVariants as happenings
+use Rattle.line_report.specs.declared.happening.Reason.{Reason}
+use Rattle.line_report.specs.declared.happening.Reason.TheVariants as reasons
+use Rattle.line_step.specs.World.{WorldParts, end_of, link_at, link_of}
+use Rattle.line_step.specs.State.{LineState, machine_in, marks_in, no_line, one_more, profile_of, with_machine, with_world}
+use Rattle.line_step.specs.Acts.{act_did, acts_did, changes, cut_told, lays, takes_off}
+use Rattle.line_step.specs.Steps.{MachineSteps, is_second, moment_of, read_by, unread_by}
+use Rattle.line_step.specs.Reasons.{May, behind_own, if_there, is_here, may_add, may_connect, may_cut, may_do, may_flow, may_give, may_lie, may_remove, may_replace, may_spoil, no_if}
+use Rattle.line_step.specs.Shown.{ascending, between_shown, ids_marked, kept_shown, shown, shown_from, standing_told, standings_told, taken_below}
+use Rattle.line_step.specs.Lines.{Becomes, Connects, Flows, LineDoes, LineSteps, Unless, arrived, connecting, cut_in, lied, met, move_told, moved, spoil_told, spoiled, unvouched_told}
+use Rattle.line_step.specs.Runs.{Point, IsRun}
+use Rattle.node_core.specs.Own.{own_of}
+use Rattle.line_step.specs.FloorIds.{AllChange, ChangesBoards, IdsStay, IsFresh, IsNoneOf, KeepsIds, boards_of, handled_by, made_by}
+use Rattle.line_step.proofs.Hands.{AreQuiet, announces-quiet, both_shut-quiet, both_tick-quiet, faults-quiet, heard-quiet, marks-quiet, notices-quiet, opens-quiet, quiet-join, read-quiet, second-quiet}
+use Rattle.line_step.proofs.Makers.{AreNumbered, IsOld, numbered-at, numbered-last, numbered-set, old-apart, old-last, old-new, old-set}
+use Rattle.line_step.proofs.OnFloor.{Handles, IsPlain, IsStill, LiesThere, SameBoards, acts-still, all-join, as_many_gaps, changes-changes, cut-still, handled-join, handles, lays-gains, lies-there_by, link-floor, made-join, quiet-acts, read-list, same-list, still-join, still-none, takes_off-loses}
+
+-- ---- lists
+
+each-join : {A : Type 0} (P : A → Type 0) (front back : List A) → AllByRecursion P front → AllByRecursion P back → AllByRecursion P (front ++ back)
+each-join P [] back one two = two
+each-join P (x ∷ xs) back one two = (one.0, each-join P xs back one.1 two)
+
+each-front : {A : Type 0} (P : A → Type 0) (front back : List A) → AllByRecursion P (front ++ back) → AllByRecursion P front
+each-front P [] back all = tt
+each-front P (x ∷ xs) back all = (all.0, each-front P xs back all.1)
+
+each-back : {A : Type 0} (P : A → Type 0) (front back : List A) → AllByRecursion P (front ++ back) → AllByRecursion P back
+each-back P [] back all = all
+each-back P (x ∷ xs) back all = each-back P xs back all.1
+
+each-weaker : {A : Type 0} (P Q : A → Type 0) (all : List A) → ((x : A) → P x → Q x) → AllByRecursion P all → AllByRecursion Q all
+each-weaker P Q [] weaker every = tt
+each-weaker P Q (x ∷ xs) weaker every = (weaker x every.0, each-weaker P Q xs weaker every.1)
+
+each-along : {A : Type 0} (P : A → Type 0) (one other : List A) → other ≡ one → AllByRecursion P one → AllByRecursion P other
+each-along {A = A} P one other same every =
+    let Q : List A → Type 0 = λ all. AllByRecursion P all in
+    subst Q (sym same) every
+
+-- ---- the boards have ids that were made
+
+abbrev IsOldBoard : List NodeState → Board → Type 0
+IsOldBoard nodes board = (id : ℕ) → has_id id board ≡ true → IsOld 1 nodes id
+
+none_by : (has : Bool) (nodes : List NodeState) (id : ℕ) (board : Board) (boards : List Board) → has_id id board ≡ has → IsOldBoard nodes board → ((other : ℕ) → IsOld 1 nodes other → other ≢ id) → length (filter (has_id id) boards) ≡ 0 → length (filter (has_id id) (board ∷ boards)) ≡ 0
+none_by true nodes id board boards is old apart rest = absurd (apart id (old id is) refl)
+none_by false nodes id board boards is old apart rest = rw is rest
+
+-- an id that differs from every old one is that of no board
+none-there : (nodes : List NodeState) (id : ℕ) (boards : List Board) → AllByRecursion (IsOldBoard nodes) boards → ((other : ℕ) → IsOld 1 nodes other → other ≢ id) → length (filter (has_id id) boards) ≡ 0
+none-there nodes id [] old apart = refl
+none-there nodes id (board ∷ boards) old apart = none_by (has_id id board) nodes id board boards refl old.0 apart (none-there nodes id boards old.1 apart)
+
+-- ---- between two lines of the script
+
+-- each machine's maker has its number, each machine has its place on the floor, each board an id that was made, and all ids
+-- differ
+pub record Holds (s : LineState) : Type 0 where
+  pub own : AreNumbered 1 s.machines
+  pub many : length s.world.floor.machines ≡ length s.machines
+  pub whole : IsWhole s.world.floor
+  pub old : AllByRecursion (IsOldBoard s.machines) (boards_of s)
+  pub differ : IdsDiffer s.world.floor
+
+-- what a line does
+pub record Goes (s t : LineState) (told : List Happening) : Type 0 where
+  pub holds : Holds t
+  pub change : AllChange told (boards_of s) (boards_of t)
+  pub fresh : AllByRecursion (λ id. (other : ℕ) → IsOld 1 s.machines other → other ≢ id) (made_by told)
+  pub handled : AllByRecursion (IsOld 1 t.machines) (handled_by told)
+  pub olds : (id : ℕ) → IsOld 1 s.machines id → IsOld 1 t.machines id
+
+record Follows (old new : List NodeState) : Type 0 where
+  own : AreNumbered 1 old → AreNumbered 1 new
+  olds : (id : ℕ) → IsOld 1 old id → IsOld 1 new id
+
+follows-same : (old new : List NodeState) → new ≡ old → Follows old new
+follows-same old new same =
+    let P : List NodeState → Type 0 = λ nodes. Follows old nodes in
+    subst P (sym same) (record { own = λ own. own; olds = λ id is. is })
+
+older : (old new : List NodeState) (boards : List Board) → Follows old new → AllByRecursion (IsOldBoard old) boards → AllByRecursion (IsOldBoard new) boards
+older old new boards follows every = each-weaker (IsOldBoard old) (IsOldBoard new) boards (λ board is id has. follows.olds id (is id has)) every
+
+-- where no board changes
+still-goes : (s t : LineState) (told : List Happening) → Holds s → Follows s.machines t.machines → length t.world.floor.machines ≡ length t.machines → IsWhole t.world.floor → boards_of t ≡ boards_of s → IsStill told → Goes s t told
+still-goes s t told h follows many whole same still =
+    let P : List Board → Type 0 = λ boards. AllChange told (boards_of s) boards in
+    record {
+      holds = record {
+        own = follows.own h.own;
+        many = many;
+        whole = whole;
+        old = each-along (IsOldBoard t.machines) (boards_of s) (boards_of t) same (older s.machines t.machines (boards_of s) follows h.old);
+        differ = same_differ s.world.floor t.world.floor same h.differ;
+      };
+      change = subst P (sym same) (still.change (boards_of s));
+      fresh = each-along (λ id. (other : ℕ) → IsOld 1 s.machines other → other ≢ id) [] (made_by told) still.made tt;
+      handled = each-along (IsOld 1 t.machines) [] (handled_by told) still.handled tt;
+      olds = follows.olds;
+    }
+
+-- where nothing of the machines and the floor changes
+stays-goes : (s t : LineState) (told : List Happening) → Holds s → t.machines ≡ s.machines → t.world.floor ≡ s.world.floor → IsStill told → Goes s t told
+stays-goes s t told h nodes floor still =
+    let P : FloorPlan → Type 0 = λ plan. IsWhole plan in
+    still-goes s t told h (follows-same s.machines t.machines nodes) (ap (λ (plan : FloorPlan). length plan.machines) floor ∙ h.many ∙ ap length (sym nodes)) (subst P (sym floor) h.whole) (ap boards_on floor) still
+
+-- one after the other
+goes-both : (s t u : LineState) (a b : List Happening) → Goes s t a → Goes t u b → Goes s u (a ++ b)
+goes-both s t u a b one two = record {
+  holds = two.holds;
+  change = all-join a b (boards_of s) (boards_of t) (boards_of u) one.change two.change;
+  fresh =
+      each-along (λ id. (other : ℕ) → IsOld 1 s.machines other → other ≢ id) (made_by a ++ made_by b) (made_by (a ++ b)) (made-join a b)
+      (each-join (λ id. (other : ℕ) → IsOld 1 s.machines other → other ≢ id) (made_by a) (made_by b) one.fresh
+      (each-weaker (λ id. (other : ℕ) → IsOld 1 t.machines other → other ≢ id) (λ id. (other : ℕ) → IsOld 1 s.machines other → other ≢ id) (made_by b) (λ id apart other old. apart other (one.olds other old)) two.fresh));
+  handled =
+      each-along (IsOld 1 u.machines) (handled_by a ++ handled_by b) (handled_by (a ++ b)) (handled-join a b)
+      (each-join (IsOld 1 u.machines) (handled_by a) (handled_by b) (each-weaker (IsOld 1 t.machines) (IsOld 1 u.machines) (handled_by a) two.olds one.handled) two.handled);
+  olds = λ id old. two.olds id (one.olds id old);
+}
+
+-- ---- one more machine
+
+gaps-more : (machines : List AtMachine) (gaps : List AtGap) → length gaps ≡ length machines - 1 → length (one_machine_more (record { machines = machines; gaps = gaps })).gaps ≡ length (machines ++ empty_machine ∷ []) - 1
+gaps-more [] gaps whole = whole
+gaps-more (m ∷ ms) gaps whole = simp length-append (omega (arith, whole))
+
+boards-more : (machines : List AtMachine) (gaps : List AtGap) → length gaps ≡ length machines - 1 → boards_on (one_machine_more (record { machines = machines; gaps = gaps })) ≡ boards_along machines gaps
+boards-more [] [] whole = refl
+boards-more [] (g ∷ gs) whole = absurd (omega (arith, whole))
+boards-more (m ∷ ms) gaps whole = along_more (m ∷ ms) gaps (omega (arith, whole))
+
+one-still : (told : Happening) → ((boards : List Board) → ChangesBoards told boards boards) → made_by (told ∷ []) ≡ [] → handled_by (told ∷ []) ≡ [] → IsStill (told ∷ [])
+one-still told change made handled = record { change = λ boards. (boards, change boards, refl); made = made; handled = handled }
+
+more-goes : (capacity used : ℕ) (s : LineState) (told : List Happening) → Holds s → IsStill told → Goes s (one_more capacity used s) told
+more-goes capacity used s told h still =
+    let node = new_node (profile_of (length s.machines + 1) capacity used) in
+    let floor = s.world.floor in
+    still-goes s (one_more capacity used s) told h
+    (record { own = λ own. numbered-last 1 s.machines node own (record { machine = omega arith }); olds = λ id old. old-last 1 s.machines node id old })
+    (simp length-append (ap (λ n. n + 1) h.many))
+    (gaps-more floor.machines floor.gaps h.whole)
+    (boards-more floor.machines floor.gaps h.whole)
+    still
+
+-- ---- boards that come, go and change
+
+each-lost : (P : Board → Type 0) (old new : List Board) (board : Board) → LosesBoard old new board → AllByRecursion P old → AllByRecursion P new
+each-lost P old new board loss every =
+    let before = each-along P old (loss.front ++ board ∷ loss.back) (sym loss.before) every in
+    each-along P (loss.front ++ loss.back) new loss.after (each-join P loss.front loss.back (each-front P loss.front (board ∷ loss.back) before) (each-back P loss.front (board ∷ loss.back) before).1)
+
+each-gained : (P : Board → Type 0) (old new : List Board) (board : Board) → LosesBoard new old board → P board → AllByRecursion P old → AllByRecursion P new
+each-gained P old new board gain it every =
+    let after = each-along P old (gain.front ++ gain.back) (sym gain.after) every in
+    each-along P (gain.front ++ board ∷ gain.back) new gain.before (each-join P gain.front (board ∷ gain.back) (each-front P gain.front gain.back after) (it, each-back P gain.front gain.back after))
+
+each-changed : (P : Board → Type 0) (was now : ℕ) (old new : List Board) (change : ChangesId was now old new) → P (record { id = Some now }) → AllByRecursion P old → AllByRecursion P new
+each-changed P was now old new change it every =
+    let there = change.2 in
+    let before = each-along P old (there.front ++ change.0 ∷ there.back) (sym there.before) every in
+    each-along P (there.front ++ record { id = Some now } ∷ there.back) new there.after
+    (each-join P there.front (record { id = Some now } ∷ there.back) (each-front P there.front (change.0 ∷ there.back) before) (it, (each-back P there.front (change.0 ∷ there.back) before).1))
+
+-- ---- the moves
+
+-- a move that neither makes nor loses a board
+moved-goes : (gap : ℕ) (step : Move) (s : LineState) (floor : FloorPlan) → floor_move gap step s.world.floor ≡ Ok floor → Holds s → boards_on floor ≡ boards_of s → IsStill (happenings.Moved gap step ∷ []) → Goes s (moved (Ok floor) s) (happenings.Moved gap step ∷ [])
+moved-goes gap step s floor is h same still =
+    still-goes s (moved (Ok floor) s) (happenings.Moved gap step ∷ []) h (follows-same s.machines s.machines refl) (machines_kept gap step s.world.floor floor is ∙ h.many) (whole_after gap step s.world.floor floor h.whole is) same still
+
+move-goes : (gap : ℕ) (step : Move) (s : LineState) (answer : Result FloorPlan MoveNo) → floor_move gap step s.world.floor ≡ answer → Holds s → Goes s (moved answer s) (move_told gap step answer)
+move-goes gap step s (Err why) is h = stays-goes s s (happenings.No (reasons.Move why) ∷ []) h refl refl (one-still (happenings.No (reasons.Move why)) (λ boards. refl) refl refl)
+move-goes gap moves.Begin s (Ok floor) is h = moved-goes gap moves.Begin s floor is h (keeps_boards gap moves.Begin s.world.floor floor h.whole is) (one-still (happenings.Moved gap moves.Begin) (λ boards. refl) refl refl)
+move-goes gap moves.Left s (Ok floor) is h = moved-goes gap moves.Left s floor is h (keeps_boards gap moves.Left s.world.floor floor h.whole is) (one-still (happenings.Moved gap moves.Left) (λ boards. refl) refl refl)
+move-goes gap moves.Enter s (Ok floor) is h = moved-goes gap moves.Enter s floor is h (keeps_boards gap moves.Enter s.world.floor floor h.whole is) (one-still (happenings.Moved gap moves.Enter) (λ boards. refl) refl refl)
+move-goes gap moves.Back s (Ok floor) is h = moved-goes gap moves.Back s floor is h (keeps_boards gap moves.Back s.world.floor floor h.whole is) (one-still (happenings.Moved gap moves.Back) (λ boards. refl) refl refl)
+move-goes gap moves.HandIn s (Ok floor) is h = moved-goes gap moves.HandIn s floor is h (keeps_boards gap moves.HandIn s.world.floor floor h.whole is) (one-still (happenings.Moved gap moves.HandIn) (λ boards. refl) refl refl)
+move-goes gap moves.Take s (Ok floor) is h =
+    let kept = keeps_boards gap moves.Take s.world.floor floor h.whole is in
+    record {
+      holds = record {
+        own = h.own;
+        many = machines_kept gap moves.Take s.world.floor floor is ∙ h.many;
+        whole = whole_after gap moves.Take s.world.floor floor h.whole is;
+        old = each-lost (IsOldBoard s.machines) (boards_of s) (boards_on floor) kept.0 kept.2 h.old;
+        differ = loses_differ s.world.floor floor kept.0 kept.2 h.differ;
+      };
+      change = (boards_on floor, (kept.0, kept.2), refl);
+      fresh = tt;
+      handled = tt;
+      olds = λ id old. old;
+    }
+
+-- ---- a step of a machine
+
+record IsAt (s : LineState) (machine : ℕ) (node : NodeState) : Type 0 where
+  place : ℕ
+  is : machine ≡ place + 1
+  found : slice_get s.machines place ≡ Some node
+
+at-of : (s : LineState) (machine : ℕ) (node : NodeState) → machine_in machine s ≡ Some node → IsAt s machine node
+at-of s zero node there = cc
+at-of s (suc before) node there = record { place = before; is = omega arith; found = there }
+
+-- an id maker's number stays, and it makes no fewer ids
+record IsGrown (old new : Maker) : Type 0 where
+  machine : new.machine ≡ old.machine
+  used : old.used ≤ new.used
+
+grown_by : (full : Bool) (maker : Maker) → nat_le 281474976710655 maker.used ≡ full → IsGrown maker (after_next maker)
+grown_by true maker test = rw test (record { machine = refl; used = omega arith })
+grown_by false maker test = rw test (record { machine = refl; used = omega arith })
+
+maker-grown : (input : Input) (maker : Maker) → IsGrown maker (maker_after input maker)
+maker-grown inputs.Nothing maker = record { machine = refl; used = omega arith }
+maker-grown inputs.Connect maker = record { machine = refl; used = omega arith }
+maker-grown inputs.Accepted maker = record { machine = refl; used = omega arith }
+maker-grown inputs.Second maker = record { machine = refl; used = omega arith }
+maker-grown (inputs.Bytes side piece) maker = record { machine = refl; used = omega arith }
+maker-grown (inputs.Notice side) maker = record { machine = refl; used = omega arith }
+maker-grown inputs.Tick maker = record { machine = refl; used = omega arith }
+maker-grown inputs.Shutdown maker = record { machine = refl; used = omega arith }
+maker-grown (inputs.Fault side) maker = record { machine = refl; used = omega arith }
+maker-grown (inputs.Will side on) maker = record { machine = refl; used = omega arith }
+maker-grown (inputs.Insert barcode) maker = grown_by (nat_le 281474976710655 maker.used) maker refl
+maker-grown (inputs.Remove id) maker = record { machine = refl; used = omega arith }
+maker-grown (inputs.Replace id) maker = grown_by (nat_le 281474976710655 maker.used) maker refl
+maker-grown (inputs.Mark id quality) maker = record { machine = refl; used = omega arith }
+
+step-follows : (s : LineState) (machine : ℕ) (node next : NodeState) (at : IsAt s machine node) → AreNumbered 1 s.machines → IsGrown node.maker next.maker → Follows s.machines (slice_set s.machines (machine - 1) next)
+step-follows s machine node next at own grown =
+    let place : machine - 1 ≡ at.place = omega (arith, at.is) in
+    let here = numbered-at 1 s.machines at.place node own at.found in
+    rw place (record {
+      own = λ all. numbered-set 1 s.machines at.place node next all at.found (record { machine = grown.machine ∙ here.machine });
+      olds = λ id old. old-set 1 s.machines at.place node next id at.found grown.used old;
+    })
+
+-- the acts of a step: those of the events that are read, those of the input, and those of the announcements
+record Parts (told hand : List Act) : Type 0 where
+  front : List Act
+  back : List Act
+  is : told ≡ front ++ (hand ++ back)
+  first : AreQuiet front
+  last : AreQuiet back
+
+abbrev body_read : (number machine : ℕ) (input : Input) (before after : LineState) (told : List Happening) → MachineSteps number machine input before after told → Body
+body_read number machine input before after told steps = (all_read (desk_of steps.node (moment_of number)) (unread_by machine before.world) steps.node.lane.body).body
+
+abbrev hand_of : (number machine : ℕ) (input : Input) (before after : LineState) (told : List Happening) → MachineSteps number machine input before after told → List Act
+hand_of number machine input before after told steps =
+    (event_did (desk_of steps.node (moment_of number)) (event_of steps.node.maker input steps.steps.lane.words) (body_read number machine input before after told steps)).acts
+
+parts-of : (number machine : ℕ) (input : Input) (before after : LineState) (told : List Happening) (steps : MachineSteps number machine input before after told) → Parts steps.acts (hand_of number machine input before after told steps)
+parts-of number machine input before after told steps =
+    let desk = desk_of steps.node (moment_of number) in
+    let unread = unread_by machine before.world in
+    let read = all_read desk unread steps.node.lane.body in
+    let done = event_did desk (event_of steps.node.maker input steps.steps.lane.words) read.body in
+    record {
+      front = read.acts;
+      back = (announces desk done.body).acts;
+      is = steps.steps.lane.told;
+      first = read-quiet desk unread steps.node.lane.body;
+      last = announces-quiet desk done.body;
+    }
+
+-- the floor before the acts is that of the line with the events read
+record Reaches (s : LineState) (floor : FloorPlan) : Type 0 where
+  many : length floor.machines ≡ length s.machines
+  whole : IsWhole floor
+  boards : boards_on floor ≡ boards_of s
+
+read-reaches : (s : LineState) (machine : ℕ) → Holds s → Reaches s (read_by machine s.world).floor
+read-reaches s machine h =
+    let plan = s.world.floor in
+    let now : AtMachine = record (machine_at plan machine) { unread = [] } in
+    let many = as_many_machines plan machine now in
+    let gaps = as_many_gaps plan machine now in
+    record { many = many ∙ h.many; whole = ap length gaps ∙ h.whole ∙ ap (λ n. n - 1) (sym many); boards = boards_unread plan machine [] }
+
+same-reaches : (s : LineState) (old new : FloorPlan) → Reaches s old → SameBoards old new → Reaches s new
+same-reaches s old new reaches same = record {
+  many = ap length same.machines ∙ reaches.many;
+  whole = same.gaps ∙ reaches.whole ∙ ap (λ (machines : List AtMachine). length machines - 1) (sym same.machines);
+  boards = same.boards ∙ reaches.boards;
+}
+
+-- the line behind some acts of a step
+abbrev line_behind : (second : Bool) (machine : ℕ) (node : NodeState) (told : List Act) (s : LineState) → LineState
+line_behind second machine node told s = with_world (acts_did second machine told (read_by machine s.world)).world (with_machine machine node s)
+
+finished : (number machine : ℕ) (input : Input) (before after : LineState) (told : List Happening) (steps : MachineSteps number machine input before after told)
+    → Goes before (line_behind (is_second input) machine steps.next steps.acts before) (acts_did (is_second input) machine steps.acts (read_by machine before.world)).told → Goes before after told
+finished number machine input before after told steps goes =
+    let P : LineState → Type 0 = λ t. Goes before t (acts_did (is_second input) machine steps.acts (read_by machine before.world)).told in
+    let Q : List Happening → Type 0 = λ list. Goes before after list in
+    subst Q (sym steps.told_is) (subst P (sym steps.after_is) goes)
+
+grown-of : (number machine : ℕ) (input : Input) (before after : LineState) (told : List Happening) (steps : MachineSteps number machine input before after told) → IsGrown steps.node.maker steps.next.maker
+grown-of number machine input before after told steps =
+    let P : Maker → Type 0 = λ maker. IsGrown steps.node.maker maker in
+    subst P (sym steps.steps.lane.made) (maker-grown input steps.node.maker)
+
+-- no act is done by hand
+quiet-goes : (number machine : ℕ) (input : Input) (before after : LineState) (told : List Happening) (steps : MachineSteps number machine input before after told) → Holds before → AreQuiet steps.acts → Goes before after told
+quiet-goes number machine input before after told steps h quiet =
+    let second = is_second input in
+    let world = read_by machine before.world in
+    let at = at-of before machine steps.node steps.there in
+    let grown = grown-of number machine input before after told steps in
+    let end = line_behind second machine steps.next steps.acts before in
+    let reaches = same-reaches before world.floor end.world.floor (read-reaches before machine h) (quiet-acts second machine steps.acts world quiet) in
+    finished number machine input before after told steps
+    (still-goes before end (acts_did second machine steps.acts world).told h (step-follows before machine steps.node steps.next at h.own grown) (reaches.many ∙ sym (length-set before.machines (machine - 1) steps.next)) reaches.whole reaches.boards (acts-still second machine steps.acts world quiet))
+
+parts-quiet : (told hand : List Act) → Parts told hand → AreQuiet hand → AreQuiet told
+parts-quiet told hand parts quiet =
+    let P : List Act → Type 0 = λ acts. AreQuiet acts in
+    subst P (sym parts.is) (quiet-join parts.front (hand ++ parts.back) parts.first (quiet-join hand parts.back quiet parts.last))
+
+-- an input that is not of the hands that put boards in, take them out or change them
+abbrev IsHandless : Input → Type 0
+IsHandless (inputs.Insert barcode) = ⊥
+IsHandless (inputs.Remove id) = ⊥
+IsHandless (inputs.Replace id) = ⊥
+IsHandless _ = Unit {0}
+
+event-quiet : (desk : Desk) (maker : Maker) (input : Input) (words : List Word) (body : Body) → IsHandless input → AreQuiet (event_did desk (event_of maker input words) body).acts
+event-quiet desk maker inputs.Nothing words body handless = tt
+event-quiet desk maker inputs.Connect words body handless = (tt, opens-quiet desk Entry body)
+event-quiet desk maker inputs.Accepted words body handless = opens-quiet desk Exit body
+event-quiet desk maker inputs.Second words body handless = second-quiet desk body
+event-quiet desk maker (inputs.Bytes side piece) words body handless = heard-quiet desk side words body
+event-quiet desk maker (inputs.Notice side) words body handless = notices-quiet desk side body
+event-quiet desk maker inputs.Tick words body handless = both_tick-quiet desk body
+event-quiet desk maker inputs.Shutdown words body handless = both_shut-quiet desk body
+event-quiet desk maker (inputs.Fault side) words body handless = faults-quiet desk side body
+event-quiet desk maker (inputs.Will side on) words body handless = (tt, tt)
+event-quiet desk maker (inputs.Insert barcode) words body handless = absurd handless
+event-quiet desk maker (inputs.Remove id) words body handless = absurd handless
+event-quiet desk maker (inputs.Replace id) words body handless = absurd handless
+event-quiet desk maker (inputs.Mark id quality) words body handless = marks-quiet (is_kept id body.kept) _ body (acts.Marks id quality) tt
+
+handless-goes : (number machine : ℕ) (input : Input) (before after : LineState) (told : List Happening) → IsHandless input → Holds before → MachineSteps number machine input before after told → Goes before after told
+handless-goes number machine input before after told handless h steps =
+    quiet-goes number machine input before after told steps h
+    (parts-quiet steps.acts (hand_of number machine input before after told steps) (parts-of number machine input before after told steps)
+    (event-quiet (desk_of steps.node (moment_of number)) steps.node.maker input steps.steps.lane.words (body_read number machine input before after told steps) handless))
+
+-- ---- one act by hand
+
+-- the boards are all old, and differ, once the act is done
+record Handled (before : LineState) (nodes : List NodeState) (act : Act) (machine : ℕ) (old new : FloorPlan) : Type 0 where
+  many : length new.machines ≡ length old.machines
+  gaps : length new.gaps ≡ length old.gaps
+  change : ChangesBoards (happenings.Done machine act) (boards_on old) (boards_on new)
+  all : AllByRecursion (IsOldBoard nodes) (boards_on new)
+  differ : IdsDiffer new
+  fresh : AllByRecursion (λ id. (other : ℕ) → IsOld 1 before.machines other → other ≢ id) (made_by (happenings.Done machine act ∷ []))
+  handled : AllByRecursion (IsOld 1 nodes) (handled_by (happenings.Done machine act ∷ []))
+
+hand-goes : (number machine : ℕ) (input : Input) (act : Act) (before after : LineState) (told : List Happening) (steps : MachineSteps number machine input before after told)
+    → Holds before
+    → (parts : Parts steps.acts (act ∷ []))
+    → IsPlain (is_second input) machine act
+    → ((world : WorldParts) → Reaches before world.floor → (machine_at world.floor machine).boards ≡ (machine_at before.world.floor machine).boards → Handled before (slice_set before.machines (machine - 1) steps.next) act machine world.floor (act_did (is_second input) machine act world).world.floor)
+    → Goes before after told
+hand-goes number machine input act before after told steps h parts plain does =
+    let second = is_second input in
+    let world = read_by machine before.world in
+    let at = at-of before machine steps.node steps.there in
+    let nodes = slice_set before.machines (machine - 1) steps.next in
+    let grown = grown-of number machine input before after told steps in
+    let follows = step-follows before machine steps.node steps.next at h.own grown in
+    let within : machine ≤ length before.world.floor.machines = omega (arith, at.is, h.many, slice_get_within before.machines at.place steps.node at.found) in
+    let counted : 1 ≤ machine = omega (arith, at.is) in
+    let H : List Act → Type 0 = λ list. Handles second machine act list world in
+    let hands = subst H (sym parts.is) (handles second machine act parts.front parts.back world plain parts.first parts.last) in
+    let reaches = same-reaches before world.floor hands.before.floor (read-reaches before machine h) hands.reaches in
+    let listed = ap (λ (m : AtMachine). m.boards) (same-list world.floor hands.before.floor machine hands.reaches.machines) ∙ read-list before.world.floor machine [] counted within in
+    let hand = does hands.before reaches listed in
+    let middle = (act_did second machine act hands.before).world.floor in
+    let end = line_behind second machine steps.next steps.acts before in
+    let whole : IsWhole middle = hand.gaps ∙ reaches.whole ∙ ap (λ n. n - 1) (sym hand.many) in
+    let first : List Board → Type 0 = λ boards. ChangesBoards (happenings.Done machine act) boards (boards_on middle) in
+    let last : List Board → Type 0 = λ boards. AllChange (acts_did second machine steps.acts world).told boards (boards_on end.world.floor) in
+    let read = (read-reaches before machine h).boards in
+    finished number machine input before after told steps (record {
+      holds = record {
+        own = follows.own h.own;
+        many = ap length hands.goes_on.machines ∙ hand.many ∙ reaches.many ∙ sym (length-set before.machines (machine - 1) steps.next);
+        whole = hands.goes_on.gaps ∙ whole ∙ ap (λ (machines : List AtMachine). length machines - 1) (sym hands.goes_on.machines);
+        old = each-along (IsOldBoard nodes) (boards_on middle) (boards_of end) hands.goes_on.boards hand.all;
+        differ = same_differ middle end.world.floor hands.goes_on.boards hand.differ;
+      };
+      change = subst last read (hands.change hand.change);
+      fresh = each-along (λ id. (other : ℕ) → IsOld 1 before.machines other → other ≢ id) (made_by (happenings.Done machine act ∷ [])) (made_by (acts_did second machine steps.acts world).told) (hands.made ∙ sym (append-nil _)) hand.fresh;
+      handled = each-along (IsOld 1 nodes) (handled_by (happenings.Done machine act ∷ [])) (handled_by (acts_did second machine steps.acts world).told) (hands.handled ∙ sym (append-nil _)) hand.handled;
+      olds = follows.olds;
+    })
+
+-- ---- a new id
+
+record IsNew (maker : Maker) (id : ℕ) : Type 0 where
+  is : id ≡ made_id maker.machine (maker.used + 1)
+  small : maker.used + 1 < 281474976710656
+  now : (after_next maker).used ≡ maker.used + 1
+
+ok-same : (id other : ℕ) (answer : Result ℕ IdsUsedUp) → answer ≡ Ok id → answer ≡ Ok other → id ≡ other
+ok-same id other answer one two = cc
+
+new_by : (full : Bool) (maker : Maker) (id : ℕ) → nat_le 281474976710655 maker.used ≡ full → next_id maker ≡ Ok id → IsNew maker id
+new_by true maker id test is = let none : next_id maker ≡ Err (record {}) = rw test refl in cc
+new_by false maker id test is =
+    let some : next_id maker ≡ Ok (made_id maker.machine (maker.used + 1)) = rw test refl in
+    let above : maker.used < 281474976710655 = leb-false 281474976710655 maker.used test in
+    record { is = ok-same id (made_id maker.machine (maker.used + 1)) (next_id maker) is some; small = omega (arith, above); now = rw test refl }
+
+-- no machine has made it before, and it is made then
+record IsMade (before nodes : List NodeState) (id : ℕ) : Type 0 where
+  apart : (other : ℕ) → IsOld 1 before other → other ≢ id
+  made : IsOld 1 nodes id
+
+made-of : (s : LineState) (machine id : ℕ) (node next : NodeState) (at : IsAt s machine node) → AreNumbered 1 s.machines → next.maker ≡ after_next node.maker → IsNew node.maker id → IsMade s.machines (slice_set s.machines (machine - 1) next) id
+made-of s machine id node next at own after new =
+    let place : machine - 1 ≡ at.place = omega (arith, at.is) in
+    let here = numbered-at 1 s.machines at.place node own at.found in
+    let is : id ≡ made_id (1 + at.place) (node.maker.used + 1) = new.is ∙ ap (λ n. made_id n (node.maker.used + 1)) here.machine in
+    let used : next.maker.used ≡ node.maker.used + 1 = ap (λ (m : Maker). m.used) after ∙ new.now in
+    rw place (record {
+      apart = λ other old. old-apart 1 s.machines at.place node other id (node.maker.used + 1) at.found (omega arith) new.small is old;
+      made = old-new 1 s.machines at.place node next id at.found (record { count = node.maker.used + 1; counted = omega (arith, used); small = new.small; is = is });
+    })
+
+-- a board with a new id stands nowhere yet
+fresh-there : (s : LineState) (floor : FloorPlan) (id : ℕ) → Holds s → Reaches s floor → ((other : ℕ) → IsOld 1 s.machines other → other ≢ id) → HasFreshId floor (record { id = Some id })
+fresh-there s floor id h reaches apart other has =
+    nowhere_of other floor
+    (none-there s.machines other (boards_on floor) (each-along (IsOldBoard s.machines) (boards_of s) (boards_on floor) reaches.boards h.old) (λ own old same. apart own old (same ∙ sym (eqb-true id other has))))
+
+own-board : (nodes : List NodeState) (id : ℕ) → IsOld 1 nodes id → IsOldBoard nodes (record { id = Some id })
+own-board nodes id old other has =
+    let P : ℕ → Type 0 = λ own. IsOld 1 nodes own in
+    subst P (eqb-true id other has) old
+
+reached-old : (s : LineState) (floor : FloorPlan) (nodes : List NodeState) → Holds s → Reaches s floor → Follows s.machines nodes → AllByRecursion (IsOldBoard nodes) (boards_on floor)
+reached-old s floor nodes h reaches follows =
+    each-along (IsOldBoard nodes) (boards_of s) (boards_on floor) reaches.boards (older s.machines nodes (boards_of s) follows h.old)
+
+at-within : (s : LineState) (machine : ℕ) (node : NodeState) (floor : FloorPlan) → IsAt s machine node → Reaches s floor → machine ≤ length floor.machines
+at-within s machine node floor at reaches = omega (arith, at.is, reaches.many, slice_get_within s.machines at.place node at.found)
+
+-- ---- an insertion
+
+inserts-handled : (s : LineState) (machine id : ℕ) (node : NodeState) (nodes : List NodeState) (floor : FloorPlan) → Holds s → IsAt s machine node → Follows s.machines nodes → IsMade s.machines nodes id → Reaches s floor → Handled s nodes (acts.Inserts id) machine floor (lays machine id floor)
+inserts-handled s machine id node nodes floor h at follows made reaches =
+    let counted : 1 ≤ machine = omega (arith, at.is) in
+    let gain = lays-gains floor machine id counted (at-within s machine node floor at reaches) in
+    let now : AtMachine = record (machine_at floor machine) { boards = (machine_at floor machine).boards ++ record { id = Some id } ∷ [] } in
+    let board : Board = record { id = Some id } in
+    record {
+      many = as_many_machines floor machine now;
+      gaps = ap length (as_many_gaps floor machine now);
+      change = gain;
+      all = each-gained (IsOldBoard nodes) (boards_on floor) (boards_on (lays machine id floor)) board gain (own-board nodes id made.made) (reached-old s floor nodes h reaches follows);
+      differ = gains_differ floor (lays machine id floor) board gain (fresh-there s floor id h reaches made.apart) (same_differ s.world.floor floor reaches.boards h.differ);
+      fresh = (made.apart, tt);
+      handled = (made.made, tt);
+    }
+
+insert-goes : (answer : Result ℕ IdsUsedUp) (number machine : ℕ) (barcode : Option (List ℕ)) (before after : LineState) (told : List Happening) (steps : MachineSteps number machine (inputs.Insert barcode) before after told) → next_id steps.node.maker ≡ answer → Holds before → Goes before after told
+insert-goes (Err why) number machine barcode before after told steps is h =
+    let input = inputs.Insert barcode in
+    let hand = hand_of number machine input before after told steps in
+    let desk = desk_of steps.node (moment_of number) in
+    let body = body_read number machine input before after told steps in
+    let f : Result ℕ IdsUsedUp → List Act = λ answer. (event_did desk (with_new answer (λ id. Insert id barcode)) body).acts in
+    let none : hand ≡ [] = ap f is in
+    let P : List Act → Type 0 = λ list. AreQuiet list in
+    quiet-goes number machine input before after told steps h (parts-quiet steps.acts hand (parts-of number machine input before after told steps) (subst P (sym none) tt))
+insert-goes (Ok id) number machine barcode before after told steps is h =
+    let input = inputs.Insert barcode in
+    let hand = hand_of number machine input before after told steps in
+    let desk = desk_of steps.node (moment_of number) in
+    let body = body_read number machine input before after told steps in
+    let f : Result ℕ IdsUsedUp → List Act = λ answer. (event_did desk (with_new answer (λ id. Insert id barcode)) body).acts in
+    let one : hand ≡ acts.Inserts id ∷ [] = ap f is in
+    let P : List Act → Type 0 = λ list. Parts steps.acts list in
+    let parts = subst P one (parts-of number machine input before after told steps) in
+    let at = at-of before machine steps.node steps.there in
+    let nodes = slice_set before.machines (machine - 1) steps.next in
+    let grown = grown-of number machine input before after told steps in
+    let follows = step-follows before machine steps.node steps.next at h.own grown in
+    let made = made-of before machine id steps.node steps.next at h.own steps.steps.lane.made (new_by (nat_le 281474976710655 steps.node.maker.used) steps.node.maker id refl is) in
+    hand-goes number machine input (acts.Inserts id) before after told steps h parts (λ world. refl)
+    (λ world reaches listed. inserts-handled before machine id steps.node nodes world.floor h at follows made reaches)
+
+-- ---- a removal
+
+removes-handled : (s : LineState) (machine id : ℕ) (node : NodeState) (nodes : List NodeState) (floor : FloorPlan) → Holds s → IsAt s machine node → Follows s.machines nodes → Reaches s floor → LiesThere id (machine_at floor machine).boards → Handled s nodes (acts.Removes id) machine floor (takes_off machine id floor)
+removes-handled s machine id node nodes floor h at follows reaches lies =
+    let counted : 1 ≤ machine = omega (arith, at.is) in
+    let lost = takes_off-loses floor machine id counted (at-within s machine node floor at reaches) lies in
+    let now : AtMachine = record (machine_at floor machine) { boards = without_board id (machine_at floor machine).boards } in
+    let old = reached-old s floor nodes h reaches follows in
+    let before = each-along (IsOldBoard nodes) (boards_on floor) (lost.2.front ++ lost.0 ∷ lost.2.back) (sym lost.2.before) old in
+    record {
+      many = as_many_machines floor machine now;
+      gaps = ap length (as_many_gaps floor machine now);
+      change = lost;
+      all = each-lost (IsOldBoard nodes) (boards_on floor) (boards_on (takes_off machine id floor)) lost.0 lost.2 old;
+      differ = loses_differ floor (takes_off machine id floor) lost.0 lost.2 (same_differ s.world.floor floor reaches.boards h.differ);
+      fresh = tt;
+      handled = ((each-back (IsOldBoard nodes) lost.2.front (lost.0 ∷ lost.2.back) before).0 id lost.1, tt);
+    }
+
+lies-on : (s : LineState) (machine id : ℕ) (floor : FloorPlan) → is_here machine id s.world ≡ true → (machine_at floor machine).boards ≡ (machine_at s.world.floor machine).boards → LiesThere id (machine_at floor machine).boards
+lies-on s machine id floor here listed =
+    let P : List Board → Type 0 = λ boards. LiesThere id boards in
+    subst P (sym listed) (lies-there_by (place_of id (machine_at s.world.floor machine).boards) id (machine_at s.world.floor machine).boards refl here)
+
+remove-goes : (kept : Bool) (number machine id : ℕ) (before after : LineState) (told : List Happening) (steps : MachineSteps number machine (inputs.Remove id) before after told) → is_kept id (body_read number machine (inputs.Remove id) before after told steps).kept ≡ kept → is_here machine id before.world ≡ true → Holds before → Goes before after told
+remove-goes false number machine id before after told steps is here h =
+    let input = inputs.Remove id in
+    let hand = hand_of number machine input before after told steps in
+    let body = body_read number machine input before after told steps in
+    let f : Bool → List Act = λ kept. (if_kept kept (with_kept (without id body.kept) body) (acts.Removes id) body).acts in
+    let none : hand ≡ [] = ap f is in
+    let P : List Act → Type 0 = λ list. AreQuiet list in
+    quiet-goes number machine input before after told steps h (parts-quiet steps.acts hand (parts-of number machine input before after told steps) (subst P (sym none) tt))
+remove-goes true number machine id before after told steps is here h =
+    let input = inputs.Remove id in
+    let hand = hand_of number machine input before after told steps in
+    let body = body_read number machine input before after told steps in
+    let f : Bool → List Act = λ kept. (if_kept kept (with_kept (without id body.kept) body) (acts.Removes id) body).acts in
+    let one : hand ≡ acts.Removes id ∷ [] = ap f is in
+    let P : List Act → Type 0 = λ list. Parts steps.acts list in
+    let parts = subst P one (parts-of number machine input before after told steps) in
+    let at = at-of before machine steps.node steps.there in
+    let nodes = slice_set before.machines (machine - 1) steps.next in
+    let follows = step-follows before machine steps.node steps.next at h.own (grown-of number machine input before after told steps) in
+    hand-goes number machine input (acts.Removes id) before after told steps h parts (λ world. refl)
+    (λ world reaches listed. removes-handled before machine id steps.node nodes world.floor h at follows reaches (lies-on before machine id world.floor here listed))
+
+-- ---- a replacement
+
+replaces-handled : (s : LineState) (machine was now : ℕ) (node : NodeState) (nodes : List NodeState) (floor : FloorPlan) → Holds s → IsAt s machine node → Follows s.machines nodes → IsMade s.machines nodes now → Reaches s floor → LiesThere was (machine_at floor machine).boards → Handled s nodes (acts.Replaces was now) machine floor (changes machine was now floor)
+replaces-handled s machine was now node nodes floor h at follows made reaches lies =
+    let counted : 1 ≤ machine = omega (arith, at.is) in
+    let change = changes-changes floor machine was now counted (at-within s machine node floor at reaches) lies in
+    let here : AtMachine = record (machine_at floor machine) { boards = with_new_id was now (machine_at floor machine).boards } in
+    let old = reached-old s floor nodes h reaches follows in
+    let before = each-along (IsOldBoard nodes) (boards_on floor) (change.2.front ++ change.0 ∷ change.2.back) (sym change.2.before) old in
+    record {
+      many = as_many_machines floor machine here;
+      gaps = ap length (as_many_gaps floor machine here);
+      change = change;
+      all = each-changed (IsOldBoard nodes) was now (boards_on floor) (boards_on (changes machine was now floor)) change (own-board nodes now made.made) old;
+      differ = changes_differ was now floor (changes machine was now floor) change (fresh-there s floor now h reaches made.apart) (same_differ s.world.floor floor reaches.boards h.differ);
+      fresh = (made.apart, tt);
+      handled = ((each-back (IsOldBoard nodes) change.2.front (change.0 ∷ change.2.back) before).0 was change.1, (made.made, tt));
+    }
+
+quiet-hand : (number machine : ℕ) (input : Input) (before after : LineState) (told : List Happening) (steps : MachineSteps number machine input before after told) → hand_of number machine input before after told steps ≡ [] → Holds before → Goes before after told
+quiet-hand number machine input before after told steps none h =
+    let hand = hand_of number machine input before after told steps in
+    let P : List Act → Type 0 = λ list. AreQuiet list in
+    quiet-goes number machine input before after told steps h (parts-quiet steps.acts hand (parts-of number machine input before after told steps) (subst P (sym none) tt))
+
+replace-goes : (answer : Result ℕ IdsUsedUp) (kept : Bool) (number machine was : ℕ) (before after : LineState) (told : List Happening) (steps : MachineSteps number machine (inputs.Replace was) before after told) → next_id steps.node.maker ≡ answer → is_kept was (body_read number machine (inputs.Replace was) before after told steps).kept ≡ kept → is_here machine was before.world ≡ true → Holds before → Goes before after told
+replace-goes (Err why) kept number machine was before after told steps is stays here h =
+    let input = inputs.Replace was in
+    let desk = desk_of steps.node (moment_of number) in
+    let body = body_read number machine input before after told steps in
+    let f : Result ℕ IdsUsedUp → List Act = λ answer. (event_did desk (with_new answer (Replace was)) body).acts in
+    let none : hand_of number machine input before after told steps ≡ [] = ap f is in
+    quiet-hand number machine input before after told steps none h
+replace-goes (Ok now) false number machine was before after told steps is stays here h =
+    let input = inputs.Replace was in
+    let desk = desk_of steps.node (moment_of number) in
+    let body = body_read number machine input before after told steps in
+    let f : Result ℕ IdsUsedUp → List Act = λ answer. (event_did desk (with_new answer (Replace was)) body).acts in
+    let g : Bool → List Act = λ kept. (if_kept kept (with_kept (with_instead was (plain_record now desk.name None) body.kept) body) (acts.Replaces was now) body).acts in
+    let some : hand_of number machine input before after told steps ≡ (replaces desk was now body).acts = ap f is in
+    let none : (replaces desk was now body).acts ≡ [] = ap g stays in
+    quiet-hand number machine input before after told steps (some ∙ none) h
+replace-goes (Ok now) true number machine was before after told steps is stays here h =
+    let input = inputs.Replace was in
+    let desk = desk_of steps.node (moment_of number) in
+    let body = body_read number machine input before after told steps in
+    let f : Result ℕ IdsUsedUp → List Act = λ answer. (event_did desk (with_new answer (Replace was)) body).acts in
+    let g : Bool → List Act = λ kept. (if_kept kept (with_kept (with_instead was (plain_record now desk.name None) body.kept) body) (acts.Replaces was now) body).acts in
+    let some : hand_of number machine input before after told steps ≡ (replaces desk was now body).acts = ap f is in
+    let one : (replaces desk was now body).acts ≡ acts.Replaces was now ∷ [] = ap g stays in
+    let P : List Act → Type 0 = λ list. Parts steps.acts list in
+    let parts = subst P (some ∙ one) (parts-of number machine input before after told steps) in
+    let at = at-of before machine steps.node steps.there in
+    let nodes = slice_set before.machines (machine - 1) steps.next in
+    let follows = step-follows before machine steps.node steps.next at h.own (grown-of number machine input before after told steps) in
+    let made = made-of before machine now steps.node steps.next at h.own steps.steps.lane.made (new_by (nat_le 281474976710655 steps.node.maker.used) steps.node.maker now refl is) in
+    hand-goes number machine input (acts.Replaces was now) before after told steps h parts (λ world. refl)
+    (λ world reaches listed. replaces-handled before machine was now steps.node nodes world.floor h at follows made reaches (lies-on before machine was world.floor here listed))
+
+-- ---- the forms
+
+becomes-goes : (s next after : LineState) (what told : List Happening) → Goes s next what → Becomes next what after told → Goes s after told
+becomes-goes s next after what told goes becomes =
+    let P : LineState → Type 0 = λ t. Goes s t what in
+    let Q : List Happening → Type 0 = λ list. Goes s after list in
+    subst Q (sym becomes.told_is) (subst P (sym becomes.after_is) goes)
+
+refused-goes : (reason : Reason) (s after : LineState) (told : List Happening) → Holds s → Becomes s (happenings.No reason ∷ []) after told → Goes s after told
+refused-goes reason s after told h becomes =
+    becomes-goes s s after (happenings.No reason ∷ []) told (stays-goes s s (happenings.No reason ∷ []) h refl refl (one-still (happenings.No reason) (λ boards. refl) refl refl)) becomes
+
+unless-goes : (may : May) (s after : LineState) (told : List Happening) (Done : Type 0) → Holds s → (Done → Goes s after told) → Unless may s after told Done → Goes s after told
+unless-goes (Ok _) s after told Done h goes does = goes does
+unless-goes (Err reason) s after told Done h goes does = refused-goes reason s after told h does
+
+given-goes : (may : May) (number machine : ℕ) (input : Input) (s after : LineState) (told : List Happening) → IsHandless input → Holds s → Unless may s after told (MachineSteps number machine input s after told) → Goes s after told
+given-goes may number machine input s after told handless h does =
+    unless-goes may s after told (MachineSteps number machine input s after told) h (handless-goes number machine input s after told handless h) does
+
+-- a board that may be taken out, or replaced, is here
+here-behind : (own : Result (Unit {0}) No) (here : Bool) (next : May) (done : Unit {0}) → behind_own own (no_if (not here) reasons.NotHere next) ≡ Ok done → here ≡ true
+here-behind (Err why) here next done is = cc
+here-behind (Ok _) true next done is = refl
+here-behind (Ok _) false next done is = cc
+
+here-if : (there : Option NodeState) (own : NodeState → Result (Unit {0}) No) (here : Bool) (next : NodeState → May) (done : Unit {0}) → if_there there (λ node. behind_own (own node) (no_if (not here) reasons.NotHere (next node))) ≡ Ok done → here ≡ true
+here-if None own here next done is = cc
+here-if (Some node) own here next done is = here-behind (own node) here (next node) done is
+
+removed-goes : (may : May) (number machine id : ℕ) (s after : LineState) (told : List Happening) → may_remove machine id s ≡ may → Holds s → Unless may s after told (MachineSteps number machine (inputs.Remove id) s after told) → Goes s after told
+removed-goes (Ok done) number machine id s after told is h steps =
+    let here = here-if (machine_in machine s) (λ node. may_of node (inputs.Remove id)) (is_here machine id s.world) (λ node. may_do) done is in
+    remove-goes (is_kept id (body_read number machine (inputs.Remove id) s after told steps).kept) number machine id s after told steps refl here h
+removed-goes (Err reason) number machine id s after told is h does = refused-goes reason s after told h does
+
+replaced-goes : (may : May) (number machine was : ℕ) (s after : LineState) (told : List Happening) → may_replace machine was s ≡ may → Holds s → Unless may s after told (MachineSteps number machine (inputs.Replace was) s after told) → Goes s after told
+replaced-goes (Ok done) number machine was s after told is h steps =
+    let here = here-if (machine_in machine s) (λ node. may_of node (inputs.Remove was)) (is_here machine was s.world) (λ node. behind_own (may_of node (inputs.Replace was)) may_do) done is in
+    replace-goes (next_id steps.node.maker) (is_kept was (body_read number machine (inputs.Replace was) s after told steps).kept) number machine was s after told steps refl refl here h
+replaced-goes (Err reason) number machine was s after told is h does = refused-goes reason s after told h does
+
+inserted-goes : (may : May) (number machine : ℕ) (barcode : Option (List ℕ)) (s after : LineState) (told : List Happening) → Holds s → Unless may s after told (MachineSteps number machine (inputs.Insert barcode) s after told) → Goes s after told
+inserted-goes may number machine barcode s after told h does =
+    unless-goes may s after told (MachineSteps number machine (inputs.Insert barcode) s after told) h (λ steps. insert-goes (next_id steps.node.maker) number machine barcode s after told steps refl h) does
+
+met-handless : (on : Connected) → IsHandless (met on)
+met-handless connections.Accepted = tt
+met-handless connections.Second = tt
+
+connects-goes : (number machine : ℕ) (s after : LineState) (told : List Happening) → Holds s → Connects number machine s after told → Goes s after told
+connects-goes number machine s after told h steps =
+    let begin = stays-goes s (connecting machine s) [] h refl (link-floor (machine - 1) (after_connect (link_at (machine - 1) s.world)) s.world) still-none in
+    let first = handless-goes number machine inputs.Connect (connecting machine s) steps.between steps.earlier tt begin.holds steps.first in
+    let on = connected_of (link_at (machine - 1) s.world).upstream in
+    let second = handless-goes number (machine - 1) (met on) steps.between after steps.later (met-handless on) first.holds steps.second in
+    let Q : List Happening → Type 0 = λ list. Goes s after list in
+    subst Q (sym steps.told_is) (goes-both s (connecting machine s) after [] (steps.earlier ++ steps.later) begin (goes-both (connecting machine s) steps.between after steps.earlier steps.later first second))
+
+flows-goes : (number machine : ℕ) (side : Side) (count : Option ℕ) (s after : LineState) (told : List Happening) → Holds s → Flows number machine side count s after told → Goes s after told
+flows-goes number machine side count s after told h flows =
+    let begin = stays-goes s (arrived machine side count s) [] h refl (link-floor (link_of machine side) _ s.world) still-none in
+    goes-both s (arrived machine side count s) after [] told begin (handless-goes number machine (inputs.Bytes side flows.piece) (arrived machine side count s) after told tt begin.holds flows.steps)
+
+unvouched-still : (unvouched : Option ℕ) → IsStill (unvouched_told unvouched)
+unvouched-still None = one-still happenings.Unvouched (λ boards. refl) refl refl
+unvouched-still (Some line) = still-none
+
+lie-goes : (number machine : ℕ) (sensed : Sensed) (s : LineState) → Holds s → Goes s (lied number machine sensed s) (happenings.Lie machine sensed ∷ unvouched_told s.unvouched)
+lie-goes number machine sensed s h =
+    let plan = s.world.floor in
+    let unread = (machine_at plan machine).unread ++ sensed ∷ [] in
+    let now : AtMachine = record (machine_at plan machine) { unread = unread } in
+    let many = as_many_machines plan machine now in
+    let gaps = as_many_gaps plan machine now in
+    still-goes s (lied number machine sensed s) (happenings.Lie machine sensed ∷ unvouched_told s.unvouched) h (follows-same s.machines s.machines refl) (many ∙ h.many) (ap length gaps ∙ h.whole ∙ ap (λ n. n - 1) (sym many)) (boards_unread plan machine unread)
+    (still-join (happenings.Lie machine sensed ∷ []) (unvouched_told s.unvouched) (one-still (happenings.Lie machine sensed) (λ boards. refl) refl refl) (unvouched-still s.unvouched))
+
+-- ---- what is shown, and the standings
+
+kept-still : (machine : ℕ) (boards : List Record) → IsStill (kept_shown machine boards)
+kept-still machine [] = still-none
+kept-still machine (board ∷ boards) = still-join (happenings.Shown machine board.id board.quality ∷ []) (kept_shown machine boards) (one-still (happenings.Shown machine board.id board.quality) (λ b. refl) refl refl) (kept-still machine boards)
+
+between-one : (gap id : ℕ) → IsStill (happenings.ShownBetween gap id ∷ [])
+between-one gap id = one-still (happenings.ShownBetween gap id) (λ boards. refl) refl refl
+
+between-two : (same : Bool) (gap above below : ℕ) → IsStill (happenings.ShownBetween gap above ∷ (if same then [] else happenings.ShownBetween gap below ∷ []))
+between-two true gap above below = between-one gap above
+between-two false gap above below = still-join (happenings.ShownBetween gap above ∷ []) (happenings.ShownBetween gap below ∷ []) (between-one gap above) (between-one gap below)
+
+between-still : (gap : ℕ) (above below : Option ℕ) → IsStill (between_shown gap above below)
+between-still gap None None = still-none
+between-still gap None (Some below) = between-one gap below
+between-still gap (Some above) None = between-one gap above
+between-still gap (Some above) (Some below) = between-two (above == below) gap above below
+
+shown-still : (machine : ℕ) (nodes : List NodeState) → IsStill (shown_from machine nodes)
+shown-still machine [] = still-none
+shown-still machine (node ∷ nodes) =
+    let between = between_shown machine (own_of node.lane.body).held (taken_below nodes) in
+    still-join (kept_shown machine node.lane.body.kept) (between ++ shown_from (machine + 1) nodes) (kept-still machine node.lane.body.kept)
+    (still-join between (shown_from (machine + 1) nodes) (between-still machine (own_of node.lane.body).held (taken_below nodes)) (shown-still (machine + 1) nodes))
+
+standing-still : (id : ℕ) (told : Option Told) → IsStill (standing_told id told)
+standing-still id None = still-none
+standing-still id (Some (tolds.With machine)) = one-still (happenings.With machine id) (λ boards. refl) refl refl
+standing-still id (Some (tolds.Between gap)) = one-still (happenings.Between gap id) (λ boards. refl) refl refl
+standing-still id (Some tolds.Gone) = one-still (happenings.Gone id) (λ boards. refl) refl refl
+
+flat-still : (f : ℕ → List Happening) (ids : List ℕ) → ((id : ℕ) → IsStill (f id)) → IsStill (flat_map f ids)
+flat-still f [] every = still-none
+flat-still f (id ∷ ids) every = still-join (f id) (flat_map f ids) (every id) (flat-still f ids every)
+
+standings-still : (before next : LineState) → IsStill (standings_told before next)
+standings-still before next =
+    flat-still (λ id. standing_told id (told_of (marks_in before id) (marks_in next id))) (ascending (ids_marked before ++ ids_marked next)) (λ id. standing-still id (told_of (marks_in before id) (marks_in next id)))
+
+-- ---- each form
+
+does-goes : (number : ℕ) (line : ScriptLine) (s after : LineState) (told : List Happening) → Holds s → LineDoes number line s after told → Goes s after told
+does-goes number lines.Blank s after told h does = becomes-goes s s after [] told (stays-goes s s [] h refl refl still-none) does
+does-goes number (lines.Machine capacity used) s after told h does =
+    let what = happenings.Machine (length s.machines + 1) capacity ∷ [] in
+    unless-goes (may_add s) s after told (Becomes (one_more capacity used s) what after told) h (becomes-goes s (one_more capacity used s) after what told (more-goes capacity used s what h (one-still (happenings.Machine (length s.machines + 1) capacity) (λ boards. refl) refl refl))) does
+does-goes number (lines.Insert machine barcode) s after told h does = inserted-goes (may_give machine (inputs.Insert barcode) s) number machine barcode s after told h does
+does-goes number (lines.Remove machine id) s after told h does = removed-goes (may_remove machine id s) number machine id s after told refl h does
+does-goes number (lines.Replace machine id) s after told h does = replaced-goes (may_replace machine id s) number machine id s after told refl h does
+does-goes number (lines.Mark machine id quality) s after told h does = given-goes _ number machine (inputs.Mark id quality) s after told tt h does
+does-goes number (lines.Hold machine side) s after told h does = given-goes _ number machine (inputs.Will side false) s after told tt h does
+does-goes number (lines.Go machine side) s after told h does = given-goes _ number machine (inputs.Will side true) s after told tt h does
+does-goes number (lines.Connect machine) s after told h does = unless-goes (may_connect machine s) s after told (Connects number machine s after told) h (connects-goes number machine s after told h) does
+does-goes number (lines.Flow machine side count) s after told h does = unless-goes (may_flow machine side s) s after told (Flows number machine side count s after told) h (flows-goes number machine side count s after told h) does
+does-goes number (lines.Notice machine side) s after told h does = given-goes _ number machine (inputs.Notice side) s after told tt h does
+does-goes number (lines.Cut gap) s after told h does =
+    let what = happenings.Cut gap ∷ [] in
+    let floor = link-floor gap (cut (link_at gap s.world)) s.world in
+    unless-goes (may_cut gap s) s after told (Becomes (cut_in gap s) what after told) h (becomes-goes s (cut_in gap s) after what told (stays-goes s (cut_in gap s) what h refl floor (one-still (happenings.Cut gap) (λ boards. refl) refl refl))) does
+does-goes number (lines.Spoil machine side) s after told h does =
+    let link = link_of machine side in
+    let on = spoil_sent (end_of side) (link_at link s.world) in
+    let what = spoil_told machine side s in
+    let still = still-join (happenings.Spoils machine side ∷ []) (cut_told link on) (one-still (happenings.Spoils machine side) (λ boards. refl) refl refl) (cut-still link on) in
+    let floor = link-floor link (after_spoil (end_of side) (link_at link s.world)) s.world in
+    unless-goes (may_spoil machine side s) s after told (Becomes (spoiled machine side s) what after told) h (becomes-goes s (spoiled machine side s) after what told (stays-goes s (spoiled machine side s) what h refl floor still)) does
+does-goes number (lines.Shutdown machine) s after told h does = given-goes _ number machine inputs.Shutdown s after told tt h does
+does-goes number (lines.Tick machine) s after told h does = given-goes _ number machine inputs.Tick s after told tt h does
+does-goes number (lines.Fault machine side) s after told h does = given-goes _ number machine (inputs.Fault side) s after told tt h does
+does-goes number (lines.Lie machine sensed) s after told h does =
+    let what = happenings.Lie machine sensed ∷ unvouched_told s.unvouched in
+    unless-goes (may_lie machine sensed.side s) s after told (Becomes (lied number machine sensed s) what after told) h (becomes-goes s (lied number machine sensed s) after what told (lie-goes number machine sensed s h)) does
+does-goes number (lines.Sense machine) s after told h does = given-goes _ number machine inputs.Nothing s after told tt h does
+does-goes number (lines.Begin gap) s after told h does = becomes-goes s _ after _ told (move-goes gap moves.Begin s (floor_move gap moves.Begin s.world.floor) refl h) does
+does-goes number (lines.Left gap) s after told h does = becomes-goes s _ after _ told (move-goes gap moves.Left s (floor_move gap moves.Left s.world.floor) refl h) does
+does-goes number (lines.Enter gap) s after told h does = becomes-goes s _ after _ told (move-goes gap moves.Enter s (floor_move gap moves.Enter s.world.floor) refl h) does
+does-goes number (lines.Back gap) s after told h does = becomes-goes s _ after _ told (move-goes gap moves.Back s (floor_move gap moves.Back s.world.floor) refl h) does
+does-goes number (lines.HandIn gap) s after told h does = becomes-goes s _ after _ told (move-goes gap moves.HandIn s (floor_move gap moves.HandIn s.world.floor) refl h) does
+does-goes number (lines.Take gap) s after told h does = becomes-goes s _ after _ told (move-goes gap moves.Take s (floor_move gap moves.Take s.world.floor) refl h) does
+does-goes number lines.Show s after told h does = becomes-goes s s after (shown s) told (stays-goes s s (shown s) h refl refl (shown-still 1 s.machines)) does
+
+-- EACH LINE STEP
+pub steps-goes : (number : ℕ) (line : ScriptLine) (s after : LineState) (told : List Happening) → Holds s → LineSteps number line s after told → Goes s after told
+steps-goes number line s after told h steps =
+    let next = steps.next in
+    let count : LineState = record next { lines = next.lines + 1 } in
+    let one = does-goes number line s next steps.done h steps.does in
+    let two = stays-goes next count (standings_told s next) one.holds refl refl (standings-still s next) in
+    let P : LineState → Type 0 = λ t. Goes s t (steps.done ++ standings_told s next) in
+    let Q : List Happening → Type 0 = λ list. Goes s after list in
+    subst Q (sym steps.told_is) (subst P (sym steps.after_is) (goes-both s next count steps.done (standings_told s next) one two))
+
+-- ---- over a run
+
+none-holds : Holds no_line
+none-holds = record { own = tt; many = refl; whole = refl; old = tt; differ = record { once = λ id. omega arith } }
+
+all-differ : (s : LineState) (asked : List ScriptLine) (points : List Point) → Holds s → IsRun s asked points → AllByRecursion (λ (point : Point). IdsDiffer point.after.world.floor) points
+all-differ s [] [] h run = tt
+all-differ s [] (point ∷ points) h run = absurd run
+all-differ s (line ∷ asked) [] h run = absurd run
+all-differ s (line ∷ asked) (point ∷ points) h run =
+    let goes = steps-goes (s.lines + 1) line s point.after point.told h run.0 in
+    (goes.holds.differ, all-differ point.after asked points goes.holds run.1)
+
+all-fresh : (seen : List ℕ) (s : LineState) (asked : List ScriptLine) (points : List Point) → Holds s → AllByRecursion (IsOld 1 s.machines) seen → IsRun s asked points → IsFresh seen points
+all-fresh seen s [] [] h old run = tt
+all-fresh seen s [] (point ∷ points) h old run = absurd run
+all-fresh seen s (line ∷ asked) [] h old run = absurd run
+all-fresh seen s (line ∷ asked) (point ∷ points) h old run =
+    let goes = steps-goes (s.lines + 1) line s point.after point.told h run.0 in
+    let now = each-join (IsOld 1 point.after.machines) seen (handled_by point.told) (each-weaker (IsOld 1 s.machines) (IsOld 1 point.after.machines) seen goes.olds old) goes.handled in (
+      each-weaker (λ id. (other : ℕ) → IsOld 1 s.machines other → other ≢ id) (IsNoneOf seen) (made_by point.told) (λ id apart. each-weaker (IsOld 1 s.machines) (λ other. other ≢ id) seen apart old) goes.fresh,
+      all-fresh (seen ++ handled_by point.told) point.after asked points goes.holds now run.1,
+    )
+
+all-stay : (s : LineState) (asked : List ScriptLine) (points : List Point) → Holds s → IsRun s asked points → KeepsIds s points
+all-stay s [] [] h run = tt
+all-stay s [] (point ∷ points) h run = absurd run
+all-stay s (line ∷ asked) [] h run = absurd run
+all-stay s (line ∷ asked) (point ∷ points) h run =
+    let goes = steps-goes (s.lines + 1) line s point.after point.told h run.0 in
+    (goes.change, all-stay point.after asked points goes.holds run.1)
+
+pub ids_stay : IdsStay
+ids_stay asked points run = record { differ = all-differ no_line asked points none-holds run; fresh = all-fresh [] no_line asked points none-holds tt run; stay = all-stay no_line asked points none-holds run }

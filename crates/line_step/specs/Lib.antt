@@ -1,0 +1,16 @@
+pub mod World
+pub mod State
+pub mod Opened
+pub mod Together
+pub mod Numbered
+pub mod Near
+pub mod Acts
+pub mod Steps
+pub mod Reasons
+pub mod Shown
+pub mod Lines
+pub mod Views
+pub mod Runs
+pub mod Named
+pub mod FloorIds
+pub mod Lies

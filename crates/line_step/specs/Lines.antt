@@ -1,0 +1,142 @@
+-- THE LINE STEP: what a line of the script does, where no reason stands against it.
+use Rattle.std.specs.Prelude.{◌≡◌, ℕ, ◌+◌, ◌-◌, true, false, List, [], ◌∷◌, ◌++◌, Option, Some, None, Result, Ok, Err, length}
+use Rattle.std.specs.Borrow.{Bor}
+use Rattle.board_record.specs.declared.sensed.Sensed.{Sensed}
+use Rattle.line_base.specs.declared.states.Side.{Side}
+use Rattle.line_script.specs.declared.line.ScriptLine.{ScriptLine}
+use Rattle.line_script.specs.declared.line.ScriptLine.TheVariants as lines
+use Rattle.line_world.specs.FloorPlan.{FloorPlan, machine_at, with_unread}
+use Rattle.line_world.specs.Moves.{floor_move}
+use Rattle.line_world.specs.declared.moves.Move.{Move}
+use Rattle.line_world.specs.declared.moves.Move.TheVariants as moves
+use Rattle.line_world.specs.declared.moves.MoveNo.{MoveNo}
+use Rattle.line_link.specs.Link.{after_connect, after_flow, after_spoil, connected_of, cut, spoil_sent}
+use Rattle.line_link.specs.declared.link.Connected.{Connected}
+use Rattle.line_link.specs.declared.link.Connected.TheVariants as connections
+use Rattle.node_core.specs.declared.input.Input.{Input}
+use Rattle.node_core.specs.declared.input.Input.TheVariants as inputs
+use Rattle.line_step.specs.World.{end_of, link_at, link_of, piece_for, with_floor, with_link}
+use Rattle.line_step.specs.State.{LineState, one_more, with_world}
+use Rattle.line_step.specs.Acts.{cut_told}
+use Rattle.line_step.specs.Steps.{MachineSteps, StepsTwice}
+use Rattle.line_step.specs.Reasons.{May, may_add, may_connect, may_cut, may_flow, may_give, may_lie, may_notice, may_remove, may_replace, may_sense, may_spoil}
+use Rattle.line_step.specs.Shown.{shown, standings_told}
+use Rattle.line_report.specs.declared.happening.Happening.{Happening}
+use Rattle.line_report.specs.declared.happening.Happening.TheVariants as happenings
+use Rattle.line_report.specs.declared.happening.Reason.TheVariants as reasons
+
+-- the state after is this one, and this is told
+pub record Becomes (next : LineState) (what : List Happening) (after : LineState) (told : List Happening) : Type 0 where
+  pub after_is : after ≡ next
+  pub told_is : told ≡ what
+
+-- nothing changes where a reason stands against the line, and the reason is told
+abbrev pub Unless : May → LineState → LineState → List Happening → Type 0 → Type 0
+Unless (Err reason) before after told Done = Becomes before (happenings.No reason ∷ []) after told
+Unless (Ok _) before after told Done = Done
+
+-- ---- bytes arrive
+
+abbrev pub arrived : ℕ → Side → Option ℕ → LineState → LineState
+arrived machine side count s = with_world (with_link (link_of machine side) (after_flow (end_of side) count (link_at (link_of machine side) s.world)) s.world) s
+
+-- a machine hears the bytes that arrive
+pub record Flows (number machine : ℕ) (side : Side) (count : Option ℕ) (before after : LineState) (told : List Happening) : Type 0 where
+  pub piece : Bor (List ℕ)
+  pub bytes : piece.now ≡ piece_for machine side count before.world
+  pub steps : MachineSteps number machine (inputs.Bytes side piece) (arrived machine side count before) after told
+
+-- ---- a connection is made
+
+-- the link before a machine is connected: its numbers and whether it stands are set before the first of the two steps
+abbrev pub connecting : ℕ → LineState → LineState
+connecting machine s = with_world (with_link (machine - 1) (after_connect (link_at (machine - 1) s.world)) s.world) s
+
+-- what the upstream machine meets
+abbrev pub met : Connected → Input
+met connections.Accepted = inputs.Accepted
+met connections.Second = inputs.Second
+
+abbrev pub Connects : ℕ → ℕ → LineState → LineState → List Happening → Type 0
+Connects number machine before after told =
+    StepsTwice (MachineSteps number machine inputs.Connect) (MachineSteps number (machine - 1) (met (connected_of (link_at (machine - 1) before.world).upstream))) (connecting machine before) after told
+
+-- ---- a link is cut or spoiled
+
+abbrev pub cut_in : ℕ → LineState → LineState
+cut_in gap s = with_world (with_link gap (cut (link_at gap s.world)) s.world) s
+
+abbrev pub spoiled : ℕ → Side → LineState → LineState
+spoiled machine side s = with_world (with_link (link_of machine side) (after_spoil (end_of side) (link_at (link_of machine side) s.world)) s.world) s
+
+abbrev pub spoil_told : ℕ → Side → LineState → List Happening
+spoil_told machine side s = happenings.Spoils machine side ∷ cut_told (link_of machine side) (spoil_sent (end_of side) (link_at (link_of machine side) s.world))
+
+-- ---- the floor
+
+abbrev pub moved : Result FloorPlan MoveNo → LineState → LineState
+moved (Ok floor) s = with_world (with_floor floor s.world) s
+moved (Err why) s = s
+
+abbrev pub move_told : ℕ → Move → Result FloorPlan MoveNo → List Happening
+move_told gap step (Ok floor) = happenings.Moved gap step ∷ []
+move_told gap step (Err why) = happenings.No (reasons.Move why) ∷ []
+
+abbrev pub Moves : ℕ → Move → LineState → LineState → List Happening → Type 0
+Moves gap step before after told = Becomes (moved (floor_move gap step before.world.floor) before) (move_told gap step (floor_move gap step before.world.floor)) after told
+
+-- ---- a sensor event that was not
+
+-- the first such line is told as the one from which on nobody vouches for the standings
+abbrev pub unvouched_told : Option ℕ → List Happening
+unvouched_told None = happenings.Unvouched ∷ []
+unvouched_told (Some line) = []
+
+abbrev pub first_of : ℕ → Option ℕ → Option ℕ
+first_of number None = Some number
+first_of number (Some line) = Some line
+
+abbrev pub lied : ℕ → ℕ → Sensed → LineState → LineState
+lied number machine sensed s = record s {
+  world = with_floor (with_unread s.world.floor machine ((machine_at s.world.floor machine).unread ++ sensed ∷ [])) s.world;
+  unvouched = first_of number s.unvouched;
+}
+
+-- ---- the forms
+
+abbrev pub LineDoes : ℕ → ScriptLine → LineState → LineState → List Happening → Type 0
+LineDoes number lines.Blank before after told = Becomes before [] after told
+LineDoes number (lines.Machine capacity used) before after told = Unless (may_add before) before after told (Becomes (one_more capacity used before) (happenings.Machine (length before.machines + 1) capacity ∷ []) after told)
+LineDoes number (lines.Insert machine barcode) before after told = Unless (may_give machine (inputs.Insert barcode) before) before after told (MachineSteps number machine (inputs.Insert barcode) before after told)
+LineDoes number (lines.Remove machine id) before after told = Unless (may_remove machine id before) before after told (MachineSteps number machine (inputs.Remove id) before after told)
+LineDoes number (lines.Replace machine id) before after told = Unless (may_replace machine id before) before after told (MachineSteps number machine (inputs.Replace id) before after told)
+LineDoes number (lines.Mark machine id quality) before after told = Unless (may_give machine (inputs.Mark id quality) before) before after told (MachineSteps number machine (inputs.Mark id quality) before after told)
+LineDoes number (lines.Hold machine side) before after told = Unless (may_give machine (inputs.Will side false) before) before after told (MachineSteps number machine (inputs.Will side false) before after told)
+LineDoes number (lines.Go machine side) before after told = Unless (may_give machine (inputs.Will side true) before) before after told (MachineSteps number machine (inputs.Will side true) before after told)
+LineDoes number (lines.Connect machine) before after told = Unless (may_connect machine before) before after told (Connects number machine before after told)
+LineDoes number (lines.Flow machine side count) before after told = Unless (may_flow machine side before) before after told (Flows number machine side count before after told)
+LineDoes number (lines.Notice machine side) before after told = Unless (may_notice machine side before) before after told (MachineSteps number machine (inputs.Notice side) before after told)
+LineDoes number (lines.Cut gap) before after told = Unless (may_cut gap before) before after told (Becomes (cut_in gap before) (happenings.Cut gap ∷ []) after told)
+LineDoes number (lines.Spoil machine side) before after told = Unless (may_spoil machine side before) before after told (Becomes (spoiled machine side before) (spoil_told machine side before) after told)
+LineDoes number (lines.Shutdown machine) before after told = Unless (may_give machine inputs.Shutdown before) before after told (MachineSteps number machine inputs.Shutdown before after told)
+LineDoes number (lines.Tick machine) before after told = Unless (may_give machine inputs.Tick before) before after told (MachineSteps number machine inputs.Tick before after told)
+LineDoes number (lines.Fault machine side) before after told = Unless (may_give machine (inputs.Fault side) before) before after told (MachineSteps number machine (inputs.Fault side) before after told)
+LineDoes number (lines.Sense machine) before after told = Unless (may_sense machine before) before after told (MachineSteps number machine inputs.Nothing before after told)
+LineDoes number (lines.Begin gap) before after told = Moves gap moves.Begin before after told
+LineDoes number (lines.Left gap) before after told = Moves gap moves.Left before after told
+LineDoes number (lines.Enter gap) before after told = Moves gap moves.Enter before after told
+LineDoes number (lines.Back gap) before after told = Moves gap moves.Back before after told
+LineDoes number (lines.HandIn gap) before after told = Moves gap moves.HandIn before after told
+LineDoes number (lines.Take gap) before after told = Moves gap moves.Take before after told
+LineDoes number (lines.Lie machine sensed) before after told = Unless (may_lie machine sensed.side before) before after told (Becomes (lied number machine sensed before) (happenings.Lie machine sensed ∷ unvouched_told before.unvouched) after told)
+LineDoes number lines.Show before after told = Becomes before (shown before) after told
+
+-- ---- and the standings that changed
+
+-- one line of the script: the state after it, counted, and what it did with the standings that it changed
+pub record LineSteps (number : ℕ) (line : ScriptLine) (before after : LineState) (told : List Happening) : Type 0 where
+  pub next : LineState
+  pub done : List Happening
+  pub does : LineDoes number line before next done
+  pub after_is : after ≡ record next { lines = next.lines + 1 }
+  pub told_is : told ≡ done ++ standings_told before next
