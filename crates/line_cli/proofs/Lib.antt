@@ -1,13 +1,7 @@
 pub mod LinesLemmas
 pub mod Steps
 pub mod Going
-pub mod IdLists
-pub mod Ownership
-pub mod IdSteps
-pub mod IdLines
-pub mod LineSteps
-pub mod IdLaws
-pub mod Names
 pub mod ReadFrames
 pub mod ReadSteps
 pub mod ReadOnce
+pub mod ReportOnce

@@ -1,5 +1,5 @@
 -- A stream has one read text, since bytes spell one message at most, are refused once at most, and never both.
-use Rattle.std.proofs.Common.{◌≡◌, ◌+◌, ◌⊎◌, inl, inr, ℕ, List, [], ◌∷◌, ◌++◌, codes, length, nat_lt, take, sym, ap, ◌∙◌}
+use Rattle.std.proofs.Common.{◌≡◌, ◌+◌, inl, inr, ℕ, List, [], ◌∷◌, ◌++◌, codes, length, nat_lt, take, sym, ap, ◌∙◌}
 use Rattle.hermes_stream.specs.Frames.{frames_of}
 use Rattle.hermes_horizontal.specs.Spelling.{Spells, IsRefused}
 use Rattle.hermes_horizontal.specs.Texts.{message_refusal_text}

@@ -1,10 +1,13 @@
 use Rattle.std.specs.Prelude.{◌≡◌, ◌<◌, ◌≤◌, ℕ, List, [], ◌∷◌, Bool, true, false, Option, None, Some, codes}
 use Rattle.std.specs.Str.{bytes_eq}
 use Rattle.line_outside.specs.Faults.{Rose}
-use Rattle.line_outside.specs.Sink.{Grows, GrowsInPart, PushesAll}
+use Rattle.line_outside.specs.Sink.{Grows, PushesAll}
 use Rattle.line_outside.specs.declared.pushing.Pushed.{Pushed}
 use Rattle.line_cli.specs.Script.{Refusal, script_of}
-use Rattle.line_cli.specs.Report.{report_of}
+use Rattle.line_cli.specs.Report.{BeginsReport, report_text}
+use Rattle.line_step.specs.State.{no_line}
+use Rattle.line_step.specs.Runs.{Point, IsRun}
+use Rattle.line_step.specs.Lies.{has_lie}
 use Rattle.line_cli.specs.Stream.{Reads}
 use Rattle.line_cli.specs.declared.status.Status.{Status}
 use Rattle.line_cli.specs.declared.status.Status.TheVariants as statuses
@@ -18,6 +21,7 @@ exit_number (statuses.ScriptRefused line why) = 3
 exit_number statuses.ReadFault = 4
 exit_number statuses.WriteFault = 5
 exit_number statuses.Memory = 6
+exit_number statuses.Unvouched = 7
 
 abbrev pub usage_text : List ℕ
 usage_text = codes "usage: line run | line read | line make <number>\n"
@@ -34,19 +38,35 @@ is_run words = is_word (codes "run") words
 abbrev pub is_read : List (List ℕ) → Bool
 is_read words = is_word (codes "read") words
 
--- the status that a script's first refusal gives
-abbrev pub status_of : Option Refusal → Status
-status_of None = statuses.Done
-status_of (Some refusal) = statuses.ScriptRefused refusal.line (inputs.Line refusal.why)
+-- how the run of a script ends, whose whole report was written
+abbrev pub status_of : Option Refusal → Bool → Status
+status_of None false = statuses.Done
+status_of None true = statuses.Unvouched
+status_of (Some refusal) lied = statuses.ScriptRefused refusal.line (inputs.Line refusal.why)
+
+-- the whole report was written, and it is that of a script which ends so: refused at its first refusal, and else
+-- unvouched where one of its lines told what was not so
+pub record WritesReport (script : List ℕ) (old new : Option (List ℕ)) (status : Status) : Type 0 where
+  pub points : List Point
+  pub run : IsRun no_line (script_of script).lines points
+  pub ends : status ≡ status_of (script_of script).refusal (has_lie points)
+  pub grows : Grows old new (report_text points (script_of script).refusal)
+
+-- a front of it was written
+pub record WritesFront (script : List ℕ) (old new : Option (List ℕ)) : Type 0 where
+  pub text : List ℕ
+  pub begins : BeginsReport script text
+  pub grows : Grows old new text
 
 -- what `run` did with a script: what is left of it, and how the sink's contents grew
 abbrev pub RunsScript : List ℕ → Option (List ℕ) → Option (List ℕ) → Option (List ℕ) → Status → Type 0
-RunsScript script left old new statuses.Done = (status_of (script_of script).refusal ≡ statuses.Done) × Grows old new (report_of script) × (left ≡ Some [])
+RunsScript script left old new statuses.Done = WritesReport script old new statuses.Done × (left ≡ Some [])
+RunsScript script left old new statuses.Unvouched = WritesReport script old new statuses.Unvouched × (left ≡ Some [])
 RunsScript script left old new statuses.Usage = ⊥
-RunsScript script left old new (statuses.ScriptRefused line why) = (status_of (script_of script).refusal ≡ statuses.ScriptRefused line why) × Grows old new (report_of script)
-RunsScript script left old new statuses.ReadFault = GrowsInPart old new (report_of script)
-RunsScript script left old new statuses.WriteFault = GrowsInPart old new (report_of script)
-RunsScript script left old new statuses.Memory = GrowsInPart old new (report_of script)
+RunsScript script left old new (statuses.ScriptRefused line why) = WritesReport script old new (statuses.ScriptRefused line why)
+RunsScript script left old new statuses.ReadFault = WritesFront script old new
+RunsScript script left old new statuses.WriteFault = WritesFront script old new
+RunsScript script left old new statuses.Memory = WritesFront script old new
 
 -- the same, where the source tells its bytes
 abbrev pub Runs : Option (List ℕ) → Option (List ℕ) → Option (List ℕ) → Option (List ℕ) → Status → Type 0
@@ -77,6 +97,7 @@ IsRunStatus (statuses.ScriptRefused line inputs.TooLarge) = ⊥
 IsRunStatus statuses.ReadFault = Unit {0}
 IsRunStatus statuses.WriteFault = Unit {0}
 IsRunStatus statuses.Memory = Unit {0}
+IsRunStatus statuses.Unvouched = Unit {0}
 
 -- and what `read` may answer: a stream is refused for its size alone
 abbrev pub IsReadStatus : Status → Type 0
@@ -87,6 +108,7 @@ IsReadStatus (statuses.ScriptRefused line inputs.TooLarge) = line ≡ 0
 IsReadStatus statuses.ReadFault = Unit {0}
 IsReadStatus statuses.WriteFault = Unit {0}
 IsReadStatus statuses.Memory = Unit {0}
+IsReadStatus statuses.Unvouched = ⊥
 
 -- WHAT THE PROGRAM MAY ANSWER to its words: `Usage` exactly where they are neither `run` nor `read`
 abbrev pub FitsWords : Bool → Bool → Status → Type 0

@@ -1,24 +1,30 @@
-use Rattle.std.specs.Prelude.{◌≡◌, ◌≤◌, ◌++◌, ℕ, List, Option, None, Some}
+use Rattle.std.specs.Prelude.{◌≡◌, ◌≤◌, ◌++◌, ℕ, Bool, true, false, List, Option, None, Some}
 use Rattle.line_outside.specs.Faults.{Rose}
 use Rattle.line_outside.specs.Sink.{Grows, GrowsInPart}
 use Rattle.line_outside.specs.declared.pushing.Pushed.{Pushed}
 use Rattle.line_outside.specs.declared.pushing.Pushed.TheVariants as pushes
-use Rattle.line_cli.specs.Script.{script_of}
-use Rattle.line_cli.specs.Report.{report_of}
-use Rattle.line_cli.specs.Reader.{Place, report_from, refusal_from}
+use Rattle.line_script.specs.declared.line.ScriptLine.{ScriptLine}
+use Rattle.line_step.specs.State.{no_line}
+use Rattle.line_step.specs.Runs.{Point, IsRun, state_behind, told_text}
+use Rattle.line_cli.specs.Script.{script_of, behind_lines}
+use Rattle.line_cli.specs.Reader.{Place, script_behind}
 use Rattle.line_cli.specs.declared.script_run.RunError.{RunError}
 use Rattle.line_cli.specs.declared.script_run.RunError.TheVariants as errors
 use Rattle.line_cli.specs.declared.status.Status.{Status}
 use Rattle.line_cli.specs.declared.status.Status.TheVariants as statuses
 use Rattle.line_cli.specs.declared.status.InputWhy.TheVariants as inputs
 
--- WHILE THE RUN GOES ON: what was pushed, what waits to be written, and what is still to come make
--- up the report
+-- WHILE THE RUN GOES ON: some lines of the script were done, what was pushed and what waits to be written tells of them,
+-- and the others are still to come
 pub record IsGoing (script rest : List ℕ) (old now : Option (List ℕ)) (place : Place) (text : List ℕ) : Type 0 where
+  pub asked : List ScriptLine
+  pub points : List Point
+  pub run : IsRun no_line asked points
+  pub after : state_behind no_line points ≡ place.state
   pub shown : List ℕ
   pub grows : Grows old now shown
-  pub report : (shown ++ text) ++ report_from place rest ≡ report_of script
-  pub refusal : refusal_from place rest ≡ (script_of script).refusal
+  pub told : shown ++ text ≡ told_text 1 points
+  pub all : script_of script ≡ behind_lines asked (script_behind place rest)
 
 -- the same, where the source tells its bytes; it tells them now exactly where it told them first
 abbrev pub GoesOn : Option (List ℕ) → Option (List ℕ) → Option (List ℕ) → Option (List ℕ) → Place → List ℕ → Type 0
@@ -36,11 +42,12 @@ abbrev pub PushesFull : Pushed → Option (List ℕ) → Option (List ℕ) → �
 PushesFull pushes.Whole old new before now text_old text_new = (before ≤ now) × HasPushed old new text_old text_new
 PushesFull pushes.Failed old new before now text_old text_new = (before ≤ now) × Rose before now × GrowsInPart old new text_old
 
--- how a run ends behind its script
-abbrev pub EndsWhole : Option (List ℕ) → Option (List ℕ) → ℕ → ℕ → List ℕ → Status → Type 0
-EndsWhole old new before now text statuses.Done = (before ≤ now) × Grows old new text
-EndsWhole old new before now text statuses.WriteFault = (before ≤ now) × Rose before now × GrowsInPart old new text
-EndsWhole old new before now text _ = ⊥
+-- how a run ends behind its script, a line of which told what was not so, or none did
+abbrev pub EndsWhole : Bool → Option (List ℕ) → Option (List ℕ) → ℕ → ℕ → List ℕ → Status → Type 0
+EndsWhole unvouched old new before now text statuses.Done = (unvouched ≡ false) × (before ≤ now) × Grows old new text
+EndsWhole unvouched old new before now text statuses.Unvouched = (unvouched ≡ true) × (before ≤ now) × Grows old new text
+EndsWhole unvouched old new before now text statuses.WriteFault = (before ≤ now) × Rose before now × GrowsInPart old new text
+EndsWhole unvouched old new before now text _ = ⊥
 
 -- how a run ends inside its script
 abbrev pub EndsRefused : RunError → Option (List ℕ) → Option (List ℕ) → ℕ → ℕ → List ℕ → Status → Type 0

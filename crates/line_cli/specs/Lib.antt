@@ -1,5 +1,3 @@
-pub mod Stand
-pub mod Step
 pub mod Texts
 pub mod Script
 pub mod Report
@@ -7,8 +5,6 @@ pub mod LineEnds
 pub mod Reader
 pub mod Command
 pub mod Ending
-pub mod Answers
-pub mod Ids
 pub mod ReadText
 pub mod Stream
 pub mod StreamReader

@@ -1,4 +1,4 @@
-use Rattle.std.specs.Prelude.{ℕ, ◌+◌, List, [], ◌∷◌, Option, None, Some, Result, Ok, Err, length, nat_lt, if◌then◌else◌}
+use Rattle.std.specs.Prelude.{ℕ, ◌+◌, ◌++◌, List, [], ◌∷◌, Option, None, Some, Result, Ok, Err, length, nat_lt, if◌then◌else◌}
 use Rattle.std.specs.Str.Lines.{lines}
 use Rattle.line_script.specs.Grammar.{read_of}
 use Rattle.line_script.specs.declared.line.LineWhy.{LineWhy}
@@ -25,6 +25,10 @@ either (Err why) f g = g why
 
 abbrev pub before_all : ScriptLine → Script → Script
 before_all line script = record { lines = line ∷ script.lines; refusal = script.refusal }
+
+-- the same, behind all of these lines
+abbrev pub behind_lines : List ScriptLine → Script → Script
+behind_lines done script = record { lines = done ++ script.lines; refusal = script.refusal }
 
 abbrev pub refused_at : ℕ → LineWhy → Script
 refused_at number why = record { lines = []; refusal = Some (record { line = number; why = why }) }

@@ -28,6 +28,7 @@ ReadsStream stream left old new (statuses.ScriptRefused line why) = (line ≡ 0)
 ReadsStream stream left old new statuses.ReadFault = WritesFront stream old new
 ReadsStream stream left old new statuses.WriteFault = WritesFront stream old new
 ReadsStream stream left old new statuses.Memory = WritesFront stream old new
+ReadsStream stream left old new statuses.Unvouched = ⊥
 
 -- the same, where the source tells its bytes
 abbrev pub Reads : Option (List ℕ) → Option (List ℕ) → Option (List ℕ) → Option (List ℕ) → Status → Type 0

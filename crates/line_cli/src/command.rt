@@ -1,5 +1,5 @@
 ghost use Rattle.std.specs.Prelude.{◌≡◌};
-ghost use Rattle.line_cli.specs.Ids.{IdsStay};
+ghost use Rattle.line_step.specs.FloorIds.{IdsStay};
 ghost use Rattle.line_cli.specs.Command.{DoesAs, FitsWords, HasCauses, is_word, is_run, is_read, usage_text};
 
 use crate::reading::read_stream;
@@ -14,10 +14,11 @@ const USAGE: &str = "usage: line run | line read | line make <number>\n";
 
 /// The program `line`: does what the words behind its name ask for.
 ///
-/// With `run` it reads a script from `script` and writes its report to `report`. With `read` it
-/// reads a stream of messages from `script` and writes a line for each to `report`; a stream of more
-/// than 1,073,741,824 bytes is `ScriptRefused` as `TooLarge`, with line 0, behind the lines of what
-/// stands in its first 1,073,741,824. Other words are answered by `Usage` and the usage text, and
+/// With `run` it reads a script from `script` and writes its report to `report`: `ScriptRefused` where
+/// a line of it is refused, `Unvouched` where all was done and a line told what was not so. With
+/// `read` it reads a stream of messages from `script` and writes a line for each to `report`; a stream
+/// of more than 1,073,741,824 bytes is `ScriptRefused` as `TooLarge`, with line 0, behind the lines of
+/// what stands in its first 1,073,741,824. Other words are answered by `Usage` and the usage text, and
 /// nothing is read.
 pub fn line_main<S: Source, K: Sink>(
     alloc: Global,
@@ -28,7 +29,7 @@ pub fn line_main<S: Source, K: Sink>(
     ensures does { DoesAs (is_run words.now) (is_read words.now) (S.left script.old) (S.left script.new) (K.contents report.old) (K.contents report.new) (K.faults report.old) (K.faults report.new) result }
     ensures fits { FitsWords (is_run words.now) (is_read words.now) result }
     ensures causes { HasCauses result (S.faults script.old) (S.faults script.new) (K.faults report.old) (K.faults report.new) }
-    // unique ids, and ids that stay, over the run of every script
+    // unique ids on the floor, and ids that stay, over the run of every script
     ensures ids { IdsStay }
 {
     if is_word(words.list(), b"run") {

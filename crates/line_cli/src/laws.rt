@@ -2,6 +2,7 @@
 
 ghost use Rattle.std.specs.Prelude.{◌≡◌, ℕ, List};
 ghost use Rattle.line_cli.specs.ReadText.{IsReadText};
+ghost use Rattle.line_cli.specs.Report.{IsReport};
 
 /// A stream of messages has one read text.
 pub fn read_once()
@@ -10,4 +11,11 @@ pub fn read_once()
     hermes_horizontal::spelled_once();
     hermes_horizontal::refused_once();
     hermes_horizontal::refused_or_spelled();
+}
+
+/// A script has one report.
+pub fn one_report()
+    ensures { (bytes one other : List ℕ) → IsReport bytes one → IsReport bytes other → one ≡ other }
+{
+    node_core::laws::one_meaning();
 }

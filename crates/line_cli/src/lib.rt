@@ -2,18 +2,14 @@
 #![tactic(auto)]
 
 mod command;
-mod happening;
 mod laws;
-mod line;
-mod machine;
 mod reading;
 mod running;
 mod script_reader;
 mod script_run;
 mod status;
-mod step;
 mod stream_reader;
 
 pub use command::line_main;
-pub use laws::read_once;
+pub use laws::{one_report, read_once};
 pub use status::{InputWhy, Status};

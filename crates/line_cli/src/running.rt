@@ -38,7 +38,7 @@ pub fn run_script<S: Source, K: Sink>(alloc: Global, script: &mut S, report: &mu
                 if let Err(error) = reader.finish(&mut text) {
                     return end_refused(error, text.as_slice(), report);
                 }
-                return end_whole(text.as_slice(), report);
+                return end_whole(reader.is_unvouched(), text.as_slice(), report);
             }
             Pull::Failed => {
                 let _pushed = push_all(report, text.as_slice());
@@ -68,12 +68,13 @@ pub(crate) fn push_full<K: Sink>(text: &mut Vec<u8>, report: &mut K) -> Pushed
     pushed
 }
 
-/// Ends a run whose whole script is done.
-fn end_whole<K: Sink>(text: &[u8], report: &mut K) -> Status
+/// Ends a run whose whole script is done. `unvouched` says that a line told what was not so.
+fn end_whole<K: Sink>(unvouched: bool, text: &[u8], report: &mut K) -> Status
     ensures fits { IsRunStatus result }
-    ensures ends { EndsWhole (K.contents report.old) (K.contents report.new) (K.faults report.old) (K.faults report.new) text.now result }
+    ensures ends { EndsWhole unvouched (K.contents report.old) (K.contents report.new) (K.faults report.old) (K.faults report.new) text.now result }
 {
     match push_all(report, text) {
+        Pushed::Whole if unvouched => Status::Unvouched,
         Pushed::Whole => Status::Done,
         Pushed::Failed => Status::WriteFault,
     }

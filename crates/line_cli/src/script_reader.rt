@@ -1,7 +1,7 @@
-ghost use Rattle.std.specs.Prelude.{◌≡◌, ◌≤◌, [], ◌∷◌, ◌++◌, IfErr, IfNone, IfSome, OnOk, length, vec_len};
+ghost use Rattle.std.specs.Prelude.{◌≡◌, ◌≤◌, [], ◌∷◌, ◌++◌, IfErr, IfNone, IfSome, OnOk, false, is_some, length, vec_len};
 ghost use Rattle.std.specs.Str.Lines.{strip_carriage_return};
+ghost use Rattle.line_step.specs.State.{no_line};
 ghost use Rattle.line_cli.specs.Reader.{Place, Takes, Finishes, IsNumbered, progress_of};
-ghost use Rattle.line_cli.specs.Stand.{no_line};
 ghost use Rattle.line_cli.specs.LineEnds.{HasNoEnd, IsFirstEnd, CutsLine};
 
 use crate::script_run::{RunError, ScriptRun};
@@ -11,7 +11,8 @@ use std::marker::Model;
 /// The most bytes that may wait for their line's end: those of a line, and a carriage return.
 const MOST_PENDING: usize = 4097;
 
-/// Reads a script piece by piece, and does each line when its end is met.
+/// Reads a script piece by piece, and does each line when its end is met. After `Memory` nothing
+/// more can be done.
 #[derive(Drop)]
 pub struct ScriptReader {
     run: ScriptRun,
@@ -21,15 +22,15 @@ pub struct ScriptReader {
 impl Model for ScriptReader {
     ghost Value = { Place };
 
-    ghost view = { λ reader. record { point = reader.run; pending = reader.pending.items } };
+    ghost view = { λ reader. record { state = reader.run; pending = reader.pending.items } };
 
-    ghost invariant = { λ reader. HasNoEnd reader.pending.items × (vec_len reader.pending ≤ 4097) × (reader.run.done ≤ 1000000) };
+    ghost invariant = { λ reader. HasNoEnd reader.pending.items × (vec_len reader.pending ≤ 4097) × (reader.run.spent ≡ false → reader.run.lines ≤ 1000000) };
 }
 
 impl ScriptReader {
     /// A reader before its script.
     pub fn new(alloc: Global) -> ScriptReader
-        ensures { result ≡ record { point = record { done = 0; layout = no_line }; pending = [] } }
+        ensures { result ≡ record { state = no_line; pending = [] } }
     {
         ScriptReader {
             run: ScriptRun::new(alloc),
@@ -39,7 +40,9 @@ impl ScriptReader {
 
     /// Takes the next piece of the script, and appends the report of the lines that end in it.
     pub fn take_piece(&mut self, piece: &[u8], to: &mut Vec<u8>) -> Result<(), RunError>
+        requires unspent { self.old.state.spent ≡ false }
         ensures takes { Takes result self.old self.new piece.now to.old.items to.new.items }
+        ensures unspent { OnOk result (self.new.state.spent ≡ false) }
         ensures numbered { IfErr result IsNumbered }
         ensures bounded { OnOk result (progress_of self.new ≤ 4099004097) }
     {
@@ -56,7 +59,9 @@ impl ScriptReader {
     /// Takes the script's end: does its last line, if that lacks its end, and appends the
     /// report's last line.
     pub fn finish(&mut self, to: &mut Vec<u8>) -> Result<(), RunError>
-        ensures finishes { Finishes result self.old to.old.items to.new.items }
+        requires unspent { self.old.state.spent ≡ false }
+        ensures finishes { Finishes result self.old self.new to.old.items to.new.items }
+        ensures unspent { OnOk result (self.new.state.spent ≡ false) }
         ensures numbered { IfErr result IsNumbered }
     {
         if self.pending.is_empty() {
@@ -68,10 +73,20 @@ impl ScriptReader {
         self.run.write_summary(to)
     }
 
+    /// Whether a line told what was not so.
+    pub fn is_unvouched(&self) -> bool
+        requires { self.now.state.spent ≡ false }
+        ensures { result ≡ is_some self.now.state.unvouched }
+    {
+        self.run.is_unvouched()
+    }
+
     /// Takes the rest of a line and its end.
     fn end_line(&mut self, part: &[u8], to: &mut Vec<u8>) -> Result<(), RunError>
-        requires { HasNoEnd part.now }
+        requires rest { HasNoEnd part.now }
+        requires unspent { self.old.state.spent ≡ false }
         ensures takes { Takes result self.old self.new (part.now ++ 10 ∷ []) to.old.items to.new.items }
+        ensures unspent { OnOk result (self.new.state.spent ≡ false) }
         ensures numbered { IfErr result IsNumbered }
     {
         if self.pending.is_empty() {
@@ -92,18 +107,20 @@ impl ScriptReader {
 
     /// Keeps the front of a line that has not ended.
     fn keep(&mut self, part: &[u8], to: &mut Vec<u8>) -> Result<(), RunError>
-        requires { HasNoEnd part.now }
+        requires rest { HasNoEnd part.now }
+        requires unspent { self.old.state.spent ≡ false }
         ensures takes { Takes result self.old self.new part.now to.old.items to.new.items }
+        ensures unspent { OnOk result (self.new.state.spent ≡ false) }
         ensures numbered { IfErr result IsNumbered }
         ensures bounded { OnOk result (progress_of self.new ≤ 4099004097) }
     {
         if part.len() > MOST_PENDING - self.pending.len() {
             return self.run.refuse_long(to);
         }
-        match self.pending.extend_from_slice(part) {
-            Ok(()) => Ok(()),
-            Err(_) => Err(RunError::Memory),
+        if let Err(_) = self.pending.extend_from_slice(part) {
+            return Err(RunError::Memory);
         }
+        Ok(())
     }
 }
 

@@ -1,12 +1,9 @@
-ghost use Rattle.std.specs.Prelude.{◌≡◌, ◌<◌, ◌≤◌, ◌+◌, ◌++◌, IfErr, OnOk};
-ghost use Rattle.line_cli.specs.Stand.{no_line};
-ghost use Rattle.line_cli.specs.Texts.{entries};
-ghost use Rattle.line_cli.specs.Reader.{Point, DoesLine, IsNumbered, RefusesAs, Sums};
+ghost use Rattle.std.specs.Prelude.{◌≡◌, ◌<◌, ◌≤◌, ◌+◌, ◌++◌, IfErr, OnOk, false, is_some};
+ghost use Rattle.line_step.specs.State.{no_line};
+ghost use Rattle.line_cli.specs.Reader.{DoesLine, IsNumbered, RefusesAs, Sums, entries};
 
-use crate::happening::Happening;
-use crate::line::Line;
-use crate::step::do_line;
 use line_base::Memory;
+use line_engine::{Happening, Line, write_happening, write_summary};
 use line_script::{LineError, LineWhy, MOST_LINE_BYTES, read_line};
 use std::alloc::Global;
 use std::io::Write;
@@ -23,41 +20,45 @@ pub enum RunError {
     Memory,
 }
 
-/// A run between two lines of its script: how many are done, and the line of machines.
+/// A run between two lines of its script: how many are done, and the line of machines. It is seen
+/// as the line. After `Memory` the line is spent, and nothing more can be done.
 #[derive(Drop)]
 pub struct ScriptRun {
     alloc: Global,
     done: u64,
     line: Line,
-    told: Vec<Happening>,
 }
 
 impl Model for ScriptRun {
-    ghost Value = { Point };
+    ghost use Rattle.std.specs.Prelude.{◌≡◌, ◌≤◌, false};
+    ghost use Rattle.line_step.specs.State.{LineState};
 
-    ghost view = { λ run. record { done = run.done; layout = run.line } };
+    ghost Value = { LineState };
 
-    ghost invariant = { λ run. run.done ≤ 1000000 };
+    ghost view = { λ run. run.line };
+
+    ghost invariant = { λ run. run.line.spent ≡ false → (run.done ≡ run.line.lines) × (run.done ≤ 1000000) };
 }
 
 impl ScriptRun {
     /// A run before its first line, with no machines.
     pub fn new(alloc: Global) -> ScriptRun
-        ensures { result ≡ record { done = 0; layout = no_line } }
+        ensures { result ≡ no_line }
     {
         ScriptRun {
             alloc,
             done: 0,
             line: Line::new(alloc),
-            told: Vec::new(alloc),
         }
     }
 
     /// Does the next line of the script, given without its end, and appends its part of the
     /// report: what it did, or that it is refused.
     pub fn do_line(&mut self, line: &[u8], to: &mut Vec<u8>) -> Result<(), RunError>
+        requires unspent { self.old.spent ≡ false }
         ensures does { DoesLine result self.old self.new line.now to.old.items to.new.items }
-        ensures few { self.new.done ≤ 1000000 }
+        ensures unspent { OnOk result (self.new.spent ≡ false) }
+        ensures few { self.new.spent ≡ false → self.new.lines ≤ 1000000 }
         ensures numbered { IfErr result IsNumbered }
     {
         let number = self.done + 1;
@@ -72,12 +73,12 @@ impl ScriptRun {
             Err(LineError::Refused(why)) => return refuse(number, why, to),
             Err(LineError::Memory) => return Err(RunError::Memory),
         };
-        self.told.clear();
-        if let Err(_) = do_line(&mut self.line, asked, &mut self.told) {
-            return Err(RunError::Memory);
-        }
+        let told = match self.line.step(number, &asked) {
+            Ok(told) => told,
+            Err(_) => return Err(RunError::Memory),
+        };
         self.done = number;
-        match write_told(number, self.told.as_slice(), to) {
+        match write_told(number, told.list(), to) {
             Ok(()) => Ok(()),
             Err(_) => Err(RunError::Memory),
         }
@@ -85,20 +86,28 @@ impl ScriptRun {
 
     /// Refuses the next line as too long.
     pub fn refuse_long(&self, to: &mut Vec<u8>) -> Result<(), RunError>
-        ensures refuses { RefusesAs result (self.now.done + 1) LineWhy.LongLine to.old.items to.new.items }
+        requires unspent { self.now.spent ≡ false }
+        ensures refuses { RefusesAs result (self.now.lines + 1) LineWhy.LongLine to.old.items to.new.items }
         ensures numbered { IfErr result IsNumbered }
     {
         refuse(self.done + 1, LineWhy::LongLine, to)
     }
 
+    /// Whether a line told what was not so.
+    pub fn is_unvouched(&self) -> bool
+        requires { self.now.spent ≡ false }
+        ensures { result ≡ is_some self.now.unvouched }
+    {
+        self.line.summary().unvouched.is_some()
+    }
+
     /// Appends the report's last line, where the whole script is done.
     pub fn write_summary(&self, to: &mut Vec<u8>) -> Result<(), RunError>
+        requires unspent { self.now.spent ≡ false }
         ensures sums { Sums result self.now to.old.items to.new.items }
         ensures numbered { IfErr result IsNumbered }
     {
-        let lines = self.done;
-        let boards = self.line.boards();
-        match write!(to, "end lines={lines} boards={boards} opened=0 settled=0\n") {
+        match write_summary(&self.line.summary(), to) {
             Ok(()) => Ok(()),
             Err(_) => Err(RunError::Memory),
         }
@@ -120,9 +129,7 @@ fn write_told(number: u64, told: &[Happening], to: &mut Vec<u8>) -> Result<(), M
     ensures { OnOk result (to.new.items ≡ to.old.items ++ entries number told.now) }
 {
     for happening in told {
-        if let Err(_) = write!(to, "{number} {happening}\n") {
-            return Err(Memory);
-        }
+        write_happening(number, happening, to)?;
     }
     Ok(())
 }

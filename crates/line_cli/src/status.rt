@@ -27,6 +27,8 @@ pub enum Status {
     WriteFault,
     /// Memory was wanting.
     Memory,
+    /// All was read and all was written, but a line of the script told what was not so.
+    Unvouched,
 }
 
 impl Status {
@@ -41,6 +43,7 @@ impl Status {
             Status::ReadFault => 4,
             Status::WriteFault => 5,
             Status::Memory => 6,
+            Status::Unvouched => 7,
         }
     }
 }

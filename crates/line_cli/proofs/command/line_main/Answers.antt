@@ -1,7 +1,7 @@
 use Rattle.std.proofs.Common.{Bool, false, refl, sym, ap, subst, ◌∙◌}
 use Rattle.line_cli.specs.Command.{DoesAs, is_run, is_read}
 use Rattle.line_cli.specs.declared.status.Status.TheVariants as statuses
-use Rattle.line_cli.proofs.IdLaws.{ids_stay}
+use Rattle.line_step.proofs.FloorLaws.{ids_stay}
 use Rattle.line_cli.proofs.command.line_main.Goals as goal
 
 pub returns-then-is_word-clause-ids : goal.returns-then-is_word-clause-ids

@@ -1,11 +1,11 @@
-use Rattle.std.proofs.Common.{◌≡◌, ◌≤◌, length, take, drop, arith}
+use Rattle.std.proofs.Common.{◌≡◌, ◌≤◌, length, take, drop, refl, arith}
 use Rattle.std.proofs.lemmas.List.{length-take-le}
-use Rattle.line_cli.proofs.Going.{front-room, goes-first, goes-piece, goes-pushed, runs-part, runs-read_fault, runs-refused, runs-end_refused, runs-whole, causes-refused, causes-whole, causes-write_fault, causes-read_fault}
+use Rattle.line_cli.proofs.Going.{front-room, goes-first, goes-piece, goes-pushed, runs-memory, runs-part, runs-read_fault, runs-refused, runs-end_refused, runs-whole, causes-refused, causes-whole, causes-write_fault, causes-read_fault}
 use Rattle.line_cli.proofs.running.run_script.Goals as goal
 
 pub loop-count-init : goal.loop-count-init
 loop-count-init g c =
-    record { going = rw (c.new-reader.ensures, c.new-text.ensures.items) (goes-first (g.S.Source.left c.args.script.now) (g.K.Sink.contents c.args.report.now)); reads = omega arith; writes = omega arith; room = c.in-Ok.ensures.len; bounded = rw c.new-reader.ensures (omega arith) }
+    record { going = rw (c.new-reader.ensures, c.new-text.ensures.items) (goes-first (g.S.Source.left c.args.script.now) (g.K.Sink.contents c.args.report.now)); reads = omega arith; writes = omega arith; room = c.in-Ok.ensures.len; unspent = rw c.new-reader.ensures refl; bounded = rw c.new-reader.ensures (omega arith) }
 
 pub returns-in-Err-take_piece-clause-runs : goal.returns-in-Err-take_piece-clause-runs
 returns-in-Err-take_piece-clause-runs g c =
@@ -58,13 +58,14 @@ loop-count-preserved g c =
       reads = omega (arith, c.loop-count.invariant.reads, c.in-Bytes.ensures.cause);
       writes = omega (arith, c.loop-count.invariant.writes, c.in_default-push_full.ensures.0);
       room = c.loop-count.invariant.room;
+      unspent = c.in_default.ensures.unspent;
       bounded = c.in_default.ensures.bounded;
     }
 
 pub returns-in-Err-finish-clause-runs : goal.returns-in-Err-finish-clause-runs
 returns-in-Err-finish-clause-runs g c =
     let ends = rw c.as_slice-in-Err-finish.ensures.value at c.end_refused-in-Err-finish.ensures.ends in
-    runs-end_refused c.in-Err-finish.error (g.S.Source.left c.args.script.now) (g.S.Source.left c.loop-count.script) (g.S.Source.left c.pull.new.self) (g.K.Sink.contents c.args.report.now) (g.K.Sink.contents c.loop-count.report) (g.K.Sink.contents c.end_refused-in-Err-finish.new.report) (g.K.Sink.faults c.loop-count.report) (g.K.Sink.faults c.end_refused-in-Err-finish.new.report) c.loop-count.reader c.loop-count.text.items c.finish.new.to.items c.end_refused-in-Err-finish.result c.loop-count.invariant.going c.in-End.ensures.gives.1 c.in-Err-finish.ensures.finishes ends
+    runs-end_refused c.in-Err-finish.error (g.S.Source.left c.args.script.now) (g.S.Source.left c.loop-count.script) (g.S.Source.left c.pull.new.self) (g.K.Sink.contents c.args.report.now) (g.K.Sink.contents c.loop-count.report) (g.K.Sink.contents c.end_refused-in-Err-finish.new.report) (g.K.Sink.faults c.loop-count.report) (g.K.Sink.faults c.end_refused-in-Err-finish.new.report) c.loop-count.reader c.finish.new.self c.loop-count.text.items c.finish.new.to.items c.end_refused-in-Err-finish.result c.loop-count.invariant.going c.in-End.ensures.gives.1 c.in-Err-finish.ensures.finishes ends
 
 pub returns-in-Err-finish-clause-causes : goal.returns-in-Err-finish-clause-causes
 returns-in-Err-finish-clause-causes g c =
@@ -73,11 +74,11 @@ returns-in-Err-finish-clause-causes g c =
 pub returns-in-End-clause-runs : goal.returns-in-End-clause-runs
 returns-in-End-clause-runs g c =
     let ends = rw c.as_slice-in-End.ensures.value at c.end_whole.ensures.ends in
-    runs-whole (g.S.Source.left c.args.script.now) (g.S.Source.left c.loop-count.script) (g.S.Source.left c.pull.new.self) (g.K.Sink.contents c.args.report.now) (g.K.Sink.contents c.loop-count.report) (g.K.Sink.contents c.end_whole.new.report) (g.K.Sink.faults c.loop-count.report) (g.K.Sink.faults c.end_whole.new.report) c.loop-count.reader c.loop-count.text.items c.finish.new.to.items c.end_whole.result c.loop-count.invariant.going c.in-End.ensures.gives.0 c.in-End.ensures.gives.1 c.in_default-finish.ensures.finishes ends
+    runs-whole c.is_unvouched.result (g.S.Source.left c.args.script.now) (g.S.Source.left c.loop-count.script) (g.S.Source.left c.pull.new.self) (g.K.Sink.contents c.args.report.now) (g.K.Sink.contents c.loop-count.report) (g.K.Sink.contents c.end_whole.new.report) (g.K.Sink.faults c.loop-count.report) (g.K.Sink.faults c.end_whole.new.report) c.loop-count.reader c.finish.new.self c.loop-count.text.items c.finish.new.to.items c.end_whole.result c.loop-count.invariant.going c.in-End.ensures.gives.0 c.in-End.ensures.gives.1 c.in_default-finish.ensures.finishes c.is_unvouched.ensures ends
 
 pub returns-in-End-clause-causes : goal.returns-in-End-clause-causes
 returns-in-End-clause-causes g c =
-    causes-whole (g.K.Sink.contents c.loop-count.report) (g.K.Sink.contents c.end_whole.new.report) _ c.end_whole.result (g.S.Source.faults c.args.script.now) (g.S.Source.faults c.pull.new.self) (g.K.Sink.faults c.args.report.now) (g.K.Sink.faults c.loop-count.report) (g.K.Sink.faults c.end_whole.new.report) (omega (arith, c.loop-count.invariant.reads, c.in-End.ensures.cause)) c.loop-count.invariant.writes c.end_whole.ensures.ends
+    causes-whole c.is_unvouched.result (g.K.Sink.contents c.loop-count.report) (g.K.Sink.contents c.end_whole.new.report) _ c.end_whole.result (g.S.Source.faults c.args.script.now) (g.S.Source.faults c.pull.new.self) (g.K.Sink.faults c.args.report.now) (g.K.Sink.faults c.loop-count.report) (g.K.Sink.faults c.end_whole.new.report) (omega (arith, c.loop-count.invariant.reads, c.in-End.ensures.cause)) c.loop-count.invariant.writes c.end_whole.ensures.ends
 
 pub returns-in-Failed-clause-runs : goal.returns-in-Failed-clause-runs
 returns-in-Failed-clause-runs g c =
@@ -87,3 +88,6 @@ returns-in-Failed-clause-runs g c =
 pub returns-in-Failed-clause-causes : goal.returns-in-Failed-clause-causes
 returns-in-Failed-clause-causes g c =
     causes-read_fault c.push_all-pushed.result _ _ _ _ _ _ _ _ _ c.loop-count.invariant.reads c.in-Failed.ensures.cause.0 c.in-Failed.ensures.cause.1 c.loop-count.invariant.writes c.push_all-pushed.ensures
+
+pub returns-in-Err-clause-runs : goal.returns-in-Err-clause-runs
+returns-in-Err-clause-runs g c = runs-memory (g.S.Source.left c.args.script.now) (g.S.Source.left c.args.script.now) (g.K.Sink.contents c.args.report.now)

@@ -1,4 +1,4 @@
-use Rattle.std.proofs.Common.{◌≡◌, ◌≤◌, ◌-◌, vec_len}
+use Rattle.std.proofs.Common.{◌≡◌, ◌≤◌, ◌-◌, false, vec_len}
 use Rattle.line_cli.specs.Reader.{progress_of}
 use Rattle.line_cli.specs.Ending.{GoesOn}
 use Rattle.line_cli.proofs.running.run_script.Given as goal
@@ -9,6 +9,7 @@ invariant-loop-count g l = record {
   reads : g.S.Source.faults l.fn.script ≤ g.S.Source.faults l.script;
   writes : g.K.Sink.faults l.fn.report ≤ g.K.Sink.faults l.report;
   room : vec_len l.room ≡ 65536;
+  unspent : l.reader.state.spent ≡ false;
   bounded : progress_of l.reader ≤ 4099004097;
 }
 

@@ -1,5 +1,5 @@
 use Rattle.std.proofs.Common.{◌≡◌, ◌++◌, drop}
-use Rattle.line_cli.specs.Texts.{entries}
+use Rattle.line_cli.specs.Reader.{entries}
 use Rattle.line_cli.proofs.script_run.write_told.Given as goal
 
 -- what is written and what is left to write are the whole
