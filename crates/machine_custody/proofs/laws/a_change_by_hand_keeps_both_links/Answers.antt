@@ -1,0 +1,14 @@
+use Rattle.machine_custody.proofs.Step.{insert_goes, mark_goes, remove_goes, replace_goes}
+use Rattle.machine_custody.proofs.laws.a_change_by_hand_keeps_both_links.Goals as goal
+
+pub returns-clause-insert : goal.returns-clause-insert
+returns-clause-insert c = λ afar above ga gb gone desk unread id barcode body scene good idle grows here. insert_goes gone desk unread id barcode body scene good idle grows here
+
+pub returns-clause-remove : goal.returns-clause-remove
+returns-clause-remove c = λ afar above ga gb gone desk unread id body scene good unique there grows is_gone here. remove_goes gone desk unread id body scene good unique there grows is_gone here
+
+pub returns-clause-replace : goal.returns-clause-replace
+returns-clause-replace c = λ afar above ga gb gone desk unread old new body scene good unique there grows is_gone here. replace_goes gone desk unread old new body scene good unique there grows is_gone here
+
+pub returns-clause-mark : goal.returns-clause-mark
+returns-clause-mark c = λ afar above ga gb desk unread id quality body scene good plain. mark_goes desk unread id quality body scene good plain

@@ -1,0 +1,61 @@
+-- THE RELATION OF A MACHINE AND ITS TWO LINKS, and what a micro event does to it.
+use Rattle.std.specs.Prelude.{Bool, List, Some, false, true, ℕ, ◌∷◌, ◌≡◌}
+use Rattle.line_base.specs.declared.states.Role.TheVariants.{Downstream, Upstream}
+use Rattle.board_record.specs.declared.record.Record.{Record}
+use Rattle.board_record.specs.declared.sensed.Sensed.{Sensed}
+use Rattle.line_world.specs.declared.board.Board.{Board}
+use Rattle.handover_out.specs.State.{board_of_phase as held_out}
+use Rattle.handover_out.specs.declared.phase.Phase.{Phase as Out}
+use Rattle.handover_in.specs.declared.phase.Phase.{Phase as In}
+use Rattle.node_core.specs.Done.{Done}
+use Rattle.node_core.specs.declared.lane.Body.{Body as Machine}
+use Rattle.custody.specs.Events.{IsContent, gone_by}
+use Rattle.custody.specs.Pair.{Body, Ghost, Pair}
+use Rattle.custody.specs.Place.{Place, is_upstream}
+use Rattle.machine_custody.specs.Scene.{Scene, all_met, link_above, link_below}
+
+-- a board with this id is among these
+pub data Lies : ℕ → List Board → Type 0 where
+  lies_first : {x : ℕ} {bs : List Board} → Lies x (record { id = Some x } ∷ bs)
+  lies_later : {x : ℕ} {b : Board} {bs : List Board} → Lies x bs → Lies x (b ∷ bs)
+
+-- what a machine's step leaves as it is: the ids that were used and are on the floor no more; and the ids that lie beyond
+-- the outlet above, and beyond the machine's own, or nowhere
+pub record Afar : Type 0 where
+  pub gone : ℕ → Bool
+  pub above : ℕ → Bool
+  pub below : ℕ → Bool
+
+-- a machine that has not read these sensor events stands in the relation of both its links: the ghosts name place and
+-- board of each. `above` are the records that the machine above keeps. No board that lies here is gone, and what an outlet
+-- holds lies beyond it once it isn't upstream
+pub record Good (afar : Afar) (above : List Record) (unread : List Sensed) (ga gb : Ghost) (body : Machine) (c : Scene) : Type 0 where
+  pub above_pair : Pair ga (link_above unread body c)
+  pub below_pair : Pair gb (link_below unread body c)
+  pub boards : Body body.outlet.phase gb.place body.kept body.intake.phase ga.place c.boards
+  pub above_contents : IsContent (gone_by afar.gone) (link_above unread body c) above
+  pub below_contents : IsContent (gone_by afar.gone) (link_below unread body c) body.kept
+  pub entry_role : body.entry.session.role ≡ Downstream
+  pub exit_role : body.exit.session.role ≡ Upstream
+  pub away_above : (r : Record) → held_out c.above.outlet.phase ≡ Some r → is_upstream ga.place ≡ false → afar.above r.id ≡ true
+  pub away_below : (r : Record) → held_out body.outlet.phase ≡ Some r → is_upstream gb.place ≡ false → afar.below r.id ≡ true
+  pub here : (x : ℕ) → Lies x c.boards → afar.gone x ≡ true → ⊥
+
+-- the boards of the machine above are listed from one ghost to another, and those of the machine below
+abbrev pub ListsAbove : Out → Ghost → Out → Ghost → Type 0
+ListsAbove o g o2 g2 = (kept : List Record) (i : In) (q : Place) (boards : List Board) → Body o g.place kept i q boards → Body o2 g2.place kept i q boards
+
+abbrev pub ListsBelow : In → Ghost → In → Ghost → Type 0
+ListsBelow i g i2 g2 = (o : Out) (p : Place) (kept : List Record) (boards : List Board) → Body o p kept i g.place boards → Body o p kept i2 g2.place boards
+
+-- what holds behind a micro event that left these sensor events unread
+pub record Goes (afar : Afar) (above : List Record) (unread : List Sensed) (ga gb : Ghost) (c : Scene) (after : Machine) (d : Scene) : Type 0 where
+  pub a : Ghost
+  pub b : Ghost
+  pub good : Good afar above unread a b after d
+  pub lists_above : ListsAbove c.above.outlet.phase ga d.above.outlet.phase a
+  pub lists_below : ListsBelow c.below.intake.phase gb d.below.intake.phase b
+
+-- a micro event that keeps it
+abbrev pub GoesBy : Afar → List Record → List Sensed → Ghost → Ghost → Scene → Done → Type 0
+GoesBy afar above unread ga gb c d = Goes afar above unread ga gb c d.body (all_met d.acts c)

@@ -1,0 +1,6 @@
+pub mod Scene
+pub mod Good
+pub mod Unique
+pub mod Flight
+pub mod ByHand
+pub mod Joined
