@@ -1,0 +1,12 @@
+pub mod Words
+pub mod LogLine
+pub mod Log
+pub mod Texts
+pub mod Marks
+pub mod Listed
+pub mod Table
+pub mod Book
+pub mod Turns
+pub mod Group
+pub mod Checking
+pub mod Within

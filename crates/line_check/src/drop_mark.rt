@@ -1,0 +1,27 @@
+ghost use Rattle.std.specs.Prelude.{◌≡◌, not};
+ghost use Rattle.standings.specs.Marks.{is_same_mark};
+ghost use Rattle.line_check.specs.Marks.{without_mark};
+
+use standings::Mark;
+
+/// Takes a mark out of some.
+pub fn drop_mark(marks: &mut Vec<Mark>, mark: Mark)
+    ensures { marks.new.items ≡ without_mark mark marks.old.items }
+{
+    marks.retain(
+        |other: &Mark| -> bool
+            ensures { result ≡ not (is_same_mark other.now mark) }
+        { !is_same_mark(*other, mark) },
+    );
+}
+
+fn is_same_mark(one: Mark, other: Mark) -> bool
+    ensures { result ≡ is_same_mark one other }
+{
+    match (one, other) {
+        (Mark::Kept(one), Mark::Kept(other)) => one == other,
+        (Mark::Outlet(one), Mark::Outlet(other)) => one == other,
+        (Mark::Intake(one), Mark::Intake(other)) => one == other,
+        (Mark::Kept(_), _) | (Mark::Outlet(_), _) | (Mark::Intake(_), _) => false,
+    }
+}
