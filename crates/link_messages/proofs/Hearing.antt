@@ -16,20 +16,20 @@ use Rattle.link_messages.proofs.Fronts.{IsFront, front_of}
 abbrev pub OneMeaning : Type 0
 OneMeaning = (frame : List ℕ) (a b : Word) → Means frame a → Means frame b → a ≡ b
 
-text_is : {f t : List ℕ} {fs ts : List (List ℕ)} → f ∷ fs ≡ t ∷ ts → f ≡ t
+pub text_is : {f t : List ℕ} {fs ts : List (List ℕ)} → f ∷ fs ≡ t ∷ ts → f ≡ t
 text_is e = cc
 
-texts_are : {f t : List ℕ} {fs ts : List (List ℕ)} → f ∷ fs ≡ t ∷ ts → fs ≡ ts
+pub texts_are : {f t : List ℕ} {fs ts : List (List ℕ)} → f ∷ fs ≡ t ∷ ts → fs ≡ ts
 texts_are e = cc
 
-no_texts : {f : List ℕ} {fs : List (List ℕ)} → f ∷ fs ≡ [] → ⊥
+pub no_texts : {f : List ℕ} {fs : List (List ℕ)} → f ∷ fs ≡ [] → ⊥
 no_texts e = cc
 
-no_rest : {left : List ℕ} → None ≡ Some left → ⊥
+pub no_rest : {left : List ℕ} → None ≡ Some left → ⊥
 no_rest e = cc
 
 -- a frame that is the text of a message means that message
-means_it : OneMeaning → (frame : List ℕ) (word : Word) (message : Message) → frame ≡ canonical message → IsSayable message → Means frame word → Says message ≡ word
+pub means_it : OneMeaning → (frame : List ℕ) (word : Word) (message : Message) → frame ≡ canonical message → IsSayable message → Means frame word → Says message ≡ word
 means_it one frame word message is sayable means = one (canonical message) (Says message) word sayable.spells (subst (λ (f : List ℕ). Means f word) is means)
 
 pub first_are_oldest : OneMeaning → (frames : List (List ℕ)) (rest : Option (List ℕ)) (words : List Word) (messages : List Message) (later : List (List ℕ)) (left : List ℕ)

@@ -1,3 +1,12 @@
 pub mod Fronts
 pub mod Hearing
 pub mod Spoiling
+pub mod SayingRows
+pub mod SayingWhat
+pub mod SayingHalves
+pub mod SayingSessions
+pub mod SayingWords
+pub mod Saying
+pub mod Sayable
+pub mod Fitting
+pub mod Eventing

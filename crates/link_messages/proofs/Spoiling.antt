@@ -29,7 +29,7 @@ nul_spells_none zero once frame message nul spells =
 first_is : {f t : List ℕ} {fs ts : List (List ℕ)} → f ∷ fs ≡ t ∷ ts → f ≡ t
 first_is e = cc
 
-none_is : {f : List ℕ} {fs : List (List ℕ)} → [] ≡ f ∷ fs → ⊥
+pub none_is : {f : List ℕ} {fs : List (List ℕ)} → [] ≡ f ∷ fs → ⊥
 none_is e = cc
 
 some_is : {left : List ℕ} → None ≡ Some left → ⊥
@@ -39,7 +39,7 @@ left_is : {a b : List ℕ} → Some a ≡ Some b → a ≡ b
 left_is e = cc
 
 -- the first frame of these bytes has the NUL in it
-first_has_nul : (x coming frame : List ℕ) (frames : List (List ℕ)) (answer : Answer) → answer_of x ≡ answer → (frames_of x).messages ≡ frame ∷ frames → Spoiled x coming → HasNul frame
+pub first_has_nul : (x coming frame : List ℕ) (frames : List (List ℕ)) (answer : Answer) → answer_of x ≡ answer → (frames_of x).messages ≡ frame ∷ frames → Spoiled x coming → HasNul frame
 first_has_nul x coming frame frames (Frame f) is are s =
     let same : f ≡ frame = first_is (sym (ap (λ (z : Frames). z.messages) (frames_of-frame x f is)) ∙ are) in
     subst (λ (g : List ℕ). HasNul g) same (nul_is_cut x coming f (gives_frame x f is) s)

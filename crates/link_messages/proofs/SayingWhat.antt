@@ -1,0 +1,141 @@
+-- What is sent is fit: each message that a machine says, and what rows have it tell.
+use Rattle.std.proofs.Common.{Bool, List, None, Option, Some, [], arith, codes, decimal, refl, ℕ, ◌++◌, ◌<◌, ◌^◌, ◌∷◌, ◌≡◌, ◌≤◌}
+use Rattle.std.specs.Prelude.{slice_get}
+use Rattle.std.specs.List.{AllByRecursion}
+use Rattle.line_base.specs.Name.{IsName}
+use Rattle.line_base.specs.Text.{IsText}
+use Rattle.line_base.specs.declared.states.Severity.{Severity}
+use Rattle.line_base.specs.declared.states.Side.{Side}
+use Rattle.line_base.specs.declared.states.Side.TheVariants.{Entry, Exit}
+use Rattle.line_base.proofs.Printable.{number_is_text, plain_is_text}
+use Rattle.board_record.specs.declared.record.Record.{Record}
+use Rattle.hermes_horizontal.specs.Canonical.{HasShortNumbers, IsProperIf}
+use Rattle.hermes_horizontal.specs.Parts.{kind_of, name_of, no_info, parts}
+use Rattle.hermes_horizontal.specs.Rows.{kind_named}
+use Rattle.hermes_horizontal.specs.declared.kind.Kind.{Kind}
+use Rattle.hermes_horizontal.specs.declared.kind.Kind.TheVariants as kinds
+use Rattle.hermes_horizontal.specs.declared.message.Horizontal.{Horizontal}
+use Rattle.hermes_horizontal.specs.declared.message.Horizontal.TheVariants as bodies
+use Rattle.hermes_horizontal.specs.declared.message.Ping.TheVariants as pings
+use Rattle.hermes_frames.specs.Framed.{HasShortName}
+use Rattle.session_core.specs.Breach.{unexpected}
+use Rattle.session_core.specs.declared.actions.Tell.{Tell}
+use Rattle.session_core.specs.declared.actions.Tell.TheVariants.{AlreadyConnected, Shutdown, Unsettled}
+use Rattle.handover_out.specs.declared.act.OutAct.{OutAct}
+use Rattle.handover_out.specs.declared.act.OutDeed.{OutDeed}
+use Rattle.handover_out.specs.declared.act.OutSend.{OutSend}
+use Rattle.handover_out.specs.declared.act.OutSend.TheVariants as out_send
+use Rattle.handover_in.specs.declared.act.InAct.{InAct}
+use Rattle.handover_in.specs.declared.act.InDeed.{InDeed}
+use Rattle.handover_in.specs.declared.act.InSend.{InSend}
+use Rattle.handover_in.specs.declared.act.InSend.TheVariants as in_send
+use Rattle.node_core.specs.Desk.{Desk}
+use Rattle.node_core.specs.Told.{drives, in_does, in_says, in_sends, in_told, notification, offers, out_does, out_sends, out_told, sends, service_of, tells}
+use Rattle.node_core.specs.declared.act.Act.{Act}
+use Rattle.link_messages.specs.Fit.{AreFitActs, AreFitRecords, IsFitDesk, IsFitIf, IsFitRecord, IsTextIf, more_kept, more_said, none_kept, none_said}
+use Rattle.link_messages.proofs.SayingRows.{IsFitInSend, IsFitOutSend}
+
+-- ---- messages
+
+-- what a message says is fit, at whatever moment
+pub record IsFitSaid (what : Horizontal) : Type 0 where
+  pub name : IsName (name_of what)
+  pub values : AllByRecursion IsProperIf (parts what)
+  pub numbers : HasShortNumbers what
+  pub named : kind_named (name_of what) ≡ kind_of what
+  pub short : HasShortName what
+
+pub sent : (desk : Desk) (side : Side) (what : Horizontal) → IsFitDesk desk → IsFitSaid what → AreFitActs (sends desk side what)
+sent desk side what d fit = more_said (record {
+  proper = record { stamp = d.moment; name = fit.name; values = fit.values };
+  writable = record { numbers = fit.numbers; named = fit.named };
+  short = fit.short;
+}) none_said
+
+pub service_fits : (desk : Desk) → IsFitDesk desk → IsFitSaid (service_of desk)
+service_fits desk d = record { name = refl; values = (d.name, (tt, (tt, (plain_is_text (codes "1.5") refl, tt)))); numbers = d.lane; named = refl; short = tt }
+
+pub notification_fits : (number : ℕ) (severity : Severity) (text : List ℕ) → number ≤ 999_999_999 → IsText text → IsFitSaid (notification number severity text)
+notification_fits number severity text short is = record { name = refl; values = (tt, (tt, (is, tt))); numbers = short; named = refl; short = tt }
+
+pub tells_fit : (what : Tell) → IsFitSaid (tells what)
+tells_fit AlreadyConnected = record { name = refl; values = (tt, (tt, (plain_is_text (codes "already connected") refl, tt))); numbers = omega arith; named = refl; short = tt }
+tells_fit Unsettled = record { name = refl; values = (tt, (tt, (plain_is_text (codes "handover unsettled") refl, tt))); numbers = omega arith; named = refl; short = tt }
+tells_fit Shutdown = record { name = refl; values = (tt, (tt, (plain_is_text (codes "shutdown") refl, tt))); numbers = omega arith; named = refl; short = tt }
+
+proper_text : (id : Option (List ℕ)) → IsTextIf id → AllByRecursion IsProperIf (parts (bodies.CheckAlive (Some pings.Answer) id))
+proper_text None is = (tt, (tt, tt))
+proper_text (Some text) is = (tt, (is, tt))
+
+pub pong_fits : (id : Option (List ℕ)) → IsTextIf id → IsFitSaid (bodies.CheckAlive (Some pings.Answer) id)
+pong_fits id is = record { name = refl; values = proper_text id is; numbers = tt; named = refl; short = tt }
+
+pub ping_fits : (number : ℕ) → number < 2 ^ 64 → IsFitSaid (bodies.CheckAlive (Some pings.Ask) (Some (decimal number)))
+ping_fits number small = record { name = refl; values = (tt, (number_is_text number small, tt)); numbers = tt; named = refl; short = tt }
+
+pub available_fits : (board : Record) → IsFitRecord board → IsFitSaid (bodies.BoardAvailable board)
+available_fits board fit = record { name = refl; values = fit.values; numbers = tt; named = refl; short = tt }
+
+pub no_info_fits : IsFitSaid (bodies.SendBoardInfo no_info)
+no_info_fits = record { name = refl; values = (tt, (tt, (tt, (tt, (tt, (tt, (tt, (tt, (tt, (tt, (tt, (tt, (tt, (tt, (tt, (tt, tt)))))))))))))))); numbers = tt; named = refl; short = tt }
+
+pub unexpected_is_text : (kind : Kind) → IsText (unexpected kind)
+unexpected_is_text kinds.CheckAlive = plain_is_text _ refl
+unexpected_is_text kinds.ServiceDescription = plain_is_text _ refl
+unexpected_is_text kinds.Notification = plain_is_text _ refl
+unexpected_is_text kinds.BoardAvailable = plain_is_text _ refl
+unexpected_is_text kinds.RevokeBoardAvailable = plain_is_text _ refl
+unexpected_is_text kinds.MachineReady = plain_is_text _ refl
+unexpected_is_text kinds.RevokeMachineReady = plain_is_text _ refl
+unexpected_is_text kinds.StartTransport = plain_is_text _ refl
+unexpected_is_text kinds.StopTransport = plain_is_text _ refl
+unexpected_is_text kinds.TransportFinished = plain_is_text _ refl
+unexpected_is_text kinds.BoardForecast = plain_is_text _ refl
+unexpected_is_text kinds.QueryBoardInfo = plain_is_text _ refl
+unexpected_is_text kinds.SendBoardInfo = plain_is_text _ refl
+unexpected_is_text kinds.Other = plain_is_text _ refl
+
+-- ---- acts
+
+pub both_said : {a b : List Act} → AreFitActs a → AreFitActs b → AreFitActs (a ++ b)
+both_said none_said b = b
+both_said (more_said one others) b = more_said one (both_said others b)
+
+out_deed_fits : (deed : Option OutDeed) → AreFitActs (out_does deed)
+out_deed_fits None = none_said
+out_deed_fits (Some deed) = more_said tt none_said
+
+in_deed_fits : (deed : Option InDeed) → AreFitActs (in_does deed)
+in_deed_fits None = none_said
+in_deed_fits (Some deed) = more_said tt none_said
+
+drives_fit : (side : Side) (drive : Option Bool) → AreFitActs (drives side drive)
+drives_fit side None = none_said
+drives_fit side (Some on) = more_said tt none_said
+
+pub front_fits : (kept : List Record) → AreFitRecords kept → IsFitIf (slice_get kept 0)
+front_fits [] none_kept = tt
+front_fits (board ∷ boards) (more_kept one others) = one
+
+offers_fit : (desk : Desk) (front : Option Record) → IsFitDesk desk → IsFitIf front → AreFitActs (offers desk front)
+offers_fit desk None d fit = none_said
+offers_fit desk (Some board) d fit = sent desk Exit (bodies.BoardAvailable board) d (available_fits board fit)
+
+out_said_fits : (desk : Desk) (kept : List Record) (send : Option OutSend) → IsFitDesk desk → AreFitRecords kept → IsFitOutSend send → AreFitActs (out_sends desk kept send)
+out_said_fits desk kept None d k fit = none_said
+out_said_fits desk kept (Some out_send.BoardAvailable) d k fit = offers_fit desk (slice_get kept 0) d (front_fits kept k)
+out_said_fits desk kept (Some out_send.RevokeBoardAvailable) d k fit = sent desk Exit bodies.RevokeBoardAvailable d (record { name = refl; values = tt; numbers = tt; named = refl; short = tt })
+out_said_fits desk kept (Some (out_send.Finished state id)) d k fit = sent desk Exit (bodies.TransportFinished state id) d (record { name = refl; values = (tt, (fit, tt)); numbers = tt; named = refl; short = tt })
+
+in_said_fits : (desk : Desk) (send : Option InSend) → IsFitDesk desk → IsFitInSend send → AreFitActs (in_sends desk send)
+in_said_fits desk None d fit = none_said
+in_said_fits desk (Some in_send.MachineReady) d fit = sent desk Entry (in_says in_send.MachineReady) d (record { name = refl; values = (tt, tt); numbers = tt; named = refl; short = tt })
+in_said_fits desk (Some in_send.RevokeMachineReady) d fit = sent desk Entry (in_says in_send.RevokeMachineReady) d (record { name = refl; values = tt; numbers = tt; named = refl; short = tt })
+in_said_fits desk (Some (in_send.Start id)) d fit = sent desk Entry (bodies.StartTransport id) d (record { name = refl; values = (fit, tt); numbers = tt; named = refl; short = tt })
+in_said_fits desk (Some (in_send.Stop state id)) d fit = sent desk Entry (bodies.StopTransport state id) d (record { name = refl; values = (tt, (fit, tt)); numbers = tt; named = refl; short = tt })
+
+pub out_told_fits : (desk : Desk) (kept : List Record) (act : OutAct) → IsFitDesk desk → AreFitRecords kept → IsFitOutSend act.send → AreFitActs (out_told desk kept act)
+out_told_fits desk kept act d k fit = both_said (out_deed_fits act.deed) (both_said (out_said_fits desk kept act.send d k fit) (drives_fit Exit act.drive))
+
+pub in_told_fits : (desk : Desk) (act : InAct) → IsFitDesk desk → IsFitInSend act.send → AreFitActs (in_told desk act)
+in_told_fits desk act d fit = both_said (in_deed_fits act.deed) (both_said (in_said_fits desk act.send d fit) (drives_fit Entry act.drive))
