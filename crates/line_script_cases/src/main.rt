@@ -59,7 +59,7 @@ fn tell(line: &ScriptLine, to: &mut Vec<u8>) -> io::Result<()> {
     }
 }
 
-/// Appends what a line of machines and links asks for.
+/// Appends what a line of machines asks for.
 fn tell_event(line: &ScriptLine, to: &mut Vec<u8>) -> io::Result<()> {
     match line {
         ScriptLine::Mark {
@@ -69,50 +69,46 @@ fn tell_event(line: &ScriptLine, to: &mut Vec<u8>) -> io::Result<()> {
         } => {
             let quality = quality_word(*quality);
             write!(to, "mark {machine} {id} {quality}")
-        },
-        ScriptLine::Hold { machine, side } => {
-            let side = side_word(*side);
-            write!(to, "hold {machine} {side}")
-        },
-        ScriptLine::Go { machine, side } => {
-            let side = side_word(*side);
-            write!(to, "go {machine} {side}")
-        },
+        }
+        ScriptLine::Hold { machine, side } => tell_side("hold", *machine, *side, to),
+        ScriptLine::Go { machine, side } => tell_side("go", *machine, *side, to),
+        ScriptLine::Shutdown { machine } => write!(to, "shutdown {machine}"),
+        ScriptLine::Tick { machine } => write!(to, "tick {machine}"),
+        ScriptLine::Fault { machine, side } => tell_side("fault", *machine, *side, to),
+        ScriptLine::Lie { machine, sensed } => {
+            tell_side("lie", *machine, sensed.side, to)?;
+            let event = event_word(sensed.event);
+            write!(to, " {event}")
+        }
+        _ => tell_link(line, to),
+    }
+}
+
+/// Appends what a line of links asks for.
+fn tell_link(line: &ScriptLine, to: &mut Vec<u8>) -> io::Result<()> {
+    match line {
         ScriptLine::Connect { machine } => write!(to, "connect {machine}"),
         ScriptLine::Flow {
             machine,
             side,
             bytes,
         } => {
-            let side = side_word(*side);
-            write!(to, "flow {machine} {side}")?;
+            tell_side("flow", *machine, *side, to)?;
             match bytes {
                 Some(bytes) => write!(to, " {bytes}"),
                 None => Ok(()),
             }
         }
-        ScriptLine::Notice { machine, side } => {
-            let side = side_word(*side);
-            write!(to, "notice {machine} {side}")
-        }
+        ScriptLine::Notice { machine, side } => tell_side("notice", *machine, *side, to),
         ScriptLine::Cut { gap } => write!(to, "cut {gap}"),
-        ScriptLine::Spoil { machine, side } => {
-            let side = side_word(*side);
-            write!(to, "spoil {machine} {side}")
-        },
-        ScriptLine::Shutdown { machine } => write!(to, "shutdown {machine}"),
-        ScriptLine::Tick { machine } => write!(to, "tick {machine}"),
-        ScriptLine::Fault { machine, side } => {
-            let side = side_word(*side);
-            write!(to, "fault {machine} {side}")
-        },
-        ScriptLine::Lie { machine, sensed } => {
-            let side = side_word(sensed.side);
-            let event = event_word(sensed.event);
-            write!(to, "lie {machine} {side} {event}")
-        }
+        ScriptLine::Spoil { machine, side } => tell_side("spoil", *machine, *side, to),
         _ => Ok(()),
     }
+}
+
+fn tell_side(word: &str, machine: u32, side: Side, to: &mut Vec<u8>) -> io::Result<()> {
+    let side = side_word(side);
+    write!(to, "{word} {machine} {side}")
 }
 
 fn side_word(side: Side) -> &'static str {
