@@ -6,7 +6,7 @@ use Rattle.std.proofs.lemmas.List.{length-take, length-take-le, take-append-le, 
 use Rattle.std.proofs.lemmas.Bool.{false_from_ne_true, cond-true, cond-false, cases_lt, eq-eqb}
 use Rattle.std.proofs.lemmas.Slice.Eq.{bytes_eq-Decides}
 use Rattle.hermes_stream.specs.Frames.{end_tag, begins_with_end, first_end}
-use Rattle.hermes_stream.specs.Block.{IsSearched}
+use Rattle.hermes_stream.specs.Scan.{HasNoClose, IsSearched, ends_at}
 
 -- an end at the front is the nine bytes of the tag
 pub take-from_begins : (bytes : List ℕ) → begins_with_end bytes ≡ true → take 9 bytes ≡ end_tag
@@ -112,23 +112,15 @@ closes : (bytes : List ℕ) → begins_with_end bytes ≡ true → get_or bytes 
 closes bytes here = sym (get_or-take 9 bytes 8 0 (omega arith)) ∙ ap (λ b. get_or b 8 0) (take-from_begins bytes here)
 
 -- no end closes among bytes that are no `>`
-pub IsSearched-passed : (message : List ℕ) (at found : ℕ) → IsSearched message at → ((k : ℕ) → 0 ≤ k → k < found → eqb (get_or (take (length message - at) (drop at message)) k 0) 62 ≡ true → ⊥) → IsSearched message (at + found)
-IsSearched-passed message at found searched other = λ j l. elim (cases_lt at (j + 9)) [
+pub IsSearched-passed : (message : List ℕ) (at place : ℕ) → IsSearched message at → HasNoClose message at place → IsSearched message place
+IsSearched-passed message at place searched passed = λ j l. elim (cases_lt at (j + 9)) [
   | inr before ↦ searched j before
   | inl behind ↦ false_from_ne_true (begins_with_end (drop j message)) (λ here.
-      let k : ℕ = j + 8 - at in
-      let sum : at + k ≡ j + 8 = omega arith in
-      let read : get_or (take (length message - at) (drop at message)) k 0 ≡ 62 =
-      ap (λ b. get_or b k 0) (take_rest message at)
-      ∙ get_or-drop at message k 0
-      ∙ ap (λ n. get_or message n 0) sum
-      ∙ sym (get_or-drop j message 8 0)
-      ∙ closes (drop j message) here in
-      other k (omega arith) (omega arith) (eq-eqb _ _ read))
+      passed.none (j + 8) (omega arith) (omega arith) (sym (get_or-drop j message 8 0) ∙ closes (drop j message) here))
 ]
 
 -- bytes end with the tag where it stands nine bytes before their end
-pub ends_with-take : (message : List ℕ) (count : ℕ) → 9 ≤ count → count ≤ length message → ends_with nat_eq (take count message) end_tag ≡ begins_with_end (drop (count - 9) message)
+pub ends_with-take : (message : List ℕ) (count : ℕ) → 9 ≤ count → count ≤ length message → ends_at message count ≡ begins_with_end (drop (count - 9) message)
 ends_with-take message count nine within =
     let long : length (take count message) ≡ count = length-take-le count message within in
     let sum : count ≡ (count - 9) + 9 = omega arith in
@@ -137,7 +129,7 @@ ends_with-take message count nine within =
     ∙ ap (pointwise nat_eq end_tag) (drop-take (count - 9) 9 message)
 
 -- one byte further, where no end closes with it
-pub IsSearched-more : (message : List ℕ) (count : ℕ) → count + 1 ≤ length message → IsSearched message count → ends_with nat_eq (take (count + 1) message) end_tag ≡ false → IsSearched message (count + 1)
+pub IsSearched-more : (message : List ℕ) (count : ℕ) → count + 1 ≤ length message → IsSearched message count → ends_at message (count + 1) ≡ false → IsSearched message (count + 1)
 IsSearched-more message count within searched other = λ j l. elim (cases_lt count (j + 9)) [
   | inr before ↦ searched j before
   | inl last ↦
@@ -146,7 +138,7 @@ IsSearched-more message count within searched other = λ j l. elim (cases_lt cou
 ]
 
 -- the first end, where one closes with the next byte
-pub first_end-closed : (message : List ℕ) (count : ℕ) → count + 1 ≤ length message → 9 ≤ count + 1 → IsSearched message count → ends_with nat_eq (take (count + 1) message) end_tag ≡ true → first_end message ≡ Some (count + 1)
+pub first_end-closed : (message : List ℕ) (count : ℕ) → count + 1 ≤ length message → 9 ≤ count + 1 → IsSearched message count → ends_at message (count + 1) ≡ true → first_end message ≡ Some (count + 1)
 first_end-closed message count within nine searched here =
     first_end-found message (count + 1) nine (λ j l. searched j (omega arith)) (sym (ends_with-take message (count + 1) nine within) ∙ here)
 

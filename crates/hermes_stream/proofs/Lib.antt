@@ -1,5 +1,6 @@
 pub mod Ends
 pub mod Streams
-pub mod Places
+pub mod Parts
+pub mod Cuts
 pub mod Runs
 pub mod Alone

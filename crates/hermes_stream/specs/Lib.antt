@@ -1,4 +1,5 @@
 pub mod Frames
 pub mod Cutter
+pub mod Scan
 pub mod Block
 pub mod Rests

@@ -4,7 +4,6 @@ ghost use Rattle.hermes_stream.specs.Frames.{TooLong, answer_of, left_of, most_b
 ghost use Rattle.hermes_stream.specs.Cutter.{CutsExactly, Tells, answered};
 ghost use Rattle.hermes_stream.specs.Rests.{RestsAsLeft};
 
-use crate::MOST_MESSAGE_BYTES;
 use crate::block::{Block, Step};
 use line_base::Memory;
 use std::alloc::Global;
@@ -56,10 +55,7 @@ impl Cutter {
         ensures bounded { length self.new ≤ most_bytes }
         ensures too_long { answer_of self.old ≡ TooLong → result ≡ 0 }
     {
-        let room = MOST_MESSAGE_BYTES - self.block.waiting();
-        let count = piece.len().min(room);
-        self.block.add(&piece[..count]);
-        count
+        self.block.fill(piece)
     }
 
     /// Drops the blanks that stand before a message, and answers what stands there then.

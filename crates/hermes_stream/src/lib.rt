@@ -7,8 +7,6 @@
 mod block;
 mod cutter;
 mod scan;
-#[cfg(test)]
-mod tests;
 
 pub use cutter::{Cut, Cutter};
 

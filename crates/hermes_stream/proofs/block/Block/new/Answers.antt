@@ -1,12 +1,14 @@
-use Rattle.std.proofs.Common.{sym, ◌∙◌, arith}
+use Rattle.std.proofs.Common.{[], length, sym, ap, ◌∙◌, arith}
 use Rattle.hermes_stream.proofs.block.Block.new.Goals as goal
 
 pub invariant_of-result : goal.invariant_of-result
-invariant_of-result c = record {
-  room = sym c.in-Ok.bytes.ok.0 ∙ c.in-Ok.ensures.len;
-  cut = omega arith;
-  begun = omega arith;
-  fed = omega arith;
-  fits = omega arith;
-  no_end = λ at l. absurd (omega arith);
-}
+invariant_of-result c =
+    let none = ap (λ b. length b.items) c.in-Ok.ensures in
+    record {
+      room = ap (λ b. b.capacity) c.in-Ok.ensures;
+      lends = sym c.in-Ok-vec.lent.ok.0 ∙ c.in-Ok-vec.ensures.len;
+      cut = omega arith;
+      waits = omega arith;
+      fed = omega arith;
+      no_end = λ at l. absurd (omega arith);
+    }
