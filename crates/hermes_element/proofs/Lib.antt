@@ -23,3 +23,4 @@ pub mod Back
 pub mod Unescaped
 pub mod Zeros
 pub mod Depths
+pub mod Standings

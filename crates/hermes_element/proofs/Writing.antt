@@ -5,6 +5,12 @@ use Rattle.hermes_element.specs.Element.{Tree, Forest, none, more, trees_of, for
 use Rattle.hermes_element.proofs.Forests.{forest_of-trees_of}
 use Rattle.hermes_element.specs.Canonical.{canonical, canonical_attribute, canonical_forest, canonical_rest}
 
+attribute_form : (t0 name value : List ℕ) → ((((t0 ++ (32 ∷ [])) ++ name) ++ (61 ∷ 34 ∷ [])) ++ value) ++ (34 ∷ []) ≡ t0 ++ (32 ∷ (((name ++ (61 ∷ 34 ∷ [])) ++ value) ++ (34 ∷ [])))
+attribute_form t0 name value = simp append_assoc
+
+pub attribute_written : (name value t0 t1 t2 t3 t4 t5 : List ℕ) → t1 ≡ t0 ++ 32 ∷ [] → t2 ≡ t1 ++ name → t3 ≡ t2 ++ 61 ∷ 34 ∷ [] → t4 ≡ t3 ++ value → t5 ≡ t4 ++ 34 ∷ [] → t5 ≡ t0 ++ (32 ∷ (((name ++ (61 ∷ 34 ∷ [])) ++ value) ++ (34 ∷ [])))
+attribute_written name value t0 t1 t2 t3 t4 t5 e1 e2 e3 e4 e5 = rw (e5, e4, e3, e2, e1) (attribute_form t0 name value)
+
 canonical_rest-some : (name inside : List ℕ) (forest : Forest) → 0 < length (trees_of forest) → canonical_rest name forest inside ≡ (62 ∷ []) ++ inside ++ (60 ∷ 47 ∷ []) ++ name ++ (62 ∷ [])
 canonical_rest-some name inside none h = absurd (omega arith)
 canonical_rest-some name inside (more _ _ _ _ _) h = refl

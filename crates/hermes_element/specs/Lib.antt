@@ -12,3 +12,4 @@ pub mod Steps
 pub mod Lent
 pub mod Levels
 pub mod Adding
+pub mod Standing

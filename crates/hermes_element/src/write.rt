@@ -2,6 +2,7 @@ ghost use Rattle.std.specs.Prelude.{◌≡◌, ◌++◌, OnOk, OnErr};
 ghost use Rattle.std.specs.List.{flat_map, list_all};
 ghost use Rattle.hermes_element.specs.Element.{Tree};
 ghost use Rattle.hermes_element.specs.Spelling.{Spells};
+ghost use Rattle.hermes_element.specs.Standing.{StillStands};
 ghost use Rattle.hermes_element.specs.Canonical.{IsWritable, canonical, canonical_attribute, unplaced, escaped_byte, is_unescaped};
 
 use crate::attribute::Attribute;
@@ -50,9 +51,10 @@ fn append_attributes(attributes: &[Attribute], to: &mut Vec<u8>) -> Result<(), M
 }
 
 /// Appends the canonical spelling of one attribute: a space, its name and its value. Where memory
-/// is wanting, a part of it may stand there.
+/// is wanting, a part of it may stand there, behind what stood there before.
 pub fn write_attribute(name: &[u8], value: &[u8], to: &mut Vec<u8>) -> Result<(), Memory>
-    ensures { OnOk result (to.new.items ≡ to.old.items ++ canonical_attribute (record { name = name.now; value = value.now; at = 0 })) }
+    ensures kept { StillStands to.old.items to.new.items }
+    ensures written { OnOk result (to.new.items ≡ to.old.items ++ canonical_attribute (record { name = name.now; value = value.now; at = 0 })) }
 {
     append(to, b" ")?;
     append(to, name)?;
@@ -62,7 +64,8 @@ pub fn write_attribute(name: &[u8], value: &[u8], to: &mut Vec<u8>) -> Result<()
 }
 
 fn append_value(value: &[u8], to: &mut Vec<u8>) -> Result<(), Memory>
-    ensures { OnOk result (to.new.items ≡ to.old.items ++ flat_map escaped_byte value.now) }
+    ensures kept { StillStands to.old.items to.new.items }
+    ensures written { OnOk result (to.new.items ≡ to.old.items ++ flat_map escaped_byte value.now) }
 {
     if are_unescaped(value) {
         return append(to, value);
@@ -88,7 +91,8 @@ fn is_unescaped(byte: u8) -> bool
 }
 
 fn append_byte(byte: u8, to: &mut Vec<u8>) -> Result<(), Memory>
-    ensures { OnOk result (to.new.items ≡ to.old.items ++ escaped_byte byte) }
+    ensures kept { StillStands to.old.items to.new.items }
+    ensures written { OnOk result (to.new.items ≡ to.old.items ++ escaped_byte byte) }
 {
     match byte {
         b'&' => append(to, b"&amp;"),
@@ -103,6 +107,7 @@ fn append_byte(byte: u8, to: &mut Vec<u8>) -> Result<(), Memory>
 }
 
 fn append(to: &mut Vec<u8>, bytes: &[u8]) -> Result<(), Memory>
+    ensures kept { StillStands to.old.items to.new.items }
     ensures written { OnOk result (to.new.items ≡ to.old.items ++ bytes.now) }
     ensures unchanged { OnErr result (to.new.items ≡ to.old.items) }
 {

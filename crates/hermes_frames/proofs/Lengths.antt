@@ -8,7 +8,7 @@ use Rattle.line_base.specs.Number.{fraction_text}
 use Rattle.line_base.specs.Decimal.{six_digits, without_trailing_zeros, decimal_text}
 use Rattle.line_base.specs.Moment.{moment_text}
 use Rattle.line_base.proofs.DecimalTexts.{without_trailing_zeros-IsCut}
-use Rattle.line_base.proofs.Printable.{IsText-moment}
+use Rattle.line_base.proofs.Printable.{IsText-moment, length-decimal}
 use Rattle.board_record.proofs.IdTexts.{IsText-id}
 use Rattle.hermes_element.specs.declared.attribute.Attribute.{Attribute}
 use Rattle.hermes_element.specs.Canonical.{escaped_byte, canonical_attribute}
@@ -74,6 +74,7 @@ length-number n short = length-decimal-le 9 n (omega arith) (omega arith) (omega
 abbrev pub room_of : ValueKind → ℕ
 room_of values.text = 6200
 room_of values.number = 200
+room_of values.long_number = 200
 room_of (values.choice low high) = 200
 room_of values.identity = 6200
 room_of values.decimal = 200
@@ -86,6 +87,7 @@ room (column ∷ columns) = room_of column.kind + room columns
 value_room : (kind : ValueKind) (value : Value) → IsOfKind kind value → IsProper value → 6 * length (value_text value) + 34 ≤ room_of kind
 value_room values.text (worded bytes) fit proper = let h = proper.short in omega (arith, h)
 value_room values.number (numbered n) fit proper = let h = length-number n fit in omega (arith, h)
+value_room values.long_number (numbered n) fit proper = let h = length-decimal n fit in omega (arith, h)
 value_room (values.choice low high) (numbered n) fit proper = let h = length-number n fit.short in omega (arith, h)
 value_room values.identity (identified id) fit proper = let h = (IsText-id id).short in omega (arith, h)
 value_room values.decimal (measured millionths) fit proper = let h = length-decimal_text millionths proper in omega (arith, h)

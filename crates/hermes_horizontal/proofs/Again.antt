@@ -18,7 +18,7 @@ use Rattle.hermes_horizontal.specs.Canonical.{attribute_of, attribute_if, attrib
 
 -- ---- places change nothing that is read
 
-unplaced_first : (name : List ℕ) (attributes : List Attribute) → first_named name (map unplaced_attribute attributes) ≡ option_map unplaced_attribute (first_named name attributes)
+pub unplaced_first : (name : List ℕ) (attributes : List Attribute) → first_named name (map unplaced_attribute attributes) ≡ option_map unplaced_attribute (first_named name attributes)
 unplaced_first name [] = refl
 unplaced_first name (attribute ∷ rest) =
     elim (bytes_eq attribute.name name) as (λ b. cond b (Some (unplaced_attribute attribute)) (first_named name (map unplaced_attribute rest)) ≡ option_map unplaced_attribute (cond b (Some attribute) (first_named name rest))) [

@@ -1,5 +1,5 @@
 -- The values of messages fit their columns: they are read from the texts that are written of them, and those are texts.
-use Rattle.std.proofs.Common.{◌≡◌, ℕ, ◌≤◌, leb, Bool, true, false, cond, List, [], ◌∷◌, Option, Some, None, option_map, refl, ap, ◌∙◌}
+use Rattle.std.proofs.Common.{◌≡◌, ℕ, ◌≤◌, ◌<◌, ◌^◌, arith, leb, Bool, true, false, cond, List, [], ◌∷◌, Option, Some, None, option_map, refl, ap, ◌∙◌}
 use Rattle.std.proofs.lemmas.Bool.{and_from, le-leb, leb-true}
 use Rattle.std.specs.List.{AllByRecursion}
 use Rattle.line_base.specs.Text.{IsText}
@@ -11,7 +11,7 @@ use Rattle.line_base.specs.declared.states.Severity.{Severity}
 use Rattle.line_base.specs.declared.states.Severity.TheVariants as severities
 use Rattle.line_base.specs.declared.states.Transfer.{Transfer}
 use Rattle.line_base.specs.declared.states.Transfer.TheVariants as transfers
-use Rattle.line_base.proofs.Printable.{IsText-moment, IsText-millionths, IsText-decimal, number_of-decimal}
+use Rattle.line_base.proofs.Printable.{IsText-moment, IsText-millionths, number_is_text, number_of-decimal}
 use Rattle.line_base.proofs.DecimalTexts.{decimal_of-decimal_text}
 use Rattle.line_base.proofs.MomentTexts.{moment_of-moment_text}
 use Rattle.board_record.proofs.IdTexts.{IsText-id, read_id-id_text}
@@ -30,6 +30,7 @@ use Rattle.hermes_horizontal.specs.Rows.{Column, columns_of, board_columns}
 use Rattle.hermes_horizontal.specs.Parts.{parts, info_of, info_parts, kind_of, of_ping, of_severity, of_quality, of_flip, of_transfer}
 use Rattle.hermes_horizontal.specs.Canonical.{IsProper, IsProperIf, HasShortNumbers}
 use Rattle.hermes_horizontal.proofs.Again.{AreSuited, columns_apart}
+use Rattle.hermes_horizontal.proofs.LongNumbers.{long_number_of-decimal}
 
 -- a value is of this kind, and small enough to be written in nine digits
 pub record IsShortNumber (low high n : ℕ) : Type 0 where
@@ -40,6 +41,7 @@ pub record IsShortNumber (low high n : ℕ) : Type 0 where
 abbrev pub IsOfKind : ValueKind → Value → Type 0
 IsOfKind values.text (worded bytes) = Unit {0}
 IsOfKind values.number (numbered n) = n ≤ 999_999_999
+IsOfKind values.long_number (numbered n) = n < 2 ^ 64
 IsOfKind (values.choice low high) (numbered n) = IsShortNumber low high n
 IsOfKind values.identity (identified id) = Unit {0}
 IsOfKind values.decimal (measured millionths) = Unit {0}
@@ -64,6 +66,7 @@ chosen_again low high n h = ap (λ (b : Bool). cond b (Some (numbered n)) None) 
 read_again : (kind : ValueKind) (value : Value) → IsOfKind kind value → IsProper value → read_as kind (value_text value) ≡ Some value
 read_again values.text (worded bytes) fit proper = refl
 read_again values.number (numbered n) fit proper = ap (option_map numbered) (number_of-decimal n fit)
+read_again values.long_number (numbered n) fit proper = ap (option_map numbered) (long_number_of-decimal n fit)
 read_again (values.choice low high) (numbered n) fit proper = ap (chosen low high) (number_of-decimal n fit.short) ∙ chosen_again low high n fit
 read_again values.identity (identified id) fit proper = ap (value_in identified) (read_id-id_text id proper)
 read_again values.decimal (measured millionths) fit proper = ap (value_in measured) (decimal_of-decimal_text millionths proper)
@@ -76,6 +79,10 @@ read_again values.number (worded bytes) fit proper = absurd fit
 read_again values.number (identified id) fit proper = absurd fit
 read_again values.number (measured millionths) fit proper = absurd fit
 read_again values.number (timed millis) fit proper = absurd fit
+read_again values.long_number (worded bytes) fit proper = absurd fit
+read_again values.long_number (identified id) fit proper = absurd fit
+read_again values.long_number (measured millionths) fit proper = absurd fit
+read_again values.long_number (timed millis) fit proper = absurd fit
 read_again (values.choice low high) (worded bytes) fit proper = absurd fit
 read_again (values.choice low high) (identified id) fit proper = absurd fit
 read_again (values.choice low high) (measured millionths) fit proper = absurd fit
@@ -93,9 +100,10 @@ read_again values.moment (numbered n) fit proper = absurd fit
 read_again values.moment (identified id) fit proper = absurd fit
 read_again values.moment (measured millionths) fit proper = absurd fit
 
-number_text : (kind : ValueKind) (n : ℕ) → IsOfKind kind (numbered n) → n ≤ 999_999_999
-number_text values.number n fit = fit
-number_text (values.choice low high) n fit = fit.short
+number_text : (kind : ValueKind) (n : ℕ) → IsOfKind kind (numbered n) → n < 2 ^ 64
+number_text values.number n fit = omega arith
+number_text values.long_number n fit = fit
+number_text (values.choice low high) n fit = let h = fit.short in omega (arith, h)
 number_text values.text n fit = absurd fit
 number_text values.identity n fit = absurd fit
 number_text values.decimal n fit = absurd fit
@@ -103,7 +111,7 @@ number_text values.moment n fit = absurd fit
 
 pub text_of_value : (kind : ValueKind) (value : Value) → IsOfKind kind value → IsProper value → IsText (value_text value)
 text_of_value kind (worded bytes) fit proper = proper
-text_of_value kind (numbered n) fit proper = IsText-decimal n (number_text kind n fit)
+text_of_value kind (numbered n) fit proper = number_is_text n (number_text kind n fit)
 text_of_value kind (identified id) fit proper = IsText-id id
 text_of_value kind (measured millionths) fit proper = IsText-millionths millionths proper
 text_of_value kind (timed millis) fit proper = IsText-moment millis
@@ -117,30 +125,30 @@ suited (column ∷ columns) (Some value ∷ values) fit proper = (read_again col
 
 -- ---- the values of messages fit; the attribute's name makes no difference
 
-fit_text : (o : Option (List ℕ)) → IsFit (rows.optional attrs.Id values.text) (option_map worded o)
+pub fit_text : (o : Option (List ℕ)) → IsFit (rows.optional attrs.Id values.text) (option_map worded o)
 fit_text None = refl
 fit_text (Some text) = tt
 
-fit_decimal : (o : Option ℕ) → IsFit (rows.optional attrs.Id values.decimal) (option_map measured o)
+pub fit_decimal : (o : Option ℕ) → IsFit (rows.optional attrs.Id values.decimal) (option_map measured o)
 fit_decimal None = refl
 fit_decimal (Some millionths) = tt
 
-fit_id : (o : Option ℕ) → IsFit (rows.optional attrs.Id values.identity) (option_map identified o)
+pub fit_id : (o : Option ℕ) → IsFit (rows.optional attrs.Id values.identity) (option_map identified o)
 fit_id None = refl
 fit_id (Some id) = tt
 
-short : (low high n : ℕ) → leb low n ≡ true → leb n high ≡ true → leb n 999_999_999 ≡ true → IsShortNumber low high n
+pub short : (low high n : ℕ) → leb low n ≡ true → leb n high ≡ true → leb n 999_999_999 ≡ true → IsShortNumber low high n
 short low high n e d f = record { low_end = leb-true low n e; high_end = leb-true n high d; short = leb-true n 999_999_999 f }
 
-of_ping_kind : (ping : Ping) → IsOfKind rows.ping (of_ping ping)
+pub of_ping_kind : (ping : Ping) → IsOfKind rows.ping (of_ping ping)
 of_ping_kind pings.Ask = short 1 2 1 refl refl refl
 of_ping_kind pings.Answer = short 1 2 2 refl refl refl
 
-fit_ping : (o : Option Ping) → IsFit (rows.optional attrs.Id rows.ping) (option_map of_ping o)
+pub fit_ping : (o : Option Ping) → IsFit (rows.optional attrs.Id rows.ping) (option_map of_ping o)
 fit_ping None = refl
 fit_ping (Some ping) = of_ping_kind ping
 
-fit_severity : (severity : Severity) → IsOfKind rows.severity (of_severity severity)
+pub fit_severity : (severity : Severity) → IsOfKind rows.severity (of_severity severity)
 fit_severity severities.Fatal = short 1 4 1 refl refl refl
 fit_severity severities.Error = short 1 4 2 refl refl refl
 fit_severity severities.Warning = short 1 4 3 refl refl refl

@@ -10,3 +10,6 @@ pub mod Returning
 pub mod Writable
 pub mod Plain
 pub mod Refusals
+pub mod PartsBack
+pub mod Rooted
+pub mod LongNumbers

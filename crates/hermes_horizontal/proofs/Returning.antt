@@ -1,5 +1,5 @@
 -- An element that is a message's own but for its places says that message.
-use Rattle.std.proofs.Common.{◌≡◌, ℕ, ℤ, List, [], ◌∷◌, map, Option, Some, None, Ok, option_map, refl, sym, ap, ◌∙◌}
+use Rattle.std.proofs.Common.{◌≡◌, ℕ, ℤ, true, List, [], ◌∷◌, map, Option, Some, None, Ok, option_map, refl, sym, ap, ◌∙◌}
 use Rattle.line_base.proofs.MomentTexts.{moment_of-moment_text}
 use Rattle.hermes_element.specs.Element.{Tree, Forest, none, more, trees_of}
 use Rattle.hermes_element.specs.Canonical.{unplaced_attribute, unplaced_forest, unplaced}
@@ -8,13 +8,16 @@ use Rattle.hermes_horizontal.specs.declared.message.Horizontal.{Horizontal}
 use Rattle.hermes_horizontal.specs.declared.message.Horizontal.TheVariants as bodies
 use Rattle.hermes_horizontal.specs.declared.message.Message.{Message}
 use Rattle.hermes_horizontal.specs.Attrs.{attr_text}
-use Rattle.hermes_horizontal.specs.Values.{timed, value_in}
-use Rattle.hermes_horizontal.specs.Rows.{columns_of, stamp_column, kind_named}
+use Rattle.hermes_horizontal.specs.Values.{Value, timed, value_in}
+use Rattle.hermes_horizontal.specs.Rows.{Column, columns_of, stamp_column, kind_named}
 use Rattle.hermes_horizontal.specs.Parts.{parts, features_of, kind_of, name_of}
-use Rattle.hermes_horizontal.specs.Spelling.{value_at, value_or_bad, first_named, features_said, SaysBody, Says}
-use Rattle.hermes_horizontal.specs.Canonical.{attribute_if, children_of, body_tree, tree_of, IsProperIf, IsWritable, IsProperMessage}
-use Rattle.hermes_horizontal.proofs.Again.{named_moved, row_read, features_again}
-use Rattle.hermes_horizontal.proofs.Fitting.{fit_parts, suited, rows_apart}
+use Rattle.hermes_horizontal.specs.Spelling.{value_at, value_or_bad, values_of, first_named, features_said, SaysBody, Says}
+use Rattle.hermes_horizontal.specs.Roots.{SaysRoot}
+use Rattle.hermes_horizontal.specs.declared.message.Features.{Features}
+use Rattle.std.specs.List.{AllByRecursion}
+use Rattle.hermes_horizontal.specs.Canonical.{attribute_if, attributes_of, children_of, row_tree, stamped, body_tree, tree_of, IsProperIf, IsWritable, IsProperMessage}
+use Rattle.hermes_horizontal.proofs.Again.{named_moved, row_read, features_again, columns_apart}
+use Rattle.hermes_horizontal.proofs.Fitting.{AreFit, fit_parts, suited, rows_apart}
 
 features_back : (body : Horizontal) (forest : Forest) → unplaced_forest forest ≡ unplaced_forest (children_of (features_of body)) → features_said (kind_of body) forest ≡ features_of body
 features_back (bodies.ServiceDescription service) forest e = ap Some (features_again service.features forest e)
@@ -62,24 +65,45 @@ one_back (more name at attributes children rest) tree e =
           ∙ ap (λ (f : Forest). let t : Tree = record { name = tree.name; at = 0; attributes = map unplaced_attribute tree.attributes; children = f } in t) inside;
     }
 
-body_back : (message : Message) (child : Tree) → IsProperMessage message → IsWritable message → unplaced child ≡ unplaced (body_tree message.body) → SaysBody child message.body
-body_back message child proper writable e =
-    let body = message.body in
-    let names : child.name ≡ name_of body = ap (λ (t : Tree). t.name) e in
+-- an element that is a row's own but for its places says the row's values and features
+pub record IsRowAgain (child : Tree) (name : List ℕ) (columns : List Column) (values : List (Option Value)) (features : Option Features) : Type 0 where
+  pub named : child.name ≡ name
+  pub values_again : values_of child.at child.attributes columns ≡ Ok values
+  pub written : map unplaced_attribute (attributes_of columns values) ≡ map unplaced_attribute child.attributes
+  pub below : unplaced_forest child.children ≡ unplaced_forest (children_of features)
+
+pub row_back : (child : Tree) (name : List ℕ) (columns : List Column) (values : List (Option Value)) (features : Option Features) → columns_apart columns ≡ true → AreFit columns values → AllByRecursion IsProperIf values
+    → unplaced child ≡ unplaced (row_tree name columns values features) → IsRowAgain child name columns values features
+row_back child name columns values features apart fit proper e = record {
+  named = ap (λ (t : Tree). t.name) e;
+  values_again = row_read child.at child.attributes columns values apart (suited columns values fit proper) (sym (ap (λ (t : Tree). t.attributes) e));
+  written = sym (ap (λ (t : Tree). t.attributes) e);
+  below = ap (λ (t : Tree). t.children) e;
+}
+
+-- a root that is a message's own but for its places says it, if an element that is its body's own does
+pub root_back : {Body : Type 0} (SaysBody : Tree → Body → Type 0) (moment : Option ℤ) (said : Body) (row tree : Tree) → IsProperIf (option_map timed moment)
+    → ((child : Tree) → unplaced child ≡ unplaced row → SaysBody child said) → unplaced tree ≡ unplaced (stamped moment row) → SaysRoot SaysBody tree moment said
+root_back SaysBody moment said row tree proper says e =
+    let one = one_back tree.children row (ap (λ (t : Tree). t.children) e) in
     record {
-      kind = ap kind_named names ∙ writable.named;
-      name = names;
-      values = row_read child.at child.attributes (columns_of (kind_of body)) (parts body) (rows_apart (kind_of body)) (suited (columns_of (kind_of body)) (parts body) (fit_parts body writable.numbers) proper.values) (sym (ap (λ (t : Tree). t.attributes) e));
-      features = features_back body child.children (ap (λ (t : Tree). t.children) e);
+      root = ap (λ (t : Tree). t.name) e;
+      stamp = named_moved 0 tree.at stamp_column (attribute_if stamp_column.attr (option_map timed moment)) tree.attributes (option_map timed moment) (sym (ap (λ (t : Tree). t.attributes) e)) (stamp_written_back moment proper);
+      child = one.child;
+      only = one.only;
+      body = says one.child one.same;
+    }
+
+body_back : (message : Message) → IsProperMessage message → IsWritable message → (child : Tree) → unplaced child ≡ unplaced (body_tree message.body) → SaysBody child message.body
+body_back message proper writable child e =
+    let body = message.body in
+    let back = row_back child (name_of body) (columns_of (kind_of body)) (parts body) (features_of body) (rows_apart (kind_of body)) (fit_parts body writable.numbers) proper.values e in
+    record {
+      kind = ap kind_named back.named ∙ writable.named;
+      name = back.named;
+      values = back.values_again;
+      features = features_back body child.children back.below;
     }
 
 pub message_back : (message : Message) (tree : Tree) → IsProperMessage message → IsWritable message → unplaced tree ≡ unplaced (tree_of message) → Says tree message
-message_back message tree proper writable e =
-    let one = one_back tree.children (body_tree message.body) (ap (λ (t : Tree). t.children) e) in
-    record {
-      root = ap (λ (t : Tree). t.name) e;
-      stamp = named_moved 0 tree.at stamp_column (attribute_if stamp_column.attr (option_map timed message.stamp)) tree.attributes (option_map timed message.stamp) (sym (ap (λ (t : Tree). t.attributes) e)) (stamp_written_back message.stamp proper.stamp);
-      child = one.child;
-      only = one.only;
-      body = body_back message one.child proper writable one.same;
-    }
+message_back message tree proper writable e = root_back SaysBody message.stamp message.body (body_tree message.body) tree proper.stamp (body_back message proper writable) e

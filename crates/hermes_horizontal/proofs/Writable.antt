@@ -20,7 +20,7 @@ use Rattle.hermes_horizontal.specs.Attrs.{attr_text}
 use Rattle.hermes_horizontal.specs.Values.{Value, timed}
 use Rattle.hermes_horizontal.specs.Rows.{Column, columns_of, stamp_column}
 use Rattle.hermes_horizontal.specs.Parts.{parts, features_of, kind_of, name_of}
-use Rattle.hermes_horizontal.specs.Canonical.{attribute_of, attribute_if, attributes_of, child_if, feature_children, children_of, tree_of, IsProper, IsProperIf, IsWritable, IsProperMessage}
+use Rattle.hermes_horizontal.specs.Canonical.{attribute_of, attribute_if, attributes_of, child_if, feature_children, children_of, row_tree, stamped, tree_of, IsProper, IsProperIf, IsWritable, IsProperMessage}
 use Rattle.hermes_horizontal.proofs.Again.{is_named, columns_apart}
 use Rattle.hermes_horizontal.proofs.Fitting.{AreFit, IsOfKind, fit_parts, rows_apart, text_of_value}
 
@@ -115,14 +115,14 @@ short_row kinds.QueryBoardInfo = lit≤ tt
 short_row kinds.SendBoardInfo = lit≤ tt
 short_row kinds.Other = lit≤ tt
 
-row_few : (kind : Kind) (values : List (Option Value)) → HasFewDistinct (attributes_of (columns_of kind) values)
-row_few kind values = record {
-  few = (let h = few (columns_of kind) values in let k = short_row kind in omega (arith, h, k));
-  distinct = all_distinct (columns_of kind) values (rows_apart kind);
+row_few : (columns : List Column) (values : List (Option Value)) → length columns ≤ 64 → columns_apart columns ≡ true → HasFewDistinct (attributes_of columns values)
+row_few columns values short apart = record {
+  few = (let h = few columns values in omega (arith, h, short));
+  distinct = all_distinct columns values apart;
 }
 
-row_tag : (name : List ℕ) (kind : Kind) (values : List (Option Value)) → IsName name → AreFit (columns_of kind) values → AllByRecursion IsProperIf values → HasProperTag name (attributes_of (columns_of kind) values)
-row_tag name kind values named fit proper = record { named = named; each = each_proper (columns_of kind) values fit proper }
+row_tag : (name : List ℕ) (columns : List Column) (values : List (Option Value)) → IsName name → AreFit columns values → AllByRecursion IsProperIf values → HasProperTag name (attributes_of columns values)
+row_tag name columns values named fit proper = record { named = named; each = each_proper columns values fit proper }
 
 root_few : (stamp : Option ℤ) → HasFewDistinct (attribute_if stamp_column.attr (option_map timed stamp))
 unfolding IsDistinct
@@ -186,15 +186,26 @@ children_depth (Some features) = let h = feature_depth features in omega (arith,
 
 -- ---- the whole element
 
-pub tree_writable : (message : Message) → form.IsWritable (tree_of message)
-tree_writable message = record {
-  own = root_few message.stamp;
-  below = (row_few (kind_of message.body) (parts message.body), children_few (features_of message.body), tt);
-  depth = (let h = children_depth (features_of message.body) in omega (arith, h));
+pub row_writable : (stamp : Option ℤ) (name : List ℕ) (columns : List Column) (values : List (Option Value)) (features : Option Features)
+    → length columns ≤ 64 → columns_apart columns ≡ true → form.IsWritable (stamped stamp (row_tree name columns values features))
+row_writable stamp name columns values features short apart = record {
+  own = root_few stamp;
+  below = (row_few columns values short apart, children_few features, tt);
+  depth = (let h = children_depth features in omega (arith, h));
 }
 
-pub tree_proper : (message : Message) → IsProperMessage message → IsWritable message → form.IsProper (tree_of message)
-tree_proper message proper writable = record {
-  own = root_tag message.stamp;
-  below = (row_tag (name_of message.body) (kind_of message.body) (parts message.body) proper.name (fit_parts message.body writable.numbers) proper.values, children_tags (features_of message.body), tt);
+pub row_proper : (stamp : Option ℤ) (name : List ℕ) (columns : List Column) (values : List (Option Value)) (features : Option Features)
+    → IsName name → AreFit columns values → AllByRecursion IsProperIf values → form.IsProper (stamped stamp (row_tree name columns values features))
+row_proper stamp name columns values features named fit proper = record {
+  own = root_tag stamp;
+  below = (row_tag name columns values named fit proper, children_tags features, tt);
 }
+
+pub tree_writable : (message : Message) → form.IsWritable (tree_of message)
+tree_writable message =
+    let k = short_row (kind_of message.body) in
+    row_writable message.stamp (name_of message.body) (columns_of (kind_of message.body)) (parts message.body) (features_of message.body) (omega (arith, k)) (rows_apart (kind_of message.body))
+
+pub tree_proper : (message : Message) → IsProperMessage message → IsWritable message → form.IsProper (tree_of message)
+tree_proper message proper writable =
+    row_proper message.stamp (name_of message.body) (columns_of (kind_of message.body)) (parts message.body) (features_of message.body) proper.name (fit_parts message.body writable.numbers) proper.values

@@ -1,18 +1,21 @@
 -- What is appended piece by piece is the canonical spelling.
-use Rattle.std.proofs.Common.{◌≡◌, ℕ, Bool, true, false, cond, ◌||◌, List, [], ◌∷◌, ◌++◌, codes, Option, Some, None, option_map, refl, sym, ap, ◌∙◌, append_assoc, append-nil}
+use Rattle.std.proofs.Common.{◌≡◌, ℕ, ℤ, Bool, true, false, cond, ◌||◌, List, [], ◌∷◌, ◌++◌, codes, Option, Some, None, option_map, refl, sym, ap, ◌∙◌, append_assoc, append-nil}
 use Rattle.std.specs.List.{flat_map}
 use Rattle.std.proofs.lemmas.Bool.{false≢true}
 use Rattle.std.proofs.lemmas.List.Concat.{flat_map-cons}
-use Rattle.hermes_element.specs.Element.{Forest, none}
-use Rattle.hermes_element.specs.Canonical.{canonical_attribute, canonical_forest, canonical_rest, canonical_front}
+use Rattle.hermes_element.specs.Element.{Forest, Tree, none}
+use Rattle.hermes_element.specs.Canonical.{canonical_attribute, canonical_forest, canonical_rest, canonical_front, canonical as canonical_tree}
 use Rattle.hermes_horizontal.specs.declared.message.Features.{Features}
 use Rattle.hermes_horizontal.specs.declared.attr.Attr.{Attr}
+use Rattle.hermes_horizontal.specs.declared.attr.Attr.TheVariants as attrs
+use Rattle.hermes_horizontal.specs.declared.board.Board.{Board}
+use Rattle.hermes_horizontal.specs.Boards.{board_parts}
 use Rattle.hermes_horizontal.specs.declared.message.Horizontal.{Horizontal}
 use Rattle.hermes_horizontal.specs.declared.message.Message.{Message}
-use Rattle.hermes_horizontal.specs.Values.{Value, timed}
-use Rattle.hermes_horizontal.specs.Rows.{Column, columns_of, stamp_column}
-use Rattle.hermes_horizontal.specs.Parts.{parts, kind_of, name_of}
-use Rattle.hermes_horizontal.specs.Canonical.{attribute_of, attribute_if, attributes_of, assigned, assignment, assignment_if, child_if, feature_children, children_of, children_spelling, body_spelling, canonical}
+use Rattle.hermes_horizontal.specs.Values.{Value, worded, identified, measured, timed}
+use Rattle.hermes_horizontal.specs.Rows.{Column, columns_of, board_columns, stamp_column}
+use Rattle.hermes_horizontal.specs.Parts.{parts, features_of, kind_of, name_of, of_quality, of_flip}
+use Rattle.hermes_horizontal.specs.Canonical.{attribute_of, attribute_if, attributes_of, assigned, assignment, assignment_if, child_if, feature_children, children_of, row_tree, body_tree, stamped, rest_spelling, children_spelling, body_spelling, canonical}
 
 abbrev pub spelled_if : Bool → List ℕ → List ℕ
 spelled_if test name = cond test (canonical_front name [] ++ codes "/>") []
@@ -81,13 +84,18 @@ assigned_is front (column ∷ columns) (Some value ∷ values) =
 body_grouped : (t name attributes children : List ℕ) → (((t ++ (60 ∷ [])) ++ name) ++ attributes) ++ children ≡ t ++ (((60 ∷ name) ++ attributes) ++ children)
 body_grouped t name attributes children = simp append_assoc
 
+pub row_written : (name : List ℕ) (columns : List Column) (values : List (Option Value)) (features : Option Features) (t0 t1 t2 t3 t4 : List ℕ)
+    → t1 ≡ t0 ++ (60 ∷ []) → t2 ≡ t1 ++ name → t3 ≡ assigned t2 columns values → t4 ≡ t3 ++ rest_spelling name features
+    → t4 ≡ t0 ++ canonical_tree (row_tree name columns values features)
+row_written name columns values features t0 t1 t2 t3 t4 e1 e2 e3 e4 =
+    let attributes = flat_map canonical_attribute (attributes_of columns values) in
+    let e5 : t3 ≡ t2 ++ attributes = e3 ∙ assigned_is t2 columns values in
+    e4 ∙ ap (λ (x : List ℕ). x ++ rest_spelling name features) (e5 ∙ ap (λ (x : List ℕ). x ++ attributes) (e2 ∙ ap (λ (x : List ℕ). x ++ name) e1))
+    ∙ body_grouped t0 name attributes (rest_spelling name features)
+
 pub body_written : (body : Horizontal) (t0 t1 t2 t3 t4 : List ℕ) → t1 ≡ t0 ++ (60 ∷ []) → t2 ≡ t1 ++ name_of body → t3 ≡ assigned t2 (columns_of (kind_of body)) (parts body) → t4 ≡ t3 ++ children_spelling body
     → t4 ≡ t0 ++ body_spelling body
-body_written body t0 t1 t2 t3 t4 e1 e2 e3 e4 =
-    let attributes = flat_map canonical_attribute (attributes_of (columns_of (kind_of body)) (parts body)) in
-    let e5 : t3 ≡ t2 ++ attributes = e3 ∙ assigned_is t2 (columns_of (kind_of body)) (parts body) in
-    e4 ∙ ap (λ (x : List ℕ). x ++ children_spelling body) (e5 ∙ ap (λ (x : List ℕ). x ++ attributes) (e2 ∙ ap (λ (x : List ℕ). x ++ name_of body) e1))
-    ∙ body_grouped t0 (name_of body) attributes (children_spelling body)
+body_written body = row_written (name_of body) (columns_of (kind_of body)) (parts body) (features_of body)
 
 stamp_written : (attr : Attr) (value : Option Value) → assignment_if attr value ≡ flat_map canonical_attribute (attribute_if attr value)
 stamp_written attr None = refl
@@ -96,9 +104,35 @@ stamp_written attr (Some value) = sym (flat_map-cons canonical_attribute (attrib
 message_grouped : (t front stamp body a b c : List ℕ) → ((((t ++ front) ++ stamp) ++ (62 ∷ [])) ++ body) ++ (a ++ (b ++ c)) ≡ t ++ ((front ++ stamp) ++ (62 ∷ ((((body ++ []) ++ a) ++ b) ++ c)))
 message_grouped t front stamp body a b c = simp (append_assoc, append-nil)
 
+pub root_written : (stamp : Option ℤ) (child : Tree) (t0 t1 t2 t3 t4 t5 : List ℕ) → t1 ≡ t0 ++ codes "<Hermes" → t2 ≡ t1 ++ assignment_if stamp_column.attr (option_map timed stamp) → t3 ≡ t2 ++ codes ">"
+    → t4 ≡ t3 ++ canonical_tree child → t5 ≡ t4 ++ codes "</Hermes>" → t5 ≡ t0 ++ canonical_tree (stamped stamp child)
+root_written moment child t0 t1 t2 t3 t4 t5 e1 e2 e3 e4 e5 =
+    let stamp = flat_map canonical_attribute (attribute_if stamp_column.attr (option_map timed moment)) in
+    let e6 : t2 ≡ t1 ++ stamp = e2 ∙ ap (λ (x : List ℕ). t1 ++ x) (stamp_written stamp_column.attr (option_map timed moment)) in
+    rw (e5, e4, e3, e6, e1) (message_grouped t0 (codes "<Hermes") stamp (canonical_tree child) (codes "</") (codes "Hermes") (codes ">"))
+
 pub message_written : (message : Message) (t0 t1 t2 t3 t4 t5 : List ℕ) → t1 ≡ t0 ++ codes "<Hermes" → t2 ≡ t1 ++ assignment_if stamp_column.attr (option_map timed message.stamp) → t3 ≡ t2 ++ codes ">"
     → t4 ≡ t3 ++ body_spelling message.body → t5 ≡ t4 ++ codes "</Hermes>" → t5 ≡ t0 ++ canonical message
-message_written message t0 t1 t2 t3 t4 t5 e1 e2 e3 e4 e5 =
-    let stamp = flat_map canonical_attribute (attribute_if stamp_column.attr (option_map timed message.stamp)) in
-    let e6 : t2 ≡ t1 ++ stamp = e2 ∙ ap (λ (x : List ℕ). t1 ++ x) (stamp_written stamp_column.attr (option_map timed message.stamp)) in
-    rw (e5, e4, e3, e6, e1) (message_grouped t0 (codes "<Hermes") stamp (body_spelling message.body) (codes "</") (codes "Hermes") (codes ">"))
+message_written message = root_written message.stamp (body_tree message.body)
+
+-- the attributes that tell of a board
+pub board_written : (whole : Bool) (board : Board) (t0 t1 t2 t3 t4 t5 t6 t7 t8 t9 t10 t11 t12 t13 t14 t15 t16 : List ℕ)
+    → t1 ≡ t0 ++ assignment_if attrs.BoardId (option_map identified board.id)
+    → t2 ≡ t1 ++ assignment_if attrs.BoardIdCreatedBy (option_map (λ text. worded text.now) board.created_by)
+    → t3 ≡ t2 ++ assignment_if attrs.FailedBoard (option_map of_quality board.quality)
+    → t4 ≡ t3 ++ assignment_if attrs.FlippedBoard (option_map of_flip board.flip)
+    → t5 ≡ t4 ++ assignment_if attrs.ProductTypeId (option_map (λ text. worded text.now) board.product)
+    → t6 ≡ t5 ++ assignment_if attrs.TopBarcode (option_map (λ text. worded text.now) board.top)
+    → t7 ≡ t6 ++ assignment_if attrs.BottomBarcode (option_map (λ text. worded text.now) board.bottom)
+    → t8 ≡ t7 ++ assignment_if attrs.Length (option_map measured board.length)
+    → t9 ≡ t8 ++ assignment_if attrs.Width (option_map measured board.width)
+    → t10 ≡ t9 ++ assignment_if attrs.Thickness (option_map measured board.thickness)
+    → t11 ≡ t10 ++ assignment_if attrs.ConveyorSpeed (option_map measured board.speed)
+    → t12 ≡ t11 ++ assignment_if attrs.TopClearanceHeight (option_map measured board.top_clearance)
+    → t13 ≡ t12 ++ assignment_if attrs.BottomClearanceHeight (option_map measured board.bottom_clearance)
+    → t14 ≡ t13 ++ assignment_if attrs.Weight (option_map measured board.weight)
+    → t15 ≡ t14 ++ assignment_if attrs.WorkOrderId (option_map (λ text. worded text.now) board.order)
+    → t16 ≡ t15 ++ assignment_if attrs.BatchId (option_map (λ text. worded text.now) board.batch)
+    → t16 ≡ assigned t0 (board_columns whole) (board_parts board)
+board_written whole board t0 t1 t2 t3 t4 t5 t6 t7 t8 t9 t10 t11 t12 t13 t14 t15 t16 e1 e2 e3 e4 e5 e6 e7 e8 e9 e10 e11 e12 e13 e14 e15 e16 =
+    rw (e16, e15, e14, e13, e12, e11, e10, e9, e8, e7, e6, e5, e4, e3, e2, e1) refl

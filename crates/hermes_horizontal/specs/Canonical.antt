@@ -1,5 +1,5 @@
 -- The one written spelling of a message, and which messages are writable.
-use Rattle.std.specs.Prelude.{◌≡◌, ℕ, ◌≤◌, ◌<◌, ◌^◌, Bool, cond, List, [], ◌∷◌, ◌++◌, Option, Some, None, codes, option_map}
+use Rattle.std.specs.Prelude.{◌≡◌, ℕ, ℤ, ◌≤◌, ◌<◌, ◌^◌, Bool, cond, List, [], ◌∷◌, ◌++◌, Option, Some, None, codes, option_map}
 use Rattle.std.specs.List.{AllByRecursion}
 use Rattle.line_base.specs.Text.{IsText}
 use Rattle.line_base.specs.Name.{IsName}
@@ -46,15 +46,23 @@ abbrev pub children_of : Option Features → Forest
 children_of None = none
 children_of (Some features) = more (codes "SupportedFeatures") 0 [] (feature_children features) none
 
+-- the element of a name with the values of a row of the table
+abbrev pub row_tree : List ℕ → List Column → List (Option Value) → Option Features → Tree
+row_tree name columns values features = record { name = name; at = 0; attributes = attributes_of columns values; children = children_of features }
+
 abbrev pub body_tree : Horizontal → Tree
-body_tree body = record { name = name_of body; at = 0; attributes = attributes_of (columns_of (kind_of body)) (parts body); children = children_of (features_of body) }
+body_tree body = row_tree (name_of body) (columns_of (kind_of body)) (parts body) (features_of body)
 
 abbrev pub root_of : List Attribute → Tree → Tree
 root_of attributes child =
     record { name = codes "Hermes"; at = 0; attributes = attributes; children = more child.name child.at child.attributes child.children none }
 
+-- the root of a message that was sent at this moment, or doesn't tell when
+abbrev pub stamped : Option ℤ → Tree → Tree
+stamped stamp child = root_of (attribute_if stamp_column.attr (option_map timed stamp)) child
+
 abbrev pub tree_of : Message → Tree
-tree_of message = root_of (attribute_if stamp_column.attr (option_map timed message.stamp)) (body_tree message.body)
+tree_of message = stamped message.stamp (body_tree message.body)
 
 abbrev pub canonical : Message → List ℕ
 canonical message = form.canonical (tree_of message)
@@ -75,8 +83,11 @@ assigned front (column ∷ columns) [] = front
 assigned front (column ∷ columns) (value ∷ values) = assigned (front ++ assignment_if column.attr value) columns values
 
 -- the end of a message's start tag, and what follows it
+abbrev pub rest_spelling : List ℕ → Option Features → List ℕ
+rest_spelling name features = form.canonical_rest name (children_of features) (form.canonical_forest (children_of features))
+
 abbrev pub children_spelling : Horizontal → List ℕ
-children_spelling body = form.canonical_rest (name_of body) (children_of (features_of body)) (form.canonical_forest (children_of (features_of body)))
+children_spelling body = rest_spelling (name_of body) (features_of body)
 
 abbrev pub body_spelling : Horizontal → List ℕ
 body_spelling body = form.canonical (body_tree body)

@@ -2,6 +2,9 @@ pub mod Attrs
 pub mod Values
 pub mod Rows
 pub mod Parts
+pub mod Said
+pub mod Roots
+pub mod Opened
 pub mod Spelling
 pub mod Canonical
 pub mod Texts

@@ -1,5 +1,6 @@
 -- What messages are made of: their kind, their name, and the values of their attributes in the order of the table.
 use Rattle.std.specs.Prelude.{ℕ, List, [], ◌∷◌, Option, Some, None, option_map}
+use Rattle.line_base.specs.declared.states.Code.{Code}
 use Rattle.line_base.specs.declared.states.Quality.{Quality}
 use Rattle.line_base.specs.declared.states.Quality.TheVariants as qualities
 use Rattle.line_base.specs.declared.states.Flip.{Flip}
@@ -65,6 +66,12 @@ of_flip flip = numbered (flip_number flip)
 abbrev pub of_transfer : Transfer → Value
 of_transfer state = numbered (transfer_number state)
 
+abbrev pub alive_parts : Option Ping → Option (List ℕ) → List (Option Value)
+alive_parts ping id = option_map of_ping ping ∷ option_map worded id ∷ []
+
+abbrev pub notice_parts : Code → Severity → List ℕ → List (Option Value)
+notice_parts code severity text = Some (numbered code.number) ∷ Some (of_severity severity) ∷ Some (worded text) ∷ []
+
 abbrev pub info_parts : Info → List (Option Value)
 info_parts info =
     option_map identified info.id ∷ option_map worded info.created_by ∷ option_map of_quality info.quality ∷ option_map of_flip info.flip
@@ -121,9 +128,9 @@ service_parts service =
     Some (worded service.machine) ∷ Some (numbered service.lane) ∷ option_map worded service.interface ∷ Some (worded service.version) ∷ []
 
 abbrev pub parts : Horizontal → List (Option Value)
-parts (bodies.CheckAlive ping id) = option_map of_ping ping ∷ option_map worded id ∷ []
+parts (bodies.CheckAlive ping id) = alive_parts ping id
 parts (bodies.ServiceDescription service) = service_parts service
-parts (bodies.Notification code severity text) = Some (numbered code.number) ∷ Some (of_severity severity) ∷ Some (worded text) ∷ []
+parts (bodies.Notification code severity text) = notice_parts code severity text
 parts (bodies.BoardAvailable board) = info_parts (info_of board)
 parts bodies.RevokeBoardAvailable = []
 parts (bodies.MachineReady quality) = Some (of_quality quality) ∷ []

@@ -64,12 +64,18 @@ board_columns whole =
 abbrev pub transfer_columns : List Column
 transfer_columns = required attrs.TransferState transfer ∷ required attrs.BoardId identity ∷ []
 
+-- what both channels say alike
+abbrev pub alive_columns : List Column
+alive_columns = optional attrs.AliveType ping ∷ optional attrs.Id text ∷ []
+
+abbrev pub notice_columns : List Column
+notice_columns = required attrs.NotificationCode number ∷ required attrs.Severity severity ∷ required attrs.Description text ∷ []
+
 abbrev pub columns_of : Kind → List Column
-columns_of kinds.CheckAlive = optional attrs.AliveType ping ∷ optional attrs.Id text ∷ []
+columns_of kinds.CheckAlive = alive_columns
 columns_of kinds.ServiceDescription =
     required attrs.MachineId text ∷ required attrs.LaneId number ∷ optional attrs.InterfaceId text ∷ required attrs.Version text ∷ []
-columns_of kinds.Notification =
-    required attrs.NotificationCode number ∷ required attrs.Severity severity ∷ required attrs.Description text ∷ []
+columns_of kinds.Notification = notice_columns
 columns_of kinds.BoardAvailable = board_columns true
 columns_of kinds.RevokeBoardAvailable = []
 columns_of kinds.MachineReady = required attrs.FailedBoard quality ∷ []

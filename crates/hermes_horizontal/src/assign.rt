@@ -1,6 +1,7 @@
 //! Attributes, written one by one.
 
 ghost use Rattle.std.specs.Prelude.{◌≡◌, ◌++◌, OnOk, OnErr, option_map};
+ghost use Rattle.hermes_element.specs.Standing.{StillStands};
 ghost use Rattle.hermes_horizontal.specs.Canonical.{assignment, assignment_if};
 ghost use Rattle.hermes_horizontal.specs.Values.{worded, numbered, identified, measured, timed};
 
@@ -10,6 +11,7 @@ use hermes_element::write_attribute;
 use line_base::{Decimal, Memory, Moment, Text};
 
 pub fn append(to: &mut Vec<u8>, bytes: &[u8]) -> Result<(), Memory>
+    ensures kept { StillStands to.old.items to.new.items }
     ensures written { OnOk result (to.new.items ≡ to.old.items ++ bytes.now) }
     ensures unchanged { OnErr result (to.new.items ≡ to.old.items) }
 {
@@ -20,13 +22,15 @@ pub fn append(to: &mut Vec<u8>, bytes: &[u8]) -> Result<(), Memory>
 }
 
 pub fn append_text(attr: Attr, text: &Text, to: &mut Vec<u8>) -> Result<(), Memory>
-    ensures { OnOk result (to.new.items ≡ to.old.items ++ assignment attr (worded text.now)) }
+    ensures kept { StillStands to.old.items to.new.items }
+    ensures written { OnOk result (to.new.items ≡ to.old.items ++ assignment attr (worded text.now)) }
 {
     write_attribute(attr.text().as_bytes(), text.bytes(), to)
 }
 
 pub fn append_optional_text(attr: Attr, text: Option<&Text>, to: &mut Vec<u8>) -> Result<(), Memory>
-    ensures { OnOk result (to.new.items ≡ to.old.items ++ assignment_if attr (option_map (λ text. worded text.now) text.entry)) }
+    ensures kept { StillStands to.old.items to.new.items }
+    ensures written { OnOk result (to.new.items ≡ to.old.items ++ assignment_if attr (option_map (λ text. worded text.now) text.entry)) }
 {
     match text {
         Some(text) => append_text(attr, text, to),
@@ -35,7 +39,8 @@ pub fn append_optional_text(attr: Attr, text: Option<&Text>, to: &mut Vec<u8>) -
 }
 
 pub fn append_number(attr: Attr, number: u32, to: &mut Vec<u8>) -> Result<(), Memory>
-    ensures { OnOk result (to.new.items ≡ to.old.items ++ assignment attr (numbered number)) }
+    ensures kept { StillStands to.old.items to.new.items }
+    ensures written { OnOk result (to.new.items ≡ to.old.items ++ assignment attr (numbered number)) }
 {
     append(to, attr.opening().as_bytes())?;
     append(to, itoa::Buffer::new().format(number).as_bytes())?;
@@ -47,7 +52,8 @@ pub fn append_optional_number(
     number: Option<u32>,
     to: &mut Vec<u8>,
 ) -> Result<(), Memory>
-    ensures { OnOk result (to.new.items ≡ to.old.items ++ assignment_if attr (option_map numbered number)) }
+    ensures kept { StillStands to.old.items to.new.items }
+    ensures written { OnOk result (to.new.items ≡ to.old.items ++ assignment_if attr (option_map numbered number)) }
 {
     match number {
         Some(number) => append_number(attr, number, to),
@@ -56,7 +62,8 @@ pub fn append_optional_number(
 }
 
 pub fn append_id(attr: Attr, id: BoardId, to: &mut Vec<u8>) -> Result<(), Memory>
-    ensures { OnOk result (to.new.items ≡ to.old.items ++ assignment attr (identified id)) }
+    ensures kept { StillStands to.old.items to.new.items }
+    ensures written { OnOk result (to.new.items ≡ to.old.items ++ assignment attr (identified id)) }
 {
     append(to, attr.opening().as_bytes())?;
     id.write(to)?;
@@ -64,7 +71,8 @@ pub fn append_id(attr: Attr, id: BoardId, to: &mut Vec<u8>) -> Result<(), Memory
 }
 
 pub fn append_optional_id(attr: Attr, id: Option<BoardId>, to: &mut Vec<u8>) -> Result<(), Memory>
-    ensures { OnOk result (to.new.items ≡ to.old.items ++ assignment_if attr (option_map identified id)) }
+    ensures kept { StillStands to.old.items to.new.items }
+    ensures written { OnOk result (to.new.items ≡ to.old.items ++ assignment_if attr (option_map identified id)) }
 {
     match id {
         Some(id) => append_id(attr, id, to),
@@ -73,7 +81,8 @@ pub fn append_optional_id(attr: Attr, id: Option<BoardId>, to: &mut Vec<u8>) -> 
 }
 
 fn append_decimal(attr: Attr, decimal: Decimal, to: &mut Vec<u8>) -> Result<(), Memory>
-    ensures { OnOk result (to.new.items ≡ to.old.items ++ assignment attr (measured decimal)) }
+    ensures kept { StillStands to.old.items to.new.items }
+    ensures written { OnOk result (to.new.items ≡ to.old.items ++ assignment attr (measured decimal)) }
 {
     let _millionths = decimal.millionths();
     append(to, attr.opening().as_bytes())?;
@@ -86,7 +95,8 @@ pub fn append_optional_decimal(
     decimal: Option<Decimal>,
     to: &mut Vec<u8>,
 ) -> Result<(), Memory>
-    ensures { OnOk result (to.new.items ≡ to.old.items ++ assignment_if attr (option_map measured decimal)) }
+    ensures kept { StillStands to.old.items to.new.items }
+    ensures written { OnOk result (to.new.items ≡ to.old.items ++ assignment_if attr (option_map measured decimal)) }
 {
     match decimal {
         Some(decimal) => append_decimal(attr, decimal, to),
@@ -95,7 +105,8 @@ pub fn append_optional_decimal(
 }
 
 fn append_moment(attr: Attr, moment: Moment, to: &mut Vec<u8>) -> Result<(), Memory>
-    ensures { OnOk result (to.new.items ≡ to.old.items ++ assignment attr (timed moment)) }
+    ensures kept { StillStands to.old.items to.new.items }
+    ensures written { OnOk result (to.new.items ≡ to.old.items ++ assignment attr (timed moment)) }
 {
     append(to, attr.opening().as_bytes())?;
     moment.write(to)?;
@@ -107,7 +118,8 @@ pub fn append_optional_moment(
     moment: Option<Moment>,
     to: &mut Vec<u8>,
 ) -> Result<(), Memory>
-    ensures { OnOk result (to.new.items ≡ to.old.items ++ assignment_if attr (option_map timed moment)) }
+    ensures kept { StillStands to.old.items to.new.items }
+    ensures written { OnOk result (to.new.items ≡ to.old.items ++ assignment_if attr (option_map timed moment)) }
 {
     match moment {
         Some(moment) => append_moment(attr, moment, to),

@@ -1,6 +1,7 @@
 //! What messages tell of a board, and how it is written.
 
 ghost use Rattle.std.specs.Prelude.{◌≡◌, Bool, OnOk};
+ghost use Rattle.hermes_element.specs.Standing.{StillStands};
 ghost use Rattle.hermes_horizontal.specs.Boards.{board_parts};
 ghost use Rattle.hermes_horizontal.specs.Canonical.{assigned};
 ghost use Rattle.hermes_horizontal.specs.Parts.{info_of, info_parts};
@@ -11,7 +12,7 @@ use crate::assign::{
 };
 use crate::attr::Attr;
 use crate::message::Info;
-use crate::numbers::{flip_number, quality_number};
+use crate::numbers::{optional_flip_number, optional_quality_number};
 use board_record::{BoardId, Record};
 use line_base::{Decimal, Flip, Memory, Quality, Text};
 
@@ -86,10 +87,11 @@ impl Board<'_> {
 
 /// Appends the attributes that tell of a board.
 pub fn append_board(board: &Board<'_>, to: &mut Vec<u8>) -> Result<(), Memory>
-    ensures { (whole : Bool) → OnOk result (to.new.items ≡ assigned to.old.items (board_columns whole) (board_parts board.now)) }
+    ensures kept { StillStands to.old.items to.new.items }
+    ensures written { (whole : Bool) → OnOk result (to.new.items ≡ assigned to.old.items (board_columns whole) (board_parts board.now)) }
 {
-    let quality = board.quality.map(|quality| quality_number(quality));
-    let flip = board.flip.map(|flip| flip_number(flip));
+    let quality = optional_quality_number(board.quality);
+    let flip = optional_flip_number(board.flip);
     append_optional_id(Attr::BoardId, board.id, to)?;
     append_optional_text(Attr::BoardIdCreatedBy, board.created_by, to)?;
     append_optional_number(Attr::FailedBoard, quality, to)?;

@@ -1,4 +1,5 @@
 ghost use Rattle.std.specs.Prelude.{◌≡◌, ◌++◌, [], ◌||◌, if◌then◌else◌, OnOk};
+ghost use Rattle.hermes_element.specs.Standing.{StillStands};
 ghost use Rattle.hermes_horizontal.specs.Canonical.{children_of, children_spelling, feature_children};
 ghost use Rattle.hermes_horizontal.specs.Parts.{features_of, name_of};
 ghost use Rattle.hermes_element.specs.Canonical.{canonical_forest};
@@ -9,7 +10,8 @@ use line_base::Memory;
 
 /// Appends the end of a message's start tag, and what follows it in its element.
 pub fn append_children(body: &Horizontal, to: &mut Vec<u8>) -> Result<(), Memory>
-    ensures { OnOk result (to.new.items ≡ to.old.items ++ children_spelling body.now) }
+    ensures kept { StillStands to.old.items to.new.items }
+    ensures written { OnOk result (to.new.items ≡ to.old.items ++ children_spelling body.now) }
 {
     match body {
         Horizontal::ServiceDescription(service) => {
@@ -21,8 +23,10 @@ pub fn append_children(body: &Horizontal, to: &mut Vec<u8>) -> Result<(), Memory
     }
 }
 
-fn append_features(features: Features, to: &mut Vec<u8>) -> Result<(), Memory>
-    ensures { OnOk result (to.new.items ≡ to.old.items ++ canonical_forest (children_of (Some features))) }
+/// Appends the features that a description lists.
+pub fn append_features(features: Features, to: &mut Vec<u8>) -> Result<(), Memory>
+    ensures kept { StillStands to.old.items to.new.items }
+    ensures written { OnOk result (to.new.items ≡ to.old.items ++ canonical_forest (children_of (Some features))) }
 {
     if !has_any(features) {
         return append(to, b"<SupportedFeatures/>");
@@ -42,7 +46,8 @@ fn has_any(features: Features) -> bool
 }
 
 fn append_if(test: bool, bytes: &[u8], to: &mut Vec<u8>) -> Result<(), Memory>
-    ensures { OnOk result (to.new.items ≡ to.old.items ++ (if test then bytes.now else [])) }
+    ensures kept { StillStands to.old.items to.new.items }
+    ensures written { OnOk result (to.new.items ≡ to.old.items ++ (if test then bytes.now else [])) }
 {
     if test {
         return append(to, bytes);

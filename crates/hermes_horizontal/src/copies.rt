@@ -150,7 +150,8 @@ pub fn no_info() -> Info
     }
 }
 
-fn copied(alloc: Global, text: &Option<Text>) -> Result<Option<Text>, Memory>
+/// An equal text of its own, if there is one.
+pub fn copied(alloc: Global, text: &Option<Text>) -> Result<Option<Text>, Memory>
     ensures { IfOk result (λ copy. copy ≡ text.now) }
 {
     match text {
@@ -159,7 +160,8 @@ fn copied(alloc: Global, text: &Option<Text>) -> Result<Option<Text>, Memory>
     }
 }
 
-fn name_copy(alloc: Global, name: &Name) -> Result<Name, Memory>
+/// An equal name of its own.
+pub fn name_copy(alloc: Global, name: &Name) -> Result<Name, Memory>
     ensures { IfOk result (λ copy. copy ≡ name.now) }
 {
     Name::of(alloc, name.bytes())

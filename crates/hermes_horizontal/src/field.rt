@@ -4,6 +4,7 @@ ghost use Rattle.std.specs.Prelude.{◌≡◌, ◌≤◌, ℕ, Some, Ok, IfOk, o
 ghost use Rattle.hermes_horizontal.specs.Fields.{Gives, LeftOut, fresh, text_in};
 ghost use Rattle.hermes_horizontal.specs.Spelling.{value_at, value_or_bad};
 ghost use Rattle.hermes_horizontal.specs.Values as values;
+ghost use Rattle.hermes_horizontal.specs.Values.{long_number_of};
 ghost use Rattle.hermes_horizontal.specs.Rows as rows;
 ghost use Rattle.hermes_horizontal.specs.Parts.{of_ping, of_severity, of_quality, of_flip, of_transfer};
 ghost use Rattle.line_base.specs.Number.{number_of};
@@ -13,7 +14,10 @@ use crate::fault::{Fault, Refusal};
 use crate::message::Ping;
 use board_record::BoardId;
 use hermes_element::{LentAttribute, LentValue};
-use line_base::{Decimal, Flip, Memory, Moment, Quality, Severity, Text, Transfer, read_number};
+use line_base::{
+    Decimal, Flip, Memory, Moment, Quality, Severity, Text, Transfer, digits_value, is_digits,
+    read_number,
+};
 use std::alloc::Global;
 
 /// An attribute that a message may have, and the first of its name that an element has.
@@ -74,6 +78,43 @@ impl<'a> Field<'a> {
                 Some(number) => Ok(number),
                 None => Err(bad(self.attr, attribute)),
             },
+            None => Err(missing(self.attr, at)),
+        }
+    }
+
+    /// A number that may be left out.
+    pub fn optional_number(&self) -> Result<Option<u32>, Refusal>
+        ensures { (at : ℕ) → Gives (option_map values.numbered) result (value_at at (rows.optional self.now.attr values.number) self.now.found) }
+    {
+        match &self.found {
+            Some(attribute) => match read_number(attribute.value.bytes()) {
+                Some(number) => Ok(Some(number)),
+                None => Err(bad(self.attr, attribute)),
+            },
+            None => Ok(None),
+        }
+    }
+
+    /// A long number that must be there.
+    pub fn long_number(&self, at: usize) -> Result<u64, Refusal>
+        ensures { Gives (λ number. Some (values.numbered number)) result (value_at at (rows.required self.now.attr values.long_number) self.now.found) }
+    {
+        match &self.found {
+            Some(attribute) => match read_long_number(attribute.value.bytes()) {
+                Some(number) => Ok(number),
+                None => Err(bad(self.attr, attribute)),
+            },
+            None => Err(missing(self.attr, at)),
+        }
+    }
+
+    /// A number from `low` to `high` that must be there.
+    pub fn choice(&self, at: usize, low: u32, high: u32) -> Result<u32, Refusal>
+        ensures value { Gives (λ number. Some (values.numbered number)) result (value_at at (rows.required self.now.attr (values.choice low high)) self.now.found) }
+        ensures within { IfOk result (λ number. (low ≤ number) × (number ≤ high)) }
+    {
+        match &self.found {
+            Some(attribute) => number_in(self.attr, attribute, low, high),
             None => Err(missing(self.attr, at)),
         }
     }
@@ -198,6 +239,21 @@ impl<'a> Field<'a> {
             },
             None => left_out(self.attr, at, required),
         }
+    }
+}
+
+/// Reads bytes as a long number: 1 to 20 decimal digits, of a value that 64 bits hold.
+fn read_long_number(bytes: &[u8]) -> Option<u64>
+    ensures { result ≡ long_number_of bytes.now }
+{
+    if !is_digits(bytes, 1, 20) {
+        return None;
+    }
+    let value = digits_value(bytes);
+    if value <= u64::MAX as u128 {
+        Some(value as u64)
+    } else {
+        None
     }
 }
 

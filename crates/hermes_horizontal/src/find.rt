@@ -75,6 +75,29 @@ pub fn find_four<'a>(
     fields
 }
 
+/// The attributes of five names.
+pub fn find_five<'a>(
+    attributes: LentAttributes<'a>,
+    a: Attr,
+    b: Attr,
+    c: Attr,
+    d: Attr,
+    e: Attr,
+) -> [Field<'a>; 5]
+    requires { IsTrue (are_apart (fresh a ∷ fresh b ∷ fresh c ∷ fresh d ∷ fresh e ∷ [])) }
+    ensures { result ≡ found_of attributes.entry a ∷ found_of attributes.entry b ∷ found_of attributes.entry c ∷ found_of attributes.entry d ∷ found_of attributes.entry e ∷ [] }
+{
+    let mut fields = [
+        Field::of(a),
+        Field::of(b),
+        Field::of(c),
+        Field::of(d),
+        Field::of(e),
+    ];
+    find(attributes, fields.as_mut_slice());
+    fields
+}
+
 /// The attributes that tell of a board, in the order of their row of the table.
 pub fn find_board(attributes: LentAttributes<'_>) -> [Field<'_>; 16]
     ensures { result ≡ board_found attributes.entry }

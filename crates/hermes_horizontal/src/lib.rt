@@ -2,11 +2,13 @@
 //! their one canonical spelling.
 #![tactic(auto)]
 
+mod alike;
 mod assign;
 mod attr;
 mod attributes;
 mod board;
 mod children;
+pub mod columns;
 mod copies;
 mod fault;
 mod field;
@@ -17,6 +19,7 @@ mod message;
 mod numbers;
 mod proper;
 mod read;
+mod root;
 mod rows;
 mod write;
 
@@ -27,4 +30,4 @@ pub use kind::Kind;
 pub use laws::{refused_once, refused_or_spelled, spelled_once, zero_is_refused};
 pub use message::{Features, Horizontal, Info, Message, Ping, Service};
 pub use read::read_horizontal;
-pub use write::{append_horizontal, write_horizontal};
+pub use write::write_horizontal;

@@ -1,7 +1,8 @@
 //! The numbers of the enumerations.
 
-ghost use Rattle.std.specs.Prelude.{◌≡◌};
-ghost use Rattle.hermes_horizontal.specs.Parts.{ping_number, severity_number, quality_number, flip_number, transfer_number};
+ghost use Rattle.std.specs.Prelude.{◌≡◌, option_map};
+ghost use Rattle.hermes_horizontal.specs.Parts.{ping_number, severity_number, quality_number, flip_number, transfer_number, of_quality, of_flip};
+ghost use Rattle.hermes_horizontal.specs.Values.{numbered};
 
 use crate::message::Ping;
 use line_base::{Flip, Quality, Severity, Transfer};
@@ -36,6 +37,15 @@ pub fn quality_number(quality: Quality) -> u32
     }
 }
 
+pub fn optional_quality_number(quality: Option<Quality>) -> Option<u32>
+    ensures { option_map numbered result ≡ option_map of_quality quality }
+{
+    match quality {
+        Some(quality) => Some(quality_number(quality)),
+        None => None,
+    }
+}
+
 pub fn flip_number(flip: Flip) -> u32
     ensures { result ≡ flip_number flip }
 {
@@ -43,6 +53,15 @@ pub fn flip_number(flip: Flip) -> u32
         Flip::Unknown => 0,
         Flip::TopUp => 1,
         Flip::BottomUp => 2,
+    }
+}
+
+pub fn optional_flip_number(flip: Option<Flip>) -> Option<u32>
+    ensures { option_map numbered result ≡ option_map of_flip flip }
+{
+    match flip {
+        Some(flip) => Some(flip_number(flip)),
+        None => None,
     }
 }
 

@@ -97,19 +97,22 @@ fn info_is_proper(info: &Info)
     optional_text_is_proper(&info.batch);
 }
 
-fn text_is_proper(text: &Text)
+/// A text is a text.
+pub fn text_is_proper(text: &Text)
     ensures { IsText text.now }
 {
     let _bytes = text.bytes();
 }
 
-fn id_is_proper(id: BoardId)
+/// An id has 128 bits.
+pub fn id_is_proper(id: BoardId)
     ensures { id < 2 ^ 128 }
 {
     let _number = id.number();
 }
 
-fn optional_text_is_proper(text: &Option<Text>)
+/// A text, if there is one, is a text.
+pub fn optional_text_is_proper(text: &Option<Text>)
     ensures { IsProperIf (option_map worded text.now) }
 {
     if let Some(text) = text {
@@ -133,7 +136,8 @@ fn optional_decimal_is_proper(decimal: Option<Decimal>)
     }
 }
 
-fn optional_moment_is_proper(moment: Option<Moment>)
+/// A moment, if there is one, is a moment.
+pub fn optional_moment_is_proper(moment: Option<Moment>)
     ensures { IsProperIf (option_map timed moment) }
 {
     if let Some(moment) = moment {

@@ -9,15 +9,16 @@ ghost use Rattle.hermes_horizontal.specs.Rows.{board_columns};
 ghost use Rattle.hermes_horizontal.specs.Spelling.{values_of, has_child, features_listed, features_in};
 ghost use Rattle.hermes_horizontal.specs.declared.kind.Kind.TheVariants as kinds;
 
+use crate::alike::{Alive, Notice, read_alive, read_notice};
 use crate::attr::Attr;
 use crate::fault::{MessageError, Refusal};
 use crate::field::Field;
-use crate::find::{find_board, find_four, find_one, find_three, find_two};
+use crate::find::{find_board, find_four, find_one, find_two};
 use crate::kind::{Kind, kind_named};
 use crate::message::{Features, Horizontal, Info, Service};
 use board_record::{BoardId, Record};
 use hermes_element::{LentAttributes, LentChildren, LentElement};
-use line_base::{Code, Decimal, Flip, Quality, Text};
+use line_base::{Decimal, Flip, Quality, Text};
 use std::alloc::Global;
 
 /// What the element of a message says.
@@ -53,10 +54,7 @@ pub fn body_of(alloc: Global, child: LentElement<'_>) -> Result<Horizontal, Mess
 fn check_alive(alloc: Global, attributes: LentAttributes<'_>) -> Result<Horizontal, MessageError>
     ensures { (at : ℕ) (children : Forest) → ReadsRow kinds.CheckAlive at attributes.entry children result }
 {
-    let fields = find_two(attributes, Attr::AliveType, Attr::Id);
-    let [ping, id] = &fields;
-    let ping = ping.optional_ping()?;
-    let id = id.optional_text(alloc)?;
+    let Alive { ping, id } = read_alive(alloc, attributes)?;
     Ok(Horizontal::CheckAlive { ping, id })
 }
 
@@ -88,8 +86,8 @@ fn service_description(
     }))
 }
 
-/// The features that the first SupportedFeatures lists.
-fn features_in(children: &LentChildren<'_>) -> Features
+/// The features that the first SupportedFeatures of an element's children lists.
+pub fn features_in(children: &LentChildren<'_>) -> Features
     ensures { result ≡ features_in (trees_of children.now) }
 {
     for child in children.list() {
@@ -124,20 +122,15 @@ fn notification(
 ) -> Result<Horizontal, MessageError>
     ensures { (children : Forest) → ReadsRow kinds.Notification at attributes.entry children result }
 {
-    let fields = find_three(
-        attributes,
-        Attr::NotificationCode,
-        Attr::Severity,
-        Attr::Description,
-    );
-    let [code, severity, text] = &fields;
-    let number = code.number(at)?;
-    let severity = severity.severity(at)?;
-    let text = text.text(at)?;
-    Ok(Horizontal::Notification {
-        code: Code { number },
+    let Notice {
+        code,
         severity,
-        text: text.text(alloc)?,
+        text,
+    } = read_notice(alloc, at, attributes)?;
+    Ok(Horizontal::Notification {
+        code,
+        severity,
+        text,
     })
 }
 

@@ -1,4 +1,5 @@
-ghost use Rattle.std.specs.Prelude.{◌≡◌, ◌++◌, [], OnOk, OnErr};
+ghost use Rattle.std.specs.Prelude.{◌≡◌, ◌++◌, OnOk, OnErr};
+ghost use Rattle.hermes_element.specs.Standing.{StillStands};
 ghost use Rattle.hermes_horizontal.specs.Canonical.{IsWritable, canonical, body_spelling};
 ghost use Rattle.hermes_horizontal.specs.Spelling.{Spells};
 
@@ -24,41 +25,22 @@ pub fn write_horizontal(message: &Message, to: &mut Vec<u8>) -> Result<(), Memor
     ensures reads_back { IsWritable message.now → Spells (canonical message.now) message.now }
 {
     message.reads_back();
-    if to.is_empty() {
-        return write_first(message, to);
-    }
-    match Vec::with_capacity(*to.allocator(), TYPICAL_BYTES) {
-        Ok(mut spelling) => {
-            append_horizontal(message, &mut spelling)?;
-            append(to, spelling.as_slice())
-        }
-        Err(_) => Err(Memory),
-    }
-}
-
-/// Writes a message where nothing stands yet, so that there is nothing to keep.
-fn write_first(message: &Message, to: &mut Vec<u8>) -> Result<(), Memory>
-    requires { to.old.items ≡ [] }
-    ensures written { OnOk result (to.new.items ≡ to.old.items ++ canonical message.now) }
-    ensures unchanged { OnErr result (to.new.items ≡ to.old.items) }
-{
     if to.reserve(TYPICAL_BYTES).is_err() {
         return Err(Memory);
     }
-    match append_horizontal(message, to) {
+    let before = to.len();
+    match append_message(message, to) {
         Ok(()) => Ok(()),
-        Err(_) => {
-            to.clear();
+        Err(Memory) => {
+            to.truncate(before);
             Err(Memory)
         }
     }
 }
 
-/// Appends the canonical spelling of a message, for a caller that gives `to` up where memory is
-/// wanting: a front of the spelling may stand there then. Else it is `write_horizontal`, without the
-/// spelling's copy.
-pub fn append_horizontal(message: &Message, to: &mut Vec<u8>) -> Result<(), Memory>
-    ensures { OnOk result (to.new.items ≡ to.old.items ++ canonical message.now) }
+fn append_message(message: &Message, to: &mut Vec<u8>) -> Result<(), Memory>
+    ensures kept { StillStands to.old.items to.new.items }
+    ensures written { OnOk result (to.new.items ≡ to.old.items ++ canonical message.now) }
 {
     append(to, b"<Hermes")?;
     append_optional_moment(Attr::Timestamp, message.stamp, to)?;
@@ -68,7 +50,8 @@ pub fn append_horizontal(message: &Message, to: &mut Vec<u8>) -> Result<(), Memo
 }
 
 fn append_body(body: &Horizontal, to: &mut Vec<u8>) -> Result<(), Memory>
-    ensures { OnOk result (to.new.items ≡ to.old.items ++ body_spelling body.now) }
+    ensures kept { StillStands to.old.items to.new.items }
+    ensures written { OnOk result (to.new.items ≡ to.old.items ++ body_spelling body.now) }
 {
     append(to, b"<")?;
     append(to, body.name())?;

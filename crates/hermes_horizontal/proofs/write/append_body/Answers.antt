@@ -2,8 +2,8 @@ use Rattle.std.proofs.lemmas.Result.{on_ok_weaker}
 use Rattle.hermes_horizontal.proofs.Writing.{body_written}
 use Rattle.hermes_horizontal.proofs.write.append_body.Goals as goal
 
-pub returns : goal.returns
-returns c = on_ok_weaker c.append_children.result
+pub returns-clause-written : goal.returns-clause-written
+returns-clause-written c = on_ok_weaker c.append_children.result
     (λ e. body_written c.args.body.now c.args.to.now.items c.append.new.to.items c.append-2.new.to.items c.append_attributes.new.to.items c.append_children.new.to.items
-    c.in_ok-append.ensures.written (rw c.name.ensures at c.in_ok-append-2.ensures.written) c.in_ok-append_attributes.ensures e)
-    c.append_children.ensures
+    c.in_ok-append.ensures.written (rw c.name.ensures at c.in_ok-append-2.ensures.written) c.in_ok-append_attributes.ensures.written e)
+    c.append_children.ensures.written
