@@ -1,2 +1,4 @@
 pub mod Pieces
 pub mod Growing
+pub mod Accounts
+pub mod Passing

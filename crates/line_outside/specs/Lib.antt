@@ -3,3 +3,9 @@ pub mod Source
 pub mod Sink
 pub mod Tape
 pub mod Sheet
+pub mod Given
+pub mod Ports
+pub mod Clock
+pub mod Room
+pub mod Left
+pub mod Store

@@ -57,7 +57,7 @@ impl Source for SteadySource {
 }
 
 /// Copies as many of the bytes to the front of the room as fit, and says how many.
-fn fill(room: &mut [u8], bytes: &[u8]) -> usize
+pub(crate) fn fill(room: &mut [u8], bytes: &[u8]) -> usize
     ensures count { result ≡ min (length bytes.now) (length room.old) }
     ensures filled { take result room.new ≡ take result bytes.now }
 {

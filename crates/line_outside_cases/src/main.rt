@@ -3,7 +3,9 @@
 #![tactic(auto)]
 
 mod host;
+mod host_side;
 mod numbers;
+mod ports;
 mod sinks;
 mod sources;
 
@@ -14,10 +16,21 @@ fn main(rt: HostRuntime) -> io::Result<()> {
     let out = rt.stdout();
     for line in rt.lines(rt.alloc()) {
         let line = line?;
-        let said = answer(rt.alloc(), line.as_str())?;
+        let said = said_of(&rt, line.as_str())?;
         println!(out; "{line} = {said}")?;
     }
     Ok(())
+}
+
+/// The answer, where the host may be asked.
+fn said_of(rt: &HostRuntime, line: &str) -> Result<String, AllocError> {
+    if line == "clocks" {
+        return String::from_str(rt.alloc(), host_side::clocks(rt));
+    }
+    if line == "sockets" {
+        return String::from_str(rt.alloc(), host_side::sockets(rt));
+    }
+    answer(rt.alloc(), line)
 }
 
 fn answer(alloc: Global, line: &str) -> Result<String, AllocError> {
@@ -36,6 +49,9 @@ fn answer_of(alloc: Global, what: &str, asked: &str) -> Result<String, AllocErro
     }
     if what == "reader" {
         return sources::reader(alloc, asked);
+    }
+    if what == "ports" {
+        return ports::memory(alloc, asked);
     }
     if what == "sink" {
         return sinks::memory(alloc, asked);

@@ -1,0 +1,149 @@
+ghost use Rattle.std.specs.Prelude.{◌≡◌, ◌≤◌, ◌<◌, None, length};
+ghost use Rattle.std.specs.Bool.{OnTrue};
+ghost use Rattle.line_outside.specs.Ports.{IsGotWithin, HasGotCause, HasSentCause, HasOpenCause};
+ghost use Rattle.line_outside.specs.Faults.{Rises};
+
+use crate::ports::{Got, Opened, Ports, Sent};
+use crate::socket::Socket;
+use crate::way::{Address, Way};
+use mio::net::{TcpListener, TcpStream};
+use std::net::{Ipv4Addr, Net, SocketAddr, SocketAddrV4};
+use std::thread;
+use std::time::{Clock, Duration};
+
+/// How long the ports pause where a whole turn found nothing, in milliseconds.
+const PAUSE: u64 = 1;
+
+/// Ports over the host's sockets, which never block. They tell nothing of what was called and answered.
+///
+/// A turn of polls begins at the way Panel. Where in a whole turn nothing came and nothing was sent they pause for about
+/// a millisecond, so that a machine at rest leaves the processor alone.
+#[derive(Drop)]
+pub struct SocketPorts<R: Net + Clock> {
+    host: R,
+    sockets: [Socket; 4],
+    is_busy: bool,
+    faults: u64,
+}
+
+impl<R: Net + Clock> SocketPorts<R> {
+    /// Ports that listen nowhere and have no connections yet.
+    pub fn new(host: R) -> SocketPorts<R>
+        ensures { result.faults ≡ 0 }
+    {
+        SocketPorts {
+            host,
+            sockets: [Socket::new(), Socket::new(), Socket::new(), Socket::new()],
+            is_busy: true,
+            faults: 0,
+        }
+    }
+
+    /// Counts a fault.
+    fn fault(&mut self)
+        ensures { Rises self.old.faults self.new.faults }
+    {
+        self.faults = self.faults.saturating_add(1);
+    }
+
+    /// Begins a turn: pauses where nothing happened in the last one.
+    fn begin_turn(&mut self)
+        ensures { self.new.faults ≡ self.old.faults }
+    {
+        if !self.is_busy {
+            thread::sleep(&self.host, Duration::from_millis(PAUSE));
+        }
+        self.is_busy = false;
+    }
+
+    /// What became of a piece, with a fault counted where it failed.
+    fn note_sent(&mut self, sent: Sent) -> Sent
+        ensures same { result ≡ sent }
+        ensures cause { HasSentCause self.old.faults self.new.faults result }
+    {
+        match sent {
+            Sent::Took(_) => self.is_busy = true,
+            Sent::Failed => self.fault(),
+            Sent::NotYet | Sent::Closed => {}
+        }
+        sent
+    }
+}
+
+/// Where the socket of a way lies.
+fn place_of(way: Way) -> usize
+    ensures { result < 4 }
+{
+    match way {
+        Way::Panel => 0,
+        Way::Upstream => 1,
+        Way::Downstream => 2,
+        Way::Supervisory => 3,
+    }
+}
+
+impl<R: Net + Clock> Ports for SocketPorts<R> {
+    ghost given = { λ _. None };
+
+    ghost faults = { λ ports. ports.faults };
+
+    ghost quiet = { λ _ _. None };
+
+    ghost stuck = { λ _ _. None };
+
+    fn listen(&mut self, way: Way, port: u16) -> Opened {
+        let address = SocketAddr::V4(SocketAddrV4::new(Ipv4Addr::UNSPECIFIED, port));
+        match TcpListener::bind(&self.host, address) {
+            Ok(listener) => {
+                self.sockets[place_of(way)].set_listener(listener);
+                Opened::Done
+            }
+            Err(_) => {
+                self.fault();
+                Opened::Failed
+            }
+        }
+    }
+
+    fn connect(&mut self, way: Way, address: Address) -> Opened {
+        let [a, b, c, d] = address.host;
+        let address = SocketAddr::V4(SocketAddrV4::new(Ipv4Addr::new(a, b, c, d), address.port));
+        match TcpStream::connect(&self.host, address) {
+            Ok(stream) => {
+                self.sockets[place_of(way)].set_asked(stream);
+                Opened::Done
+            }
+            Err(_) => {
+                self.fault();
+                Opened::Failed
+            }
+        }
+    }
+
+    fn poll(&mut self, way: Way, room: &mut [u8]) -> Got {
+        if way == Way::Panel {
+            self.begin_turn();
+        }
+        let got = self.sockets[place_of(way)].poll(room);
+        match got {
+            Got::NotYet => {}
+            Got::Failed => self.fault(),
+            _ => self.is_busy = true,
+        }
+        got
+    }
+
+    fn send(&mut self, way: Way, piece: &[u8]) -> Sent {
+        let sent = self.sockets[place_of(way)].send(piece);
+        self.note_sent(sent)
+    }
+
+    fn refuse(&mut self, way: Way, piece: &[u8]) -> Sent {
+        let sent = self.sockets[place_of(way)].refuse(piece);
+        self.note_sent(sent)
+    }
+
+    fn close(&mut self, way: Way) {
+        self.sockets[place_of(way)].close();
+    }
+}
