@@ -1,0 +1,81 @@
+//! The program `node`. It makes the words, the file, the ports, the clock and the log of the host's, and hands them to
+//! `node_main`.
+#![tactic(auto)]
+
+mod file;
+
+use crate::file::SettingsFile;
+use line_base::{Memory, Word, Words};
+use line_outside::{HostClock, SocketPorts, WriterSink};
+use node_cli::{NodeStatus, node_main};
+use std::alloc::AllocError;
+use std::io::Write;
+use std::net::Net;
+use std::process::ExitCode;
+use std::rt::{Clock, Env, Files};
+use std::{env, io};
+
+fn main(rt: HostRuntime) -> ExitCode {
+    let status = match run(&rt) {
+        Ok(status) => status,
+        Err(Memory) => NodeStatus::Memory,
+    };
+    let _told = tell(&rt, status);
+    ExitCode::from(status.exit_number())
+}
+
+/// Where nothing was run, a line in the log's place says why.
+fn tell<R: Print>(rt: &R, status: NodeStatus) -> io::Result<()> {
+    let mut out = io::writer(rt);
+    match status {
+        NodeStatus::Usage => out.write_all(b"usage: node <settings file>\n"),
+        NodeStatus::ConfigRefused(key, why) => writeln!(out, "refused: {key}: {why}"),
+        _ => Ok(()),
+    }
+}
+
+fn run<R>(rt: &R) -> Result<NodeStatus, Memory>
+where
+    R: Net + Clock + Clone + Drop + Env + Files + Print + AllocGlobal,
+{
+    let words = words_of(rt)?;
+    let mut file = SettingsFile::open(rt, &words);
+    let mut ports = SocketPorts::new(copy_of(rt)?);
+    let mut clock = HostClock::new(copy_of(rt)?);
+    let mut log = WriterSink::new(io::writer(rt));
+    Ok(node_main(
+        rt.alloc(),
+        &words,
+        &mut file,
+        &mut ports,
+        &mut clock,
+        &mut log,
+    ))
+}
+
+fn copy_of<R: Clone>(rt: &R) -> Result<R, Memory> {
+    let copy: Result<R, AllocError> = rt.clone();
+    match copy {
+        Ok(copy) => Ok(copy),
+        Err(_) => Err(Memory),
+    }
+}
+
+/// The words behind the program's name. Where one of them is no text, there are none, so that the program ends as with no
+/// word.
+fn words_of<R: Env + AllocGlobal>(rt: &R) -> Result<Words, Memory> {
+    let mut words = Words::new(rt.alloc());
+    match env::args(rt) {
+        Ok(arguments) => {
+            for argument in arguments.skip(1) {
+                words.push(Word::of(rt.alloc(), argument.as_bytes())?)?;
+            }
+        }
+        Err(error) => {
+            if error.kind() == io::ErrorKind::OutOfMemory {
+                return Err(Memory);
+            }
+        }
+    }
+    Ok(words)
+}

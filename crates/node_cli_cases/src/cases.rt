@@ -1,0 +1,115 @@
+use crate::answers::answer_of;
+use crate::calls::{tell_calls, written};
+use crate::spelled::spell;
+use line_base::{Memory, Moment, Word, Words};
+use line_outside::{FixedClock, MemoryPorts, MemorySink, MemorySource, PortAnswer};
+use node_cli::{NodeStatus, node_main};
+use std::alloc::Global;
+use std::io::Write;
+
+/// For how many calls, and how many bytes of them, ports tell.
+const TOLD_CALLS: usize = 20_000;
+
+const TOLD_BYTES: usize = 4_000_000;
+
+/// How many bytes of the log are kept.
+const LOG_BYTES: usize = 4_000_000;
+
+/// Tells a case: its first line, the calls of the ports, the log, and how the run ends.
+pub fn tell_case(alloc: Global, case: &str, to: &mut Vec<u8>) -> Result<(), Memory> {
+    let (head, body) = case.split_once('\n').unwrap_or((case, ""));
+    written(write!(to, "=== {head}\n"))?;
+    let (words, faults) = head.split_once(", ").unwrap_or((head, ""));
+    let words = words_of(alloc, words)?;
+    let settings = settings_of(alloc, body)?;
+    let answers = answers_of(alloc, body)?;
+    let mut file = source_of(alloc, settings.as_slice(), faults)?;
+    let mut ports = ports_of(alloc, answers.as_slice(), faults)?;
+    let mut log = sink_of(alloc, faults)?;
+    let mut clock = FixedClock::new(Moment::of_millis(0));
+    let status = node_main(alloc, &words, &mut file, &mut ports, &mut clock, &mut log);
+    tell_ports(&ports, to)?;
+    tell_log(&log, to)?;
+    tell_status(status, to)
+}
+
+fn words_of(alloc: Global, text: &str) -> Result<Words, Memory> {
+    let mut words = Words::new(alloc);
+    for word in text.split(' ') {
+        if !word.is_empty() && word != "-" {
+            words.push(Word::of(alloc, word.as_bytes())?)?;
+        }
+    }
+    Ok(words)
+}
+
+/// The settings file: the lines that don't begin with `<`.
+fn settings_of(alloc: Global, body: &str) -> Result<Vec<u8>, Memory> {
+    let mut bytes = Vec::new(alloc);
+    for line in body.lines() {
+        if !line.starts_with("< ") {
+            spell(line, &mut bytes)?;
+            append(b"\n", &mut bytes)?;
+        }
+    }
+    Ok(bytes)
+}
+
+fn append(bytes: &[u8], to: &mut Vec<u8>) -> Result<(), Memory> {
+    written(to.extend_from_slice(bytes))
+}
+
+/// What the ports have in store: the lines that begin with `<`.
+fn answers_of(alloc: Global, body: &str) -> Result<Vec<PortAnswer>, Memory> {
+    let mut answers = Vec::new(alloc);
+    for line in body.lines() {
+        if let Some(words) = line.strip_prefix("< ") {
+            answers.push(answer_of(alloc, words)?)?;
+        }
+    }
+    Ok(answers)
+}
+
+fn source_of(alloc: Global, bytes: &[u8], faults: &str) -> Result<MemorySource, Memory> {
+    if faults == "the first pull fails" {
+        return MemorySource::new(alloc, bytes, &[1]);
+    }
+    MemorySource::new(alloc, bytes, &[])
+}
+
+fn sink_of(alloc: Global, faults: &str) -> Result<MemorySink, Memory> {
+    if faults == "the first push fails" {
+        return MemorySink::new(alloc, LOG_BYTES, &[1]);
+    }
+    MemorySink::new(alloc, LOG_BYTES, &[])
+}
+
+fn ports_of(alloc: Global, answers: &[PortAnswer], faults: &str) -> Result<MemoryPorts, Memory> {
+    match faults.strip_prefix("failing call ") {
+        Some(number) => {
+            let number = number.parse::<u64>().unwrap_or(0);
+            MemoryPorts::failing(alloc, answers, TOLD_CALLS, TOLD_BYTES, &[number])
+        }
+        None => MemoryPorts::new(alloc, answers, TOLD_CALLS, TOLD_BYTES),
+    }
+}
+
+fn tell_ports(ports: &MemoryPorts, to: &mut Vec<u8>) -> Result<(), Memory> {
+    match ports.told() {
+        Some((calls, bytes)) => tell_calls(calls, bytes, to),
+        None => written(write!(to, "> untold\n")),
+    }
+}
+
+fn tell_log(log: &MemorySink, to: &mut Vec<u8>) -> Result<(), Memory> {
+    append(log.contents().unwrap_or(b"untold"), to)
+}
+
+fn tell_status(status: NodeStatus, to: &mut Vec<u8>) -> Result<(), Memory> {
+    match status {
+        NodeStatus::ConfigRefused(key, why) => {
+            written(write!(to, "--- ConfigRefused, {key}: {why}\n"))
+        }
+        status => written(write!(to, "--- {status:?}\n")),
+    }
+}

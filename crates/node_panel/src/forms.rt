@@ -1,0 +1,204 @@
+//! One reader for each form of line, by what stands behind its first word.
+
+ghost use Rattle.std.specs.Prelude.{◌≡◌, map};
+ghost use Rattle.line_script.specs.Words.{Reads};
+ghost use Rattle.node_panel.specs.Panel.{insert_of, with_id, with_side, mark_of, sense_of, bare, asked_of, asked_of_sides, asked_of_connections, is_later};
+ghost use Rattle.node_panel.specs.declared.line.PanelLine.TheVariants as lines;
+
+use crate::line::PanelLine;
+use crate::words::{event_of, id_of, quality_of, side_of};
+use board_record::Sensed;
+use line_script::words::token;
+use line_script::{LineError, LineWhy};
+use std::alloc::Global;
+
+/// The line that a first word and those behind it ask for.
+pub fn asked_of(alloc: Global, first: &[u8], words: &[&[u8]]) -> Result<PanelLine, LineError>
+    ensures { Reads (asked_of first.now (map (λ word. word.now) words.now)) result }
+{
+    if first == &b"insert"[..] {
+        return insert(alloc, words);
+    }
+    if first == &b"remove"[..] {
+        return refused(remove(words));
+    }
+    if first == &b"replace"[..] {
+        return refused(replace(words));
+    }
+    if first == &b"mark"[..] {
+        return refused(mark(words));
+    }
+    refused(asked_of_sides(first, words))
+}
+
+fn refused(line: Result<PanelLine, LineWhy>) -> Result<PanelLine, LineError>
+    ensures { Reads line result }
+{
+    match line {
+        Ok(line) => Ok(line),
+        Err(why) => Err(LineError::Refused(why)),
+    }
+}
+
+fn asked_of_sides(first: &[u8], words: &[&[u8]]) -> Result<PanelLine, LineWhy>
+    ensures { result ≡ asked_of_sides first.now (map (λ word. word.now) words.now) }
+{
+    if first == &b"hold"[..] {
+        return hold(words);
+    }
+    if first == &b"go"[..] {
+        return go(words);
+    }
+    if first == &b"fault"[..] {
+        return fault(words);
+    }
+    if first == &b"sense"[..] {
+        return sense(words);
+    }
+    asked_of_connections(first, words)
+}
+
+fn asked_of_connections(first: &[u8], words: &[&[u8]]) -> Result<PanelLine, LineWhy>
+    ensures { result ≡ asked_of_connections first.now (map (λ word. word.now) words.now) }
+{
+    if first == &b"connect"[..] {
+        return bare(PanelLine::Connect, words);
+    }
+    if first == &b"shutdown"[..] {
+        return bare(PanelLine::Shutdown, words);
+    }
+    if first == &b"tick"[..] {
+        return bare(PanelLine::Tick, words);
+    }
+    if first == &b"show"[..] {
+        return bare(PanelLine::Show, words);
+    }
+    if first == &b"end"[..] {
+        return bare(PanelLine::End, words);
+    }
+    if is_later(first) {
+        return Err(LineWhy::NotYet);
+    }
+    Err(LineWhy::UnknownWord)
+}
+
+fn is_later(first: &[u8]) -> bool
+    ensures { result ≡ is_later first.now }
+{
+    first == &b"signal"[..]
+        || first == &b"ask"[..]
+        || first == &b"forecast"[..]
+        || first == &b"query"[..]
+}
+
+fn bare(line: PanelLine, words: &[&[u8]]) -> Result<PanelLine, LineWhy>
+    ensures { result ≡ bare line (map (λ word. word.now) words.now) }
+{
+    match words {
+        [] => Ok(line),
+        _ => Err(LineWhy::WrongCount),
+    }
+}
+
+fn insert(alloc: Global, words: &[&[u8]]) -> Result<PanelLine, LineError>
+    ensures { Reads (insert_of (map (λ word. word.now) words.now)) result }
+{
+    match words {
+        [] => Ok(PanelLine::Insert { barcode: None }),
+        [barcode] => match token(alloc, barcode) {
+            Ok(barcode) => Ok(PanelLine::Insert {
+                barcode: Some(barcode),
+            }),
+            Err(error) => Err(error),
+        },
+        _ => Err(LineError::Refused(LineWhy::WrongCount)),
+    }
+}
+
+fn remove(words: &[&[u8]]) -> Result<PanelLine, LineWhy>
+    ensures { result ≡ with_id lines.Remove (map (λ word. word.now) words.now) }
+{
+    match words {
+        [word] => {
+            let id = id_of(word)?;
+            Ok(PanelLine::Remove { id })
+        }
+        _ => Err(LineWhy::WrongCount),
+    }
+}
+
+fn replace(words: &[&[u8]]) -> Result<PanelLine, LineWhy>
+    ensures { result ≡ with_id lines.Replace (map (λ word. word.now) words.now) }
+{
+    match words {
+        [word] => {
+            let id = id_of(word)?;
+            Ok(PanelLine::Replace { id })
+        }
+        _ => Err(LineWhy::WrongCount),
+    }
+}
+
+fn mark(words: &[&[u8]]) -> Result<PanelLine, LineWhy>
+    ensures { result ≡ mark_of (map (λ word. word.now) words.now) }
+{
+    match words {
+        [id, quality] => {
+            let id = id_of(id)?;
+            let quality = quality_of(quality)?;
+            Ok(PanelLine::Mark { id, quality })
+        }
+        _ => Err(LineWhy::WrongCount),
+    }
+}
+
+fn hold(words: &[&[u8]]) -> Result<PanelLine, LineWhy>
+    ensures { result ≡ with_side lines.Hold (map (λ word. word.now) words.now) }
+{
+    match words {
+        [word] => {
+            let side = side_of(word)?;
+            Ok(PanelLine::Hold { side })
+        }
+        _ => Err(LineWhy::WrongCount),
+    }
+}
+
+fn go(words: &[&[u8]]) -> Result<PanelLine, LineWhy>
+    ensures { result ≡ with_side lines.Go (map (λ word. word.now) words.now) }
+{
+    match words {
+        [word] => {
+            let side = side_of(word)?;
+            Ok(PanelLine::Go { side })
+        }
+        _ => Err(LineWhy::WrongCount),
+    }
+}
+
+fn fault(words: &[&[u8]]) -> Result<PanelLine, LineWhy>
+    ensures { result ≡ with_side lines.Fault (map (λ word. word.now) words.now) }
+{
+    match words {
+        [word] => {
+            let side = side_of(word)?;
+            Ok(PanelLine::Fault { side })
+        }
+        _ => Err(LineWhy::WrongCount),
+    }
+}
+
+fn sense(words: &[&[u8]]) -> Result<PanelLine, LineWhy>
+    ensures { result ≡ sense_of (map (λ word. word.now) words.now) }
+{
+    match words {
+        [side, event] => {
+            let side = side_of(side)?;
+            let event = event_of(side, event)?;
+            Ok(PanelLine::Sense {
+                sensed: Sensed { side, event },
+            })
+        }
+        _ => Err(LineWhy::WrongCount),
+    }
+}

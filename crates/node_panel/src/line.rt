@@ -1,0 +1,35 @@
+use board_record::{BoardId, Sensed};
+use line_base::{Quality, Side, Text};
+
+/// What one line of a panel asks of its machine.
+#[derive(Debug, PartialEq, Eq, Drop)]
+pub enum PanelLine {
+    /// Nothing: an empty line, or a comment.
+    Blank,
+    /// A new board at the back, maybe with a top barcode.
+    Insert { barcode: Option<Text> },
+    /// A board taken out.
+    Remove { id: BoardId },
+    /// A new board in the place of another.
+    Replace { id: BoardId },
+    /// A board is known to be good or failed.
+    Mark { id: BoardId, quality: Quality },
+    /// No boards are handed over at this side from now on.
+    Hold { side: Side },
+    /// Boards are handed over at this side again.
+    Go { side: Side },
+    /// A connection to the upstream neighbour.
+    Connect,
+    /// The end of both connections.
+    Shutdown,
+    /// A tick of the clock.
+    Tick,
+    /// The drive of this side fails.
+    Fault { side: Side },
+    /// A sensor of this side saw this.
+    Sense { sensed: Sensed },
+    /// What the machine keeps and holds.
+    Show,
+    /// The end of the run.
+    End,
+}

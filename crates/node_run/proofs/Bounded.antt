@@ -1,0 +1,43 @@
+-- No more text waits than may where a run goes on.
+use Rattle.std.proofs.Common.{◌≡◌, refl, sym, ℕ, Bool, true, false, ◌||◌, List, Option, None, Some, length, ◌≤◌, ◌⊎◌, inl, inr, nat_lt, if◌then◌else◌, arith}
+use Rattle.std.proofs.lemmas.Bool.{false≢true}
+use Rattle.std.proofs.lemmas.Bool.Decides.{nat_tests}
+use Rattle.line_outside.specs.declared.way.Way.{Way}
+use Rattle.line_outside.specs.declared.way.Way.TheVariants as ways
+use Rattle.node_run.specs.declared.rules.Rules.{Rules}
+use Rattle.node_run.specs.State.{Refusal, RunState, way_at}
+use Rattle.node_run.specs.Next.{next_of, ends_next, refuses_next, connects_next, is_due, is_due_by, is_empty, goes_on, HasBoundedText, most_unsent}
+use Rattle.node_run.specs.declared.place.Next.{Next}
+use Rattle.node_run.specs.declared.place.Next.TheVariants as nexts
+use Rattle.node_run.specs.declared.status.NodeStatus.{NodeStatus}
+use Rattle.node_run.specs.declared.way_state.Wire.{Wire}
+use Rattle.node_run.specs.declared.way_state.Wire.TheVariants as wires
+
+none_due : (ended : Option NodeStatus) (refusal : Option Refusal) (p u d : Bool) (next : Next)
+    → goes_on (ends_next ended (refuses_next refusal (if p then nexts.Close ways.Panel else (if u then nexts.Close ways.Upstream else (if d then nexts.Close ways.Downstream else next))))) ≡ true
+    → (p ≡ false) × (u ≡ false) × (d ≡ false)
+none_due (Some status) refusal p u d next goes = absurd (false≢true goes)
+none_due None (Some refusal) p u d next goes = absurd (false≢true goes)
+none_due None None true u d next goes = absurd (false≢true goes)
+none_due None None false true d next goes = absurd (false≢true goes)
+none_due None None false false true next goes = absurd (false≢true goes)
+none_due None None false false false next goes = (refl, refl, refl)
+
+few_bytes : (unsent : List ℕ) → nat_lt most_unsent (length unsent) ≡ false → length unsent ≤ most_unsent
+few_bytes unsent few = grind (arith, nat_tests)
+
+both_false : (a b : Bool) → (a || b) ≡ false → b ≡ false
+both_false true b e = absurd (false≢true (sym e))
+both_false false b e = e
+
+bounded_by : (wire : Wire) (unsent : List ℕ) → is_due_by wire unsent ≡ false → (wire ≡ wires.Rests) ⊎ (length unsent ≤ most_unsent)
+bounded_by wires.Rests unsent due = inl refl
+bounded_by wires.Stands unsent due = inr (few_bytes unsent due)
+bounded_by wires.Ends unsent due = inr (few_bytes unsent (both_false (is_empty unsent) (nat_lt most_unsent (length unsent)) due))
+bounded_by wires.Breaks unsent due = absurd (false≢true (sym due))
+
+pub bounded : (rules : Rules) (s : RunState) (way : Way) → goes_on (next_of rules s) ≡ true → HasBoundedText (way_at way s)
+bounded rules s ways.Panel goes = bounded_by s.panel.wire s.panel.unsent (none_due s.ended s.refusal (is_due s.panel) (is_due s.upstream) (is_due s.downstream) (connects_next rules s) goes).0
+bounded rules s ways.Upstream goes = bounded_by s.upstream.wire s.upstream.unsent (none_due s.ended s.refusal (is_due s.panel) (is_due s.upstream) (is_due s.downstream) (connects_next rules s) goes).1
+bounded rules s ways.Downstream goes = bounded_by s.downstream.wire s.downstream.unsent (none_due s.ended s.refusal (is_due s.panel) (is_due s.upstream) (is_due s.downstream) (connects_next rules s) goes).2
+bounded rules s ways.Supervisory goes = inl refl

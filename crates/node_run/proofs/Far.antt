@@ -1,0 +1,230 @@
+-- Each move brings a run nearer to its end.
+use Rattle.std.proofs.Common.{◌≡◌, ◌∙◌, sym, subst, ap, refl, ℕ, ℤ, Bool, true, false, not, List, [], ◌∷◌, Option, None, Some, length, ◌<◌, ◌≤◌, ◌+◌, ◌*◌, arith, nat_lt}
+use Rattle.std.proofs.lemmas.Bool.{false≢true}
+use Rattle.line_base.specs.declared.states.Side.TheVariants.{Entry, Exit}
+use Rattle.line_outside.specs.Given.{Given}
+use Rattle.line_outside.specs.declared.answer.GotBytes.{GotBytes}
+use Rattle.line_outside.specs.declared.answer.GotBytes.TheVariants as founds
+use Rattle.line_outside.specs.declared.ports.Opened.{Opened}
+use Rattle.line_outside.specs.declared.ports.Opened.TheVariants as opens
+use Rattle.line_outside.specs.declared.ports.Sent.{Sent}
+use Rattle.line_outside.specs.declared.way.Way.{Way}
+use Rattle.line_outside.specs.declared.way.Way.TheVariants as ways
+use Rattle.node_core.specs.May.{no_if, may_do}
+use Rattle.node_core.specs.Sides.{is_open}
+use Rattle.node_core.specs.declared.input.Input.TheVariants as inputs
+use Rattle.node_core.specs.declared.input.No.TheVariants as no
+use Rattle.node_run.specs.declared.rules.Rules.{Rules}
+use Rattle.node_run.specs.State.{Refusal, RunState, at_rest, way_at}
+use Rattle.node_run.specs.Next.{at_place, place_behind, turn_behind, moved_on, is_due, is_due_by, is_empty}
+use Rattle.node_run.specs.Steps.{Takes, TakesStep}
+use Rattle.node_run.specs.After.{after_listen, after_send, panel_gone, AfterPoll, AfterClose}
+use Rattle.node_run.specs.Lines.{DoesLine}
+use Rattle.node_run.specs.Runs.{Moves, listens, connects, polls, sends, refuses, closes, skips, does_line}
+use Rattle.node_run.specs.Moving.{is_end}
+use Rattle.node_run.specs.Work.{far_at, count, wire_work, refusal_work, close_work, work_at, far_of}
+use Rattle.node_run.specs.declared.place.Next.{Next}
+use Rattle.node_run.specs.declared.place.Next.TheVariants as nexts
+use Rattle.node_run.specs.declared.place.Place.{Place}
+use Rattle.node_run.specs.declared.place.Place.TheVariants as places
+use Rattle.node_run.specs.declared.way_state.Wire.{Wire}
+use Rattle.node_run.specs.declared.way_state.Wire.TheVariants as wires
+use Rattle.node_run.proofs.Nexts.{is_from, turn_goes}
+use Rattle.node_run.proofs.Frames.{IsShortGot, poll_same, sent_same, line_takes}
+use Rattle.node_run.proofs.Closing.{notice_closes, notice_leaves}
+
+-- ---- bounds
+
+count_most : (b : Bool) → count b ≤ 1
+count_most true = omega arith
+count_most false = omega arith
+
+wire_most : (wire : Wire) → wire_work wire ≤ 1
+wire_most wires.Rests = omega arith
+wire_most wires.Stands = omega arith
+wire_most wires.Ends = omega arith
+wire_most wires.Breaks = omega arith
+
+refusal_most : (refusal : Option Refusal) → refusal_work refusal ≤ 1
+refusal_most None = omega arith
+refusal_most (Some refusal) = omega arith
+
+work_most : (s : RunState) → work_at s ≤ 12 * length s.rest + 11
+work_most s = omega (arith, count_most s.asks, refusal_most s.refusal, wire_most s.panel.wire, wire_most s.upstream.wire, wire_most s.downstream.wire, count_most (is_open Entry s.node.lane.body), count_most (is_open Exit s.node.lane.body))
+
+-- ---- places
+
+behind_far : (rules : Rules) (s : RunState) (place : Place) → is_end (at_place rules s place) ≡ false → far_at rules.turns (turn_behind place s.turn) (place_behind place) + 1 ≤ far_at rules.turns s.turn place
+behind_far rules s places.ListenPanel goes = omega arith
+behind_far rules s places.ListenDownstream goes = omega arith
+behind_far rules s places.PollPanel goes = omega arith
+behind_far rules s places.PollUpstream goes = omega arith
+behind_far rules s places.PollDownstream goes = omega arith
+behind_far rules s places.SendPanel goes = omega arith
+behind_far rules s places.SendUpstream goes = omega arith
+behind_far rules s places.SendDownstream goes = omega arith
+behind_far rules s places.TurnDone goes = omega (arith, turn_goes (nat_lt s.turn rules.turns) s.turn rules.turns refl goes)
+
+-- a place behind this one, whatever is to do there
+further : (far near work less : ℕ) → near + 1 ≤ far → less < 50000 → 50000 * near + less < 50000 * far + work
+further far near work less nearer few = omega (arith, nearer, few)
+
+place_far : (rules : Rules) (s t : RunState) (found : Next) → at_place rules s s.place ≡ found → is_end found ≡ false → t.turn ≡ turn_behind s.place s.turn → t.place ≡ place_behind s.place → length t.rest ≤ 4096 → far_of rules t < far_of rules s
+place_far rules s t found e goes turn place rest =
+    let nearer = behind_far rules s s.place (ap is_end e ∙ goes) in
+    let there : far_at rules.turns t.turn t.place ≡ far_at rules.turns (turn_behind s.place s.turn) (place_behind s.place) = ap (λ n. far_at rules.turns n t.place) turn ∙ ap (λ p. far_at rules.turns (turn_behind s.place s.turn) p) place in
+    further (far_at rules.turns s.turn s.place) (far_at rules.turns t.turn t.place) (work_at s) (work_at t) (rw there nearer) (omega (arith, work_most t, rest))
+
+-- the same place, with less to do
+nearer_at : (rules : Rules) (s t : RunState) → t.turn ≡ s.turn → t.place ≡ s.place → work_at t < work_at s → far_of rules t < far_of rules s
+nearer_at rules s t turn place less =
+    let there : far_at rules.turns t.turn t.place ≡ far_at rules.turns s.turn s.place = ap (λ n. far_at rules.turns n t.place) turn ∙ ap (λ p. far_at rules.turns s.turn p) place in
+    omega (arith, there, less)
+
+-- ---- closing
+
+due_wire : (wire : Wire) (unsent : List ℕ) → is_due_by wire unsent ≡ true → wire_work wire ≡ 1
+due_wire wires.Rests unsent due = absurd (false≢true due)
+due_wire wires.Stands unsent due = refl
+due_wire wires.Ends unsent due = refl
+due_wire wires.Breaks unsent due = refl
+
+-- a way is closed that has to be: less is to close
+pub record ClosesLess (s t : RunState) : Type 0 where
+  pub turn : t.turn ≡ s.turn
+  pub place : t.place ≡ s.place
+  pub rest : length t.rest ≤ length s.rest
+  pub asks : t.asks ≡ s.asks
+  pub refusal : t.refusal ≡ s.refusal
+  pub ended : t.ended ≡ s.ended
+  pub less : close_work t < close_work s
+
+-- the machine hears of it, or has no connection
+upstream_step : (rules : Rules) (moment : ℤ) (s t : RunState) (log : List ℕ) → is_open Entry s.node.lane.body ≡ true → is_due s.upstream ≡ true → TakesStep rules moment [] (inputs.Notice Entry) (record s { upstream = at_rest }) t log → ClosesLess s t
+upstream_step rules moment s t log connected due takes =
+    let closed = notice_closes s.node takes.node Entry moment takes.told takes.steps in
+    let other = notice_leaves s.node takes.node Entry moment takes.told takes.steps in
+    let node = ap (λ (r : RunState). r.node.lane.body) takes.after in
+    let panel = ap (λ (r : RunState). wire_work r.panel.wire) takes.after in
+    let up = ap (λ (r : RunState). count (is_open Entry r.node.lane.body)) takes.after ∙ ap count closed in
+    let down = ap (λ (r : RunState). count (is_open Exit r.node.lane.body)) takes.after ∙ ap count other in
+    record {
+      turn = ap (λ (r : RunState). r.turn) takes.after;
+      place = ap (λ (r : RunState). r.place) takes.after;
+      rest = omega (arith, ap (λ (r : RunState). length r.rest) takes.after);
+      asks = ap (λ (r : RunState). r.asks) takes.after;
+      refusal = ap (λ (r : RunState). r.refusal) takes.after;
+      ended = ap (λ (r : RunState). r.ended) takes.after;
+      less = omega (arith, panel, up, down, ap count connected, due_wire s.upstream.wire s.upstream.unsent due, wire_most t.upstream.wire, wire_most t.downstream.wire);
+    }
+
+downstream_step : (rules : Rules) (moment : ℤ) (s t : RunState) (log : List ℕ) → is_open Exit s.node.lane.body ≡ true → is_due s.downstream ≡ true → TakesStep rules moment [] (inputs.Notice Exit) (record s { downstream = at_rest }) t log → ClosesLess s t
+downstream_step rules moment s t log connected due takes =
+    let closed = notice_closes s.node takes.node Exit moment takes.told takes.steps in
+    let other = notice_leaves s.node takes.node Exit moment takes.told takes.steps in
+    let panel = ap (λ (r : RunState). wire_work r.panel.wire) takes.after in
+    let up = ap (λ (r : RunState). count (is_open Entry r.node.lane.body)) takes.after ∙ ap count other in
+    let down = ap (λ (r : RunState). count (is_open Exit r.node.lane.body)) takes.after ∙ ap count closed in
+    record {
+      turn = ap (λ (r : RunState). r.turn) takes.after;
+      place = ap (λ (r : RunState). r.place) takes.after;
+      rest = omega (arith, ap (λ (r : RunState). length r.rest) takes.after);
+      asks = ap (λ (r : RunState). r.asks) takes.after;
+      refusal = ap (λ (r : RunState). r.refusal) takes.after;
+      ended = ap (λ (r : RunState). r.ended) takes.after;
+      less = omega (arith, panel, up, down, ap count connected, due_wire s.downstream.wire s.downstream.unsent due, wire_most t.upstream.wire, wire_most t.downstream.wire);
+    }
+
+less_at : (s u t : RunState) → t ≡ u → ClosesLess s u → ClosesLess s t
+less_at s u t e less = let P : RunState → Type 0 = ClosesLess s in subst P (sym e) less
+
+panel_less : (s : RunState) → is_due s.panel ≡ true → ClosesLess s (panel_gone s)
+panel_less s due = record { turn = refl; place = refl; rest = omega arith; asks = refl; refusal = refl; ended = refl; less = omega (arith, due_wire s.panel.wire s.panel.unsent due) }
+
+upstream_rests : (s : RunState) → is_due s.upstream ≡ true → ClosesLess s (record s { upstream = at_rest })
+upstream_rests s due = record { turn = refl; place = refl; rest = omega arith; asks = refl; refusal = refl; ended = refl; less = omega (arith, due_wire s.upstream.wire s.upstream.unsent due) }
+
+downstream_rests : (s : RunState) → is_due s.downstream ≡ true → ClosesLess s (record s { downstream = at_rest })
+downstream_rests s due = record { turn = refl; place = refl; rest = omega arith; asks = refl; refusal = refl; ended = refl; less = omega (arith, due_wire s.downstream.wire s.downstream.unsent due) }
+
+upstream_less : (test : Bool) (rules : Rules) (moment : ℤ) (s t : RunState) (log : List ℕ) → is_open Entry s.node.lane.body ≡ test → is_due s.upstream ≡ true
+    → (let closed : RunState = record s { upstream = at_rest } in Takes (no_if (not test) no.NotConnected may_do) rules moment (inputs.Notice Entry) closed closed t log) → ClosesLess s t
+upstream_less true rules moment s t log connected due after = upstream_step rules moment s t log connected due after
+upstream_less false rules moment s t log connected due after = less_at s (record s { upstream = at_rest }) t after.0 (upstream_rests s due)
+
+downstream_less : (test : Bool) (rules : Rules) (moment : ℤ) (s t : RunState) (log : List ℕ) → is_open Exit s.node.lane.body ≡ test → is_due s.downstream ≡ true
+    → (let closed : RunState = record s { downstream = at_rest } in Takes (no_if (not test) no.NotConnected may_do) rules moment (inputs.Notice Exit) closed closed t log) → ClosesLess s t
+downstream_less true rules moment s t log connected due after = downstream_step rules moment s t log connected due after
+downstream_less false rules moment s t log connected due after = less_at s (record s { downstream = at_rest }) t after.0 (downstream_rests s due)
+
+pub close_less : (rules : Rules) (moment : ℤ) (way : Way) (s t : RunState) (log : List ℕ) → is_due (way_at way s) ≡ true → AfterClose rules moment way s t log → ClosesLess s t
+close_less rules moment ways.Panel s t log due after = less_at s (panel_gone s) t after.0 (panel_less s due)
+close_less rules moment ways.Upstream s t log due after = upstream_less (is_open Entry s.node.lane.body) rules moment s t log refl due after
+close_less rules moment ways.Downstream s t log due after = downstream_less (is_open Exit s.node.lane.body) rules moment s t log refl due after
+close_less rules moment ways.Supervisory s t log due after = absurd (false≢true due)
+
+less_work : (s t : RunState) → ClosesLess s t → work_at t < work_at s
+less_work s t less = omega (arith, less.rest, ap count less.asks, ap refusal_work less.refusal, less.less)
+
+-- ---- all moves
+
+listen_nearer : (rules : Rules) (s : RunState) (way : Way) (port : ℕ) (opened : Opened) → at_place rules s s.place ≡ nexts.Listen way port → length s.rest ≤ 4096 → far_of rules (after_listen opened s) < far_of rules s
+listen_nearer rules s way port opens.Done e rest = place_far rules s (after_listen opens.Done s) (nexts.Listen way port) e refl refl refl rest
+listen_nearer rules s way port opens.Failed e rest = place_far rules s (after_listen opens.Failed s) (nexts.Listen way port) e refl refl refl rest
+
+connect_nearer : (rules : Rules) (s : RunState) → s.asks ≡ true → far_of rules (record s { asks = false }) < far_of rules s
+connect_nearer rules s asks = nearer_at rules s (record s { asks = false }) refl refl (omega (arith, ap count asks))
+
+refuse_nearer : (rules : Rules) (s : RunState) (refusal : Refusal) → s.refusal ≡ Some refusal → far_of rules (record s { refusal = None }) < far_of rules s
+refuse_nearer rules s refusal e = nearer_at rules s (record s { refusal = None }) refl refl (omega (arith, ap refusal_work e))
+
+send_nearer : (rules : Rules) (s : RunState) (way : Way) (sent : Sent) → at_place rules s s.place ≡ nexts.Send way → length s.rest ≤ 4096 → far_of rules (after_send way sent (moved_on s)) < far_of rules s
+send_nearer rules s way sent e rest =
+    let there = sent_same way sent (moved_on s) in
+    place_far rules s (after_send way sent (moved_on s)) (nexts.Send way) e refl there.turn there.place (rw there.rest rest)
+
+bytes_of : GotBytes → ℕ
+bytes_of (founds.Bytes bytes) = length bytes
+bytes_of _ = 0
+
+short_of : (got : GotBytes) → IsShortGot (bytes_of got) got
+unfolding bytes_of
+short_of (founds.Bytes bytes) = omega arith
+short_of founds.Arrived = tt
+short_of founds.Second = tt
+short_of founds.NotYet = tt
+short_of founds.Closed = tt
+short_of founds.Failed = tt
+
+poll_nearer : (rules : Rules) (moment : ℤ) (s t : RunState) (way : Way) (got : GotBytes) (log : List ℕ) → at_place rules s s.place ≡ nexts.Poll way → AfterPoll rules moment way got (moved_on s) t log → length t.rest ≤ 4096 → far_of rules t < far_of rules s
+poll_nearer rules moment s t way got log e after rest =
+    let there = poll_same (bytes_of got) rules moment way got (moved_on s) t log (short_of got) after in
+    place_far rules s t (nexts.Poll way) e refl there.turn there.place rest
+
+close_nearer : (rules : Rules) (moment : ℤ) (s t : RunState) (way : Way) (log : List ℕ) → is_due (way_at way s) ≡ true → AfterClose rules moment way s t log → far_of rules t < far_of rules s
+close_nearer rules moment s t way log due after =
+    let less = close_less rules moment way s t log due after in
+    nearer_at rules s t less.turn less.place (less_work s t less)
+
+pub not_empty : (bytes : List ℕ) → is_empty bytes ≡ false → 0 < length bytes
+not_empty [] e = absurd (false≢true (sym e))
+not_empty (byte ∷ bytes) e = omega arith
+
+fewer_bytes : (s t : RunState) → length t.rest < length s.rest → work_at t < work_at s
+fewer_bytes s t fewer = omega (arith, work_most t, fewer)
+
+line_nearer : (rules : Rules) (moment : ℤ) (s t : RunState) (log : List ℕ) → is_empty s.rest ≡ false → DoesLine rules moment s t log → far_of rules t < far_of rules s
+line_nearer rules moment s t log some does =
+    let takes = line_takes rules moment s t log (not_empty s.rest some) does in
+    nearer_at rules s t takes.turn takes.place (fewer_bytes s t takes.rest)
+
+-- A MOVE BRINGS A RUN NEARER TO ITS END
+pub moves_nearer : (rules : Rules) (moment : ℤ) {s t : RunState} {calls : List Given} {log : List ℕ} → Moves rules moment s calls t log → length s.rest ≤ 4096 → length t.rest ≤ 4096 → far_of rules t < far_of rules s
+moves_nearer rules moment (listens {s} {way} {port} {opened} next) before after = listen_nearer rules s way port opened (is_from rules s (nexts.Listen way port) next) before
+moves_nearer rules moment (connects {s} {address} {opened} next) before after = connect_nearer rules s (is_from rules s (nexts.Connect address) next)
+moves_nearer rules moment (polls {s} {t} {way} {got} {log} next done) before after = poll_nearer rules moment s t way got log (is_from rules s (nexts.Poll way) next) done after
+moves_nearer rules moment (sends {s} {way} {sent} next) before after = send_nearer rules s way sent (is_from rules s (nexts.Send way) next) before
+moves_nearer rules moment (refuses {s} {refusal} {sent} next e) before after = refuse_nearer rules s refusal e
+moves_nearer rules moment (closes {s} {t} {way} {log} next done) before after = close_nearer rules moment s t way log (is_from rules s (nexts.Close way) next) done
+moves_nearer rules moment (skips {s} next) before after = place_far rules s (moved_on s) nexts.Skip (is_from rules s nexts.Skip next) refl refl refl before
+moves_nearer rules moment (does_line {s} {t} {log} next done) before after = line_nearer rules moment s t log (is_from rules s nexts.Line next) done

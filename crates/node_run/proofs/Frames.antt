@@ -1,0 +1,249 @@
+-- What a move leaves as it is.
+use Rattle.std.proofs.Common.{◌≡◌, ◌∙◌, sym, subst, ap, refl, ℕ, ℤ, Bool, true, false, List, [], ◌∷◌, ◌++◌, Option, None, Some, Result, Ok, Err, ◌⊎◌, inl, inr, length, ◌<◌, ◌≤◌, ◌==◌, if◌then◌else◌, drop, arith}
+use Rattle.line_base.specs.declared.states.Side.TheVariants.{Entry, Exit}
+use Rattle.line_outside.specs.declared.answer.GotBytes.{GotBytes}
+use Rattle.line_outside.specs.declared.answer.GotBytes.TheVariants as founds
+use Rattle.line_outside.specs.declared.ports.Sent.{Sent}
+use Rattle.line_outside.specs.declared.ports.Sent.TheVariants as sents
+use Rattle.line_outside.specs.declared.way.Way.{Way}
+use Rattle.line_outside.specs.declared.way.Way.TheVariants as ways
+use Rattle.line_outside.specs.declared.way.Address.{Address}
+use Rattle.board_record.specs.declared.sensed.Sensed.{Sensed}
+use Rattle.line_script.specs.declared.line.LineWhy.{LineWhy}
+use Rattle.node_core.specs.May.{may_of}
+use Rattle.node_core.specs.Sides.{is_open}
+use Rattle.node_core.specs.declared.input.Input.{Input}
+use Rattle.node_core.specs.declared.input.Input.TheVariants as inputs
+use Rattle.node_core.specs.declared.input.No.{No}
+use Rattle.node_panel.specs.Panel.{panel_line_of}
+use Rattle.node_panel.specs.declared.line.PanelLine.{PanelLine}
+use Rattle.node_panel.specs.declared.line.PanelLine.TheVariants as lines
+use Rattle.node_run.specs.declared.rules.Rules.{Rules}
+use Rattle.node_run.specs.State.{RunState, WayValue, way_at, with_way, with_wire}
+use Rattle.node_run.specs.Next.{has_ended}
+use Rattle.node_run.specs.Steps.{Takes, TakesStep, MeetsSecond}
+use Rattle.node_run.specs.After.{after_send, after_panel, panel_arrived, panel_second, panel_bytes, panel_closed, broken, AfterUpstream, AfterDownstream, AfterPoll}
+use Rattle.node_run.specs.Lines.{cut_line, behind_first, without_return, is_too_long, echoed, Tells, DoesInput, StepsAloud, AsksIf, AsksConnect, may_ask, DoesAsked, KeepsFront, Fronts, Ends, DoesCut, DoesLine}
+use Rattle.node_run.specs.declared.way_state.Wire.{Wire}
+use Rattle.node_run.specs.declared.way_state.Wire.TheVariants as wires
+use Rattle.node_run.specs.declared.status.NodeStatus.{NodeStatus}
+use Rattle.node_run.specs.declared.status.NodeStatus.TheVariants as statuses
+
+-- a run stands at the same place of the same turn, has no other end, and no more text of the panel than so many bytes
+pub record SamePlace (most : ℕ) (s t : RunState) : Type 0 where
+  pub turn : t.turn ≡ s.turn
+  pub place : t.place ≡ s.place
+  pub ended : t.ended ≡ s.ended
+  pub rest : length s.rest ≤ most → length t.rest ≤ most
+
+same : (most : ℕ) (s : RunState) → SamePlace most s s
+same most s = record { turn = refl; place = refl; ended = refl; rest = λ few. few }
+
+same_at : (most : ℕ) (s u t : RunState) → t ≡ u → SamePlace most s u → SamePlace most s t
+same_at most s u t e frame = let P : RunState → Type 0 = SamePlace most s in subst P (sym e) frame
+
+step_same : (most : ℕ) (rules : Rules) (moment : ℤ) (sensed : List Sensed) (input : Input) (s u t : RunState) (log : List ℕ) → TakesStep rules moment sensed input u t log → SamePlace most s u → SamePlace most s t
+step_same most rules moment sensed input s u t log takes frame =
+    record { turn = ap (λ (r : RunState). r.turn) takes.after ∙ frame.turn; place = ap (λ (r : RunState). r.place) takes.after ∙ frame.place; ended = ap (λ (r : RunState). r.ended) takes.after ∙ frame.ended; rest = λ few. omega (arith, ap (λ (r : RunState). length r.rest) takes.after, frame.rest few) }
+
+takes_same : (most : ℕ) (may : Result (Unit {0}) No) (rules : Rules) (moment : ℤ) (input : Input) (u s t : RunState) (log : List ℕ) → Takes may rules moment input u s t log → SamePlace most s u → SamePlace most s t
+takes_same most (Ok done) rules moment input u s t log takes frame = step_same most rules moment [] input s u t log takes frame
+takes_same most (Err why) rules moment input u s t log takes frame = same_at most s s t takes.0 (same most s)
+
+second_same : (most : ℕ) (may : Result (Unit {0}) No) (rules : Rules) (moment : ℤ) (input : Input) (s t : RunState) (log : List ℕ) → MeetsSecond may rules moment input s t log → SamePlace most s t
+second_same most (Ok done) rules moment input s t log meets =
+    record { turn = ap (λ (r : RunState). r.turn) meets.after; place = ap (λ (r : RunState). r.place) meets.after; ended = ap (λ (r : RunState). r.ended) meets.after; rest = λ few. omega (arith, ap (λ (r : RunState). length r.rest) meets.after, few) }
+second_same most (Err why) rules moment input s t log meets = same_at most s s t meets.0 (same most s)
+
+arrived_same : (most : ℕ) (wire : Wire) (s : RunState) → SamePlace most s (panel_arrived wire s)
+arrived_same most wires.Rests s = record { turn = refl; place = refl; ended = refl; rest = λ few. few }
+arrived_same most wires.Stands s = same most s
+arrived_same most wires.Ends s = same most s
+arrived_same most wires.Breaks s = same most s
+
+seconded_same : (most : ℕ) (wire : Wire) (s : RunState) → SamePlace most s (panel_second wire s)
+seconded_same most wires.Stands s = record { turn = refl; place = refl; ended = refl; rest = λ few. few }
+seconded_same most wires.Rests s = same most s
+seconded_same most wires.Ends s = same most s
+seconded_same most wires.Breaks s = same most s
+
+bytes_same : (most : ℕ) (wire : Wire) (bytes : List ℕ) (s : RunState) → length bytes ≤ most → SamePlace most s (panel_bytes wire bytes s)
+bytes_same most wires.Stands bytes s short = record { turn = refl; place = refl; ended = refl; rest = λ few. short }
+bytes_same most wires.Rests bytes s short = same most s
+bytes_same most wires.Ends bytes s short = same most s
+bytes_same most wires.Breaks bytes s short = same most s
+
+closed_same : (most : ℕ) (wire : Wire) (s : RunState) → SamePlace most s (panel_closed wire s)
+closed_same most wires.Stands s = record { turn = refl; place = refl; ended = refl; rest = λ few. few }
+closed_same most wires.Rests s = same most s
+closed_same most wires.Ends s = same most s
+closed_same most wires.Breaks s = same most s
+
+-- a poll gave no more bytes than so many
+abbrev pub IsShortGot : ℕ → GotBytes → Type 0
+IsShortGot most (founds.Bytes bytes) = length bytes ≤ most
+IsShortGot most founds.Arrived = Unit {0}
+IsShortGot most founds.Second = Unit {0}
+IsShortGot most founds.NotYet = Unit {0}
+IsShortGot most founds.Closed = Unit {0}
+IsShortGot most founds.Failed = Unit {0}
+
+panel_same : (most : ℕ) (got : GotBytes) (s : RunState) → IsShortGot most got → SamePlace most s (after_panel got s)
+panel_same most founds.Arrived s short = arrived_same most s.panel.wire s
+panel_same most founds.Second s short = seconded_same most s.panel.wire s
+panel_same most (founds.Bytes bytes) s short = bytes_same most s.panel.wire bytes s short
+panel_same most founds.NotYet s short = same most s
+panel_same most founds.Closed s short = closed_same most s.panel.wire s
+panel_same most founds.Failed s short = closed_same most s.panel.wire s
+
+upstream_broken_same : (most : ℕ) (test : Bool) (s : RunState) → SamePlace most s (broken ways.Upstream test s)
+upstream_broken_same most true s = record { turn = refl; place = refl; ended = refl; rest = λ few. few }
+upstream_broken_same most false s = same most s
+
+downstream_broken_same : (most : ℕ) (test : Bool) (s : RunState) → SamePlace most s (broken ways.Downstream test s)
+downstream_broken_same most true s = record { turn = refl; place = refl; ended = refl; rest = λ few. few }
+downstream_broken_same most false s = same most s
+
+upstream_same : (most : ℕ) (rules : Rules) (moment : ℤ) (got : GotBytes) (s t : RunState) (log : List ℕ) → AfterUpstream rules moment got s t log → SamePlace most s t
+upstream_same most rules moment founds.Arrived s t log after = takes_same most (may_of s.node inputs.Connect) rules moment inputs.Connect (with_wire ways.Upstream wires.Stands s) s t log after (record { turn = refl; place = refl; ended = refl; rest = λ few. few })
+upstream_same most rules moment founds.Second s t log after = same_at most s s t after.0 (same most s)
+upstream_same most rules moment (founds.Bytes bytes) s t log after = takes_same most (may_of s.node (inputs.Bytes Entry after.piece)) rules moment (inputs.Bytes Entry after.piece) s s t log after.takes (same most s)
+upstream_same most rules moment founds.NotYet s t log after = same_at most s s t after.0 (same most s)
+upstream_same most rules moment founds.Closed s t log after = same_at most s _ t after.0 (upstream_broken_same most (is_open Entry s.node.lane.body) s)
+upstream_same most rules moment founds.Failed s t log after = same_at most s _ t after.0 (upstream_broken_same most (is_open Entry s.node.lane.body) s)
+
+downstream_same : (most : ℕ) (rules : Rules) (moment : ℤ) (got : GotBytes) (s t : RunState) (log : List ℕ) → AfterDownstream rules moment got s t log → SamePlace most s t
+downstream_same most rules moment founds.Arrived s t log after = takes_same most (may_of s.node inputs.Accepted) rules moment inputs.Accepted (with_wire ways.Downstream wires.Stands s) s t log after (record { turn = refl; place = refl; ended = refl; rest = λ few. few })
+downstream_same most rules moment founds.Second s t log after = second_same most (may_of s.node inputs.Second) rules moment inputs.Second s t log after
+downstream_same most rules moment (founds.Bytes bytes) s t log after = takes_same most (may_of s.node (inputs.Bytes Exit after.piece)) rules moment (inputs.Bytes Exit after.piece) s s t log after.takes (same most s)
+downstream_same most rules moment founds.NotYet s t log after = same_at most s s t after.0 (same most s)
+downstream_same most rules moment founds.Closed s t log after = same_at most s _ t after.0 (downstream_broken_same most (is_open Exit s.node.lane.body) s)
+downstream_same most rules moment founds.Failed s t log after = same_at most s _ t after.0 (downstream_broken_same most (is_open Exit s.node.lane.body) s)
+
+pub poll_same : (most : ℕ) (rules : Rules) (moment : ℤ) (way : Way) (got : GotBytes) (s t : RunState) (log : List ℕ) → IsShortGot most got → AfterPoll rules moment way got s t log → SamePlace most s t
+poll_same most rules moment ways.Panel got s t log short after = same_at most s _ t after.0 (panel_same most got s short)
+poll_same most rules moment ways.Upstream got s t log short after = upstream_same most rules moment got s t log after
+poll_same most rules moment ways.Downstream got s t log short after = downstream_same most rules moment got s t log after
+poll_same most rules moment ways.Supervisory got s t log short after = same_at most s s t after.0 (same most s)
+
+-- ---- sending
+
+pub record SameThere (s t : RunState) : Type 0 where
+  pub turn : t.turn ≡ s.turn
+  pub place : t.place ≡ s.place
+  pub rest : t.rest ≡ s.rest
+  pub ended : t.ended ≡ s.ended
+
+way_same : (way : Way) (value : WayValue) (s : RunState) → SameThere s (with_way way value s)
+way_same ways.Panel value s = record { turn = refl; place = refl; rest = refl; ended = refl }
+way_same ways.Upstream value s = record { turn = refl; place = refl; rest = refl; ended = refl }
+way_same ways.Downstream value s = record { turn = refl; place = refl; rest = refl; ended = refl }
+way_same ways.Supervisory value s = record { turn = refl; place = refl; rest = refl; ended = refl }
+
+pub sent_same : (way : Way) (sent : Sent) (s : RunState) → SameThere s (after_send way sent s)
+sent_same way (sents.Took n) s = way_same way (record (way_at way s) { unsent = drop n (way_at way s).unsent }) s
+sent_same way sents.NotYet s = record { turn = refl; place = refl; rest = refl; ended = refl }
+sent_same way sents.Closed s = way_same way (record (way_at way s) { wire = wires.Breaks }) s
+sent_same way sents.Failed s = way_same way (record (way_at way s) { wire = wires.Breaks }) s
+
+-- ---- a line of the panel
+
+abbrev pub EndsBy : Option NodeStatus → Option NodeStatus → Type 0
+EndsBy before after = (after ≡ before) ⊎ (after ≡ Some statuses.Done)
+
+-- a line leaves the turn, the place and the text behind it, and ends the run at most as done
+pub record SameRest (s t : RunState) : Type 0 where
+  pub turn : t.turn ≡ s.turn
+  pub place : t.place ≡ s.place
+  pub rest : t.rest ≡ s.rest
+  pub ended : EndsBy s.ended t.ended
+
+rests : (s : RunState) → SameRest s s
+rests s = record { turn = refl; place = refl; rest = refl; ended = inl refl }
+
+rests_at : (s u t : RunState) → t ≡ u → SameRest s u → SameRest s t
+rests_at s u t e frame = let P : RunState → Type 0 = SameRest s in subst P (sym e) frame
+
+tells_rest : (text : List ℕ) (s t : RunState) (log : List ℕ) → Tells text s t log → SameRest s t
+tells_rest text s t log tells = rests_at s (echoed text s) t tells.0 (record { turn = refl; place = refl; rest = refl; ended = inl refl })
+
+aloud_rest : (rules : Rules) (moment : ℤ) (sensed : List Sensed) (input : Input) (s t : RunState) (log : List ℕ) → StepsAloud rules moment sensed input s t log → SameRest s t
+aloud_rest rules moment sensed input s t log aloud =
+    let after = aloud.takes.after in
+    rests_at s (echoed log aloud.silent) t aloud.after (record { turn = ap (λ (r : RunState). r.turn) after; place = ap (λ (r : RunState). r.place) after; rest = ap (λ (r : RunState). r.rest) after; ended = inl (ap (λ (r : RunState). r.ended) after) })
+
+input_rest : (may : Result (Unit {0}) No) (rules : Rules) (moment : ℤ) (sensed : List Sensed) (input : Input) (s t : RunState) (log : List ℕ) → DoesInput may rules moment sensed input s t log → SameRest s t
+input_rest (Ok done) rules moment sensed input s t log does = aloud_rest rules moment sensed input s t log does
+input_rest (Err why) rules moment sensed input s t log does = tells_rest _ s t log does
+
+asks_rest : (may : Result (Unit {0}) No) (s t : RunState) (log : List ℕ) → AsksIf may s t log → SameRest s t
+asks_rest (Ok done) s t log asks = rests_at s (record s { asks = true }) t asks.0 (record { turn = refl; place = refl; rest = refl; ended = inl refl })
+asks_rest (Err why) s t log asks = tells_rest _ s t log asks
+
+connect_rest : (upstream : Option Address) (s t : RunState) (log : List ℕ) → AsksConnect upstream s t log → SameRest s t
+connect_rest None s t log asks = tells_rest _ s t log asks
+connect_rest (Some address) s t log asks = asks_rest (may_ask (has_ended s.upstream.wire) (may_of s.node inputs.Connect)) s t log asks
+
+asked_rest : (asked : Result PanelLine LineWhy) (rules : Rules) (moment : ℤ) (s t : RunState) (log : List ℕ) → DoesAsked asked rules moment s t log → SameRest s t
+asked_rest (Err why) rules moment s t log does = tells_rest _ s t log does
+asked_rest (Ok lines.Blank) rules moment s t log does = rests_at s s t does.0 (rests s)
+asked_rest (Ok lines.End) rules moment s t log does = rests_at s (record s { ended = Some statuses.Done }) t does.0 (record { turn = refl; place = refl; rest = refl; ended = inr refl })
+asked_rest (Ok lines.Show) rules moment s t log does = tells_rest _ s t log does
+asked_rest (Ok lines.Connect) rules moment s t log does = connect_rest rules.connections.upstream s t log does
+asked_rest (Ok (lines.Insert barcode)) rules moment s t log does = input_rest (may_of s.node (inputs.Insert barcode)) rules moment _ _ s t log does
+asked_rest (Ok (lines.Remove id)) rules moment s t log does = input_rest (may_of s.node (inputs.Remove id)) rules moment _ _ s t log does
+asked_rest (Ok (lines.Replace id)) rules moment s t log does = input_rest (may_of s.node (inputs.Replace id)) rules moment _ _ s t log does
+asked_rest (Ok (lines.Mark id quality)) rules moment s t log does = input_rest (may_of s.node (inputs.Mark id quality)) rules moment _ _ s t log does
+asked_rest (Ok (lines.Hold side)) rules moment s t log does = input_rest (may_of s.node (inputs.Will side false)) rules moment _ _ s t log does
+asked_rest (Ok (lines.Go side)) rules moment s t log does = input_rest (may_of s.node (inputs.Will side true)) rules moment _ _ s t log does
+asked_rest (Ok lines.Shutdown) rules moment s t log does = input_rest (may_of s.node inputs.Shutdown) rules moment _ _ s t log does
+asked_rest (Ok lines.Tick) rules moment s t log does = input_rest (may_of s.node inputs.Tick) rules moment _ _ s t log does
+asked_rest (Ok (lines.Fault side)) rules moment s t log does = input_rest (may_of s.node (inputs.Fault side)) rules moment _ _ s t log does
+asked_rest (Ok (lines.Sense sensed)) rules moment s t log does = input_rest (may_of s.node inputs.Nothing) rules moment _ _ s t log does
+
+keeps_rest : (long : Bool) (front : List ℕ) (s t : RunState) (log : List ℕ) → KeepsFront long front s t log → SameRest s t
+keeps_rest true front s t log keeps = let told = tells_rest _ (record s { line = []; drops = true }) t log keeps in record { turn = told.turn; place = told.place; rest = told.rest; ended = told.ended }
+keeps_rest false front s t log keeps = rests_at s (record s { line = front }) t keeps.0 (record { turn = refl; place = refl; rest = refl; ended = inl refl })
+
+fronts_rest : (drops : Bool) (front : List ℕ) (s t : RunState) (log : List ℕ) → Fronts drops front s t log → SameRest s t
+fronts_rest true front s t log fronts = rests_at s s t fronts.0 (rests s)
+fronts_rest false front s t log fronts = keeps_rest (is_too_long front) front s t log fronts
+
+ends_rest : (drops : Bool) (line : List ℕ) (rules : Rules) (moment : ℤ) (s t : RunState) (log : List ℕ) → Ends drops line rules moment s t log → SameRest s t
+ends_rest true line rules moment s t log ends = rests_at s (record s { drops = false }) t ends.0 (record { turn = refl; place = refl; rest = refl; ended = inl refl })
+ends_rest false line rules moment s t log ends = let does = asked_rest (panel_line_of (without_return line)) rules moment (record s { line = [] }) t log ends in record { turn = does.turn; place = does.place; rest = does.rest; ended = does.ended }
+
+-- what stands behind the first end of a line is less than all
+abbrev IsShorter : List ℕ → Option (List ℕ × List ℕ) → Type 0
+IsShorter bytes None = Unit {0}
+IsShorter bytes (Some parts) = length parts.1 < length bytes
+
+behind_shorter : (byte : ℕ) (bytes : List ℕ) (cut : Option (List ℕ × List ℕ)) → IsShorter bytes cut → IsShorter (byte ∷ bytes) (behind_first byte cut)
+behind_shorter byte bytes None shorter = tt
+behind_shorter byte bytes (Some parts) shorter = omega (arith, shorter)
+
+test_shorter : (test : Bool) (byte : ℕ) (bytes : List ℕ) → IsShorter bytes (cut_line bytes) → IsShorter (byte ∷ bytes) (if test then Some ([], bytes) else behind_first byte (cut_line bytes))
+test_shorter true byte bytes shorter = omega arith
+test_shorter false byte bytes shorter = behind_shorter byte bytes (cut_line bytes) shorter
+
+cut_shorter : (bytes : List ℕ) → IsShorter bytes (cut_line bytes)
+cut_shorter [] = tt
+cut_shorter (byte ∷ bytes) = test_shorter (byte == 10) byte bytes (cut_shorter bytes)
+
+-- a line leaves less text behind it
+pub record TakesLine (s t : RunState) : Type 0 where
+  pub turn : t.turn ≡ s.turn
+  pub place : t.place ≡ s.place
+  pub rest : length t.rest < length s.rest
+  pub ended : EndsBy s.ended t.ended
+
+cut_takes : (cut : Option (List ℕ × List ℕ)) (rules : Rules) (moment : ℤ) (s t : RunState) (log : List ℕ) → IsShorter s.rest cut → 0 < length s.rest → DoesCut cut rules moment s t log → TakesLine s t
+cut_takes None rules moment s t log shorter some does =
+    let rest = fronts_rest s.drops (s.line ++ s.rest) (record s { rest = [] }) t log does in
+    record { turn = rest.turn; place = rest.place; rest = rw rest.rest some; ended = rest.ended }
+cut_takes (Some parts) rules moment s t log shorter some does =
+    let rest = ends_rest s.drops (s.line ++ parts.0) rules moment (record s { rest = parts.1 }) t log does in
+    record { turn = rest.turn; place = rest.place; rest = rw rest.rest shorter; ended = rest.ended }
+
+pub line_takes : (rules : Rules) (moment : ℤ) (s t : RunState) (log : List ℕ) → 0 < length s.rest → DoesLine rules moment s t log → TakesLine s t
+line_takes rules moment s t log some does = cut_takes (cut_line s.rest) rules moment s t log (cut_shorter s.rest) some does

@@ -1,0 +1,8 @@
+pub mod Nexts
+pub mod Frames
+pub mod Closing
+pub mod Far
+pub mod Moving
+pub mod Cutting
+pub mod Bounded
+pub mod Owns

@@ -1,0 +1,259 @@
+-- What a machine owns follows from its log.
+use Rattle.std.proofs.Common.{◌≡◌, ◌∙◌, sym, subst, ap, refl, ℕ, ℤ, pos, Bool, true, false, List, [], ◌∷◌, ◌++◌, Option, None, Some, Result, Ok, Err, append-nil}
+use Rattle.line_base.specs.declared.states.Side.TheVariants.{Entry, Exit}
+use Rattle.board_record.specs.declared.sensed.Sensed.{Sensed}
+use Rattle.line_outside.specs.Given.{Given}
+use Rattle.line_outside.specs.declared.answer.GotBytes.{GotBytes}
+use Rattle.line_outside.specs.declared.answer.GotBytes.TheVariants as founds
+use Rattle.line_outside.specs.declared.ports.Opened.{Opened}
+use Rattle.line_outside.specs.declared.ports.Opened.TheVariants as opens
+use Rattle.line_outside.specs.declared.ports.Sent.{Sent}
+use Rattle.line_outside.specs.declared.ports.Sent.TheVariants as sents
+use Rattle.line_outside.specs.declared.way.Address.{Address}
+use Rattle.line_outside.specs.declared.way.Way.{Way}
+use Rattle.line_outside.specs.declared.way.Way.TheVariants as ways
+use Rattle.line_script.specs.declared.line.LineWhy.{LineWhy}
+use Rattle.line_script.specs.declared.line.LineWhy.TheVariants as whys
+use Rattle.line_report.specs.declared.happening.Reason.TheVariants as reasons
+use Rattle.handover_out.specs.State as outlets
+use Rattle.handover_in.specs.State as intakes
+use Rattle.node_core.proofs.Lasting.{owns_after}
+use Rattle.node_core.specs.May.{may_of, may_do}
+use Rattle.node_core.specs.Node.{NodeState, desk_of}
+use Rattle.node_core.specs.Own.{Own, own_of, own_after, own_act}
+use Rattle.node_core.specs.Sides.{is_open}
+use Rattle.node_core.specs.Step.{Steps}
+use Rattle.node_core.specs.declared.act.Act.{Act}
+use Rattle.node_core.specs.declared.input.Input.{Input}
+use Rattle.node_core.specs.declared.input.Input.TheVariants as inputs
+use Rattle.node_core.specs.declared.input.No.{No}
+use Rattle.node_panel.specs.Panel.{panel_line_of}
+use Rattle.node_panel.specs.declared.line.PanelLine.{PanelLine}
+use Rattle.node_panel.specs.declared.line.PanelLine.TheVariants as lines
+use Rattle.node_run.specs.declared.rules.Rules.{Rules}
+use Rattle.node_run.specs.State.{RunState, WayValue, at_rest, way_at, with_way, with_wire}
+use Rattle.node_run.specs.Next.{has_ended, moved_on}
+use Rattle.node_run.specs.Steps.{Takes, TakesStep, MeetsSecond}
+use Rattle.node_run.specs.After.{after_listen, after_send, after_panel, panel_arrived, panel_second, panel_bytes, panel_closed, broken, AfterUpstream, AfterDownstream, AfterPoll, AfterClose}
+use Rattle.node_run.specs.Lines.{cut_line, without_return, is_too_long, Tells, DoesInput, StepsAloud, AsksIf, AsksConnect, may_ask, DoesAsked, KeepsFront, Fronts, Ends, DoesCut}
+use Rattle.node_run.specs.Owning.{IsAnswer, refuses, denies, shows, TellsActs, no_lines, step_lines, answer_lines, OwnFollows}
+use Rattle.node_run.specs.Runs.{Moves, listens, connects, polls, sends, refuses as refuses_second, closes, skips, does_line, Runs, begins, goes_on}
+use Rattle.node_run.specs.Texts.{lines_of}
+use Rattle.node_run.specs.declared.way_state.Wire.{Wire}
+use Rattle.node_run.specs.declared.way_state.Wire.TheVariants as wires
+
+-- what one move does to what is owned, and what its lines are
+pub data Part (number : ℕ) (s t : RunState) (log : List ℕ) : Type 0 where
+  quiet : log ≡ [] → t.node ≡ s.node → Part number s t log
+  answers : IsAnswer number log → t.node ≡ s.node → Part number s t log
+  steps : (turn : ℕ) → (acts : List Act) → log ≡ lines_of turn number acts → own_of t.node.lane.body ≡ own_after (own_of s.node.lane.body) acts → Part number s t log
+
+steps_own : (s t : NodeState) (sensed : List Sensed) (input : Input) (moment : ℤ) (told : List Act) → may_of s input ≡ may_do → Steps s sensed input moment t told → own_of t.lane.body ≡ own_after (own_of s.lane.body) told
+steps_own s t sensed input moment told may made = owns_after s s.spent (desk_of s (pos 0)) (desk_of s moment) s.maker t.maker s.lane t.lane sensed input moment told refl may refl made.lane
+
+step_part : (number : ℕ) (rules : Rules) (moment : ℤ) (sensed : List Sensed) (input : Input) (from s t : RunState) (log : List ℕ)
+    → from.node ≡ s.node → may_of s.node input ≡ may_do → rules.number ≡ number → TakesStep rules moment sensed input from t log → Part number s t log
+step_part number rules moment sensed input from s t log same may named takes =
+    let P : NodeState → Type 0 = λ n. Steps n sensed input moment takes.node takes.told in
+    let own = steps_own s.node takes.node sensed input moment takes.told may (subst P same takes.steps) in
+    steps from.turn takes.told (takes.lines ∙ ap (λ n. lines_of from.turn n takes.told) named) (ap (λ (r : RunState). own_of r.node.lane.body) takes.after ∙ own)
+
+takes_part : (may : Result (Unit {0}) No) (rules : Rules) (moment : ℤ) (input : Input) (from s t : RunState) (log : List ℕ) → from.node ≡ s.node → may_of s.node input ≡ may → Takes may rules moment input from s t log → Part rules.number s t log
+takes_part (Ok done) rules moment input from s t log same may takes = step_part rules.number rules moment [] input from s t log same may refl takes
+takes_part (Err why) rules moment input from s t log same may takes = quiet takes.1 (ap (λ (r : RunState). r.node) takes.0)
+
+-- a closed way takes its step from what the close left
+closed_part : (may : Result (Unit {0}) No) (rules : Rules) (moment : ℤ) (input : Input) (closed s t : RunState) (log : List ℕ) → closed.node ≡ s.node → may_of s.node input ≡ may → Takes may rules moment input closed closed t log → Part rules.number s t log
+closed_part (Ok done) rules moment input closed s t log same may takes = step_part rules.number rules moment [] input closed s t log same may refl takes
+closed_part (Err why) rules moment input closed s t log same may takes = quiet takes.1 (ap (λ (r : RunState). r.node) takes.0 ∙ same)
+
+second_part : (may : Result (Unit {0}) No) (rules : Rules) (moment : ℤ) (input : Input) (s t : RunState) (log : List ℕ) → may_of s.node input ≡ may → MeetsSecond may rules moment input s t log → Part rules.number s t log
+second_part (Ok done) rules moment input s t log may meets =
+    steps s.turn meets.told meets.lines (ap (λ (r : RunState). own_of r.node.lane.body) meets.after ∙ steps_own s.node meets.node [] input moment meets.told may meets.steps)
+second_part (Err why) rules moment input s t log may meets = quiet meets.1 (ap (λ (r : RunState). r.node) meets.0)
+
+still : (number : ℕ) (s u t : RunState) (log : List ℕ) → t ≡ u → log ≡ [] → u.node ≡ s.node → Part number s t log
+still number s u t log e none same = quiet none (ap (λ (r : RunState). r.node) e ∙ same)
+
+-- ---- polls
+
+way_node : (way : Way) (value : WayValue) (s : RunState) → (with_way way value s).node ≡ s.node
+way_node ways.Panel value s = refl
+way_node ways.Upstream value s = refl
+way_node ways.Downstream value s = refl
+way_node ways.Supervisory value s = refl
+
+arrived_node : (wire : Wire) (s : RunState) → (panel_arrived wire s).node ≡ s.node
+arrived_node wires.Rests s = refl
+arrived_node wires.Stands s = refl
+arrived_node wires.Ends s = refl
+arrived_node wires.Breaks s = refl
+
+second_node : (wire : Wire) (s : RunState) → (panel_second wire s).node ≡ s.node
+second_node wires.Rests s = refl
+second_node wires.Stands s = refl
+second_node wires.Ends s = refl
+second_node wires.Breaks s = refl
+
+bytes_node : (wire : Wire) (bytes : List ℕ) (s : RunState) → (panel_bytes wire bytes s).node ≡ s.node
+bytes_node wires.Rests bytes s = refl
+bytes_node wires.Stands bytes s = refl
+bytes_node wires.Ends bytes s = refl
+bytes_node wires.Breaks bytes s = refl
+
+closed_node : (wire : Wire) (s : RunState) → (panel_closed wire s).node ≡ s.node
+closed_node wires.Rests s = refl
+closed_node wires.Stands s = refl
+closed_node wires.Ends s = refl
+closed_node wires.Breaks s = refl
+
+panel_node : (got : GotBytes) (s : RunState) → (after_panel got s).node ≡ s.node
+panel_node founds.Arrived s = arrived_node s.panel.wire s
+panel_node founds.Second s = second_node s.panel.wire s
+panel_node (founds.Bytes bytes) s = bytes_node s.panel.wire bytes s
+panel_node founds.NotYet s = refl
+panel_node founds.Closed s = closed_node s.panel.wire s
+panel_node founds.Failed s = closed_node s.panel.wire s
+
+broken_node : (way : Way) (test : Bool) (s : RunState) → (broken way test s).node ≡ s.node
+broken_node way true s = way_node way (record (way_at way s) { wire = wires.Breaks }) s
+broken_node way false s = refl
+
+upstream_part : (rules : Rules) (moment : ℤ) (got : GotBytes) (s t : RunState) (log : List ℕ) → AfterUpstream rules moment got s t log → Part rules.number s t log
+upstream_part rules moment founds.Arrived s t log after = takes_part (may_of s.node inputs.Connect) rules moment inputs.Connect (with_wire ways.Upstream wires.Stands s) s t log refl refl after
+upstream_part rules moment founds.Second s t log after = still rules.number s s t log after.0 after.1 refl
+upstream_part rules moment (founds.Bytes bytes) s t log after = takes_part (may_of s.node (inputs.Bytes Entry after.piece)) rules moment (inputs.Bytes Entry after.piece) s s t log refl refl after.takes
+upstream_part rules moment founds.NotYet s t log after = still rules.number s s t log after.0 after.1 refl
+upstream_part rules moment founds.Closed s t log after = still rules.number s _ t log after.0 after.1 (broken_node ways.Upstream (is_open Entry s.node.lane.body) s)
+upstream_part rules moment founds.Failed s t log after = still rules.number s _ t log after.0 after.1 (broken_node ways.Upstream (is_open Entry s.node.lane.body) s)
+
+downstream_part : (rules : Rules) (moment : ℤ) (got : GotBytes) (s t : RunState) (log : List ℕ) → AfterDownstream rules moment got s t log → Part rules.number s t log
+downstream_part rules moment founds.Arrived s t log after = takes_part (may_of s.node inputs.Accepted) rules moment inputs.Accepted (with_wire ways.Downstream wires.Stands s) s t log refl refl after
+downstream_part rules moment founds.Second s t log after = second_part (may_of s.node inputs.Second) rules moment inputs.Second s t log refl after
+downstream_part rules moment (founds.Bytes bytes) s t log after = takes_part (may_of s.node (inputs.Bytes Exit after.piece)) rules moment (inputs.Bytes Exit after.piece) s s t log refl refl after.takes
+downstream_part rules moment founds.NotYet s t log after = still rules.number s s t log after.0 after.1 refl
+downstream_part rules moment founds.Closed s t log after = still rules.number s _ t log after.0 after.1 (broken_node ways.Downstream (is_open Exit s.node.lane.body) s)
+downstream_part rules moment founds.Failed s t log after = still rules.number s _ t log after.0 after.1 (broken_node ways.Downstream (is_open Exit s.node.lane.body) s)
+
+poll_part : (rules : Rules) (moment : ℤ) (way : Way) (got : GotBytes) (s t : RunState) (log : List ℕ) → AfterPoll rules moment way got s t log → Part rules.number s t log
+poll_part rules moment ways.Panel got s t log after = still rules.number s _ t log after.0 after.1 (panel_node got s)
+poll_part rules moment ways.Upstream got s t log after = upstream_part rules moment got s t log after
+poll_part rules moment ways.Downstream got s t log after = downstream_part rules moment got s t log after
+poll_part rules moment ways.Supervisory got s t log after = still rules.number s s t log after.0 after.1 refl
+
+-- ---- sends and closes
+
+sent_node : (way : Way) (sent : Sent) (s : RunState) → (after_send way sent s).node ≡ s.node
+sent_node way (sents.Took n) s = way_node way _ s
+sent_node way sents.NotYet s = refl
+sent_node way sents.Closed s = way_node way _ s
+sent_node way sents.Failed s = way_node way _ s
+
+listened_node : (opened : Opened) (s : RunState) → (after_listen opened s).node ≡ s.node
+listened_node opens.Done s = refl
+listened_node opens.Failed s = refl
+
+close_part : (rules : Rules) (moment : ℤ) (way : Way) (s t : RunState) (log : List ℕ) → AfterClose rules moment way s t log → Part rules.number s t log
+close_part rules moment ways.Panel s t log after = still rules.number s _ t log after.0 after.1 refl
+close_part rules moment ways.Upstream s t log after = closed_part (may_of s.node (inputs.Notice Entry)) rules moment (inputs.Notice Entry) (record s { upstream = at_rest }) s t log refl refl after
+close_part rules moment ways.Downstream s t log after = closed_part (may_of s.node (inputs.Notice Exit)) rules moment (inputs.Notice Exit) (record s { downstream = at_rest }) s t log refl refl after
+close_part rules moment ways.Supervisory s t log after = still rules.number s s t log after.0 after.1 refl
+
+-- ---- lines
+
+tells_part : (number : ℕ) (text : List ℕ) (s t : RunState) (log : List ℕ) → IsAnswer number text → Tells text s t log → Part number s t log
+tells_part number text s t log answer tells = answers (subst (IsAnswer number) (sym tells.1) answer) (ap (λ (r : RunState). r.node) tells.0)
+
+aloud_part : (rules : Rules) (moment : ℤ) (sensed : List Sensed) (input : Input) (s t : RunState) (log : List ℕ) → may_of s.node input ≡ may_do → StepsAloud rules moment sensed input s t log → Part rules.number s t log
+aloud_part rules moment sensed input s t log may aloud =
+    let takes = aloud.takes in
+    let own = steps_own s.node takes.node sensed input moment takes.told may takes.steps in
+    steps s.turn takes.told takes.lines (ap (λ (r : RunState). own_of r.node.lane.body) aloud.after ∙ ap (λ (r : RunState). own_of r.node.lane.body) takes.after ∙ own)
+
+input_part : (may : Result (Unit {0}) No) (rules : Rules) (moment : ℤ) (sensed : List Sensed) (input : Input) (s t : RunState) (log : List ℕ) → may_of s.node input ≡ may → DoesInput may rules moment sensed input s t log → Part rules.number s t log
+input_part (Ok done) rules moment sensed input s t log may does = aloud_part rules moment sensed input s t log may does
+input_part (Err why) rules moment sensed input s t log may does = tells_part rules.number _ s t log (denies s.turn (reasons.Node why)) does
+
+asks_part : (may : Result (Unit {0}) No) (number : ℕ) (s t : RunState) (log : List ℕ) → AsksIf may s t log → Part number s t log
+asks_part (Ok done) number s t log asks = still number s _ t log asks.0 asks.1 refl
+asks_part (Err why) number s t log asks = tells_part number _ s t log (denies s.turn (reasons.Node why)) asks
+
+connect_part : (upstream : Option Address) (number : ℕ) (s t : RunState) (log : List ℕ) → AsksConnect upstream s t log → Part number s t log
+connect_part None number s t log asks = tells_part number _ s t log (denies s.turn reasons.NoNeighbour) asks
+connect_part (Some address) number s t log asks = asks_part (may_ask (has_ended s.upstream.wire) (may_of s.node inputs.Connect)) number s t log asks
+
+asked_part : (asked : Result PanelLine LineWhy) (rules : Rules) (moment : ℤ) (s t : RunState) (log : List ℕ) → DoesAsked asked rules moment s t log → Part rules.number s t log
+asked_part (Err why) rules moment s t log does = tells_part rules.number _ s t log (refuses s.turn why) does
+asked_part (Ok lines.Blank) rules moment s t log does = still rules.number s s t log does.0 does.1 refl
+asked_part (Ok lines.End) rules moment s t log does = still rules.number s _ t log does.0 does.1 refl
+asked_part (Ok lines.Show) rules moment s t log does = tells_part rules.number _ s t log (shows s.turn s.node.lane.body.kept (outlets.held s.node.lane.body.outlet) (intakes.held s.node.lane.body.intake)) does
+asked_part (Ok lines.Connect) rules moment s t log does = connect_part rules.connections.upstream rules.number s t log does
+asked_part (Ok (lines.Insert barcode)) rules moment s t log does = input_part (may_of s.node (inputs.Insert barcode)) rules moment _ (inputs.Insert barcode) s t log refl does
+asked_part (Ok (lines.Remove id)) rules moment s t log does = input_part (may_of s.node (inputs.Remove id)) rules moment _ (inputs.Remove id) s t log refl does
+asked_part (Ok (lines.Replace id)) rules moment s t log does = input_part (may_of s.node (inputs.Replace id)) rules moment _ (inputs.Replace id) s t log refl does
+asked_part (Ok (lines.Mark id quality)) rules moment s t log does = input_part (may_of s.node (inputs.Mark id quality)) rules moment _ (inputs.Mark id quality) s t log refl does
+asked_part (Ok (lines.Hold side)) rules moment s t log does = input_part (may_of s.node (inputs.Will side false)) rules moment _ (inputs.Will side false) s t log refl does
+asked_part (Ok (lines.Go side)) rules moment s t log does = input_part (may_of s.node (inputs.Will side true)) rules moment _ (inputs.Will side true) s t log refl does
+asked_part (Ok lines.Shutdown) rules moment s t log does = input_part (may_of s.node inputs.Shutdown) rules moment _ inputs.Shutdown s t log refl does
+asked_part (Ok lines.Tick) rules moment s t log does = input_part (may_of s.node inputs.Tick) rules moment _ inputs.Tick s t log refl does
+asked_part (Ok (lines.Fault side)) rules moment s t log does = input_part (may_of s.node (inputs.Fault side)) rules moment _ (inputs.Fault side) s t log refl does
+asked_part (Ok (lines.Sense sensed)) rules moment s t log does = input_part (may_of s.node inputs.Nothing) rules moment _ inputs.Nothing s t log refl does
+
+-- a part from a state with the same machine
+moved_part : (number : ℕ) (from s t : RunState) (log : List ℕ) → from.node ≡ s.node → Part number from t log → Part number s t log
+moved_part number from s t log same (quiet none node) = quiet none (node ∙ same)
+moved_part number from s t log same (answers answer node) = answers answer (node ∙ same)
+moved_part number from s t log same (steps turn acts text own) = steps turn acts text (own ∙ ap (λ (n : NodeState). own_after (own_of n.lane.body) acts) same)
+
+keeps_part : (long : Bool) (front : List ℕ) (number : ℕ) (s t : RunState) (log : List ℕ) → KeepsFront long front s t log → Part number s t log
+keeps_part true front number s t log keeps = moved_part number (record s { line = []; drops = true }) s t log refl (tells_part number _ (record s { line = []; drops = true }) t log (refuses s.turn whys.LongLine) keeps)
+keeps_part false front number s t log keeps = still number s _ t log keeps.0 keeps.1 refl
+
+fronts_part : (drops : Bool) (front : List ℕ) (number : ℕ) (s t : RunState) (log : List ℕ) → Fronts drops front s t log → Part number s t log
+fronts_part true front number s t log fronts = still number s s t log fronts.0 fronts.1 refl
+fronts_part false front number s t log fronts = keeps_part (is_too_long front) front number s t log fronts
+
+ends_part : (drops : Bool) (line : List ℕ) (rules : Rules) (moment : ℤ) (s t : RunState) (log : List ℕ) → Ends drops line rules moment s t log → Part rules.number s t log
+ends_part true line rules moment s t log ends = still rules.number s _ t log ends.0 ends.1 refl
+ends_part false line rules moment s t log ends = moved_part rules.number (record s { line = [] }) s t log refl (asked_part (panel_line_of (without_return line)) rules moment (record s { line = [] }) t log ends)
+
+cut_part : (cut : Option (List ℕ × List ℕ)) (rules : Rules) (moment : ℤ) (s t : RunState) (log : List ℕ) → DoesCut cut rules moment s t log → Part rules.number s t log
+cut_part None rules moment s t log does = moved_part rules.number (record s { rest = [] }) s t log refl (fronts_part s.drops (s.line ++ s.rest) rules.number (record s { rest = [] }) t log does)
+cut_part (Some parts) rules moment s t log does = moved_part rules.number (record s { rest = parts.1 }) s t log refl (ends_part s.drops (s.line ++ parts.0) rules moment (record s { rest = parts.1 }) t log does)
+
+-- ---- moves and runs
+
+move_part : (rules : Rules) (moment : ℤ) {s t : RunState} {calls : List Given} {log : List ℕ} → Moves rules moment s calls t log → Part rules.number s t log
+move_part rules moment (listens {s} {way} {port} {opened} next) = quiet refl (listened_node opened s)
+move_part rules moment (connects {s} {address} {opened} next) = quiet refl refl
+move_part rules moment (polls {s} {t} {way} {got} {log} next done) = moved_part rules.number (moved_on s) s t log refl (poll_part rules moment way got (moved_on s) t log done)
+move_part rules moment (sends {s} {way} {sent} next) = quiet refl (sent_node way sent (moved_on s))
+move_part rules moment (refuses_second {s} {refusal} {sent} next e) = quiet refl refl
+move_part rules moment (closes {s} {t} {way} {log} next done) = close_part rules moment way s t log done
+move_part rules moment (skips {s} next) = quiet refl refl
+move_part rules moment (does_line {s} {t} {log} next done) = cut_part (cut_line s.rest) rules moment s t log done
+
+own_append : (own : Own) (a b : List Act) → own_after own (a ++ b) ≡ own_after (own_after own a) b
+own_append own [] b = refl
+own_append own (act ∷ a) b = own_append (own_act own act) a b
+
+follows_on : (number : ℕ) (s t u : RunState) (log lines : List ℕ) → OwnFollows number s t log → Part number t u lines → OwnFollows number s u (log ++ lines)
+follows_on number s t u log lines follows (quiet none node) =
+    let P : List ℕ → Type 0 = λ text. TellsActs number text follows.told in
+    record { told = follows.told; tells = subst P (sym (ap (λ l. log ++ l) none ∙ append-nil log)) follows.tells; owns = ap (λ (n : NodeState). own_of n.lane.body) node ∙ follows.owns }
+follows_on number s t u log lines follows (answers answer node) =
+    record { told = follows.told; tells = answer_lines follows.tells answer; owns = ap (λ (n : NodeState). own_of n.lane.body) node ∙ follows.owns }
+follows_on number s t u log lines follows (steps turn acts text own) =
+    let P : List ℕ → Type 0 = λ l. TellsActs number (log ++ l) (follows.told ++ acts) in
+    record {
+      told = follows.told ++ acts;
+      tells = subst P (sym text) (step_lines turn acts follows.tells);
+      owns = own ∙ ap (λ o. own_after o acts) follows.owns ∙ sym (own_append (own_of s.node.lane.body) follows.told acts);
+    }
+
+owns_in : (rules : Rules) (moment : ℤ) {s t : RunState} {calls : List Given} {log : List ℕ} → Runs rules moment s calls t log → OwnFollows rules.number s t log
+owns_in rules moment (begins {s}) = record { told = []; tells = no_lines; owns = refl }
+owns_in rules moment (goes_on {s} {t} {u} {calls} {more} {log} {lines} run move) = follows_on rules.number s t u log lines (owns_in rules moment run) (move_part rules moment move)
+
+pub own_follows : (rules : Rules) (moment : ℤ) (s t : RunState) (calls : List Given) (log : List ℕ) → Runs rules moment s calls t log → OwnFollows rules.number s t log
+own_follows rules moment s t calls log run = owns_in rules moment run

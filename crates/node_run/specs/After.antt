@@ -1,0 +1,125 @@
+-- What an answer of the ports does to a run.
+use Rattle.std.specs.Prelude.{◌≡◌, ℕ, ℤ, Bool, true, false, List, [], Some, drop}
+use Rattle.std.specs.Borrow.{Bor}
+use Rattle.line_base.specs.declared.states.Side.{Side}
+use Rattle.line_base.specs.declared.states.Side.TheVariants.{Entry, Exit}
+use Rattle.line_outside.specs.declared.answer.GotBytes.{GotBytes}
+use Rattle.line_outside.specs.declared.answer.GotBytes.TheVariants as founds
+use Rattle.line_outside.specs.declared.ports.Got.{Got}
+use Rattle.line_outside.specs.declared.ports.Got.TheVariants as gots
+use Rattle.line_outside.specs.declared.ports.Opened.{Opened}
+use Rattle.line_outside.specs.declared.ports.Opened.TheVariants as opens
+use Rattle.line_outside.specs.declared.ports.Sent.{Sent}
+use Rattle.line_outside.specs.declared.ports.Sent.TheVariants as sents
+use Rattle.line_outside.specs.declared.way.Way.{Way}
+use Rattle.line_outside.specs.declared.way.Way.TheVariants as ways
+use Rattle.node_core.specs.May.{may_of}
+use Rattle.node_core.specs.Sides.{is_open}
+use Rattle.node_core.specs.declared.input.Input.TheVariants as inputs
+use Rattle.node_run.specs.declared.rules.Rules.{Rules}
+use Rattle.node_run.specs.State.{RunState, at_rest, way_at, with_way, with_wire}
+use Rattle.node_run.specs.Next.{moved_on}
+use Rattle.node_run.specs.Steps.{Takes, MeetsSecond}
+use Rattle.node_run.specs.declared.status.NodeStatus.TheVariants as statuses
+use Rattle.node_run.specs.declared.way_state.Wire.{Wire}
+use Rattle.node_run.specs.declared.way_state.Wire.TheVariants as wires
+
+-- what a poll found, with the bytes that it gave
+abbrev pub found_of : Got → List ℕ → GotBytes
+found_of gots.Arrived bytes = founds.Arrived
+found_of gots.Second bytes = founds.Second
+found_of (gots.Bytes n) bytes = founds.Bytes bytes
+found_of gots.NotYet bytes = founds.NotYet
+found_of gots.Closed bytes = founds.Closed
+found_of gots.Failed bytes = founds.Failed
+
+-- ---- listening
+
+abbrev pub after_listen : Opened → RunState → RunState
+after_listen opens.Done s = moved_on s
+after_listen opens.Failed s = record (moved_on s) { ended = Some statuses.ListenFault }
+
+-- ---- what a poll of the panel found
+
+abbrev pub panel_arrived : Wire → RunState → RunState
+panel_arrived wires.Rests s = with_wire ways.Panel wires.Stands s
+panel_arrived wire s = s
+
+-- a second panel connection is closed without text
+abbrev pub panel_second : Wire → RunState → RunState
+panel_second wires.Stands s = record s { refusal = Some (record { way = ways.Panel; text = [] }) }
+panel_second wire s = s
+
+abbrev pub panel_bytes : Wire → List ℕ → RunState → RunState
+panel_bytes wires.Stands bytes s = record s { rest = bytes }
+panel_bytes wire bytes s = s
+
+abbrev pub panel_closed : Wire → RunState → RunState
+panel_closed wires.Stands s = with_wire ways.Panel wires.Breaks s
+panel_closed wire s = s
+
+abbrev pub after_panel : GotBytes → RunState → RunState
+after_panel founds.Arrived s = panel_arrived s.panel.wire s
+after_panel founds.Second s = panel_second s.panel.wire s
+after_panel (founds.Bytes bytes) s = panel_bytes s.panel.wire bytes s
+after_panel founds.NotYet s = s
+after_panel founds.Closed s = panel_closed s.panel.wire s
+after_panel founds.Failed s = panel_closed s.panel.wire s
+
+-- ---- what a poll of a neighbour's way found
+
+-- bytes are heard at a side
+pub record HearsBytes (rules : Rules) (moment : ℤ) (side : Side) (bytes : List ℕ) (s t : RunState) (log : List ℕ) : Type 0 where
+  pub piece : Bor (List ℕ)
+  pub same : piece.now ≡ bytes
+  pub takes : Takes (may_of s.node (inputs.Bytes side piece)) rules moment (inputs.Bytes side piece) s s t log
+
+-- a close is seen where there is a connection
+abbrev pub broken : Way → Bool → RunState → RunState
+broken way true s = with_wire way wires.Breaks s
+broken way false s = s
+
+abbrev pub AfterUpstream : Rules → ℤ → GotBytes → RunState → RunState → List ℕ → Type 0
+AfterUpstream rules moment founds.Arrived s t log = Takes (may_of s.node inputs.Connect) rules moment inputs.Connect (with_wire ways.Upstream wires.Stands s) s t log
+AfterUpstream rules moment founds.Second s t log = (t ≡ s) × (log ≡ [])
+AfterUpstream rules moment (founds.Bytes bytes) s t log = HearsBytes rules moment Entry bytes s t log
+AfterUpstream rules moment founds.NotYet s t log = (t ≡ s) × (log ≡ [])
+AfterUpstream rules moment founds.Closed s t log = (t ≡ broken ways.Upstream (is_open Entry s.node.lane.body) s) × (log ≡ [])
+AfterUpstream rules moment founds.Failed s t log = (t ≡ broken ways.Upstream (is_open Entry s.node.lane.body) s) × (log ≡ [])
+
+abbrev pub AfterDownstream : Rules → ℤ → GotBytes → RunState → RunState → List ℕ → Type 0
+AfterDownstream rules moment founds.Arrived s t log = Takes (may_of s.node inputs.Accepted) rules moment inputs.Accepted (with_wire ways.Downstream wires.Stands s) s t log
+AfterDownstream rules moment founds.Second s t log = MeetsSecond (may_of s.node inputs.Second) rules moment inputs.Second s t log
+AfterDownstream rules moment (founds.Bytes bytes) s t log = HearsBytes rules moment Exit bytes s t log
+AfterDownstream rules moment founds.NotYet s t log = (t ≡ s) × (log ≡ [])
+AfterDownstream rules moment founds.Closed s t log = (t ≡ broken ways.Downstream (is_open Exit s.node.lane.body) s) × (log ≡ [])
+AfterDownstream rules moment founds.Failed s t log = (t ≡ broken ways.Downstream (is_open Exit s.node.lane.body) s) × (log ≡ [])
+
+abbrev pub AfterPoll : Rules → ℤ → Way → GotBytes → RunState → RunState → List ℕ → Type 0
+AfterPoll rules moment ways.Panel got s t log = (t ≡ after_panel got s) × (log ≡ [])
+AfterPoll rules moment ways.Upstream got s t log = AfterUpstream rules moment got s t log
+AfterPoll rules moment ways.Downstream got s t log = AfterDownstream rules moment got s t log
+AfterPoll rules moment ways.Supervisory got s t log = (t ≡ s) × (log ≡ [])
+
+-- ---- sending and closing
+
+abbrev pub after_send : Way → Sent → RunState → RunState
+after_send way (sents.Took n) s = with_way way (record (way_at way s) { unsent = drop n (way_at way s).unsent }) s
+after_send way sents.NotYet s = s
+after_send way sents.Closed s = with_wire way wires.Breaks s
+after_send way sents.Failed s = with_wire way wires.Breaks s
+
+-- the panel's unfinished line goes with its connection, and so do the lines that follow in the same answer
+abbrev pub panel_gone : RunState → RunState
+panel_gone s = record s { panel = at_rest; line = []; drops = false; rest = [] }
+
+-- a way is closed, its text is dropped, and the machine notices where its side has a connection
+abbrev pub AfterClose : Rules → ℤ → Way → RunState → RunState → List ℕ → Type 0
+AfterClose rules moment ways.Panel s t log = (t ≡ panel_gone s) × (log ≡ [])
+AfterClose rules moment ways.Upstream s t log =
+    let closed = record s { upstream = at_rest } in
+    Takes (may_of s.node (inputs.Notice Entry)) rules moment (inputs.Notice Entry) closed closed t log
+AfterClose rules moment ways.Downstream s t log =
+    let closed = record s { downstream = at_rest } in
+    Takes (may_of s.node (inputs.Notice Exit)) rules moment (inputs.Notice Exit) closed closed t log
+AfterClose rules moment ways.Supervisory s t log = (t ≡ s) × (log ≡ [])

@@ -1,0 +1,13 @@
+pub mod Status
+pub mod Texts
+pub mod State
+pub mod Next
+pub mod Steps
+pub mod Lines
+pub mod After
+pub mod Runs
+pub mod Moving
+pub mod Work
+pub mod Cuts
+pub mod Owning
+pub mod Told

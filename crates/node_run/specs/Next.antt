@@ -1,0 +1,144 @@
+-- WHAT COMES NEXT in a run: a call of the ports, a line of the panel, a place where nothing is to do, or the end.
+use Rattle.std.specs.Prelude.{◌≡◌, ◌≤◌, ◌⊎◌, ℕ, ◌+◌, ◌<◌, Bool, true, false, ◌||◌, ◌&&◌, not, nat_lt, List, [], ◌∷◌, length, Option, None, Some, is_some, if◌then◌else◌}
+use Rattle.line_outside.specs.declared.way.Address.{Address}
+use Rattle.line_outside.specs.declared.way.Way.{Way}
+use Rattle.line_outside.specs.declared.way.Way.TheVariants as ways
+use Rattle.node_run.specs.declared.rules.Rules.{Rules}
+use Rattle.node_run.specs.State.{WayValue, Refusal, RunState, way_at}
+use Rattle.node_run.specs.declared.place.Next.{Next}
+use Rattle.node_run.specs.declared.place.Next.TheVariants as nexts
+use Rattle.node_run.specs.declared.place.Place.{Place}
+use Rattle.node_run.specs.declared.place.Place.TheVariants as places
+use Rattle.node_run.specs.declared.status.NodeStatus.{NodeStatus}
+use Rattle.node_run.specs.declared.status.NodeStatus.TheVariants as statuses
+use Rattle.node_run.specs.declared.way_state.Wire.{Wire}
+use Rattle.node_run.specs.declared.way_state.Wire.TheVariants as wires
+
+abbrev pub is_empty : List ℕ → Bool
+is_empty [] = true
+is_empty (byte ∷ bytes) = false
+
+-- the most text that waits on a way
+abbrev pub most_unsent : ℕ
+most_unsent = 1048576
+
+-- a way has to be closed now: its connection is broken; it is to end, and nothing waits; or too much waits
+abbrev pub is_due_by : Wire → List ℕ → Bool
+is_due_by wires.Rests unsent = false
+is_due_by wires.Stands unsent = nat_lt most_unsent (length unsent)
+is_due_by wires.Ends unsent = is_empty unsent || nat_lt most_unsent (length unsent)
+is_due_by wires.Breaks unsent = true
+
+abbrev pub is_due : WayValue → Bool
+is_due way = is_due_by way.wire way.unsent
+
+abbrev pub has_ended : Wire → Bool
+has_ended wires.Ends = true
+has_ended _ = false
+
+-- a way that is to end isn't polled, nor is one that isn't set
+abbrev pub is_polled : Rules → RunState → Way → Bool
+is_polled rules s ways.Panel = true
+is_polled rules s ways.Upstream = is_some rules.connections.upstream && not (has_ended s.upstream.wire)
+is_polled rules s ways.Downstream = not (has_ended s.downstream.wire)
+is_polled rules s ways.Supervisory = false
+
+abbrev pub polls : Rules → RunState → Way → Next
+polls rules s way = if is_polled rules s way then nexts.Poll way else nexts.Skip
+
+-- what waits is sent
+abbrev pub sends_by : Way → WayValue → Next
+sends_by way value = if is_empty value.unsent then nexts.Skip else nexts.Send way
+
+abbrev pub sends : RunState → Way → Next
+sends s way = sends_by way (way_at way s)
+
+-- the last turn ends the run
+abbrev pub turn_next : Rules → RunState → Next
+turn_next rules s = if nat_lt s.turn rules.turns then nexts.Skip else nexts.End statuses.TurnsUsed
+
+-- what is done at a place
+abbrev pub at_place : Rules → RunState → Place → Next
+at_place rules s places.ListenPanel = nexts.Listen ways.Panel rules.connections.panel_port
+at_place rules s places.ListenDownstream = nexts.Listen ways.Downstream rules.connections.downstream_port
+at_place rules s places.PollPanel = polls rules s ways.Panel
+at_place rules s places.PollUpstream = polls rules s ways.Upstream
+at_place rules s places.PollDownstream = polls rules s ways.Downstream
+at_place rules s places.SendPanel = sends s ways.Panel
+at_place rules s places.SendUpstream = sends s ways.Upstream
+at_place rules s places.SendDownstream = sends s ways.Downstream
+at_place rules s places.TurnDone = turn_next rules s
+
+abbrev pub asks_next : Option Address → Next → Next
+asks_next None next = next
+asks_next (Some address) next = nexts.Connect address
+
+-- the panel's lines, one by one
+abbrev pub lines_next : Rules → RunState → Next
+lines_next rules s = if is_empty s.rest then at_place rules s s.place else nexts.Line
+
+-- before them, a connection that was asked for
+abbrev pub connects_next : Rules → RunState → Next
+connects_next rules s = if s.asks then asks_next rules.connections.upstream (lines_next rules s) else lines_next rules s
+
+-- before that, the ways that have to be closed, in the order of the polls
+abbrev pub closes_next : Rules → RunState → Next
+closes_next rules s =
+    if is_due s.panel then nexts.Close ways.Panel else
+    (if is_due s.upstream then nexts.Close ways.Upstream else
+    (if is_due s.downstream then nexts.Close ways.Downstream else connects_next rules s))
+
+-- before them, a second connection that is to be refused
+abbrev pub refuses_next : Option Refusal → Next → Next
+refuses_next None next = next
+refuses_next (Some refusal) next = nexts.Refuse refusal.way
+
+-- and the end before all
+abbrev pub ends_next : Option NodeStatus → Next → Next
+ends_next None next = next
+ends_next (Some status) next = nexts.End status
+
+abbrev pub next_of : Rules → RunState → Next
+next_of rules s = ends_next s.ended (refuses_next s.refusal (closes_next rules s))
+
+-- it goes on: neither an end, nor a refusal of a second connection, nor a close comes next
+abbrev pub goes_on : Next → Bool
+goes_on (nexts.End status) = false
+goes_on (nexts.Refuse way) = false
+goes_on (nexts.Close way) = false
+goes_on nexts.Line = true
+goes_on nexts.Skip = true
+goes_on (nexts.Listen way port) = true
+goes_on (nexts.Connect address) = true
+goes_on (nexts.Poll way) = true
+goes_on (nexts.Send way) = true
+
+-- there is no connection, or no more text waits than may
+abbrev pub HasBoundedText : WayValue → Type 0
+HasBoundedText way = (way.wire ≡ wires.Rests) ⊎ (length way.unsent ≤ most_unsent)
+
+-- ---- the places of a turn, in their order
+
+abbrev pub place_behind : Place → Place
+place_behind places.ListenPanel = places.ListenDownstream
+place_behind places.ListenDownstream = places.PollPanel
+place_behind places.PollPanel = places.PollUpstream
+place_behind places.PollUpstream = places.PollDownstream
+place_behind places.PollDownstream = places.SendPanel
+place_behind places.SendPanel = places.SendUpstream
+place_behind places.SendUpstream = places.SendDownstream
+place_behind places.SendDownstream = places.TurnDone
+place_behind places.TurnDone = places.PollPanel
+
+abbrev pub turn_behind : Place → ℕ → ℕ
+turn_behind places.TurnDone turn = turn + 1
+turn_behind _ turn = turn
+
+-- the last turn has none behind it
+abbrev pub IsTurnLeft : Place → ℕ → ℕ → Type 0
+IsTurnLeft places.TurnDone turn turns = turn < turns
+IsTurnLeft _ turn turns = Unit {0}
+
+-- the run at the next place
+abbrev pub moved_on : RunState → RunState
+moved_on s = record s { place = place_behind s.place; turn = turn_behind s.place s.turn }

@@ -1,0 +1,86 @@
+-- The state of a run: the machine, its ways, the panel's text, and what comes next.
+use Rattle.std.specs.Prelude.{ℕ, Bool, false, List, [], Option, None, Some}
+use Rattle.line_outside.specs.declared.way.Way.{Way}
+use Rattle.line_outside.specs.declared.way.Way.TheVariants as ways
+use Rattle.node_core.specs.Node.{NodeState}
+use Rattle.node_run.specs.declared.rules.Rules.{Rules}
+use Rattle.node_run.specs.declared.status.NodeStatus.{NodeStatus}
+use Rattle.node_run.specs.declared.place.Place.{Place}
+use Rattle.node_run.specs.declared.place.Place.TheVariants as places
+use Rattle.node_run.specs.declared.way_state.Wire.{Wire}
+use Rattle.node_run.specs.declared.way_state.Wire.TheVariants as wires
+
+-- a way: how its connection stands, and the text that waits to be sent
+pub record WayValue : Type 0 where
+  pub wire : Wire
+  pub unsent : List ℕ
+
+-- a text for a second connection that is to be refused
+pub record Refusal : Type 0 where
+  pub way : Way
+  pub text : List ℕ
+
+pub record RunState : Type 0 where
+  pub node : NodeState
+  pub panel : WayValue
+  pub upstream : WayValue
+  pub downstream : WayValue
+  pub line : List ℕ
+  pub drops : Bool
+  pub rest : List ℕ
+  pub refusal : Option Refusal
+  pub asks : Bool
+  pub place : Place
+  pub turn : ℕ
+  pub ended : Option NodeStatus
+
+-- a run as it is seen: what it goes by, its state, and what the present move has told
+pub record RunView : Type 0 where
+  pub rules : Rules
+  pub state : RunState
+  pub told : List ℕ
+
+-- no connection, and nothing to send
+abbrev pub at_rest : WayValue
+at_rest = record { wire = wires.Rests; unsent = [] }
+
+-- a run begins with a new machine, before its first turn
+abbrev pub started : NodeState → RunState
+started node = record {
+  node = node;
+  panel = at_rest;
+  upstream = at_rest;
+  downstream = at_rest;
+  line = [];
+  drops = false;
+  rest = [];
+  refusal = None;
+  asks = false;
+  place = places.ListenPanel;
+  turn = 1;
+  ended = None;
+}
+
+abbrev pub way_at : Way → RunState → WayValue
+way_at ways.Panel s = s.panel
+way_at ways.Upstream s = s.upstream
+way_at ways.Downstream s = s.downstream
+way_at ways.Supervisory s = at_rest
+
+abbrev pub with_way : Way → WayValue → RunState → RunState
+with_way ways.Panel way s = record s { panel = way }
+with_way ways.Upstream way s = record s { upstream = way }
+with_way ways.Downstream way s = record s { downstream = way }
+with_way ways.Supervisory way s = s
+
+-- the run with the wire of a way as it is now
+abbrev pub with_wire : Way → Wire → RunState → RunState
+with_wire way wire s = with_way way (record (way_at way s) { wire = wire }) s
+
+abbrev pub seen_refusal : Way → List ℕ → Refusal
+seen_refusal way text = record { way = way; text = text }
+
+-- the text of a refusal, if there is one
+abbrev pub refusal_text : Option Refusal → List ℕ
+refusal_text None = []
+refusal_text (Some refusal) = refusal.text

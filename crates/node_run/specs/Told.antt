@@ -1,0 +1,42 @@
+-- What a run did with what its ports, its clock and its log tell.
+use Rattle.std.specs.Prelude.{◌≡◌, ◌≤◌, ℕ, ℤ, false, List, Option, None, Some}
+use Rattle.line_outside.specs.Faults.{Rose}
+use Rattle.line_outside.specs.Given.{Given}
+use Rattle.node_core.specs.Node.{new_node}
+use Rattle.node_core.specs.declared.profile.NodeProfile.{NodeProfile}
+use Rattle.node_settings.specs.declared.settings.Settings.{Settings}
+use Rattle.node_run.specs.State.{RunState, started}
+use Rattle.node_run.specs.Runs.{RunEnds}
+use Rattle.node_run.specs.declared.rules.Rules.{Rules}
+use Rattle.node_run.specs.declared.status.NodeStatus.{NodeStatus}
+use Rattle.node_run.specs.declared.status.NodeStatus.TheVariants as statuses
+
+-- what settings make of a run
+abbrev pub rules_of : Settings → Rules
+rules_of settings = record { number = settings.identity.number; connections = settings.connections; turns = settings.turns }
+
+abbrev pub profile_of : Settings → NodeProfile
+profile_of settings = record {
+  number = settings.identity.number;
+  machine = settings.identity.machine_id;
+  lane = settings.identity.lane;
+  capacity = settings.places.capacity;
+  used = settings.places.used;
+  bridge = false;
+}
+
+-- where the clock tells its moment, how a run from a state ends
+abbrev pub RunEndsFrom : Option ℤ → Rules → RunState → Option (List Given) → Option (List Given) → Option (List ℕ) → Option (List ℕ) → NodeStatus → Type 0
+RunEndsFrom None rules s given_old given_new log_old log_new status = Unit {0}
+RunEndsFrom (Some moment) rules s given_old given_new log_old log_new status = RunEnds rules moment s given_old given_new log_old log_new status
+
+-- and how the run that settings ask for does
+abbrev pub RunEndsTold : Option ℤ → Settings → Option (List Given) → Option (List Given) → Option (List ℕ) → Option (List ℕ) → NodeStatus → Type 0
+RunEndsTold told settings given_old given_new log_old log_new status = RunEndsFrom told (rules_of settings) (started (new_node (profile_of settings))) given_old given_new log_old log_new status
+
+-- no count falls, and a fault comes only where the count of that object rose
+pub record HasRunCauses (status : NodeStatus) (ports_before ports_now log_before log_now : ℕ) : Type 0 where
+  pub ports : ports_before ≤ ports_now
+  pub log : log_before ≤ log_now
+  pub listen_fault : status ≡ statuses.ListenFault → Rose ports_before ports_now
+  pub log_fault : status ≡ statuses.LogFault → Rose log_before log_now

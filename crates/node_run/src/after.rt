@@ -1,0 +1,214 @@
+//! What the answers of the ports do.
+
+ghost use Rattle.std.specs.Prelude.{◌≡◌, [], false, None, OnOk};
+ghost use Rattle.line_outside.specs.declared.answer.GotBytes.TheVariants as founds;
+ghost use Rattle.node_run.specs.Next.{IsTurnLeft, moved_on};
+ghost use Rattle.node_run.specs.After.{after_listen, after_panel, after_send, found_of, panel_gone, AfterPoll, AfterUpstream, AfterDownstream, AfterClose};
+
+use crate::run::{Refusal, Run};
+use crate::status::NodeStatus;
+use crate::way_state::Wire;
+use line_base::{Memory, Moment, Side};
+use line_outside::{Got, Opened, Sent, Way};
+use node_core::Input;
+
+impl Run {
+    /// Nothing was to do at this place.
+    pub fn skip(&mut self)
+        requires { IsTurnLeft self.old.state.place self.old.state.turn self.old.rules.turns }
+        ensures { self.new ≡ record self.old { state = moved_on self.old.state } }
+    {
+        self.move_on();
+    }
+
+    /// The answer to listening.
+    pub fn after_listen(&mut self, opened: Opened)
+        requires { IsTurnLeft self.old.state.place self.old.state.turn self.old.rules.turns }
+        ensures { self.new ≡ record self.old { state = after_listen opened self.old.state } }
+    {
+        self.move_on();
+        if opened == Opened::Failed {
+            self.ended = Some(NodeStatus::ListenFault);
+        }
+    }
+
+    /// A connection was asked for. Whether it comes, a poll says.
+    pub fn after_connect(&mut self)
+        ensures { self.new ≡ record self.old { state = record self.old.state { asks = false } } }
+    {
+        self.asks = false;
+    }
+
+    /// A second connection was refused. The answer changes nothing.
+    pub fn after_refuse(&mut self)
+        ensures { self.new ≡ record self.old { state = record self.old.state { refusal = None } } }
+    {
+        self.refusal = None;
+    }
+
+    /// The answer to a poll, with the bytes that it gave.
+    pub fn after_poll(
+        &mut self,
+        way: Way,
+        got: Got,
+        bytes: &[u8],
+        moment: Moment,
+    ) -> Result<(), Memory>
+        requires turn { IsTurnLeft self.old.state.place self.old.state.turn self.old.rules.turns }
+        requires told { self.old.told ≡ [] }
+        ensures rules { self.new.rules ≡ self.old.rules }
+        ensures after { OnOk result (AfterPoll self.old.rules moment way (found_of got bytes.now) (moved_on self.old.state) self.new.state self.new.told) }
+    {
+        self.move_on();
+        match way {
+            Way::Panel => self.after_panel(got, bytes),
+            Way::Upstream => self.after_upstream(got, bytes, moment),
+            Way::Downstream => self.after_downstream(got, bytes, moment),
+            Way::Supervisory => Ok(()),
+        }
+    }
+
+    fn after_panel(&mut self, got: Got, bytes: &[u8]) -> Result<(), Memory>
+        ensures rules { self.new.rules ≡ self.old.rules }
+        ensures after { OnOk result (self.new ≡ record self.old { state = after_panel (found_of got bytes.now) self.old.state }) }
+    {
+        let wire = self.panel.wire();
+        match got {
+            Got::Arrived if wire == Wire::Rests => self.panel.set_wire(Wire::Stands),
+            Got::Second if wire == Wire::Stands => {
+                self.refusal = Some(Refusal {
+                    way: Way::Panel,
+                    text: Vec::new(self.alloc),
+                });
+            }
+            Got::Bytes(_) if wire == Wire::Stands => return self.set_rest(bytes),
+            Got::Closed | Got::Failed if wire == Wire::Stands => {
+                self.panel.set_wire(Wire::Breaks);
+            }
+            _ => {}
+        }
+        Ok(())
+    }
+
+    fn set_rest(&mut self, bytes: &[u8]) -> Result<(), Memory>
+        ensures rules { self.new.rules ≡ self.old.rules }
+        ensures rest { OnOk result (self.new ≡ record self.old { state = record self.old.state { rest = bytes.now } }) }
+    {
+        self.rest.clear();
+        self.done = 0;
+        match self.rest.extend_from_slice(bytes) {
+            Ok(()) => Ok(()),
+            Err(_) => Err(Memory),
+        }
+    }
+
+    fn after_upstream(&mut self, got: Got, bytes: &[u8], moment: Moment) -> Result<(), Memory>
+        requires { self.old.told ≡ [] }
+        ensures rules { self.new.rules ≡ self.old.rules }
+        ensures after { OnOk result (AfterUpstream self.old.rules moment (found_of got bytes.now) self.old.state self.new.state self.new.told) }
+    {
+        match got {
+            Got::Arrived => self.connect_upstream(moment),
+            Got::Bytes(_) => self.take(Input::Bytes(Side::Entry, bytes), moment),
+            Got::Closed | Got::Failed => {
+                if self.node.may(&Input::Notice(Side::Entry)).is_ok() {
+                    self.upstream.set_wire(Wire::Breaks);
+                }
+                Ok(())
+            }
+            Got::Second | Got::NotYet => Ok(()),
+        }
+    }
+
+    fn after_downstream(&mut self, got: Got, bytes: &[u8], moment: Moment) -> Result<(), Memory>
+        requires { self.old.told ≡ [] }
+        ensures rules { self.new.rules ≡ self.old.rules }
+        ensures after { OnOk result (AfterDownstream self.old.rules moment (found_of got bytes.now) self.old.state self.new.state self.new.told) }
+    {
+        match got {
+            Got::Arrived => self.accept_downstream(moment),
+            Got::Second => self.meet_second(moment),
+            Got::Bytes(_) => self.take(Input::Bytes(Side::Exit, bytes), moment),
+            Got::Closed | Got::Failed => {
+                if self.node.may(&Input::Notice(Side::Exit)).is_ok() {
+                    self.downstream.set_wire(Wire::Breaks);
+                }
+                Ok(())
+            }
+            Got::NotYet => Ok(()),
+        }
+    }
+
+    /// The connection that was asked for stands, where the machine can take it.
+    fn connect_upstream(&mut self, moment: Moment) -> Result<(), Memory>
+        requires { self.old.told ≡ [] }
+        ensures rules { self.new.rules ≡ self.old.rules }
+        ensures after { OnOk result (AfterUpstream self.old.rules moment founds.Arrived self.old.state self.new.state self.new.told) }
+    {
+        if self.node.may(&Input::Connect).is_err() {
+            return Ok(());
+        }
+        self.upstream.set_wire(Wire::Stands);
+        self.step(&[], Input::Connect, moment)
+    }
+
+    /// The downstream neighbour's connection stands, where the machine can take it.
+    fn accept_downstream(&mut self, moment: Moment) -> Result<(), Memory>
+        requires { self.old.told ≡ [] }
+        ensures rules { self.new.rules ≡ self.old.rules }
+        ensures after { OnOk result (AfterDownstream self.old.rules moment founds.Arrived self.old.state self.new.state self.new.told) }
+    {
+        if self.node.may(&Input::Accepted).is_err() {
+            return Ok(());
+        }
+        self.downstream.set_wire(Wire::Stands);
+        self.step(&[], Input::Accepted, moment)
+    }
+
+    /// The answer to sending.
+    pub fn after_send(&mut self, way: Way, sent: Sent)
+        requires { IsTurnLeft self.old.state.place self.old.state.turn self.old.rules.turns }
+        ensures { self.new ≡ record self.old { state = after_send way sent (moved_on self.old.state) } }
+    {
+        self.move_on();
+        match sent {
+            Sent::Took(count) => self.take_sent(way, count),
+            Sent::NotYet => {}
+            Sent::Closed | Sent::Failed => self.set_wire(way, Wire::Breaks),
+        }
+    }
+
+    /// A way was closed: its text is dropped, and the machine notices where its side has a connection.
+    pub fn after_close(&mut self, way: Way, moment: Moment) -> Result<(), Memory>
+        requires { self.old.told ≡ [] }
+        ensures rules { self.new.rules ≡ self.old.rules }
+        ensures after { OnOk result (AfterClose self.old.rules moment way self.old.state self.new.state self.new.told) }
+    {
+        match way {
+            Way::Panel => {
+                self.leave_panel();
+                Ok(())
+            }
+            Way::Upstream => {
+                self.upstream.rest();
+                self.take(Input::Notice(Side::Entry), moment)
+            }
+            Way::Downstream => {
+                self.downstream.rest();
+                self.take(Input::Notice(Side::Exit), moment)
+            }
+            Way::Supervisory => Ok(()),
+        }
+    }
+
+    /// The panel's unfinished line goes with its connection, and so do the lines that follow in the same answer.
+    fn leave_panel(&mut self)
+        ensures { self.new ≡ record self.old { state = panel_gone self.old.state } }
+    {
+        self.panel.rest();
+        self.line.clear();
+        self.drops = false;
+        self.rest.clear();
+        self.done = 0;
+    }
+}

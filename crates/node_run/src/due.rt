@@ -1,0 +1,120 @@
+//! What comes next.
+
+ghost use Rattle.std.specs.Prelude.{◌≡◌};
+ghost use Rattle.node_run.specs.Next.{next_of, closes_next, connects_next, lines_next, at_place, polls, is_polled, sends_by, turn_next};
+
+use crate::place::{Next, Place};
+use crate::run::Run;
+use crate::status::NodeStatus;
+use crate::way_state::WayState;
+use line_outside::Way;
+
+impl Run {
+    /// What comes next: the end, a second connection that is to be refused, a way that has to be closed, a connection that
+    /// was asked for, the next of the panel's lines, and then what is done at this place.
+    pub fn next(&self) -> Next
+        ensures { result ≡ next_of self.now.rules self.now.state }
+    {
+        if let Some(status) = self.ended {
+            return Next::End(status);
+        }
+        if let Some(refusal) = &self.refusal {
+            return Next::Refuse(refusal.way);
+        }
+        self.next_close()
+    }
+
+    fn next_close(&self) -> Next
+        ensures { result ≡ closes_next self.now.rules self.now.state }
+    {
+        if self.panel.is_due() {
+            return Next::Close(Way::Panel);
+        }
+        if self.upstream.is_due() {
+            return Next::Close(Way::Upstream);
+        }
+        if self.downstream.is_due() {
+            return Next::Close(Way::Downstream);
+        }
+        self.next_connect()
+    }
+
+    fn next_connect(&self) -> Next
+        ensures { result ≡ connects_next self.now.rules self.now.state }
+    {
+        if self.asks
+            && let Some(address) = self.rules.connections.upstream
+        {
+            return Next::Connect(address);
+        }
+        self.next_line()
+    }
+
+    fn next_line(&self) -> Next
+        ensures { result ≡ lines_next self.now.rules self.now.state }
+    {
+        if !self.rest().is_empty() {
+            return Next::Line;
+        }
+        self.next_at_place()
+    }
+
+    fn next_at_place(&self) -> Next
+        ensures { result ≡ at_place self.now.rules self.now.state self.now.state.place }
+    {
+        match self.place {
+            Place::ListenPanel => Next::Listen(Way::Panel, self.rules.connections.panel_port),
+            Place::ListenDownstream => {
+                Next::Listen(Way::Downstream, self.rules.connections.downstream_port)
+            }
+            Place::PollPanel => self.next_poll(Way::Panel),
+            Place::PollUpstream => self.next_poll(Way::Upstream),
+            Place::PollDownstream => self.next_poll(Way::Downstream),
+            Place::SendPanel => next_send(Way::Panel, &self.panel),
+            Place::SendUpstream => next_send(Way::Upstream, &self.upstream),
+            Place::SendDownstream => next_send(Way::Downstream, &self.downstream),
+            Place::TurnDone => self.next_turn(),
+        }
+    }
+
+    /// A way that is to end isn't polled, nor is one that isn't set.
+    fn next_poll(&self, way: Way) -> Next
+        ensures { result ≡ polls self.now.rules self.now.state way }
+    {
+        if self.is_polled(way) {
+            return Next::Poll(way);
+        }
+        Next::Skip
+    }
+
+    fn is_polled(&self, way: Way) -> bool
+        ensures { result ≡ is_polled self.now.rules self.now.state way }
+    {
+        match way {
+            Way::Panel => true,
+            Way::Upstream => {
+                self.rules.connections.upstream.is_some() && !self.upstream.has_ended()
+            }
+            Way::Downstream => !self.downstream.has_ended(),
+            Way::Supervisory => false,
+        }
+    }
+
+    fn next_turn(&self) -> Next
+        ensures { result ≡ turn_next self.now.rules self.now.state }
+    {
+        if self.turn < self.rules.turns {
+            return Next::Skip;
+        }
+        Next::End(NodeStatus::TurnsUsed)
+    }
+}
+
+fn next_send(way: Way, state: &WayState) -> Next
+    ensures { result ≡ sends_by way state.now }
+{
+    if state.is_empty() {
+        return Next::Skip;
+    }
+    Next::Send(way)
+}

@@ -1,0 +1,21 @@
+//! The laws of a run.
+
+ghost use Rattle.std.specs.Prelude.{◌≡◌, true, ℕ, ℤ, List};
+ghost use Rattle.line_outside.specs.Given.{Given};
+ghost use Rattle.line_outside.specs.declared.way.Way.{Way};
+ghost use Rattle.node_run.specs.declared.rules.Rules.{Rules};
+ghost use Rattle.node_run.specs.Next.{next_of, goes_on, HasBoundedText};
+ghost use Rattle.node_run.specs.Owning.{OwnFollows};
+ghost use Rattle.node_run.specs.Runs.{Runs};
+ghost use Rattle.node_run.specs.State.{RunState, way_at};
+
+/// Where more than 1,048,576 bytes wait on a way that has a connection, nothing but the end, the refusal of a second connection or
+/// a close comes next.
+pub fn too_much_text_closes_a_way()
+    ensures { (rules : Rules) (s : RunState) (way : Way) → goes_on (next_of rules s) ≡ true → HasBoundedText (way_at way s) }
+{}
+
+/// What a machine owns after a run follows from what it owned before and from the acts that the run's log tells, in their order.
+pub fn what_a_machine_owns_follows_from_its_log()
+    ensures { (rules : Rules) (moment : ℤ) (s t : RunState) (calls : List Given) (log : List ℕ) → Runs rules moment s calls t log → OwnFollows rules.number s t log }
+{}

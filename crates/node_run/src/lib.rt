@@ -1,0 +1,23 @@
+//! The run of one machine over TCP: what comes next in it, and what each answer of its ports does.
+//!
+//! A run is a chain of moves: a call of the ports with its answer, or a line of the panel. `next` says which comes, and a
+//! method for each takes its answer.
+#![tactic(auto)]
+
+mod after;
+mod due;
+pub mod laws;
+mod lines;
+mod moves;
+mod place;
+mod rules;
+mod run;
+mod running;
+mod show;
+mod status;
+mod step;
+mod texts;
+mod way_state;
+
+pub use running::run_node;
+pub use status::NodeStatus;

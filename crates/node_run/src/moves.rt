@@ -1,0 +1,183 @@
+//! The moves of a run: one call of the ports with what its answer does, or a line of the panel.
+
+ghost use Rattle.std.specs.Prelude.{◌≡◌, ◌≤◌, [], false, ℤ, OnOk, OnErr, Option, length};
+ghost use Rattle.line_outside.specs.Given.{got_bytes};
+ghost use Rattle.line_outside.specs.Ports.{IsGotWithin};
+ghost use Rattle.node_run.specs.After.{found_of};
+ghost use Rattle.node_run.specs.Next.{next_of};
+ghost use Rattle.node_run.specs.Moving.{MovesAs, MissesMove, is_end};
+ghost use Rattle.node_run.specs.declared.place.Next.TheVariants as nexts;
+
+use crate::place::Next;
+use crate::run::Run;
+use line_base::Memory;
+use line_outside::{Address, Clock, Got, Ports, Way};
+
+/// Makes the move that comes next.
+///
+/// `Memory` where it ran out: the run goes no further then, and at most the move's call was made.
+pub fn make_move<P: Ports, C: Clock>(
+    run: &mut Run,
+    next: Next,
+    room: &mut [u8],
+    ports: &mut P,
+    clock: &mut C,
+) -> Result<(), Memory>
+    requires next { next_of run.old.rules run.old.state ≡ next }
+    requires goes_on { is_end next ≡ false }
+    requires told { run.old.told ≡ [] }
+    requires room { length room.old ≡ 4096 }
+    requires rest { length run.old.state.rest ≤ 4096 }
+    ensures clock { C.moment clock.new ≡ C.moment clock.old }
+    ensures counted { P.faults ports.old ≤ P.faults ports.new }
+    ensures moves { OnOk result (MovesAs (C.moment clock.old) run.old run.new (P.given ports.old) (P.given ports.new) (P.faults ports.old) (P.faults ports.new)) }
+    ensures misses { OnErr result (MissesMove run.old.rules run.old.state (P.given ports.old) (P.given ports.new)) }
+{
+    match next {
+        Next::End(_) => unreachable!(),
+        Next::Skip => {
+            pass_place(run, ports);
+            Ok(())
+        }
+        Next::Line => take_line(run, ports, clock),
+        Next::Listen(way, port) => {
+            listen(run, way, port, ports);
+            Ok(())
+        }
+        Next::Connect(address) => {
+            connect(run, address, ports);
+            Ok(())
+        }
+        Next::Poll(way) => poll(run, way, room, ports, clock),
+        Next::Send(way) => {
+            send(run, way, ports);
+            Ok(())
+        }
+        Next::Refuse(way) => {
+            refuse(run, way, ports);
+            Ok(())
+        }
+        Next::Close(way) => close(run, way, ports, clock),
+    }
+}
+
+/// Goes on from a place where nothing is to do. The ports aren't called.
+fn pass_place<P: Ports>(run: &mut Run, ports: &mut P)
+    requires next { next_of run.old.rules run.old.state ≡ nexts.Skip }
+    requires told { run.old.told ≡ [] }
+    requires rest { length run.old.state.rest ≤ 4096 }
+    ensures counted { P.faults ports.old ≤ P.faults ports.new }
+    ensures moves { (told : Option ℤ) → MovesAs told run.old run.new (P.given ports.old) (P.given ports.new) (P.faults ports.old) (P.faults ports.new) }
+{
+    run.skip();
+}
+
+/// Does the next of the panel's lines. The ports aren't called.
+fn take_line<P: Ports, C: Clock>(run: &mut Run, ports: &mut P, clock: &mut C) -> Result<(), Memory>
+    requires next { next_of run.old.rules run.old.state ≡ nexts.Line }
+    requires told { run.old.told ≡ [] }
+    requires rest { length run.old.state.rest ≤ 4096 }
+    ensures clock { C.moment clock.new ≡ C.moment clock.old }
+    ensures counted { P.faults ports.old ≤ P.faults ports.new }
+    ensures moves { OnOk result (MovesAs (C.moment clock.old) run.old run.new (P.given ports.old) (P.given ports.new) (P.faults ports.old) (P.faults ports.new)) }
+    ensures misses { OnErr result (MissesMove run.old.rules run.old.state (P.given ports.old) (P.given ports.new)) }
+{
+    let moment = clock.now();
+    run.take_line(moment)
+}
+
+fn listen<P: Ports>(run: &mut Run, way: Way, port: u16, ports: &mut P)
+    requires next { next_of run.old.rules run.old.state ≡ nexts.Listen way port }
+    requires told { run.old.told ≡ [] }
+    requires rest { length run.old.state.rest ≤ 4096 }
+    ensures counted { P.faults ports.old ≤ P.faults ports.new }
+    ensures moves { (told : Option ℤ) → MovesAs told run.old run.new (P.given ports.old) (P.given ports.new) (P.faults ports.old) (P.faults ports.new) }
+{
+    let opened = ports.listen(way, port);
+    run.after_listen(opened);
+}
+
+fn connect<P: Ports>(run: &mut Run, address: Address, ports: &mut P)
+    requires next { next_of run.old.rules run.old.state ≡ nexts.Connect address }
+    requires told { run.old.told ≡ [] }
+    requires rest { length run.old.state.rest ≤ 4096 }
+    ensures counted { P.faults ports.old ≤ P.faults ports.new }
+    ensures moves { (told : Option ℤ) → MovesAs told run.old run.new (P.given ports.old) (P.given ports.new) (P.faults ports.old) (P.faults ports.new) }
+{
+    ports.connect(Way::Upstream, address);
+    run.after_connect();
+}
+
+fn poll<P: Ports, C: Clock>(
+    run: &mut Run,
+    way: Way,
+    room: &mut [u8],
+    ports: &mut P,
+    clock: &mut C,
+) -> Result<(), Memory>
+    requires next { next_of run.old.rules run.old.state ≡ nexts.Poll way }
+    requires told { run.old.told ≡ [] }
+    requires room { length room.old ≡ 4096 }
+    requires rest { length run.old.state.rest ≤ 4096 }
+    ensures clock { C.moment clock.new ≡ C.moment clock.old }
+    ensures counted { P.faults ports.old ≤ P.faults ports.new }
+    ensures moves { OnOk result (MovesAs (C.moment clock.old) run.old run.new (P.given ports.old) (P.given ports.new) (P.faults ports.old) (P.faults ports.new)) }
+    ensures misses { OnErr result (MissesMove run.old.rules run.old.state (P.given ports.old) (P.given ports.new)) }
+{
+    let got = ports.poll(way, room);
+    let moment = clock.now();
+    run.after_poll(way, got, given(got, room), moment)
+}
+
+fn send<P: Ports>(run: &mut Run, way: Way, ports: &mut P)
+    requires next { next_of run.old.rules run.old.state ≡ nexts.Send way }
+    requires told { run.old.told ≡ [] }
+    requires rest { length run.old.state.rest ≤ 4096 }
+    ensures counted { P.faults ports.old ≤ P.faults ports.new }
+    ensures moves { (told : Option ℤ) → MovesAs told run.old run.new (P.given ports.old) (P.given ports.new) (P.faults ports.old) (P.faults ports.new) }
+{
+    let sent = ports.send(way, run.unsent(way));
+    run.after_send(way, sent);
+}
+
+fn refuse<P: Ports>(run: &mut Run, way: Way, ports: &mut P)
+    requires next { next_of run.old.rules run.old.state ≡ nexts.Refuse way }
+    requires told { run.old.told ≡ [] }
+    requires rest { length run.old.state.rest ≤ 4096 }
+    ensures counted { P.faults ports.old ≤ P.faults ports.new }
+    ensures moves { (told : Option ℤ) → MovesAs told run.old run.new (P.given ports.old) (P.given ports.new) (P.faults ports.old) (P.faults ports.new) }
+{
+    ports.refuse(way, run.refusal_text());
+    run.after_refuse();
+}
+
+fn close<P: Ports, C: Clock>(
+    run: &mut Run,
+    way: Way,
+    ports: &mut P,
+    clock: &mut C,
+) -> Result<(), Memory>
+    requires next { next_of run.old.rules run.old.state ≡ nexts.Close way }
+    requires told { run.old.told ≡ [] }
+    requires rest { length run.old.state.rest ≤ 4096 }
+    ensures clock { C.moment clock.new ≡ C.moment clock.old }
+    ensures counted { P.faults ports.old ≤ P.faults ports.new }
+    ensures moves { OnOk result (MovesAs (C.moment clock.old) run.old run.new (P.given ports.old) (P.given ports.new) (P.faults ports.old) (P.faults ports.new)) }
+    ensures misses { OnErr result (MissesMove run.old.rules run.old.state (P.given ports.old) (P.given ports.new)) }
+{
+    ports.close(way);
+    let moment = clock.now();
+    run.after_close(way, moment)
+}
+
+/// The bytes that a poll gave.
+fn given(got: Got, room: &[u8]) -> &[u8]
+    requires { IsGotWithin (length room.now) got }
+    ensures found { got_bytes got room.now ≡ found_of got result.now }
+    ensures within { length result.now ≤ length room.now }
+{
+    match got {
+        Got::Bytes(count) => &room[..count],
+        Got::Arrived | Got::Second | Got::NotYet | Got::Closed | Got::Failed => &[],
+    }
+}

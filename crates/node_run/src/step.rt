@@ -1,0 +1,136 @@
+//! Steps of the machine in a run.
+
+ghost use Rattle.std.specs.Prelude.{◌≡◌, [], ◌∷◌, IfOk, OnOk};
+ghost use Rattle.line_base.specs.declared.states.Side.TheVariants.{Exit};
+ghost use Rattle.node_core.specs.May.{may_of, may_do};
+ghost use Rattle.node_core.specs.declared.input.Input.TheVariants as inputs;
+ghost use Rattle.node_run.specs.Steps.{Takes, TakesStep, MeetsSecond, HasStepped, routed, refusing_with, message_for};
+
+use crate::run::{Refusal, Run};
+use crate::texts::write_lines;
+use crate::way_state::Wire;
+use board_record::Sensed;
+use hermes_horizontal::write_horizontal;
+use line_base::{Memory, Moment, Side};
+use line_outside::Way;
+use node_core::{Act, Input, Outputs};
+
+impl Run {
+    /// A step, where the machine can take the input, and else nothing.
+    pub fn take(&mut self, input: Input<'_>, moment: Moment) -> Result<(), Memory>
+        requires { self.old.told ≡ [] }
+        ensures rules { self.new.rules ≡ self.old.rules }
+        ensures takes { OnOk result (Takes (may_of self.old.state.node input.entry) self.old.rules moment input.entry self.old.state self.old.state self.new.state self.new.told) }
+    {
+        if self.node.may(&input).is_err() {
+            return Ok(());
+        }
+        self.step(&[], input, moment)
+    }
+
+    /// A step, with its lines in the log.
+    pub fn step(
+        &mut self,
+        sensed: &[Sensed],
+        input: Input<'_>,
+        moment: Moment,
+    ) -> Result<(), Memory>
+        requires may { may_of self.old.state.node input ≡ may_do }
+        requires told { self.old.told ≡ [] }
+        ensures rules { self.new.rules ≡ self.old.rules }
+        ensures takes { OnOk result (TakesStep self.old.rules moment sensed.now input.entry self.old.state self.new.state self.new.told) }
+    {
+        let acts = self.step_silently(sensed, input, moment)?;
+        self.route(acts.list())
+    }
+
+    /// The machine's step and its lines. Where its messages go is for the caller.
+    fn step_silently(
+        &mut self,
+        sensed: &[Sensed],
+        input: Input<'_>,
+        moment: Moment,
+    ) -> Result<Outputs, Memory>
+        requires may { may_of self.old.state.node input ≡ may_do }
+        requires told { self.old.told ≡ [] }
+        ensures rules { self.new.rules ≡ self.old.rules }
+        ensures stepped { IfOk result (λ acts. HasStepped self.old.rules moment sensed.now input.entry acts self.old.state self.new.state self.new.told) }
+    {
+        let acts = self.node.step(sensed, input, moment)?;
+        write_lines(self.turn, self.rules.number, acts.list(), &mut self.told)?;
+        Ok(acts)
+    }
+
+    /// Messages wait on the ways of their sides, and a side that was closed is to end.
+    fn route(&mut self, acts: &[Act]) -> Result<(), Memory>
+        ensures rules { self.new.rules ≡ self.old.rules }
+        ensures routed { OnOk result (self.new ≡ record self.old { state = routed acts.now self.old.state }) }
+    {
+        for act in acts {
+            self.route_one(act)?;
+        }
+        Ok(())
+    }
+
+    fn route_one(&mut self, act: &Act) -> Result<(), Memory>
+        ensures rules { self.new.rules ≡ self.old.rules }
+        ensures routed { OnOk result (self.new ≡ record self.old { state = routed (act.now ∷ []) self.old.state }) }
+    {
+        match act {
+            Act::Sends(Side::Entry, message) => self.upstream.append_message(message),
+            Act::Sends(Side::Exit, message) => self.downstream.append_message(message),
+            Act::Closes(Side::Entry) => {
+                self.upstream.set_wire(Wire::Ends);
+                Ok(())
+            }
+            Act::Closes(Side::Exit) => {
+                self.downstream.set_wire(Wire::Ends);
+                Ok(())
+            }
+            _ => Ok(()),
+        }
+    }
+
+    /// A second connection of the downstream neighbour: the first of the step's messages is for that, and it is refused.
+    pub fn meet_second(&mut self, moment: Moment) -> Result<(), Memory>
+        requires { self.old.told ≡ [] }
+        ensures rules { self.new.rules ≡ self.old.rules }
+        ensures meets { OnOk result (MeetsSecond (may_of self.old.state.node inputs.Second) self.old.rules moment inputs.Second self.old.state self.new.state self.new.told) }
+    {
+        if self.node.may(&Input::Second).is_err() {
+            return Ok(());
+        }
+        let acts = self.step_silently(&[], Input::Second, moment)?;
+        self.refuse_with(acts.list())
+    }
+
+    /// The first of these acts is for the second connection, the others go their ways.
+    fn refuse_with(&mut self, acts: &[Act]) -> Result<(), Memory>
+        ensures rules { self.new.rules ≡ self.old.rules }
+        ensures refuses { OnOk result (self.new ≡ record self.old { state = refusing_with acts.now self.old.state }) }
+    {
+        let text = match acts.split_first() {
+            Some((first, others)) => {
+                self.route(others)?;
+                self.text_of(first)?
+            }
+            None => Vec::new(self.alloc),
+        };
+        self.refusal = Some(Refusal {
+            way: Way::Downstream,
+            text,
+        });
+        Ok(())
+    }
+
+    /// The message of an act for the second connection.
+    fn text_of(&self, act: &Act) -> Result<Vec<u8>, Memory>
+        ensures { IfOk result (λ text. text.items ≡ message_for Exit act.now) }
+    {
+        let mut text = Vec::new(self.alloc);
+        if let Act::Sends(Side::Exit, message) = act {
+            write_horizontal(message, &mut text)?;
+        }
+        Ok(text)
+    }
+}

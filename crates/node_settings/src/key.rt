@@ -1,0 +1,83 @@
+use line_base::Memory;
+use std::fmt;
+use thiserror::Error;
+
+/// What of a settings file is refused: the document as a whole, one of its keys, or a key that is none of them.
+#[derive(Clone, Copy, Debug, PartialEq, Eq)]
+pub enum ConfigKey {
+    Document,
+    Number,
+    MachineId,
+    Lane,
+    Capacity,
+    Used,
+    Bridge,
+    Upstream,
+    DownstreamPort,
+    PanelPort,
+    Turns,
+    Unknown,
+}
+
+/// Why it is refused.
+#[derive(Clone, Copy, Debug, PartialEq, Eq, Error)]
+pub enum ConfigWhy {
+    /// The document has more than 65,536 bytes.
+    #[error("too large")]
+    TooLarge,
+    /// The document is no TOML.
+    #[error("no TOML")]
+    NotToml,
+    /// The key is missing.
+    #[error("missing")]
+    Missing,
+    /// The value is of another kind.
+    #[error("wrong kind")]
+    WrongKind,
+    /// The value is of the right kind, but it can't be this.
+    #[error("out of range")]
+    OutOfRange,
+    /// There is a key of an unknown name.
+    #[error("unknown key")]
+    UnknownKey,
+}
+
+/// Why settings could not be read.
+#[derive(Clone, Copy, Debug, PartialEq, Eq, Error)]
+pub enum SettingsError {
+    /// This key is refused for this reason.
+    #[error("{0}: {1}")]
+    Refused(ConfigKey, ConfigWhy),
+    #[error("out of memory")]
+    Memory,
+}
+
+impl From<Memory> for SettingsError {
+    ghost use Rattle.std.specs.Prelude.{◌≡◌};
+    ghost use Rattle.node_settings.specs.declared.key.SettingsError.TheVariants as errors;
+
+    ghost from_gives = { λ _ e. e ≡ errors.Memory };
+
+    fn from(_memory: Memory) -> SettingsError {
+        SettingsError::Memory
+    }
+}
+
+impl fmt::Display for ConfigKey {
+    fn fmt<W: fmt::Write>(&self, f: &mut fmt::Formatter<W>) -> fmt::Result {
+        match self {
+            ConfigKey::Document => f.write_str("the document"),
+            ConfigKey::Number => f.write_str("number"),
+            ConfigKey::MachineId => f.write_str("machine_id"),
+            ConfigKey::Lane => f.write_str("lane"),
+            ConfigKey::Capacity => f.write_str("capacity"),
+            ConfigKey::Used => f.write_str("used"),
+            ConfigKey::Bridge => f.write_str("bridge"),
+            ConfigKey::Upstream => f.write_str("upstream"),
+            ConfigKey::DownstreamPort => f.write_str("downstream_port"),
+            ConfigKey::PanelPort => f.write_str("panel_port"),
+            ConfigKey::Turns => f.write_str("turns"),
+            ConfigKey::Unknown => f.write_str("a key"),
+        }
+    }
+}

@@ -1,0 +1,12 @@
+//! The settings of a machine over TCP: what its file says, or why it is refused.
+#![tactic(auto)]
+
+mod address;
+mod key;
+mod read;
+mod settings;
+mod value;
+
+pub use key::{ConfigKey, ConfigWhy, SettingsError};
+pub use read::{MOST_SETTINGS_BYTES, read_settings};
+pub use settings::{Connections, Identity, Places, Settings};

@@ -1,0 +1,42 @@
+use line_outside::Address;
+use node_settings::{Settings, SettingsError};
+use std::alloc::{AllocError, Global};
+use std::str;
+
+/// What was read, as text.
+pub fn told_of(
+    alloc: Global,
+    read: &Result<Settings, SettingsError>,
+) -> Result<String, AllocError> {
+    match read {
+        Ok(settings) => told_settings(alloc, settings),
+        Err(SettingsError::Refused(key, why)) => format!(in alloc; "{key}: {why}"),
+        Err(SettingsError::Memory) => String::from_str(alloc, "out of memory"),
+    }
+}
+
+fn told_settings(alloc: Global, settings: &Settings) -> Result<String, AllocError> {
+    let number = settings.identity.number;
+    let id = str::from_utf8(settings.identity.machine_id.bytes()).unwrap_or("no text");
+    let lane = settings.identity.lane;
+    let capacity = settings.places.capacity;
+    let used = settings.places.used;
+    let upstream = told_address(alloc, settings.connections.upstream)?;
+    let downstream = settings.connections.downstream_port;
+    let panel = settings.connections.panel_port;
+    let turns = settings.turns;
+    format!(in alloc;
+        "{number} {id} {lane} {capacity} {used} {upstream} {downstream} {panel} {turns}"
+    )
+}
+
+fn told_address(alloc: Global, address: Option<Address>) -> Result<String, AllocError> {
+    match address {
+        Some(address) => {
+            let [a, b, c, d] = address.host;
+            let port = address.port;
+            format!(in alloc; "{a}.{b}.{c}.{d}:{port}")
+        }
+        None => String::from_str(alloc, "-"),
+    }
+}
