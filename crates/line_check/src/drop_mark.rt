@@ -11,17 +11,6 @@ pub fn drop_mark(marks: &mut Vec<Mark>, mark: Mark)
     marks.retain(
         |other: &Mark| -> bool
             ensures { result ≡ not (is_same_mark other.now mark) }
-        { !is_same_mark(*other, mark) },
+        { *other != mark },
     );
-}
-
-fn is_same_mark(one: Mark, other: Mark) -> bool
-    ensures { result ≡ is_same_mark one other }
-{
-    match (one, other) {
-        (Mark::Kept(one), Mark::Kept(other)) => one == other,
-        (Mark::Outlet(one), Mark::Outlet(other)) => one == other,
-        (Mark::Intake(one), Mark::Intake(other)) => one == other,
-        (Mark::Kept(_), _) | (Mark::Outlet(_), _) | (Mark::Intake(_), _) => false,
-    }
 }

@@ -1,4 +1,4 @@
-use Rattle.std.proofs.Common.{rules, not, Bool}
+use Rattle.std.proofs.Common.{rules, not}
 use Rattle.std.proofs.lemmas.Fn.{filter_same}
 use Rattle.standings.specs.declared.mark.Mark.{Mark}
 use Rattle.standings.specs.Marks.{is_same_mark}

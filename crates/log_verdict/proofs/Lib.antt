@@ -1,0 +1,4 @@
+pub mod LinesLemmas
+pub mod Following
+pub mod Going
+pub mod Verdicts

@@ -1,0 +1,5 @@
+pub mod LineEnds
+pub mod Verdict
+pub mod Written
+pub mod LogReader
+pub mod Reading
