@@ -10,7 +10,8 @@ use Rattle.handover_in.specs.State.{board_of_phase as held_in}
 use Rattle.handover_in.specs.declared.phase.Phase.{Phase as In}
 use Rattle.custody.specs.Floor.{ExitFloor, GapAt, at_start, begun_read, begun_unread, both_unread, gap_begun, gap_left, left_unread, out_ended, out_idle, stuck_begun}
 use Rattle.custody.specs.Pair.{Body, board_of, part}
-use Rattle.custody.specs.Place.{Home, InGap, Inside, Place, is_inside, is_upstream}
+use Rattle.line_world.specs.declared.moves.Move.TheVariants as moves
+use Rattle.custody.specs.Place.{Home, InGap, Inside, Lost, MovesPlace, Place, Stolen, enters, goes_back, is_handed_in, is_inside, is_lost, is_stolen, is_upstream}
 use Rattle.custody.proofs.Rows.{same}
 
 pub same_front : {a b : Board} {xs ys : List Board} → a ∷ xs ≡ b ∷ ys → a ≡ b
@@ -58,6 +59,22 @@ begun_below gap_begun = refl
 
 pub left_below : {a : Board} {p : Place} {r : Record} → GapAt (gaps.Left a) p r → is_inside p ≡ false
 left_below gap_left = refl
+
+-- where a move takes the board from what lies in the gap
+pub begun_goes_back : {a : Board} {p : Place} {r : Record} → GapAt (gaps.Begun a) p r → MovesPlace moves.Back p Home
+begun_goes_back gap_begun = goes_back
+
+pub begun_is_lost : {a : Board} {p : Place} {r : Record} → GapAt (gaps.Begun a) p r → MovesPlace moves.Take p Lost
+begun_is_lost gap_begun = is_lost
+
+pub left_is_stolen : {a : Board} {p : Place} {r : Record} → GapAt (gaps.Left a) p r → MovesPlace moves.Take p Stolen
+left_is_stolen gap_left = is_stolen
+
+pub left_enters : {a : Board} {p : Place} {r : Record} → GapAt (gaps.Left a) p r → MovesPlace moves.Enter p Inside
+left_enters gap_left = enters
+
+pub left_is_handed_in : {a : Board} {p : Place} {r : Record} → GapAt (gaps.Left a) p r → MovesPlace moves.HandIn p Inside
+left_is_handed_in gap_left = is_handed_in
 
 -- the board that comes in lies behind the kept ones
 pub part_out : {h : Option Record} {r : Record} → h ≡ Some r → part h false ≡ []

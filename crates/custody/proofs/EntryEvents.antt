@@ -31,7 +31,6 @@ use Rattle.custody.proofs.HearFinished.{hear_finished}
 use Rattle.custody.proofs.HearUpstream.{hear_upstream_service}
 use Rattle.custody.proofs.Lists.{sent_up}
 use Rattle.custody.proofs.ReadEntry.{read_entry}
-use Rattle.custody.proofs.Rows.{same}
 use Rattle.custody.proofs.Sessions.{entry_shakes, entry_stands, ready_stands}
 use Rattle.custody.proofs.Steps.{body_entry, body_exit, entry_contents, entry_step, still_starts}
 

@@ -69,6 +69,7 @@ hears_start g l z brought kept rest k looks front floor c =
         row = d.row;
         is = d.is;
         after = record { place = d.place; board = d.board };
+        fresh = d.fresh;
         pair = λ ms e. record { out = d.out; «in» = d.in; gap = d.gap; talk = rw (sent_down l.stands ms l.down, e) d.talk };
         body = λ kept i q boards s. body_exit (d.body kept) s;
         below = λ o p kept boards s. body_entry (d.below kept) s;

@@ -1,5 +1,5 @@
 -- The exit hears StartTransport.
-use Rattle.std.proofs.Common.{Bool, List, Option, Some, [], false, refl, subst, sym, true, ℕ, ◌∷◌, ◌≡◌}
+use Rattle.std.proofs.Common.{Bool, List, Option, Some, [], false, inl, inr, refl, subst, sym, true, ℕ, ◌∷◌, ◌≡◌}
 use Rattle.std.proofs.lemmas.Bool.{eqb-true}
 use Rattle.line_base.specs.declared.states.Seen.{Seen}
 use Rattle.line_base.specs.declared.states.SensorEvent.{SensorEvent}
@@ -36,14 +36,14 @@ hear_live_start : {Gone : ℕ → Type 0} {o : Out} {of : Option ℕ} {rd : Bool
     → Shape o of rd i f ri p (StartTransport z ∷ up) down → BringsOf of i brought → ExitFloor o [] xd p r → EntryFloor i un ed p r → GapAt g p r → (t : Option ℕ)
     → ExitBegan Gone (out_input.Start z brought) (outlet o of t rd) brought xd true Standing Standing i f ri un ed g p r up down
 hear_live_start (start_sent {r = q} starts_now c) brings_taking (out_idle _ _) (in_taking s) g t =
-    record { row = _; is = out_same _ _ _; place = Fresh; board = q; out = at_start; talk = live (transporting c); «in» = in_taking s; gap = g; body = λ ks. refl; below = λ ks. refl; contents = λ ks t. contents_free (nothing_taken c) refl; lets = λ l _. is_not_beyond not_beyond_fresh; only = refl }
+    record { row = _; is = out_same _ _ _; place = Fresh; fresh = inr refl; board = q; out = at_start; talk = live (transporting c); «in» = in_taking s; gap = g; body = λ ks. refl; below = λ ks. refl; contents = λ ks t. contents_free (nothing_taken c) refl; lets = λ l _. is_not_beyond not_beyond_fresh; only = refl }
 hear_live_start (start_sent starts_now c) brings_taking (out_idle _ _) (in_taken_in s) g t = elim s [ ]
 hear_live_start (start_and_stop_sent {r = q} starts_now c) brings_stopped (out_idle _ _) (in_stopped s) g t =
-    record { row = _; is = out_same _ _ _; place = Fresh; board = q; out = at_start; talk = live (stop_sent c); «in» = in_stopped s; gap = g; body = λ ks. refl; below = λ ks. refl; contents = λ ks t. contents_free (nothing_stopped c) refl; lets = λ l _. is_not_beyond not_beyond_fresh; only = refl }
+    record { row = _; is = out_same _ _ _; place = Fresh; fresh = inr refl; board = q; out = at_start; talk = live (stop_sent c); «in» = in_stopped s; gap = g; body = λ ks. refl; below = λ ks. refl; contents = λ ks t. contents_free (nothing_stopped c) refl; lets = λ l _. is_not_beyond not_beyond_fresh; only = refl }
 hear_live_start {r = r} (start_sent starts_now c) (brings_none e) (out_idle a k) n g t =
-    record { row = _; is = out_refused _ _ e; place = Fresh; board = r; out = out_ended a k; talk = live (finish_sent (stale_end _ c fits_fresh)); «in» = n; gap = g; body = λ ks. refl; below = λ ks. refl; contents = λ ks t. contents_free (nothing_open_after true _ _ (nothing_taken c)) refl; lets = λ l _. is_not_beyond not_beyond_fresh; only = refl }
+    record { row = _; is = out_refused _ _ e; place = Fresh; fresh = inr refl; board = r; out = out_ended a k; talk = live (finish_sent (stale_end _ c fits_fresh)); «in» = n; gap = g; body = λ ks. refl; below = λ ks. refl; contents = λ ks t. contents_free (nothing_open_after true _ _ (nothing_taken c)) refl; lets = λ l _. is_not_beyond not_beyond_fresh; only = refl }
 hear_live_start {r = r} (start_and_stop_sent starts_now c) (brings_none_stopped e) (out_idle a k) n g t =
-    record { row = _; is = out_refused _ _ e; place = Fresh; board = r; out = out_ended a k; talk = live (finish_and_stop_sent (stale_end _ c fits_fresh)); «in» = n; gap = g; body = λ ks. refl; below = λ ks. refl; contents = λ ks t. contents_free (nothing_open_after true _ _ (nothing_stopped c)) refl; lets = λ l _. is_not_beyond not_beyond_fresh; only = refl }
+    record { row = _; is = out_refused _ _ e; place = Fresh; fresh = inr refl; board = r; out = out_ended a k; talk = live (finish_and_stop_sent (stale_end _ c fits_fresh)); «in» = n; gap = g; body = λ ks. refl; below = λ ks. refl; contents = λ ks t. contents_free (nothing_open_after true _ _ (nothing_stopped c)) refl; lets = λ l _. is_not_beyond not_beyond_fresh; only = refl }
 hear_live_start (no_handover a _) _ _ _ _ t = elim a [ ]
 
 -- a start whose intake has gone still opens, and a handover of its own begins
@@ -51,13 +51,13 @@ hear_late_start : {Gone : ℕ → Type 0} {y : SessionState} {o : Out} {of : Opt
     → Talks false Standing o of rd y i f ri p (StartTransport z ∷ up) down → Brings of z brought → ExitFloor o [] xd p r → EntryFloor i un ed p r → GapAt g p r → (t : Option ℕ)
     → ExitBegan Gone (out_input.Start z brought) (outlet o of t rd) brought xd false Standing y i f ri un ed g p r up down
 hear_late_start (apart_start starts_now c) (brings_own {r = q}) (out_idle _ n) (in_free e m) g t =
-    record { row = _; is = out_same _ _ _; place = Fresh; board = q; out = at_start; «in» = in_free e not_across_fresh; gap = free_gap q n m g; talk = apart exit_transporting (away c); body = λ ks. refl; below = λ ks. refl; contents = λ ks t. contents_free nothing_at_all refl; lets = λ l _. is_not_beyond not_beyond_fresh; only = refl }
+    record { row = _; is = out_same _ _ _; place = Fresh; fresh = inr refl; board = q; out = at_start; «in» = in_free e not_across_fresh; gap = free_gap q n m g; talk = apart exit_transporting (away c); body = λ ks. refl; below = λ ks. refl; contents = λ ks t. contents_free nothing_at_all refl; lets = λ l _. is_not_beyond not_beyond_fresh; only = refl }
 hear_late_start (apart_start_stop starts_now c) (brings_own {r = q}) (out_idle _ n) (in_free e m) g t =
-    record { row = _; is = out_same _ _ _; place = Fresh; board = q; out = at_start; «in» = in_free e not_across_fresh; gap = free_gap q n m g; talk = apart exit_stop_sent (away c); body = λ ks. refl; below = λ ks. refl; contents = λ ks t. contents_free nothing_at_all refl; lets = λ l _. is_not_beyond not_beyond_fresh; only = refl }
+    record { row = _; is = out_same _ _ _; place = Fresh; fresh = inr refl; board = q; out = at_start; «in» = in_free e not_across_fresh; gap = free_gap q n m g; talk = apart exit_stop_sent (away c); body = λ ks. refl; below = λ ks. refl; contents = λ ks t. contents_free nothing_at_all refl; lets = λ l _. is_not_beyond not_beyond_fresh; only = refl }
 hear_late_start {p = p} {r = r} (apart_start starts_now c) (brings_nothing e) (out_idle a n) m g t =
-    record { row = _; is = out_refused _ _ e; place = p; board = r; out = out_ended a n; «in» = m; gap = g; talk = apart exit_finished (away c); body = λ ks. refl; below = λ ks. refl; contents = λ ks t. contents_free nothing_at_all refl; lets = λ l n. lets_idle n; only = refl }
+    record { row = _; is = out_refused _ _ e; place = p; fresh = inl refl; board = r; out = out_ended a n; «in» = m; gap = g; talk = apart exit_finished (away c); body = λ ks. refl; below = λ ks. refl; contents = λ ks t. contents_free nothing_at_all refl; lets = λ l n. lets_idle n; only = refl }
 hear_late_start {p = p} {r = r} (apart_start_stop starts_now c) (brings_nothing e) (out_idle a n) m g t =
-    record { row = _; is = out_refused _ _ e; place = p; board = r; out = out_ended a n; «in» = m; gap = g; talk = apart (exit_finished_stop_sent readies_none) (away c); body = λ ks. refl; below = λ ks. refl; contents = λ ks t. contents_free nothing_at_all refl; lets = λ l n. lets_idle n; only = refl }
+    record { row = _; is = out_refused _ _ e; place = p; fresh = inl refl; board = r; out = out_ended a n; «in» = m; gap = g; talk = apart (exit_finished_stop_sent readies_none) (away c); body = λ ks. refl; below = λ ks. refl; contents = λ ks t. contents_free nothing_at_all refl; lets = λ l n. lets_idle n; only = refl }
 hear_late_start (apart (exit_idle a) _) _ _ _ _ t = elim a [ ]
 
 -- what the machine finds for a start: the record that the intake took, where that board is still offered

@@ -1,7 +1,7 @@
 -- Messages on a link, by their texts.
-use Rattle.std.proofs.Common.{List, [], ap, length, refl, sym, ℕ, ◌++◌, ◌∙◌, ◌∷◌, ◌≡◌}
+use Rattle.std.proofs.Common.{List, [], ap, length, refl, sym, ℕ, ◌++◌, ◌∷◌, ◌≡◌}
 use Rattle.hermes_stream.specs.Cutter.{GivesFrame}
-use Rattle.hermes_stream.specs.Frames.{IsOneFrame, left_of}
+use Rattle.hermes_stream.specs.Frames.{IsOneFrame}
 use Rattle.hermes_horizontal.specs.Canonical.{canonical}
 use Rattle.hermes_horizontal.specs.Spelling.{IsRefusedBy}
 use Rattle.hermes_horizontal.specs.declared.message.Message.{Message}

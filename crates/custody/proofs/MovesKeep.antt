@@ -15,7 +15,7 @@ use Rattle.custody.proofs.LiftOut.{lift_begin, lift_left}
 
 pub moves_keep : (step : Move) (l : LinkState) (g : Ghost) (kept : List Record) (j : In) (q : Place) (kept2 : List Record) (o2 : Out) (p2 : Place) (c : Around)
     → around_move step l.around ≡ Ok c → Pair g l → Body l.outlet.phase g.place kept j q l.around.up.boards → Body o2 p2 kept2 l.intake.phase g.place l.around.down.boards
-    → Lifted l g kept j q kept2 o2 p2 c
+    → Lifted step l g kept j q kept2 o2 p2 c
 moves_keep moves.Begin l g kept j q kept2 o2 p2 c = lift_begin l g kept j q kept2 o2 p2 c l.around.between.exit_drive l.around.between.entry_drive l.around.between.lies l.around.up.boards l.around.down.boards l.around.up.unread l.around.down.unread
 moves_keep moves.Left l g kept j q kept2 o2 p2 c = lift_left l g kept j q kept2 o2 p2 c l.around.between.exit_drive l.around.between.entry_drive l.around.between.lies l.around.up.boards l.around.down.boards l.around.up.unread l.around.down.unread
 moves_keep moves.Enter l g kept j q kept2 o2 p2 c = lift_enter l g kept j q kept2 o2 p2 c l.around.between.exit_drive l.around.between.entry_drive l.around.between.lies l.around.up.boards l.around.down.boards l.around.up.unread l.around.down.unread

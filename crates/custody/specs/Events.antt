@@ -1,5 +1,5 @@
 -- The events of a machine and of a link, over the values of a link.
-use Rattle.std.specs.Prelude.{Bool, List, None, Option, Some, [], false, is_some, true, unwrap_or, ℕ, ◌∷◌, ◌≡◌}
+use Rattle.std.specs.Prelude.{Bool, List, None, Option, Some, [], false, is_some, true, unwrap_or, ℕ, ◌∷◌, ◌≡◌, ◌⊎◌}
 use Rattle.board_record.specs.declared.record.Record.{Record}
 use Rattle.board_record.specs.declared.sensed.Sensed.{Sensed}
 use Rattle.hermes_horizontal.specs.declared.message.Horizontal.{Horizontal}
@@ -20,7 +20,7 @@ use Rattle.handover_in.specs.declared.phase.Phase.{Phase as In}
 use Rattle.custody.specs.Contents.{Contents}
 use Rattle.custody.specs.LookBack.{Asked, LetGo, Recalls, Settles, Since, answered_after, asked_after, dropped_after, just_started, let_after, since_after}
 use Rattle.custody.specs.Pair.{Body, Ghost, LinkState, Pair, back_to, keep_at}
-use Rattle.custody.specs.Place.{Place}
+use Rattle.custody.specs.Place.{Fresh, Place}
 use Rattle.custody.specs.Words.{down_words, in_says, out_says, sent, starts_in, up_words}
 
 -- a link after a row of its outlet: what is still unread and unheard, and the messages that are said
@@ -113,11 +113,12 @@ pub record EntryStep (Gone : ℕ → Type 0) (above : List Record) (g : Ghost) (
   pub asked : (ms : List Horizontal) → up_words ms ≡ in_says row.act.send → (last : Option ℕ) (dropped : Bool) → IsAsked l last dropped → IsAsked (entry_after l row unread rest ms) (asked_after row.act.deed last) (dropped_after row.act.deed dropped)
 
 -- a start that is heard: the machine took this record from the front of its boards, or none. The ghost may be aimed at
--- another board
+-- another board, which has not begun
 pub record StartStep (Gone : ℕ → Type 0) (g : Ghost) (l : LinkState) (z : ℕ) (brought : Option Record) (rest : List Horizontal) : Type 0 where
   pub row : OutRow
   pub is : outlet_row l.outlet (out_input.Start z brought) ≡ Some row
   pub after : Ghost
+  pub fresh : (after.place ≡ g.place) ⊎ (after.place ≡ Fresh)
   pub pair : (ms : List Horizontal) → down_words ms ≡ out_says row.act.send None → Pair after (exit_after l row [] rest ms)
   pub body : (kept : List Record) (i : In) (q : Place) (boards : List Board) → Body l.outlet.phase g.place (back_to brought kept) i q boards → Body row.after.phase after.place kept i q boards
   pub below : (o : Out) (p : Place) (kept : List Record) (boards : List Board) → Body o p kept l.intake.phase g.place boards → Body o p kept l.intake.phase after.place boards

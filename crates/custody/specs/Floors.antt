@@ -8,13 +8,14 @@ use Rattle.line_world.specs.Moves.{Around}
 use Rattle.line_world.specs.declared.board.Board.{Board}
 use Rattle.line_world.specs.declared.gap.Gap.{Gap}
 use Rattle.line_world.specs.declared.gap.Gap.TheVariants as gaps
+use Rattle.line_world.specs.declared.moves.Move.{Move}
 use Rattle.handover_out.specs.declared.phase.Phase.{Phase as Out}
 use Rattle.handover_out.specs.declared.phase.Phase.TheVariants as out
 use Rattle.handover_in.specs.declared.phase.Phase.{Phase as In}
 use Rattle.handover_in.specs.declared.phase.Phase.TheVariants as inn
 use Rattle.custody.specs.LookBack.{LetGo}
 use Rattle.custody.specs.Pair.{Body, Ghost, LinkState, Pair}
-use Rattle.custody.specs.Place.{Place}
+use Rattle.custody.specs.Place.{MovesPlace, Place}
 use Rattle.custody.specs.Steps.{intake, outlet}
 
 -- what is around a gap, by its parts: the boards and unread events upstream, what lies in the gap with the drives of
@@ -22,9 +23,11 @@ use Rattle.custody.specs.Steps.{intake, outlet}
 abbrev pub parts_around : List Board → List Sensed → Gap → Bool → Bool → List Board → List Sensed → Around
 parts_around ub uu lies xd ed db du = record { up = record { boards = ub; unread = uu }; between = record { lies = lies; exit_drive = xd; entry_drive = ed }; down = record { boards = db; unread = du } }
 
--- a link and its two machines after a move: all is as it was but what is around the gap
-pub record Lifted (l : LinkState) (g : Ghost) (kept : List Record) (j : In) (q : Place) (kept2 : List Record) (o2 : Out) (p2 : Place) (a : Around) : Type 0 where
+-- a link and its two machines after a move: the board is where the move takes it, and all else is as it was but what is
+-- around the gap
+pub record Lifted (step : Move) (l : LinkState) (g : Ghost) (kept : List Record) (j : In) (q : Place) (kept2 : List Record) (o2 : Out) (p2 : Place) (a : Around) : Type 0 where
   pub place : Place
+  pub moves : MovesPlace step g.place place
   pub pair : Pair (record { place = place; board = g.board }) (record l { around = a })
   pub body : Body l.outlet.phase place kept j q a.up.boards
   pub below : Body o2 p2 kept2 l.intake.phase place a.down.boards

@@ -62,14 +62,14 @@ since_after in_input.Stand s = record s { described = s.closed }
 since_after _ s = s
 
 -- the phase says that the end was heard; that the handover's connection stands; that it was closed
-abbrev pub has_heard : In → Bool
-has_heard inn.Idle = false
-has_heard (inn.Taking _ _ heard) = heard
-has_heard (inn.Stopped _ _ None) = false
-has_heard (inn.Stopped _ _ (Some transfer.NotStarted)) = false
-has_heard (inn.Stopped _ _ (Some transfer.Incomplete)) = false
-has_heard (inn.Stopped _ _ (Some transfer.Complete)) = true
-has_heard (inn.Waiting _ _ heard) = heard
+abbrev pub has_heard_left : In → Bool
+has_heard_left inn.Idle = false
+has_heard_left (inn.Taking _ _ heard) = heard
+has_heard_left (inn.Stopped _ _ None) = false
+has_heard_left (inn.Stopped _ _ (Some transfer.NotStarted)) = false
+has_heard_left (inn.Stopped _ _ (Some transfer.Incomplete)) = false
+has_heard_left (inn.Stopped _ _ (Some transfer.Complete)) = true
+has_heard_left (inn.Waiting _ _ heard) = heard
 
 abbrev pub is_linked : In → Bool
 is_linked inn.Idle = false
@@ -85,7 +85,7 @@ is_waiting (inn.Waiting _ _ _) = true
 
 -- and so it was
 abbrev pub Recalls : In → Since → Type 0
-Recalls i s = (has_heard i ≡ true → s.ended ≡ true) × (is_linked i ≡ true → s.closed ≡ false) × (is_waiting i ≡ true → s.closed ≡ true)
+Recalls i s = (has_heard_left i ≡ true → s.ended ≡ true) × (is_linked i ≡ true → s.closed ≡ false) × (is_waiting i ≡ true → s.closed ≡ true)
 
 -- the upstream machine said that the board is the downstream machine's
 pub data IsSaid : Since → Type 0 where

@@ -1,5 +1,7 @@
 -- Where the board of a handover is. No machine keeps it: it joins what the two sides of a gap can know.
 use Rattle.std.specs.Prelude.{Bool, false, true}
+use Rattle.line_world.specs.declared.moves.Move.{Move}
+use Rattle.line_world.specs.declared.moves.Move.TheVariants as moves
 
 -- upstream, and never begun in this handover; upstream again, or removed there; begun in the gap; wholly across
 -- it; inside downstream; taken out by hand while it was begun; taken out by hand while it was across
@@ -45,3 +47,19 @@ is_upstream _ = false
 abbrev pub is_inside : Place → Bool
 is_inside Inside = true
 is_inside _ = false
+
+-- it was taken out by hand, and is nowhere on the floor
+abbrev pub is_away : Place → Bool
+is_away Lost = true
+is_away Stolen = true
+is_away _ = false
+
+-- where a move on the floor takes it from, and to
+pub data MovesPlace : Move → Place → Place → Type 0 where
+  begins : {p : Place} → MovesPlace moves.Begin p InGap
+  leaves : {p : Place} → MovesPlace moves.Left p Across
+  enters : MovesPlace moves.Enter Across Inside
+  is_handed_in : MovesPlace moves.HandIn Across Inside
+  goes_back : MovesPlace moves.Back InGap Home
+  is_lost : MovesPlace moves.Take InGap Lost
+  is_stolen : MovesPlace moves.Take Across Stolen

@@ -1,5 +1,5 @@
 -- What an event does to a link: the row that stands for it, and what holds then.
-use Rattle.std.specs.Prelude.{Bool, List, None, Option, Some, [], false, is_some, unwrap_or, ℕ, ◌≡◌}
+use Rattle.std.specs.Prelude.{Bool, List, None, Option, Some, [], false, is_some, unwrap_or, ℕ, ◌≡◌, ◌⊎◌}
 use Rattle.line_base.specs.declared.states.Seen.{Seen}
 use Rattle.line_base.specs.declared.states.SensorEvent.{SensorEvent}
 use Rattle.line_base.specs.declared.states.Transfer.{Transfer}
@@ -22,7 +22,7 @@ use Rattle.custody.specs.Contents.{Contents, OfferIs, OpenAll}
 use Rattle.custody.specs.Floor.{EntryFloor, ExitFloor, GapAt}
 use Rattle.custody.specs.LookBack.{Asked, LetGo, Recalls, Settles, Since, answered_after, asked_after, dropped_after, just_started, let_after, since_after}
 use Rattle.custody.specs.Pair.{back_to, keep_at, listed, listed_last}
-use Rattle.custody.specs.Place.{Place}
+use Rattle.custody.specs.Place.{Fresh, Place}
 use Rattle.custody.specs.Talks.{Talks}
 use Rattle.custody.specs.Words.{DownWord, UpWord, in_says, out_says, sent, starts_in}
 
@@ -68,6 +68,7 @@ pub record ExitBegan (Gone : ℕ → Type 0) (w : OutInput) (s : OutState) (brou
   pub is : outlet_row s w ≡ Some row
   pub place : Place
   pub board : Record
+  pub fresh : (place ≡ p) ⊎ (place ≡ Fresh)
   pub out : ExitFloor row.after.phase [] (unwrap_or row.act.drive xd) place board
   pub «in» : EntryFloor i un ed place board
   pub gap : GapAt g place board

@@ -143,7 +143,7 @@ pub fn what_is_no_word_changes_nothing()
 /// other sides of the two machines may be any.
 #[tactic(auto, using(crate::proofs::MovesKeep::moves_keep))]
 pub fn a_board_is_moved()
-    ensures { (step : Move) (l : LinkState) (g : Ghost) (kept : List Board) (j : In) (q : Place) (kept2 : List Board) (o2 : Out) (p2 : Place) (c : Around) → around_move step l.around ≡ Ok c → Pair g l → Body l.outlet.phase g.place kept j q l.around.up.boards → Body o2 p2 kept2 l.intake.phase g.place l.around.down.boards → Lifted l g kept j q kept2 o2 p2 c }
+    ensures { (step : Move) (l : LinkState) (g : Ghost) (kept : List Board) (j : In) (q : Place) (kept2 : List Board) (o2 : Out) (p2 : Place) (c : Around) → around_move step l.around ≡ Ok c → Pair g l → Body l.outlet.phase g.place kept j q l.around.up.boards → Body o2 p2 kept2 l.intake.phase g.place l.around.down.boards → Lifted step l g kept j q kept2 o2 p2 c }
 {}
 
 /// Boards are put in, taken out, replaced and marked by hand, none of them held by a half: the machine's boards stay in

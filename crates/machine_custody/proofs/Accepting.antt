@@ -124,10 +124,11 @@ accepts_good {afar = afar} {gb = gb} body c service g x y u d = record {
   boards = g.boards;
   above_contents = g.above_contents;
   below_contents = accepts_contents gb (link_below [] body c) service body.kept g.below_pair y;
+  above_holds = g.above_holds;
+  below_holds = g.below_holds;
   entry_role = g.entry_role;
   exit_role = refl;
-  away_above = g.away_above;
-  away_below = g.away_below;
+  away = g.away;
   here = g.here;
 }
 

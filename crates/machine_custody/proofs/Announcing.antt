@@ -11,10 +11,6 @@ use Rattle.handover_out.specs.declared.act.OutSend.TheVariants.{BoardAvailable, 
 use Rattle.handover_out.specs.declared.input.OutInput.TheVariants as out_input
 use Rattle.handover_out.specs.declared.phase.Phase.{Phase as Out}
 use Rattle.handover_out.specs.declared.phase.Phase.TheVariants as out
-use Rattle.handover_in.specs.Row.{InRow}
-use Rattle.handover_in.specs.State.{InState}
-use Rattle.handover_in.specs.Table.{IsIntakeRow, starts_transport}
-use Rattle.handover_in.proofs.Rows.{row_is as in_row_is}
 use Rattle.handover_in.specs.declared.input.InInput.TheVariants as in_input
 use Rattle.handover_in.specs.declared.phase.Phase.{Phase as In}
 use Rattle.handover_in.specs.declared.phase.Phase.TheVariants as inn
@@ -24,16 +20,14 @@ use Rattle.node_core.specs.Done.{and_then}
 use Rattle.node_core.specs.Halves.{intake_did, intake_row_did, outlet_row_did, settled}
 use Rattle.node_core.specs.declared.lane.Body.{Body as Machine}
 use Rattle.custody.specs.Events.{IsContent, StartSaid, gone_by}
-use Rattle.line_base.specs.declared.states.Seen.TheVariants as seen
-use Rattle.custody.specs.Floor.{EntryFloor, in_free, in_stopped, in_taken_in, in_taking, in_waiting, in_waiting_on, on_across, on_begun, sees_fresh, sees_home}
 use Rattle.custody.specs.Pair.{Body, Ghost}
-use Rattle.custody.specs.Place.{Place, is_upstream}
 use Rattle.custody.proofs.EntryEvents.{says_ready, says_start, says_unready}
 use Rattle.custody.proofs.ExitEvents.{offers_front_board, revokes_offer}
 use Rattle.custody.proofs.HandsContents.{contents_settled}
 use Rattle.machine_custody.specs.Scene.{Scene, link_above, link_below}
-use Rattle.machine_custody.specs.Good.{Afar, Goes, GoesBy, Good}
+use Rattle.machine_custody.specs.Good.{Afar, Goes, GoesBy, Good, Holds}
 use Rattle.machine_custody.proofs.Goes.{goes_not, goes_then}
+use Rattle.machine_custody.proofs.Holding.{holds_said, holds_settled}
 use Rattle.machine_custody.proofs.Rows.{at_entry_goes}
 use Rattle.machine_custody.proofs.Told.{in_messages, in_met, in_scene, in_words, keep_is}
 
@@ -91,10 +85,11 @@ revoked {afar = afar} {above = above} {ga = ga} {gb = gb} {body = body} {c = c} 
         boards = g.boards;
         above_contents = g.above_contents;
         below_contents = t.1;
+        above_holds = g.above_holds;
+        below_holds = g.below_holds;
         entry_role = g.entry_role;
         exit_role = g.exit_role;
-        away_above = g.away_above;
-        away_below = g.away_below;
+        away = g.away;
         here = g.here;
       };
       lists_above = λ kept i q boards h. h;
@@ -121,7 +116,7 @@ unready_when desk false e g = goes_not g
 unready_when {ga = ga} {body = body} {c = c} desk true e g =
     let free = left_of_both _ _ (left_of_both _ _ e) in
     let is_ready = right_of_both _ _ (left_of_both _ _ e) in
-    at_entry_goes desk in_input.Unready g (says_unready ga (link_above [] body c) g.above_pair (is_free_phase body body.intake.phase refl free) is_ready) g.below_pair
+    at_entry_goes desk in_input.Unready tt g (says_unready ga (link_above [] body c) g.above_pair (is_free_phase body body.intake.phase refl free) is_ready) g.below_pair
 
 pub unready_goes : {afar : Afar} {above : List Record} {ga gb : Ghost} {body : Machine} {c : Scene} (desk : Desk)
     → Good afar above [] ga gb body c → GoesBy afar above [] ga gb c (unready desk body)
@@ -136,7 +131,7 @@ ready_when {ga = ga} {body = body} {c = c} desk true e g =
     let stands = is_standing body.entry.session.state (left_of_both _ _ two) in
     let free = right_of_both _ _ two in
     let unsaid = is_false body.intake.ready (right_of_both _ _ three) in
-    at_entry_goes desk in_input.Ready g (says_ready ga (link_above [] body c) g.above_pair stands (is_free_phase body body.intake.phase refl free) unsaid) g.below_pair
+    at_entry_goes desk in_input.Ready tt g (says_ready ga (link_above [] body c) g.above_pair stands (is_free_phase body body.intake.phase refl free) unsaid) g.below_pair
 
 pub ready_goes : {afar : Afar} {above : List Record} {ga gb : Ghost} {body : Machine} {c : Scene} (desk : Desk)
     → Good afar above [] ga gb body c → GoesBy afar above [] ga gb c (ready desk body)
@@ -163,10 +158,11 @@ offered {afar = afar} {above = above} {ga = ga} {gb = gb} body {c = c} desk (q �
         boards = g.boards;
         above_contents = g.above_contents;
         below_contents = t.1;
+        above_holds = g.above_holds;
+        below_holds = g.below_holds;
         entry_role = g.entry_role;
         exit_role = g.exit_role;
-        away_above = g.away_above;
-        away_below = g.away_below;
+        away = g.away;
         here = g.here;
       };
       lists_above = λ kept i q boards h. h;
@@ -195,28 +191,8 @@ offer_goes {body = body} desk g = offer_when desk (offers_now body) refl g
 
 -- ---- START
 
--- nothing is known of its board yet
-abbrev IsFresh : In → Type 0
-IsFresh (inn.Taking r seen.NotStarted h) = Unit {0}
-IsFresh _ = ⊥
-
-starts_taking : (s : InState) (row : InRow) → IsIntakeRow s in_input.Start row → IsFresh row.after.phase
-starts_taking _ _ starts_transport = tt
-
--- the board of a transport that starts is upstream
-says_upstream : {i : In} {drive : Bool} {p : Place} {q : Record} → EntryFloor i [] drive p q → IsFresh i → is_upstream p ≡ false → ⊥
-says_upstream (in_taking sees_fresh) fresh up = cc
-says_upstream (in_taking sees_home) fresh up = cc
-says_upstream (in_taking on_begun) fresh up = absurd fresh
-says_upstream (in_taking on_across) fresh up = absurd fresh
-says_upstream (in_free _ _) fresh up = absurd fresh
-says_upstream (in_taken_in seen_so) fresh up = elim seen_so [ ]
-says_upstream (in_stopped _) fresh up = absurd fresh
-says_upstream (in_waiting _) fresh up = absurd fresh
-says_upstream in_waiting_on fresh up = absurd fresh
-
 start_did : {afar : Afar} {above : List Record} {ga gb : Ghost} {body : Machine} {c : Scene}
-    → Good afar above [] ga gb body c → (step : StartSaid (gone_by afar.gone) above ga (link_above [] body c))
+    → Good afar above [] ga gb body c → (step : StartSaid (gone_by afar.gone_above) above ga (link_above [] body c))
     → Goes afar above [] ga gb c (record body { intake = step.row.after; kept = settled step.row.act.keep body.kept }) (in_scene step.row.act.send step.row.act.drive c)
 start_did {afar = afar} {gb = gb} {body = body} {c = c} g step =
     let ms = in_messages step.row.act.send in
@@ -230,11 +206,12 @@ start_did {afar = afar} {gb = gb} {body = body} {c = c} g step =
         below_pair = g.below_pair;
         boards = subst (λ kept. Body body.outlet.phase gb.place kept step.row.after.phase step.after.place c.boards) keep (step.body body.outlet.phase gb.place body.kept c.boards g.boards);
         above_contents = step.contents ms e g.above_contents;
-        below_contents = subst (λ kept. IsContent (gone_by afar.gone) (link_below [] body c) kept) keep (contents_settled step.row.act.keep g.below_contents);
+        below_contents = subst (λ kept. IsContent (gone_by afar.gone_below) (link_below [] body c) kept) keep (contents_settled step.row.act.keep g.below_contents);
+        above_holds = holds_said body.intake step.row step.is (step.pair ms e).in g.above_contents.offer;
+        below_holds = subst (λ kept. Holds afar.gone_below kept gb.place body.outlet.phase c.below.intake.phase) keep (holds_settled step.row.act.keep g.below_holds);
         entry_role = g.entry_role;
         exit_role = g.exit_role;
-        away_above = λ r held up. absurd (says_upstream (step.pair ms e).in (starts_taking body.intake step.row (in_row_is body.intake in_input.Start step.row step.is)) up);
-        away_below = g.away_below;
+        away = g.away;
         here = g.here;
       };
       lists_above = step.above_body;
@@ -245,7 +222,7 @@ started : {afar : Afar} {above : List Record} {ga gb : Ghost} {body : Machine} {
     → body.intake.phase ≡ inn.Idle → is_some said ≡ true → body.intake.ready ≡ true → Good afar above [] ga gb body c → GoesBy afar above [] ga gb c (start_by desk true body)
 started desk None f e test is_ready g = cc
 started {afar = afar} {above = above} {ga = ga} {gb = gb} {body = body} {c = c} desk (Some q) f e test is_ready g =
-    let step : StartSaid (gone_by afar.gone) above ga (link_above [] body c) = says_start ga (link_above [] body c) q g.above_pair e f is_ready in
+    let step : StartSaid (gone_by afar.gone_above) above ga (link_above [] body c) = says_start ga (link_above [] body c) q g.above_pair e f is_ready in
     subst (λ row. GoesBy afar above [] ga gb c (intake_row_did desk body row)) (sym step.is)
     (subst (λ s. Goes afar above [] ga gb c (intake_did desk body step.row).body s)
     (sym (in_met desk step.row.act.deed step.row.act.send step.row.act.drive step.row.act.keep step.row.act.taken c)) (start_did g step))

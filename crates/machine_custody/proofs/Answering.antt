@@ -151,10 +151,11 @@ answer_goes {ga = ga} {gb = gb} body c what quiet g = record {
     boards = g.boards;
     above_contents = g.above_contents;
     below_contents = rw (aside_words c.below.down (what ∷ []) quiet) g.below_contents;
+    above_holds = g.above_holds;
+    below_holds = g.below_holds;
     entry_role = g.entry_role;
     exit_role = g.exit_role;
-    away_above = g.away_above;
-    away_below = g.away_below;
+    away = g.away;
     here = g.here;
   };
   lists_above = λ kept i q boards h. h;

@@ -51,10 +51,11 @@ exit_says {ga = ga} {gb = gb} body c ms quiet g = record {
     boards = g.boards;
     above_contents = g.above_contents;
     below_contents = rw (sent_down c.below.stands ms c.below.down, quiet) g.below_contents;
+    above_holds = g.above_holds;
+    below_holds = g.below_holds;
     entry_role = g.entry_role;
     exit_role = g.exit_role;
-    away_above = g.away_above;
-    away_below = g.away_below;
+    away = g.away;
     here = g.here;
   };
   lists_above = λ kept i q boards h. h;
@@ -72,10 +73,11 @@ entry_says {ga = ga} {gb = gb} body c ms quiet g = record {
     boards = g.boards;
     above_contents = rw (sent_up c.above.stands ms c.above.up, quiet) g.above_contents;
     below_contents = g.below_contents;
+    above_holds = g.above_holds;
+    below_holds = g.below_holds;
     entry_role = g.entry_role;
     exit_role = g.exit_role;
-    away_above = g.away_above;
-    away_below = g.away_below;
+    away = g.away;
     here = g.here;
   };
   lists_above = λ kept i q boards h. h;
@@ -165,14 +167,14 @@ pub wills_go : {afar : Afar} {above : List Record} {ga gb : Ghost} {body : Machi
 wills_go {ga = ga} {gb = gb} Entry on g = record {
   a = ga;
   b = gb;
-  good = record { above_pair = g.above_pair; below_pair = g.below_pair; boards = g.boards; above_contents = g.above_contents; below_contents = g.below_contents; entry_role = g.entry_role; exit_role = g.exit_role; away_above = g.away_above; away_below = g.away_below; here = g.here };
+  good = record { above_pair = g.above_pair; below_pair = g.below_pair; boards = g.boards; above_contents = g.above_contents; below_contents = g.below_contents; above_holds = g.above_holds; below_holds = g.below_holds; entry_role = g.entry_role; exit_role = g.exit_role; away = g.away; here = g.here };
   lists_above = λ kept i q boards h. h;
   lists_below = λ o p kept boards h. h;
 }
 wills_go {ga = ga} {gb = gb} Exit on g = record {
   a = ga;
   b = gb;
-  good = record { above_pair = g.above_pair; below_pair = g.below_pair; boards = g.boards; above_contents = g.above_contents; below_contents = g.below_contents; entry_role = g.entry_role; exit_role = g.exit_role; away_above = g.away_above; away_below = g.away_below; here = g.here };
+  good = record { above_pair = g.above_pair; below_pair = g.below_pair; boards = g.boards; above_contents = g.above_contents; below_contents = g.below_contents; above_holds = g.above_holds; below_holds = g.below_holds; entry_role = g.entry_role; exit_role = g.exit_role; away = g.away; here = g.here };
   lists_above = λ kept i q boards h. h;
   lists_below = λ o p kept boards h. h;
 }

@@ -1,5 +1,5 @@
 -- A side is closed: by its machine or by its neighbour. Its machine has read all events.
-use Rattle.std.proofs.Common.{List, None, [], refl, subst, sym, ℕ, ◌++◌, ◌∷◌, ◌≡◌}
+use Rattle.std.proofs.Common.{List, None, Option, Some, [], refl, subst, sym, ℕ, ◌++◌, ◌∙◌, ◌∷◌, ◌≡◌}
 use Rattle.line_base.specs.declared.states.Role.TheVariants.{Downstream, Upstream}
 use Rattle.line_base.specs.declared.states.Severity.TheVariants as severity
 use Rattle.line_base.specs.declared.states.Side.{Side}
@@ -11,6 +11,7 @@ use Rattle.session_core.specs.declared.state.SessionState.TheVariants.{NotConnec
 use Rattle.handover_out.specs.declared.act.OutAct.{OutAct}
 use Rattle.handover_out.specs.declared.input.OutInput.TheVariants as out_input
 use Rattle.handover_in.specs.declared.act.InAct.{InAct}
+use Rattle.handover_in.specs.declared.input.InInput.TheVariants as in_input
 use Rattle.node_core.specs.Desk.{Desk}
 use Rattle.node_core.specs.Done.{behind}
 use Rattle.node_core.specs.Halves.{ended, given_back, half_closed, intake_row_did, outlet_row_did, settled}
@@ -20,14 +21,14 @@ use Rattle.node_core.specs.Told.{notification, sends}
 use Rattle.node_core.specs.declared.act.Act.TheVariants as acts
 use Rattle.node_core.specs.declared.lane.Body.{Body as Machine}
 use Rattle.custody.specs.Events.{EntryShut, ExitShut, IsContent, entry_shut, exit_shut, gone_by}
-use Rattle.custody.specs.Pair.{Body, Ghost, Pair}
+use Rattle.custody.specs.Pair.{Body, Ghost, LinkState, Pair, keep_at}
 use Rattle.custody.specs.Words.{down_words, sent, up_words}
 use Rattle.custody.proofs.EntryEvents.{closes_entry}
 use Rattle.custody.proofs.ExitEvents.{closes_exit}
 use Rattle.machine_custody.specs.Scene.{Scene, all_met, link_above, link_below, shut}
-use Rattle.machine_custody.specs.Good.{Afar, Goes, GoesBy, Good}
+use Rattle.machine_custody.specs.Good.{Afar, Goes, GoesBy, Good, Holds}
 use Rattle.machine_custody.proofs.Goes.{goes_behind}
-use Rattle.machine_custody.proofs.Rows.{row_holds_less}
+use Rattle.machine_custody.proofs.Holding.{BodyByEntry, holds_at_entry, holds_at_exit, row_holds_less}
 use Rattle.machine_custody.proofs.Told.{IsNoOffer, back_is, in_met, in_scene, out_met, out_scene}
 
 -- these messages are said before
@@ -38,7 +39,7 @@ abbrev pub told_above : List Horizontal → Scene → Scene
 told_above ms c = record c { above = record c.above { up = sent ms c.above.stands c.above.up } }
 
 exit_shut_did : {afar : Afar} {above : List Record} {ga gb : Ghost} {body : Machine} {c : Scene} (s : SessionEnd) (ms : List Horizontal)
-    → s.state ≡ NotConnected → s.role ≡ Upstream → down_words ms ≡ [] → Good afar above [] ga gb body c → (step : ExitShut (gone_by afar.gone) gb (link_below [] body c))
+    → s.state ≡ NotConnected → s.role ≡ Upstream → down_words ms ≡ [] → Good afar above [] ga gb body c → (step : ExitShut (gone_by afar.gone_below) gb (link_below [] body c))
     → Goes afar above [] ga gb c (record (with_session Exit s body) { outlet = step.row.after; kept = given_back step.row.act.back body.kept }) (out_scene None step.row.act.drive (shut Exit (told_below ms c)))
 exit_shut_did {afar = afar} {ga = ga} {gb = gb} {body = body} {c = c} s ms rests role quiet g step =
     let back = back_is step.row.act.back body.kept in
@@ -50,11 +51,12 @@ exit_shut_did {afar = afar} {ga = ga} {gb = gb} {body = body} {c = c} s ms rests
         below_pair = subst (λ x. Pair gb (record (exit_shut (link_below [] body c) step.row ms) { exit = x })) (sym rests) (step.pair ms quiet);
         boards = subst (λ kept. Body step.row.after.phase gb.place kept body.intake.phase ga.place c.boards) back (step.body body.kept body.intake.phase ga.place c.boards g.boards);
         above_contents = g.above_contents;
-        below_contents = subst (λ kept. IsContent (gone_by afar.gone) (exit_shut (link_below [] body c) step.row ms) kept) back (step.contents body.kept ms quiet g.below_contents);
+        below_contents = subst (λ kept. IsContent (gone_by afar.gone_below) (exit_shut (link_below [] body c) step.row ms) kept) back (step.contents body.kept ms quiet g.below_contents);
+        above_holds = g.above_holds;
+        below_holds = subst (λ kept. Holds afar.gone_below kept gb.place step.row.after.phase c.below.intake.phase) back (holds_at_exit out_input.Closed step.row g.below_pair tt step.is step.body g.below_holds);
         entry_role = g.entry_role;
         exit_role = role;
-        away_above = g.away_above;
-        away_below = λ r held up. g.away_below r (row_holds_less body.outlet out_input.Closed step.row r step.is tt held) up;
+        away = λ r held up. g.away r (row_holds_less body.outlet out_input.Closed step.row r step.is tt held) up;
         here = g.here;
       };
       lists_above = λ kept i q boards h. h;
@@ -65,7 +67,7 @@ pub exit_shuts : {afar : Afar} {above : List Record} {ga gb : Ghost} {body : Mac
     → s.state ≡ NotConnected → s.role ≡ Upstream → down_words ms ≡ [] → Good afar above [] ga gb body c
     → Goes afar above [] ga gb c (half_closed desk Exit (with_session Exit s body)).body (all_met (half_closed desk Exit (with_session Exit s body)).acts (shut Exit (told_below ms c)))
 exit_shuts {afar = afar} {above = above} {ga = ga} {gb = gb} {body = body} {c = c} desk s ms rests role quiet g =
-    let step : ExitShut (gone_by afar.gone) gb (link_below [] body c) = closes_exit gb (link_below [] body c) g.below_pair in
+    let step : ExitShut (gone_by afar.gone_below) gb (link_below [] body c) = closes_exit gb (link_below [] body c) g.below_pair in
     let act : OutAct = step.row.act in
     let now : Scene = shut Exit (told_below ms c) in
     let after : Machine = record (with_session Exit s body) { outlet = step.row.after; kept = given_back act.back body.kept } in
@@ -73,8 +75,12 @@ exit_shuts {afar = afar} {above = above} {ga = ga} {gb = gb} {body = body} {c = 
     (subst (λ z. Goes afar above [] ga gb c after z) (sym (out_met desk body.kept act.deed act.send act.drive act.back now (subst (λ x. IsNoOffer x) (sym step.silent) tt)))
     (subst (λ send. Goes afar above [] ga gb c after (out_scene send act.drive now)) (sym step.silent) (exit_shut_did s ms rests role quiet g step)))
 
+-- nothing settles
+shuts_body : {Gone : ℕ → Type 0} {above : List Record} {g : Ghost} {l : LinkState} (step : EntryShut Gone above g l) → BodyByEntry g.place l.intake.phase step.row
+shuts_body {g = g} step o q kept boards b = subst (λ (keep : Option Record). Body o q (keep_at keep kept) step.row.after.phase g.place boards) (sym step.settles_not) (step.body o q kept boards b)
+
 entry_shut_did : {afar : Afar} {above : List Record} {ga gb : Ghost} {body : Machine} {c : Scene} (s : SessionEnd) (ms : List Horizontal)
-    → s.state ≡ NotConnected → s.role ≡ Downstream → up_words ms ≡ [] → Good afar above [] ga gb body c → (step : EntryShut (gone_by afar.gone) above ga (link_above [] body c))
+    → s.state ≡ NotConnected → s.role ≡ Downstream → up_words ms ≡ [] → Good afar above [] ga gb body c → (step : EntryShut (gone_by afar.gone_above) above ga (link_above [] body c))
     → Goes afar above [] ga gb c (record (with_session Entry s body) { intake = step.row.after; kept = settled step.row.act.keep body.kept }) (in_scene None step.row.act.drive (shut Entry (told_above ms c)))
 entry_shut_did {afar = afar} {ga = ga} {gb = gb} {body = body} {c = c} s ms rests role quiet g step =
     let kept : settled step.row.act.keep body.kept ≡ body.kept = subst (λ keep. settled keep body.kept ≡ body.kept) (sym step.settles_not) refl in
@@ -86,11 +92,12 @@ entry_shut_did {afar = afar} {ga = ga} {gb = gb} {body = body} {c = c} s ms rest
         below_pair = g.below_pair;
         boards = subst (λ kept. Body body.outlet.phase gb.place kept step.row.after.phase ga.place c.boards) (sym kept) (step.body body.outlet.phase gb.place body.kept c.boards g.boards);
         above_contents = step.contents ms quiet;
-        below_contents = subst (λ kept. IsContent (gone_by afar.gone) (link_below [] body c) kept) (sym kept) g.below_contents;
+        below_contents = subst (λ kept. IsContent (gone_by afar.gone_below) (link_below [] body c) kept) (sym kept) g.below_contents;
+        above_holds = holds_at_entry body.intake in_input.Closed step.row tt step.is (λ r keeps. let no_way : Some r ≡ None = sym keeps ∙ step.settles_not in cc) (shuts_body step) g.above_holds;
+        below_holds = subst (λ kept. Holds afar.gone_below kept gb.place body.outlet.phase c.below.intake.phase) (sym kept) g.below_holds;
         entry_role = role;
         exit_role = g.exit_role;
-        away_above = g.away_above;
-        away_below = g.away_below;
+        away = g.away;
         here = g.here;
       };
       lists_above = λ kept i q boards h. h;
@@ -101,7 +108,7 @@ pub entry_shuts : {afar : Afar} {above : List Record} {ga gb : Ghost} {body : Ma
     → s.state ≡ NotConnected → s.role ≡ Downstream → up_words ms ≡ [] → Good afar above [] ga gb body c
     → Goes afar above [] ga gb c (half_closed desk Entry (with_session Entry s body)).body (all_met (half_closed desk Entry (with_session Entry s body)).acts (shut Entry (told_above ms c)))
 entry_shuts {afar = afar} {above = above} {ga = ga} {gb = gb} {body = body} {c = c} desk s ms rests role quiet g =
-    let step : EntryShut (gone_by afar.gone) above ga (link_above [] body c) = closes_entry ga (link_above [] body c) g.above_pair in
+    let step : EntryShut (gone_by afar.gone_above) above ga (link_above [] body c) = closes_entry ga (link_above [] body c) g.above_pair in
     let act : InAct = step.row.act in
     let now : Scene = shut Entry (told_above ms c) in
     let after : Machine = record (with_session Entry s body) { intake = step.row.after; kept = settled act.keep body.kept } in

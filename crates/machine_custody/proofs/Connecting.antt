@@ -157,10 +157,11 @@ calls_go {ga = ga} {gb = gb} body c g away m = record {
     boards = g.boards;
     above_contents = g.above_contents;
     below_contents = g.below_contents;
+    above_holds = g.above_holds;
+    below_holds = g.below_holds;
     entry_role = refl;
     exit_role = g.exit_role;
-    away_above = g.away_above;
-    away_below = g.away_below;
+    away = g.away;
     here = g.here;
   };
   lists_above = λ kept i q boards h. h;

@@ -25,10 +25,11 @@ cut_good {above = above} {us = us} {ga = ga} {body = body} {c = c} Entry g = rec
   boards = g.boards;
   above_contents = cut_contents (link_above us body c) above g.above_contents;
   below_contents = g.below_contents;
+  above_holds = g.above_holds;
+  below_holds = g.below_holds;
   entry_role = g.entry_role;
   exit_role = g.exit_role;
-  away_above = g.away_above;
-  away_below = g.away_below;
+  away = g.away;
   here = g.here;
 }
 cut_good {us = us} {gb = gb} {body = body} {c = c} Exit g = record {
@@ -37,10 +38,11 @@ cut_good {us = us} {gb = gb} {body = body} {c = c} Exit g = record {
   boards = g.boards;
   above_contents = g.above_contents;
   below_contents = cut_contents (link_below us body c) body.kept g.below_contents;
+  above_holds = g.above_holds;
+  below_holds = g.below_holds;
   entry_role = g.entry_role;
   exit_role = g.exit_role;
-  away_above = g.away_above;
-  away_below = g.away_below;
+  away = g.away;
   here = g.here;
 }
 

@@ -15,7 +15,7 @@ use Rattle.custody.specs.Pair.{Body, Ghost, board_of, part}
 use Rattle.custody.specs.Place.{Place, is_inside, is_upstream}
 use Rattle.machine_custody.specs.Scene.{Scene}
 use Rattle.machine_custody.specs.Good.{Afar, Good}
-use Rattle.machine_custody.specs.Unique.{IsUnique}
+use Rattle.machine_custody.specs.Unique.{IsApart}
 use Rattle.machine_custody.proofs.Keeping.{kept_lies, lies_kept}
 
 -- what an outlet holds stands first, where it is upstream
@@ -25,12 +25,12 @@ first_of_all {o = o} {i = i} {q = q} {kept = kept} p r up held b =
     b.same ∙ ap (λ (t : Bool). part (held_out o) t ++ (map board_of kept ++ part (held_in i) (is_inside q))) up ∙ ap (λ (h : Option Record). part h true ++ (map board_of kept ++ part (held_in i) (is_inside q))) held
 
 apart_at : {afar : Afar} {above : List Record} {us : List Sensed} {ga gb : Ghost} {body : Machine} {c : Scene} (r : Record) (up : Bool) → is_upstream gb.place ≡ up → held_out body.outlet.phase ≡ Some r
-    → Good afar above us ga gb body c → IsUnique afar c → Kept r.id body.kept → ⊥
+    → Good afar above us ga gb body c → IsApart afar c → Kept r.id body.kept → ⊥
 apart_at {gb = gb} r true is held g u kept = u.distinct r.id _ (first_of_all gb.place r is held g.boards) (lies_kept _ kept)
-apart_at r false is held g u kept = u.beyond r.id (g.away_below r held is) (kept_lies kept g.boards)
+apart_at r false is held g u kept = u.apart r.id (g.away r held is) (kept_lies kept g.boards)
 
 held_apart : {afar : Afar} {above : List Record} {us : List Sensed} {ga gb : Ghost} {body : Machine} {c : Scene} (r : Record) → held_out body.outlet.phase ≡ Some r
-    → Good afar above us ga gb body c → IsUnique afar c → Kept r.id body.kept → ⊥
+    → Good afar above us ga gb body c → IsApart afar c → Kept r.id body.kept → ⊥
 held_apart {gb = gb} r held g u kept = apart_at r (is_upstream gb.place) refl held g u kept
 
 -- ---- in the words of the changes by hand
@@ -51,6 +51,6 @@ apart_from q None differ = tt
 apart_from q (Some r) differ = other_by q r (differ r refl)
 
 pub is_elsewhere : {afar : Afar} {above : List Record} {us : List Sensed} {ga gb : Ghost} {body : Machine} {c : Scene} (id : ℕ) → is_kept id body.kept ≡ true
-    → Good afar above us ga gb body c → IsUnique afar c → (q : Record) → q.id ≡ id → IsOther q (held_out body.outlet.phase)
+    → Good afar above us ga gb body c → IsApart afar c → (q : Record) → q.id ≡ id → IsOther q (held_out body.outlet.phase)
 is_elsewhere {body = body} id there g u q is =
     apart_from q (held_out body.outlet.phase) (λ r held same. held_apart r held g u (subst (λ (x : ℕ). Kept x body.kept) (sym is ∙ same) (kept_of id body.kept there)))

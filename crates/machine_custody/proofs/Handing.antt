@@ -1,5 +1,5 @@
 -- Boards are put in, taken out, replaced and marked by hand, at a machine that has read all events.
-use Rattle.std.proofs.Common.{Bool, List, None, Option, Some, [], ap, eqb-true, false, nat_eq, refl, subst, sym, true, ℕ, ◌++◌, ◌==◌, ◌∙◌, ◌∷◌, ◌≡◌, if◌then◌else◌}
+use Rattle.std.proofs.Common.{Bool, List, None, Option, Some, [], ap, eqb-true, false, inl, nat_eq, refl, subst, sym, true, ℕ, ◌++◌, ◌==◌, ◌∙◌, ◌∷◌, ◌≡◌, ◌⊎◌, if◌then◌else◌}
 use Rattle.line_base.specs.declared.states.Quality.{Quality}
 use Rattle.board_record.specs.Record.{plain_record}
 use Rattle.board_record.specs.declared.record.Record.{Record}
@@ -12,6 +12,7 @@ use Rattle.node_core.specs.Boards.{if_kept, inserts, is_kept, marks, removes, re
 use Rattle.node_core.specs.Desk.{Desk}
 use Rattle.node_core.specs.declared.act.Act.TheVariants as acts
 use Rattle.node_core.specs.declared.lane.Body.{Body as Machine}
+use Rattle.custody.specs.Contents.{Kept}
 use Rattle.custody.specs.Events.{IsContent, gone_by}
 use Rattle.custody.specs.Hands.{IsOther, PutFor, TakenOut, out_here, out_later, put_here, put_later}
 use Rattle.custody.specs.Pair.{Body, Ghost}
@@ -21,38 +22,40 @@ use Rattle.custody.proofs.HandsFloor.{removes_board, replaces_board}
 use Rattle.machine_custody.specs.Scene.{Scene, all_met, link_below}
 use Rattle.machine_custody.specs.ByHand.{AreHere, Grows}
 use Rattle.machine_custody.specs.Good.{Afar, Good}
+use Rattle.machine_custody.proofs.Holding.{holds_more, kept_inserted, kept_marked, kept_replaced, kept_taken}
 
 -- the relation behind a change of the kept records and of the boards on the floor
 by_hand : {afar : Afar} {above : List Record} {ga gb : Ghost} {body : Machine} {c : Scene} (gone2 : ℕ → Bool) (kept : List Record) (boards : List Board)
-    → Good afar above [] ga gb body c → Grows afar.gone gone2 → AreHere gone2 boards
+    → Good afar above [] ga gb body c → Grows afar.gone_below gone2 → AreHere gone2 boards → ((x : ℕ) → Kept x body.kept → Kept x kept ⊎ (gone2 x ≡ true))
     → Body body.outlet.phase gb.place kept body.intake.phase ga.place boards → IsContent (gone_by gone2) (link_below [] body c) kept
-    → Good (record afar { gone = gone2 }) above [] ga gb (record body { kept = kept }) (record c { boards = boards })
-by_hand gone2 kept boards g grows here body contents = record {
+    → Good (record afar { gone_below = gone2 }) above [] ga gb (record body { kept = kept }) (record c { boards = boards })
+by_hand gone2 kept boards g grows here keeps body contents = record {
   above_pair = record { out = g.above_pair.out; «in» = g.above_pair.in; gap = g.above_pair.gap; talk = g.above_pair.talk };
   below_pair = record { out = g.below_pair.out; «in» = g.below_pair.in; gap = g.below_pair.gap; talk = g.below_pair.talk };
   boards = body;
-  above_contents = contents_gone grows g.above_contents;
+  above_contents = g.above_contents;
   below_contents = contents;
+  above_holds = g.above_holds;
+  below_holds = holds_more grows keeps g.below_holds;
   entry_role = g.entry_role;
   exit_role = g.exit_role;
-  away_above = g.away_above;
-  away_below = g.away_below;
+  away = g.away;
   here = here;
 }
 
 -- nothing changes but what is gone
 pub still_good : {afar : Afar} {above : List Record} {ga gb : Ghost} {body : Machine} {c : Scene} (gone2 : ℕ → Bool)
-    → Good afar above [] ga gb body c → Grows afar.gone gone2 → AreHere gone2 c.boards → Good (record afar { gone = gone2 }) above [] ga gb body c
-still_good {body = body} {c = c} gone2 g grows here = by_hand gone2 body.kept c.boards g grows here g.boards (contents_gone grows g.below_contents)
+    → Good afar above [] ga gb body c → Grows afar.gone_below gone2 → AreHere gone2 c.boards → Good (record afar { gone_below = gone2 }) above [] ga gb body c
+still_good {body = body} {c = c} gone2 g grows here = by_hand gone2 body.kept c.boards g grows here (λ x k. inl k) g.boards (contents_gone grows g.below_contents)
 
 -- ---- a board is put in
 
 pub inserts_good : {afar : Afar} {above : List Record} {ga gb : Ghost} {body : Machine} {c : Scene} (gone2 : ℕ → Bool) (desk : Desk) (id : ℕ) (barcode : Option (List ℕ))
-    → Good afar above [] ga gb body c → body.intake.phase ≡ inn.Idle → Grows afar.gone gone2 → AreHere gone2 (c.boards ++ record { id = Some id } ∷ [])
-    → Good (record afar { gone = gone2 }) above [] ga gb (inserts desk id barcode body).body (all_met (inserts desk id barcode body).acts c)
+    → Good afar above [] ga gb body c → body.intake.phase ≡ inn.Idle → Grows afar.gone_below gone2 → AreHere gone2 (c.boards ++ record { id = Some id } ∷ [])
+    → Good (record afar { gone_below = gone2 }) above [] ga gb (inserts desk id barcode body).body (all_met (inserts desk id barcode body).acts c)
 inserts_good {ga = ga} {gb = gb} {body = body} {c = c} gone2 desk id barcode g idle grows here =
     let n : Record = plain_record id desk.name barcode in
-    by_hand gone2 (body.kept ++ n ∷ []) (c.boards ++ record { id = Some id } ∷ []) g grows here
+    by_hand gone2 (body.kept ++ n ∷ []) (c.boards ++ record { id = Some id } ∷ []) g grows here (kept_inserted gone2 n)
     (subst (λ (i : In). Body body.outlet.phase gb.place (body.kept ++ n ∷ []) i ga.place (c.boards ++ record { id = Some id } ∷ [])) (sym idle)
     (body_inserted n (subst (λ (i : In). Body body.outlet.phase gb.place body.kept i ga.place c.boards) idle g.boards)))
     (contents_inserted n grows g.below_contents)
@@ -97,34 +100,34 @@ abbrev pub IsElsewhere : ℕ → Machine → Type 0
 IsElsewhere id body = (q : Record) → q.id ≡ id → IsOther q (held_out body.outlet.phase)
 
 removes_by : {afar : Afar} {above : List Record} {ga gb : Ghost} {body : Machine} {c : Scene} (gone2 : ℕ → Bool) (id : ℕ) (test : Bool) → is_kept id body.kept ≡ test → test ≡ true
-    → Good afar above [] ga gb body c → IsElsewhere id body → Grows afar.gone gone2 → gone2 id ≡ true → AreHere gone2 (without_board id c.boards)
-    → Good (record afar { gone = gone2 }) above [] ga gb (if_kept test (record body { kept = without id body.kept }) (acts.Removes id) body).body (all_met (if_kept test (record body { kept = without id body.kept }) (acts.Removes id) body).acts c)
+    → Good afar above [] ga gb body c → IsElsewhere id body → Grows afar.gone_below gone2 → gone2 id ≡ true → AreHere gone2 (without_board id c.boards)
+    → Good (record afar { gone_below = gone2 }) above [] ga gb (if_kept test (record body { kept = without id body.kept }) (acts.Removes id) body).body (all_met (if_kept test (record body { kept = without id body.kept }) (acts.Removes id) body).acts c)
 removes_by {ga = ga} {gb = gb} {body = body} {c = c} gone2 id true there is g elsewhere grows is_gone here =
     let f = found_in id body.kept there in
-    by_hand gone2 (without id body.kept) (without_board id c.boards) g grows here
+    by_hand gone2 (without id body.kept) (without_board id c.boards) g grows here (kept_taken gone2 (subst (λ x. gone2 x ≡ true) (sym f.is) is_gone) f.out)
     (subst (λ x. Body body.outlet.phase gb.place (without id body.kept) body.intake.phase ga.place (without_board x c.boards)) f.is (removes_board f.out (elsewhere f.q f.is) g.boards))
     (contents_removed grows (subst (λ x. gone2 x ≡ true) (sym f.is) is_gone) f.out g.below_contents)
 removes_by gone2 id false there is g elsewhere grows is_gone here = cc
 
 pub removes_good : {afar : Afar} {above : List Record} {ga gb : Ghost} {body : Machine} {c : Scene} (gone2 : ℕ → Bool) (id : ℕ) → is_kept id body.kept ≡ true
-    → Good afar above [] ga gb body c → IsElsewhere id body → Grows afar.gone gone2 → gone2 id ≡ true → AreHere gone2 (without_board id c.boards)
-    → Good (record afar { gone = gone2 }) above [] ga gb (removes id body).body (all_met (removes id body).acts c)
+    → Good afar above [] ga gb body c → IsElsewhere id body → Grows afar.gone_below gone2 → gone2 id ≡ true → AreHere gone2 (without_board id c.boards)
+    → Good (record afar { gone_below = gone2 }) above [] ga gb (removes id body).body (all_met (removes id body).acts c)
 removes_good {body = body} gone2 id there g elsewhere grows is_gone here = removes_by gone2 id (is_kept id body.kept) refl there g elsewhere grows is_gone here
 
 replaces_by : {afar : Afar} {above : List Record} {ga gb : Ghost} {body : Machine} {c : Scene} (gone2 : ℕ → Bool) (desk : Desk) (old new : ℕ) (test : Bool) → is_kept old body.kept ≡ test → test ≡ true
-    → Good afar above [] ga gb body c → IsElsewhere old body → Grows afar.gone gone2 → gone2 old ≡ true → AreHere gone2 (with_new_id old new c.boards)
-    → Good (record afar { gone = gone2 }) above [] ga gb (if_kept test (record body { kept = with_instead old (plain_record new desk.name None) body.kept }) (acts.Replaces old new) body).body (all_met (if_kept test (record body { kept = with_instead old (plain_record new desk.name None) body.kept }) (acts.Replaces old new) body).acts c)
+    → Good afar above [] ga gb body c → IsElsewhere old body → Grows afar.gone_below gone2 → gone2 old ≡ true → AreHere gone2 (with_new_id old new c.boards)
+    → Good (record afar { gone_below = gone2 }) above [] ga gb (if_kept test (record body { kept = with_instead old (plain_record new desk.name None) body.kept }) (acts.Replaces old new) body).body (all_met (if_kept test (record body { kept = with_instead old (plain_record new desk.name None) body.kept }) (acts.Replaces old new) body).acts c)
 replaces_by {ga = ga} {gb = gb} {body = body} {c = c} gone2 desk old new true there is g elsewhere grows is_gone here =
     let f = found_in old body.kept there in
     let n : Record = plain_record new desk.name None in
-    by_hand gone2 (with_instead old n body.kept) (with_new_id old new c.boards) g grows here
+    by_hand gone2 (with_instead old n body.kept) (with_new_id old new c.boards) g grows here (kept_replaced gone2 (subst (λ x. gone2 x ≡ true) (sym f.is) is_gone) (f.instead n))
     (subst (λ x. Body body.outlet.phase gb.place (with_instead old n body.kept) body.intake.phase ga.place (with_new_id x new c.boards)) f.is (replaces_board (f.instead n) (elsewhere f.q f.is) g.boards))
     (contents_replaced grows (subst (λ x. gone2 x ≡ true) (sym f.is) is_gone) (f.instead n) g.below_contents)
 replaces_by gone2 desk old new false there is g elsewhere grows is_gone here = cc
 
 pub replaces_good : {afar : Afar} {above : List Record} {ga gb : Ghost} {body : Machine} {c : Scene} (gone2 : ℕ → Bool) (desk : Desk) (old new : ℕ) → is_kept old body.kept ≡ true
-    → Good afar above [] ga gb body c → IsElsewhere old body → Grows afar.gone gone2 → gone2 old ≡ true → AreHere gone2 (with_new_id old new c.boards)
-    → Good (record afar { gone = gone2 }) above [] ga gb (replaces desk old new body).body (all_met (replaces desk old new body).acts c)
+    → Good afar above [] ga gb body c → IsElsewhere old body → Grows afar.gone_below gone2 → gone2 old ≡ true → AreHere gone2 (with_new_id old new c.boards)
+    → Good (record afar { gone_below = gone2 }) above [] ga gb (replaces desk old new body).body (all_met (replaces desk old new body).acts c)
 replaces_good {body = body} gone2 desk old new there g elsewhere grows is_gone here = replaces_by gone2 desk old new (is_kept old body.kept) refl there g elsewhere grows is_gone here
 
 marks_by : {afar : Afar} {above : List Record} {ga gb : Ghost} {body : Machine} {c : Scene} (id : ℕ) (quality : Quality) (test : Bool) → is_kept id body.kept ≡ test
@@ -132,7 +135,7 @@ marks_by : {afar : Afar} {above : List Record} {ga gb : Ghost} {body : Machine} 
     → Good afar above [] ga gb (if_kept test (record body { kept = with_mark id quality body.kept }) (acts.Marks id quality) body).body (all_met (if_kept test (record body { kept = with_mark id quality body.kept }) (acts.Marks id quality) body).acts c)
 marks_by {afar = afar} {ga = ga} {gb = gb} {body = body} {c = c} id quality true there g untouched =
     let f = found_in id body.kept there in
-    by_hand afar.gone (with_mark id quality body.kept) c.boards g (λ x is. is) g.here
+    by_hand afar.gone_below (with_mark id quality body.kept) c.boards g (λ x is. is) g.here (kept_marked afar.gone_below {q = f.q} {n = record f.q { quality = quality }} refl (f.marked quality))
     (body_marked {q = f.q} {n = record f.q { quality = quality }} refl (f.marked quality) g.boards)
     (contents_marked {q = f.q} {n = record f.q { quality = quality }} refl (λ is. untouched (is ∙ ap (λ x. Some x) f.is)) (f.marked quality) g.below_contents)
 marks_by id quality false there g untouched = g

@@ -39,9 +39,10 @@ use Rattle.custody.proofs.HandsContents.{contents_settled}
 use Rattle.custody.proofs.LinkEvents.{passes_down, says_aside_up}
 use Rattle.custody.proofs.Lists.{sent_up}
 use Rattle.machine_custody.specs.Scene.{Scene, all_met, link_above, link_below}
-use Rattle.machine_custody.specs.Good.{Afar, Goes, GoesBy, Good}
+use Rattle.machine_custody.specs.Good.{Afar, Goes, GoesBy, Good, Holds}
 use Rattle.machine_custody.proofs.Closing.{breaches_go, told_above}
 use Rattle.machine_custody.proofs.Goes.{goes_behind, met_append}
+use Rattle.machine_custody.proofs.Holding.{StartsNot, holds_at_entry, holds_settled}
 use Rattle.machine_custody.proofs.Rows.{row_at_entry, unheard_above}
 use Rattle.machine_custody.proofs.Told.{in_messages, in_met, in_scene, in_words, keep_is}
 
@@ -54,10 +55,11 @@ same_entry {ga = ga} body c s s2 state role g = record {
   boards = g.boards;
   above_contents = g.above_contents;
   below_contents = g.below_contents;
+  above_holds = g.above_holds;
+  below_holds = g.below_holds;
   entry_role = role ∙ g.entry_role;
   exit_role = g.exit_role;
-  away_above = g.away_above;
-  away_below = g.away_below;
+  away = g.away;
   here = g.here;
 }
 
@@ -74,10 +76,11 @@ entry_aside {ga = ga} {gb = gb} body c what rest ms silent quiet g = record {
     boards = g.boards;
     above_contents = rw (sent_up c.above.stands ms c.above.up, quiet) (rw silent at g.above_contents);
     below_contents = g.below_contents;
+    above_holds = g.above_holds;
+    below_holds = g.below_holds;
     entry_role = g.entry_role;
     exit_role = g.exit_role;
-    away_above = g.away_above;
-    away_below = g.away_below;
+    away = g.away;
     here = g.here;
   };
   lists_above = λ kept i q boards h. h;
@@ -85,17 +88,17 @@ entry_aside {ga = ga} {gb = gb} body c what rest ms silent quiet g = record {
 }
 
 -- the intake has this row for a word
-entry_rowed : {afar : Afar} {above : List Record} {ga gb : Ghost} (body : Machine) (c : Scene) (desk : Desk) (heard_one : Message) (w : InInput) (rest : List Horizontal)
-    → Good afar above [] ga gb body (unheard_above (heard_one.body ∷ rest) c) → EntryStep (gone_by afar.gone) above ga (link_above [] body (unheard_above (heard_one.body ∷ rest) c)) w [] rest
+entry_rowed : {afar : Afar} {above : List Record} {ga gb : Ghost} (body : Machine) (c : Scene) (desk : Desk) (heard_one : Message) (w : InInput) (rest : List Horizontal) → StartsNot w
+    → Good afar above [] ga gb body (unheard_above (heard_one.body ∷ rest) c) → EntryStep (gone_by afar.gone_above) above ga (link_above [] body (unheard_above (heard_one.body ∷ rest) c)) w [] rest
     → GoesBy afar above [] ga gb (unheard_above (heard_one.body ∷ rest) c) (passed desk Entry heard_one body (intake_took desk body (intake_row body.intake w)))
-entry_rowed {afar = afar} {above = above} {ga = ga} {gb = gb} body c desk heard_one w rest g step =
+entry_rowed {afar = afar} {above = above} {ga = ga} {gb = gb} body c desk heard_one w rest plain g step =
     subst (λ row. GoesBy afar above [] ga gb (unheard_above (heard_one.body ∷ rest) c) (passed desk Entry heard_one body (intake_took desk body row))) (sym step.is)
-    (goes_behind (acts.Hears Entry heard_one ∷ []) (intake_did desk body step.row) (row_at_entry desk w rest g step g.below_pair))
+    (goes_behind (acts.Hears Entry heard_one ∷ []) (intake_did desk body step.row) (row_at_entry desk w rest plain g step g.below_pair))
 
 -- the upstream machine described itself: the session stands, and the intake is told
 described_did : {afar : Afar} {above : List Record} {ga gb : Ghost} (body : Machine) (c : Scene) (service : Service) (rest : List Horizontal) (s s2 : SessionEnd)
     → s2.state ≡ Standing → s2.role ≡ Downstream → Good afar above [] ga gb (with_session Entry s body) (unheard_above (message.ServiceDescription service ∷ rest) c)
-    → (step : EntryStep (gone_by afar.gone) above ga (record (hearing_down (link_above [] (with_session Entry s body) c) (message.ServiceDescription service) rest) { entry = Standing }) in_input.Stand [] rest)
+    → (step : EntryStep (gone_by afar.gone_above) above ga (record (hearing_down (link_above [] (with_session Entry s body) c) (message.ServiceDescription service) rest) { entry = Standing }) in_input.Stand [] rest)
     → Goes afar above [] ga gb (unheard_above (message.ServiceDescription service ∷ rest) c) (record (with_session Entry s2 body) { intake = step.row.after; kept = settled step.row.act.keep body.kept })
     (in_scene step.row.act.send step.row.act.drive (unheard_above rest c))
 described_did {afar = afar} {ga = ga} {gb = gb} body c service rest s s2 stands role g step =
@@ -111,11 +114,12 @@ described_did {afar = afar} {ga = ga} {gb = gb} body c service rest s s2 stands 
         below_pair = g.below_pair;
         boards = subst (λ kept. Body body.outlet.phase gb.place kept step.row.after.phase ga.place c.boards) keep (step.body body.outlet.phase gb.place body.kept c.boards g.boards);
         above_contents = step.contents ms e g.above_contents;
-        below_contents = subst (λ kept. IsContent (gone_by afar.gone) (link_below [] body c) kept) keep (contents_settled step.row.act.keep g.below_contents);
+        below_contents = subst (λ kept. IsContent (gone_by afar.gone_below) (link_below [] body c) kept) keep (contents_settled step.row.act.keep g.below_contents);
+        above_holds = holds_at_entry body.intake in_input.Stand step.row tt step.is (λ r keeps. (step.settles r keeps).free) step.body g.above_holds;
+        below_holds = subst (λ kept. Holds afar.gone_below kept gb.place body.outlet.phase c.below.intake.phase) keep (holds_settled step.row.act.keep g.below_holds);
         entry_role = role;
         exit_role = g.exit_role;
-        away_above = g.away_above;
-        away_below = g.away_below;
+        away = g.away;
         here = g.here;
       };
       lists_above = λ kept i q boards h. h;
@@ -127,7 +131,7 @@ entry_described : {afar : Afar} {above : List Record} {ga gb : Ghost} (body : Ma
     → heard_one.body ≡ message.ServiceDescription service
     → GoesBy afar above [] ga gb (unheard_above (message.ServiceDescription service ∷ rest) c) (behind (acts.Hears Entry heard_one ∷ []) (actions_did desk Entry (one Stand) (with_session Entry s2 body)))
 entry_described {afar = afar} {above = above} {ga = ga} {gb = gb} body c desk heard_one service rest s s2 stands role g is =
-    let step : EntryStep (gone_by afar.gone) above ga (record (hearing_down (link_above [] (with_session Entry s body) c) (message.ServiceDescription service) rest) { entry = Standing }) in_input.Stand [] rest
+    let step : EntryStep (gone_by afar.gone_above) above ga (record (hearing_down (link_above [] (with_session Entry s body) c) (message.ServiceDescription service) rest) { entry = Standing }) in_input.Stand [] rest
     = (hears_upstream ga (link_above [] (with_session Entry s body) c) service rest g.above_pair).1 in
     let act : InAct = step.row.act in
     let before : Scene = unheard_above (message.ServiceDescription service ∷ rest) c in
@@ -160,15 +164,15 @@ entry_takes body c desk stamp rest _ _ _ _ (passes_over {role = role} {state = s
     entry_aside _ c (message.Other name) rest [] refl refl (same_entry body _ (end_of role state k n f) (end_of role state 0 n f) refl refl g)
 entry_takes {ga = ga} body c desk stamp rest _ _ _ _ (passes_available {k = k} {n = n} {f = f} {board = board}) g =
     let now = same_entry body _ (end_of Downstream Standing k n f) (end_of Downstream Standing 0 n f) refl refl g in
-    entry_rowed _ c desk (record { stamp = stamp; body = message.BoardAvailable board }) (in_input.BoardAvailable board) rest now
+    entry_rowed _ c desk (record { stamp = stamp; body = message.BoardAvailable board }) (in_input.BoardAvailable board) rest tt now
     (hears_available ga (link_above [] (with_session Entry (end_of Downstream Standing 0 n f) body) c) board rest now.above_pair).1
 entry_takes {ga = ga} body c desk stamp rest _ _ _ _ (passes_revoked {k = k} {n = n} {f = f}) g =
     let now = same_entry body _ (end_of Downstream Standing k n f) (end_of Downstream Standing 0 n f) refl refl g in
-    entry_rowed _ c desk (record { stamp = stamp; body = message.RevokeBoardAvailable }) in_input.RevokeBoardAvailable rest now
+    entry_rowed _ c desk (record { stamp = stamp; body = message.RevokeBoardAvailable }) in_input.RevokeBoardAvailable rest tt now
     (hears_revoke_available ga (link_above [] (with_session Entry (end_of Downstream Standing 0 n f) body) c) rest now.above_pair).1
 entry_takes {ga = ga} body c desk stamp rest _ _ _ _ (passes_finished {k = k} {n = n} {f = f} {said = said} {id = id}) g =
     let now = same_entry body _ (end_of Downstream Standing k n f) (end_of Downstream Standing 0 n f) refl refl g in
-    entry_rowed _ c desk (record { stamp = stamp; body = message.TransportFinished said id }) (in_input.Finished said id) rest now
+    entry_rowed _ c desk (record { stamp = stamp; body = message.TransportFinished said id }) (in_input.Finished said id) rest tt now
     (hears_finished ga (link_above [] (with_session Entry (end_of Downstream Standing 0 n f) body) c) said id rest now.above_pair).1
 entry_takes body c desk stamp rest _ _ _ _ (passes_forecast {k = k} {n = n} {f = f} {info = info}) g =
     entry_aside _ c (message.BoardForecast info) rest [] refl refl (same_entry body _ (end_of Downstream Standing k n f) (end_of Downstream Standing 0 n f) refl refl g)

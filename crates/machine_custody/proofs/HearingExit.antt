@@ -53,7 +53,8 @@ use Rattle.machine_custody.specs.Good.{Afar, Goes, GoesBy, Good}
 use Rattle.machine_custody.proofs.Closing.{breaches_go, exit_shuts, told_below}
 use Rattle.machine_custody.proofs.Goes.{goes_behind, met_append}
 use Rattle.machine_custody.proofs.Keeping.{front_brought, front_found, kept_lies, offers_the_front}
-use Rattle.machine_custody.proofs.Rows.{IsNoStart, IsNotOffer, row_at_exit, unheard_below}
+use Rattle.machine_custody.proofs.Holding.{IsNoStart, holds_started}
+use Rattle.machine_custody.proofs.Rows.{IsNotOffer, row_at_exit, unheard_below}
 use Rattle.machine_custody.proofs.Told.{IsNoOffer, out_messages, out_met, out_scene, out_words}
 
 -- the session goes on, in the same state
@@ -65,10 +66,11 @@ same_exit {gb = gb} body c s s2 state role g = record {
   boards = g.boards;
   above_contents = g.above_contents;
   below_contents = g.below_contents;
+  above_holds = g.above_holds;
+  below_holds = g.below_holds;
   entry_role = g.entry_role;
   exit_role = role ∙ g.exit_role;
-  away_above = g.away_above;
-  away_below = g.away_below;
+  away = g.away;
   here = g.here;
 }
 
@@ -85,10 +87,11 @@ exit_aside {ga = ga} {gb = gb} body c what rest ms silent quiet g = record {
     boards = g.boards;
     above_contents = g.above_contents;
     below_contents = rw (sent_down c.below.stands ms c.below.down, quiet) (rw silent at g.below_contents);
+    above_holds = g.above_holds;
+    below_holds = g.below_holds;
     entry_role = g.entry_role;
     exit_role = g.exit_role;
-    away_above = g.away_above;
-    away_below = g.away_below;
+    away = g.away;
     here = g.here;
   };
   lists_above = λ kept i q boards h. h;
@@ -112,10 +115,11 @@ exit_described {ga = ga} {gb = gb} body c service answer rest s s2 shakes stands
         boards = g.boards;
         above_contents = g.above_contents;
         below_contents = described_contents l service answer rest body.kept g.below_contents;
+        above_holds = g.above_holds;
+        below_holds = g.below_holds;
         entry_role = g.entry_role;
         exit_role = role;
-        away_above = g.away_above;
-        away_below = g.away_below;
+        away = g.away;
         here = g.here;
       };
       lists_above = λ kept i q boards h. h;
@@ -124,7 +128,7 @@ exit_described {ga = ga} {gb = gb} body c service answer rest s s2 shakes stands
 
 -- the outlet has this row for a word
 exit_rowed : {afar : Afar} {above : List Record} {ga gb : Ghost} (body : Machine) (c : Scene) (desk : Desk) (heard_one : Message) (w : OutInput) (rest : List Horizontal) → IsNotOffer w → IsNoStart w
-    → Good afar above [] ga gb body (unheard_below (heard_one.body ∷ rest) c) → ExitStep (gone_by afar.gone) gb (link_below [] body (unheard_below (heard_one.body ∷ rest) c)) w [] rest
+    → Good afar above [] ga gb body (unheard_below (heard_one.body ∷ rest) c) → ExitStep (gone_by afar.gone_below) gb (link_below [] body (unheard_below (heard_one.body ∷ rest) c)) w [] rest
     → GoesBy afar above [] ga gb (unheard_below (heard_one.body ∷ rest) c) (passed desk Exit heard_one body (outlet_took desk body (outlet_row body.outlet w)))
 exit_rowed {afar = afar} {above = above} {ga = ga} {gb = gb} body c desk heard_one w rest plain begun g step =
     subst (λ row. GoesBy afar above [] ga gb (unheard_below (heard_one.body ∷ rest) c) (passed desk Exit heard_one body (outlet_took desk body row))) (sym step.is)
@@ -147,7 +151,7 @@ starts_upstream _ id _ _ r g (refuses _) floor held up = cc
 
 start_heard : {afar : Afar} {above : List Record} {ga gb : Ghost} (body : Machine) (c : Scene) (id : ℕ) (rest : List Horizontal) (brought : Option Record) (kept : List Record)
     → back_to brought kept ≡ body.kept → Good afar above [] ga gb body (unheard_below (message.StartTransport id ∷ rest) c)
-    → (step : StartStep (gone_by afar.gone) gb (link_below [] body (unheard_below (message.StartTransport id ∷ rest) c)) id brought rest)
+    → (step : StartStep (gone_by afar.gone_below) gb (link_below [] body (unheard_below (message.StartTransport id ∷ rest) c)) id brought rest)
     → Goes afar above [] ga gb (unheard_below (message.StartTransport id ∷ rest) c) (record body { outlet = step.row.after; kept = kept }) (out_scene step.row.act.send step.row.act.drive (unheard_below rest c))
 start_heard {afar = afar} {ga = ga} {gb = gb} body c id rest brought kept back g step =
     let ms = out_messages step.row.act.send in
@@ -161,10 +165,11 @@ start_heard {afar = afar} {ga = ga} {gb = gb} body c id rest brought kept back g
         boards = step.body kept body.intake.phase ga.place c.boards (subst (λ ks. Body body.outlet.phase gb.place ks body.intake.phase ga.place c.boards) (sym back) g.boards);
         above_contents = g.above_contents;
         below_contents = step.contents kept ms e;
+        above_holds = g.above_holds;
+        below_holds = holds_started body.outlet id brought step.row step.is back g.below_pair.talk (step.pair ms e).out step.fresh g.below_holds;
         entry_role = g.entry_role;
         exit_role = g.exit_role;
-        away_above = g.away_above;
-        away_below = λ r held up. absurd (starts_upstream _ id brought step.row r step.after (row_is body.outlet (out_input.Start id brought) step.row step.is) (step.pair ms e).out held up);
+        away = λ r held up. absurd (starts_upstream _ id brought step.row r step.after (row_is body.outlet (out_input.Start id brought) step.row step.is) (step.pair ms e).out held up);
         here = g.here;
       };
       lists_above = λ kept i q boards h. h;
@@ -177,7 +182,7 @@ start_sends_no_offer _ _ _ _ (refuses _) = tt
 
 start_rowed : {afar : Afar} {above : List Record} {ga gb : Ghost} (body : Machine) (c : Scene) (desk : Desk) (stamp : Option ℤ) (id : ℕ) (rest : List Horizontal) (brought : Option Record) (kept : List Record)
     → back_to brought kept ≡ body.kept → Good afar above [] ga gb body (unheard_below (message.StartTransport id ∷ rest) c)
-    → StartStep (gone_by afar.gone) gb (link_below [] body (unheard_below (message.StartTransport id ∷ rest) c)) id brought rest
+    → StartStep (gone_by afar.gone_below) gb (link_below [] body (unheard_below (message.StartTransport id ∷ rest) c)) id brought rest
     → GoesBy afar above [] ga gb (unheard_below (message.StartTransport id ∷ rest) c) (passed desk Exit (record { stamp = stamp; body = message.StartTransport id }) body (outlet_took desk (record body { kept = kept }) (outlet_row body.outlet (out_input.Start id brought))))
 start_rowed {afar = afar} {above = above} {ga = ga} {gb = gb} body c desk stamp id rest brought kept back g step =
     let m : Message = record { stamp = stamp; body = message.StartTransport id } in

@@ -1,5 +1,6 @@
 pub mod Goes
 pub mod Told
+pub mod Holding
 pub mod Far
 pub mod Rows
 pub mod Reading

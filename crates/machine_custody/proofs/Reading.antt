@@ -23,7 +23,7 @@ use Rattle.machine_custody.proofs.Rows.{at_entry_goes, at_entry_good, at_exit_go
 read_at : {afar : Afar} {above : List Record} {rest : List Sensed} {ga gb : Ghost} {body : Machine} {c : Scene} (desk : Desk) (side : Side) (event : SensorEvent)
     → Good afar above (record { side = side; event = event } ∷ rest) ga gb body c → Good afar above rest ga gb (saw desk side event body).body (all_met (saw desk side event body).acts c)
 read_at {rest = rest} {ga = ga} {gb = gb} {body = body} {c = c} desk Entry event g =
-    at_entry_good desk (in_input.Sensed event) g (reads_entry ga (link_above rest body c) event rest g.above_pair) (skips_entry gb (link_below rest body c) event rest g.below_pair)
+    at_entry_good desk (in_input.Sensed event) tt g (reads_entry ga (link_above rest body c) event rest g.above_pair) (skips_entry gb (link_below rest body c) event rest g.below_pair)
 read_at {rest = rest} {ga = ga} {gb = gb} {body = body} {c = c} desk Exit event g =
     at_exit_good desk (out_input.Sensed event) tt tt g (reads_exit gb (link_below rest body c) event rest g.below_pair) (skips_exit ga (link_above rest body c) event rest g.above_pair)
 
@@ -39,5 +39,5 @@ all_read_good {afar = afar} {above = above} {ga = ga} {gb = gb} desk (sensed ∷
 
 pub faults_go : {afar : Afar} {above : List Record} {ga gb : Ghost} {body : Machine} {c : Scene} (desk : Desk) (side : Side)
     → Good afar above [] ga gb body c → GoesBy afar above [] ga gb c (faults desk side body)
-faults_go {ga = ga} {body = body} {c = c} desk Entry g = at_entry_goes desk in_input.Fault g (fails_entry ga (link_above [] body c) g.above_pair) g.below_pair
+faults_go {ga = ga} {body = body} {c = c} desk Entry g = at_entry_goes desk in_input.Fault tt g (fails_entry ga (link_above [] body c) g.above_pair) g.below_pair
 faults_go {gb = gb} {body = body} {c = c} desk Exit g = at_exit_goes desk out_input.Fault tt tt g (fails_exit gb (link_below [] body c) g.below_pair) g.above_pair

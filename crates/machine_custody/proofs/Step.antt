@@ -24,7 +24,7 @@ use Rattle.machine_custody.specs.Scene.{Scene, all_met}
 use Rattle.machine_custody.specs.Good.{Afar, Goes, GoesBy, Good, Lies, ListsAbove, ListsBelow}
 use Rattle.machine_custody.specs.Flight.{IsPlain, plain_fault, plain_notice, plain_nothing, plain_shutdown, plain_tick, plain_will, plain_words, unheard}
 use Rattle.machine_custody.specs.ByHand.{AreHere, Grows, body_read, scene_read}
-use Rattle.machine_custody.specs.Unique.{AreDistinct, IsUnique}
+use Rattle.machine_custody.specs.Unique.{IsFrontOnce, IsApart}
 use Rattle.machine_custody.proofs.Announcing.{announces_go}
 use Rattle.machine_custody.proofs.BehindReading.{read_idle, read_leaves, read_lists, read_untouched}
 use Rattle.machine_custody.proofs.Handing.{inserts_good, marks_good, removes_good, replaces_good}
@@ -75,17 +75,17 @@ plain_keeps desk unread event body c plain offers g = plain_goes desk unread eve
 -- ---- changes by hand: what is gone grows
 
 -- the machine's boards are as they were behind the reading
-unique_behind : {afar : Afar} (desk : Desk) (unread : List Sensed) (body : Machine) (c : Scene) → IsUnique afar c → IsUnique afar (scene_read desk unread body c)
+unique_behind : {afar : Afar} (desk : Desk) (unread : List Sensed) (body : Machine) (c : Scene) → IsApart afar c → IsApart afar (scene_read desk unread body c)
 unique_behind {afar = afar} desk unread body c u =
     let lists = read_lists desk unread body c in
     record {
-      distinct = subst (λ (bs : List Board). AreDistinct bs) (sym lists) u.distinct;
-      beyond = subst (λ (bs : List Board). (x : ℕ) → afar.below x ≡ true → Lies x bs → ⊥) (sym lists) u.beyond;
+      distinct = subst (λ (bs : List Board). IsFrontOnce bs) (sym lists) u.distinct;
+      apart = subst (λ (bs : List Board). (x : ℕ) → afar.elsewhere x ≡ true → Lies x bs → ⊥) (sym lists) u.apart;
     }
 
 pub insert_goes : {afar : Afar} {above : List Record} {ga gb : Ghost} (gone2 : ℕ → Bool) (desk : Desk) (unread : List Sensed) (id : ℕ) (barcode : Option (List ℕ)) (body : Machine) (c : Scene)
-    → Good afar above unread ga gb body c → body.intake.phase ≡ inn.Idle → Grows afar.gone gone2 → AreHere gone2 (c.boards ++ record { id = Some id } ∷ [])
-    → GoesBy (record afar { gone = gone2 }) above [] ga gb c (machine_step desk unread (Insert id barcode) body)
+    → Good afar above unread ga gb body c → body.intake.phase ≡ inn.Idle → Grows afar.gone_below gone2 → AreHere gone2 (c.boards ++ record { id = Some id } ∷ [])
+    → GoesBy (record afar { gone_below = gone2 }) above [] ga gb c (machine_step desk unread (Insert id barcode) body)
 insert_goes gone2 desk unread id barcode body c g idle grows here =
     let one : Machine = body_read desk unread body in
     let now : Scene = scene_read desk unread body c in
@@ -95,8 +95,8 @@ insert_goes gone2 desk unread id barcode body c g idle grows here =
 
 -- the record is kept still when the events are read
 pub remove_goes : {afar : Afar} {above : List Record} {ga gb : Ghost} (gone2 : ℕ → Bool) (desk : Desk) (unread : List Sensed) (id : ℕ) (body : Machine) (c : Scene)
-    → Good afar above unread ga gb body c → IsUnique afar c → is_kept id (body_read desk unread body).kept ≡ true → Grows afar.gone gone2 → gone2 id ≡ true → AreHere gone2 (without_board id c.boards)
-    → GoesBy (record afar { gone = gone2 }) above [] ga gb c (machine_step desk unread (Remove id) body)
+    → Good afar above unread ga gb body c → IsApart afar c → is_kept id (body_read desk unread body).kept ≡ true → Grows afar.gone_below gone2 → gone2 id ≡ true → AreHere gone2 (without_board id c.boards)
+    → GoesBy (record afar { gone_below = gone2 }) above [] ga gb c (machine_step desk unread (Remove id) body)
 remove_goes gone2 desk unread id body c g u there grows is_gone here =
     let one : Machine = body_read desk unread body in
     let now : Scene = scene_read desk unread body c in
@@ -106,8 +106,8 @@ remove_goes gone2 desk unread id body c g u there grows is_gone here =
     (subst (λ (bs : List Board). AreHere gone2 (without_board id bs)) (sym (read_lists desk unread body c)) here)))
 
 pub replace_goes : {afar : Afar} {above : List Record} {ga gb : Ghost} (gone2 : ℕ → Bool) (desk : Desk) (unread : List Sensed) (old new : ℕ) (body : Machine) (c : Scene)
-    → Good afar above unread ga gb body c → IsUnique afar c → is_kept old (body_read desk unread body).kept ≡ true → Grows afar.gone gone2 → gone2 old ≡ true → AreHere gone2 (with_new_id old new c.boards)
-    → GoesBy (record afar { gone = gone2 }) above [] ga gb c (machine_step desk unread (Replace old new) body)
+    → Good afar above unread ga gb body c → IsApart afar c → is_kept old (body_read desk unread body).kept ≡ true → Grows afar.gone_below gone2 → gone2 old ≡ true → AreHere gone2 (with_new_id old new c.boards)
+    → GoesBy (record afar { gone_below = gone2 }) above [] ga gb c (machine_step desk unread (Replace old new) body)
 replace_goes gone2 desk unread old new body c g u there grows is_gone here =
     let one : Machine = body_read desk unread body in
     let now : Scene = scene_read desk unread body c in

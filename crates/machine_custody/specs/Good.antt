@@ -1,17 +1,19 @@
 -- THE RELATION OF A MACHINE AND ITS TWO LINKS, and what a micro event does to it.
-use Rattle.std.specs.Prelude.{Bool, List, Some, false, true, ℕ, ◌∷◌, ◌≡◌}
+use Rattle.std.specs.Prelude.{Bool, List, None, Some, false, true, ℕ, ◌∷◌, ◌≡◌, ◌⊎◌}
 use Rattle.line_base.specs.declared.states.Role.TheVariants.{Downstream, Upstream}
 use Rattle.board_record.specs.declared.record.Record.{Record}
 use Rattle.board_record.specs.declared.sensed.Sensed.{Sensed}
 use Rattle.line_world.specs.declared.board.Board.{Board}
 use Rattle.handover_out.specs.State.{board_of_phase as held_out}
 use Rattle.handover_out.specs.declared.phase.Phase.{Phase as Out}
+use Rattle.handover_in.specs.State.{board_of_phase as held_in}
 use Rattle.handover_in.specs.declared.phase.Phase.{Phase as In}
 use Rattle.node_core.specs.Done.{Done}
 use Rattle.node_core.specs.declared.lane.Body.{Body as Machine}
+use Rattle.custody.specs.Contents.{Kept}
 use Rattle.custody.specs.Events.{IsContent, gone_by}
 use Rattle.custody.specs.Pair.{Body, Ghost, Pair}
-use Rattle.custody.specs.Place.{Place, is_upstream}
+use Rattle.custody.specs.Place.{Place, is_away, is_inside, is_upstream}
 use Rattle.machine_custody.specs.Scene.{Scene, all_met, link_above, link_below}
 
 -- a board with this id is among these
@@ -19,27 +21,38 @@ pub data Lies : ℕ → List Board → Type 0 where
   lies_first : {x : ℕ} {bs : List Board} → Lies x (record { id = Some x } ∷ bs)
   lies_later : {x : ℕ} {b : Board} {bs : List Board} → Lies x bs → Lies x (b ∷ bs)
 
--- what a machine's step leaves as it is: the ids that were used and are on the floor no more; and the ids that lie beyond
--- the outlet above, and beyond the machine's own, or nowhere
+-- what a machine's step leaves as it is: the ids that went from the floor by its entry's gap or by the hands at the
+-- machine above, those that went by its exit's gap or by the hands at the machine itself, and the ids of boards that don't
+-- lie at it
 pub record Afar : Type 0 where
-  pub gone : ℕ → Bool
-  pub above : ℕ → Bool
-  pub below : ℕ → Bool
+  pub gone_above : ℕ → Bool
+  pub gone_below : ℕ → Bool
+  pub elsewhere : ℕ → Bool
+
+-- what the halves of a handover hold, by the place of its board: what the outlet holds of a board that is inside, the
+-- intake holds too; a board that was taken out by hand is gone; and while the intake alone holds a board that is upstream,
+-- it is kept there, or gone
+pub record Holds (gone : ℕ → Bool) (kept : List Record) (p : Place) (o : Out) (i : In) : Type 0 where
+  pub inside : (q : Record) → held_out o ≡ Some q → is_inside p ≡ true → held_in i ≡ Some q
+  pub away_out : (q : Record) → held_out o ≡ Some q → is_away p ≡ true → gone q.id ≡ true
+  pub away_in : (q : Record) → held_in i ≡ Some q → is_away p ≡ true → gone q.id ≡ true
+  pub upstream : (q : Record) → held_in i ≡ Some q → held_out o ≡ None → is_upstream p ≡ true → Kept q.id kept ⊎ (gone q.id ≡ true)
 
 -- a machine that has not read these sensor events stands in the relation of both its links: the ghosts name place and
--- board of each. `above` are the records that the machine above keeps. No board that lies here is gone, and what an outlet
--- holds lies beyond it once it isn't upstream
+-- board of each. `above` are the records that the machine above keeps. What each handover's halves hold is where the ghost
+-- says. No board that lies here is gone by this machine, and what its outlet holds lies elsewhere once it isn't upstream
 pub record Good (afar : Afar) (above : List Record) (unread : List Sensed) (ga gb : Ghost) (body : Machine) (c : Scene) : Type 0 where
   pub above_pair : Pair ga (link_above unread body c)
   pub below_pair : Pair gb (link_below unread body c)
   pub boards : Body body.outlet.phase gb.place body.kept body.intake.phase ga.place c.boards
-  pub above_contents : IsContent (gone_by afar.gone) (link_above unread body c) above
-  pub below_contents : IsContent (gone_by afar.gone) (link_below unread body c) body.kept
+  pub above_contents : IsContent (gone_by afar.gone_above) (link_above unread body c) above
+  pub below_contents : IsContent (gone_by afar.gone_below) (link_below unread body c) body.kept
+  pub above_holds : Holds afar.gone_above above ga.place c.above.outlet.phase body.intake.phase
+  pub below_holds : Holds afar.gone_below body.kept gb.place body.outlet.phase c.below.intake.phase
   pub entry_role : body.entry.session.role ≡ Downstream
   pub exit_role : body.exit.session.role ≡ Upstream
-  pub away_above : (r : Record) → held_out c.above.outlet.phase ≡ Some r → is_upstream ga.place ≡ false → afar.above r.id ≡ true
-  pub away_below : (r : Record) → held_out body.outlet.phase ≡ Some r → is_upstream gb.place ≡ false → afar.below r.id ≡ true
-  pub here : (x : ℕ) → Lies x c.boards → afar.gone x ≡ true → ⊥
+  pub away : (r : Record) → held_out body.outlet.phase ≡ Some r → is_upstream gb.place ≡ false → afar.elsewhere r.id ≡ true
+  pub here : (x : ℕ) → Lies x c.boards → afar.gone_below x ≡ true → ⊥
 
 -- the boards of the machine above are listed from one ghost to another, and those of the machine below
 abbrev pub ListsAbove : Out → Ghost → Out → Ghost → Type 0

@@ -25,7 +25,7 @@ ghost use Rattle.machine_custody.specs.Flight.{IsPlain};
 ghost use Rattle.machine_custody.specs.Good.{Afar, Goes, GoesBy, Good};
 ghost use Rattle.machine_custody.specs.Joined.{GoesSecond, described_by, with_link};
 ghost use Rattle.machine_custody.specs.Scene.{Scene, all_met};
-ghost use Rattle.machine_custody.specs.Unique.{IsUnique};
+ghost use Rattle.machine_custody.specs.Unique.{IsApart};
 
 /// A step in which no board is changed by hand and no connection is made keeps the relation of both links and of the
 /// machine: it reads its sensor events, hears the oldest messages to a side or a wrong one, notices a close, ticks, shuts
@@ -37,9 +37,9 @@ pub fn a_step_keeps_both_links()
 /// And so does a step in which a board is put in, taken out, replaced or marked by hand: a new board whose id is none on
 /// the floor, or one that is kept still when the events are read. The ids of boards that go are gone from then on.
 pub fn a_change_by_hand_keeps_both_links()
-    ensures insert { (afar : Afar) (above : List Record) (ga gb : Ghost) (gone : ℕ → Bool) (desk : Desk) (unread : List Sensed) (id : ℕ) (barcode : Option (List ℕ)) (body : Machine) (c : Scene) → Good afar above unread ga gb body c → body.intake.phase ≡ inn.Idle → Grows afar.gone gone → AreHere gone (c.boards ++ record { id = Some id } ∷ []) → GoesBy (record afar { gone = gone }) above [] ga gb c (machine_step desk unread (Insert id barcode) body) }
-    ensures remove { (afar : Afar) (above : List Record) (ga gb : Ghost) (gone : ℕ → Bool) (desk : Desk) (unread : List Sensed) (id : ℕ) (body : Machine) (c : Scene) → Good afar above unread ga gb body c → IsUnique afar c → is_kept id (body_read desk unread body).kept ≡ true → Grows afar.gone gone → gone id ≡ true → AreHere gone (without_board id c.boards) → GoesBy (record afar { gone = gone }) above [] ga gb c (machine_step desk unread (Remove id) body) }
-    ensures replace { (afar : Afar) (above : List Record) (ga gb : Ghost) (gone : ℕ → Bool) (desk : Desk) (unread : List Sensed) (old new : ℕ) (body : Machine) (c : Scene) → Good afar above unread ga gb body c → IsUnique afar c → is_kept old (body_read desk unread body).kept ≡ true → Grows afar.gone gone → gone old ≡ true → AreHere gone (with_new_id old new c.boards) → GoesBy (record afar { gone = gone }) above [] ga gb c (machine_step desk unread (Replace old new) body) }
+    ensures insert { (afar : Afar) (above : List Record) (ga gb : Ghost) (gone : ℕ → Bool) (desk : Desk) (unread : List Sensed) (id : ℕ) (barcode : Option (List ℕ)) (body : Machine) (c : Scene) → Good afar above unread ga gb body c → body.intake.phase ≡ inn.Idle → Grows afar.gone_below gone → AreHere gone (c.boards ++ record { id = Some id } ∷ []) → GoesBy (record afar { gone_below = gone }) above [] ga gb c (machine_step desk unread (Insert id barcode) body) }
+    ensures remove { (afar : Afar) (above : List Record) (ga gb : Ghost) (gone : ℕ → Bool) (desk : Desk) (unread : List Sensed) (id : ℕ) (body : Machine) (c : Scene) → Good afar above unread ga gb body c → IsApart afar c → is_kept id (body_read desk unread body).kept ≡ true → Grows afar.gone_below gone → gone id ≡ true → AreHere gone (without_board id c.boards) → GoesBy (record afar { gone_below = gone }) above [] ga gb c (machine_step desk unread (Remove id) body) }
+    ensures replace { (afar : Afar) (above : List Record) (ga gb : Ghost) (gone : ℕ → Bool) (desk : Desk) (unread : List Sensed) (old new : ℕ) (body : Machine) (c : Scene) → Good afar above unread ga gb body c → IsApart afar c → is_kept old (body_read desk unread body).kept ≡ true → Grows afar.gone_below gone → gone old ≡ true → AreHere gone (with_new_id old new c.boards) → GoesBy (record afar { gone_below = gone }) above [] ga gb c (machine_step desk unread (Replace old new) body) }
     ensures mark { (afar : Afar) (above : List Record) (ga gb : Ghost) (desk : Desk) (unread : List Sensed) (id : ℕ) (quality : Quality) (body : Machine) (c : Scene) → Good afar above unread ga gb body c → (body.outlet.touched ≡ Some id → ⊥) → GoesBy afar above [] ga gb c (machine_step desk unread (Mark id quality) body) }
 {}
 
