@@ -5,27 +5,24 @@ use Rattle.std.specs.List.{drop-map, take-map}
 use Rattle.line_script.specs.declared.line.ScriptLine.{ScriptLine}
 use Rattle.line_report.specs.declared.happening.Happening.{Happening}
 use Rattle.node_core.specs.Node.{NodeState}
-use Rattle.standings.specs.Marks.{Owned}
 use Rattle.line_step.specs.Lines.{LineDoes, LineSteps}
 use Rattle.line_step.specs.Named.{ids_named}
 use Rattle.line_step.specs.State.{LineState, owned, owned_by}
 use Rattle.line_step.proofs.Keeps.{lines_stay}
-use Rattle.line_engine.specs.Before.{changed_told, first_stepped, last_stepped, owned_between, owned_with}
-use Rattle.line_engine.proofs.ChangedStandings.{step_tells}
+use Rattle.line_step.proofs.ChangedStandings.{standings_named}
+use Rattle.line_engine.specs.Stepped.{changed_told, owned_between}
 
-pub line_steps : (number : ℕ) (line : ScriptLine) (before next : LineState) (first : ℕ) (owns : List Owned) (done now : List Happening)
+pub line_steps : (number : ℕ) (line : ScriptLine) (before next : LineState) (done now : List Happening)
     → number ≡ before.lines + 1
-    → first ≡ first_stepped line
-    → owns ≡ owned_between (first_stepped line) (last_stepped line) (owned before)
     → LineDoes number line before next done
-    → now ≡ done ++ changed_told (ids_named done) (owned_with first owns (owned next)) (owned next)
+    → now ≡ done ++ changed_told (ids_named done) (owned before) (owned next)
     → LineSteps number line before (record next { lines = number }) now
-line_steps number line before next first owns done now numbered first_is owns_is does now_is = record {
+line_steps number line before next done now numbered does now_is = record {
   next = next;
   done = done;
   does = does;
   after_is = ap (λ n. record next { lines = n }) (numbered ∙ ap (λ n. n + 1) (sym (lines_stay number line before next done does)));
-  told_is = step_tells number line before next first owns done now first_is owns_is does now_is;
+  told_is = now_is ∙ ap (λ what. done ++ what) (sym (standings_named number line before next done does));
 }
 
 -- a line that is not spent, seen with what says so

@@ -1,8 +1,11 @@
 pub mod Along
-pub mod ChangedStandings
 pub mod Counted
-pub mod DoneActs
+pub mod Followed
+pub mod Following
 pub mod Naming
+pub mod Patched
 pub mod Places
-pub mod There
+pub mod Restored
+pub mod Rising
 pub mod Stepped
+pub mod There

@@ -9,7 +9,7 @@ use Rattle.line_report.specs.declared.happening.Happening.{Happening}
 use Rattle.line_step.specs.Named.{ids_named}
 use Rattle.line_step.specs.Shown.{ascending, with_id}
 use Rattle.line_step.proofs.Ascending.{all-with_id, all_is_ascending, choose_false, choose_true, with_above, with_all, with_below, with_same}
-use Rattle.line_engine.specs.Before.{with_ids}
+use Rattle.line_engine.specs.Stepped.{with_ids}
 
 -- ---- the place of an id
 

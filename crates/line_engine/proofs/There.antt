@@ -10,7 +10,7 @@ use Rattle.line_step.specs.Reasons.{May, behind_own, if_there, may_do, no_if}
 use Rattle.line_step.specs.State.{LineState, machine_in}
 use Rattle.line_step.specs.Together.{IsLineTogether}
 use Rattle.line_step.proofs.Numbers.{machine_within}
-use Rattle.line_engine.proofs.DoneActs.{machine_stays}
+use Rattle.line_acts.proofs.DoneActs.{machine_stays}
 
 -- a machine that is there has its place on the floor
 pub on_floor : (machine : ℕ) (s : LineState) (node : NodeState) → machine_in machine s ≡ Some node → length s.world.floor.machines ≡ length s.machines → IsMachine s.world.floor machine

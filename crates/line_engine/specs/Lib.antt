@@ -1,3 +1,3 @@
-pub mod Before
-pub mod Doing
 pub mod Given
+pub mod Stepped
+pub mod Indexed

@@ -1,40 +1,20 @@
-//! The standings that a line of the script changed.
+//! The boards that acts name, and what is told of their standings.
 
-ghost use Rattle.std.specs.Prelude.{◌≡◌, ◌≤◌, ◌++◌, IfOk, OnOk, insert, length, map, slice_get, if◌then◌else◌};
+ghost use Rattle.std.specs.Prelude.{◌≡◌, ◌≤◌, ◌++◌, IfOk, OnOk, insert, length, slice_get, if◌then◌else◌};
 ghost use Rattle.standings.specs.Marks.{is_held};
-ghost use Rattle.line_engine.specs.Before.{changed_told, owned_with, with_ids};
+ghost use Rattle.line_engine.specs.Stepped.{with_ids};
 ghost use Rattle.line_step.specs.Named.{id_of_deed, ids_named, ids_of_act, ids_of_happening};
 ghost use Rattle.line_step.specs.Shown.{ascending, standing_told, with_id};
-ghost use Rattle.line_step.specs.State.{owned_by};
 
-use crate::marks::{Before, marks_before, marks_of};
 use board_record::BoardId;
 use line_base::Memory;
 use line_report::{Happened, Happening};
-use node_core::{Act, Deed, Node};
-use standings::{Told, told_of};
+use node_core::{Act, Deed};
+use standings::Told;
 use std::alloc::Global;
 
-/// Tells the standings that changed, in ascending order of id. They are among those of the ids that its acts name.
-pub fn tell_standings(
-    alloc: Global,
-    machines: &[Node],
-    before: &Before,
-    told: &mut Happened,
-) -> Result<(), Memory>
-    requires { length machines.now ≤ 64 }
-    ensures { OnOk result (told.new ≡ told.old ++ changed_told (ids_named told.old) (owned_with before.now.first before.now.owns.items (map owned_by machines.now)) (map owned_by machines.now)) }
-{
-    let ids = ids_named(alloc, told.list())?;
-    for id in &ids {
-        let was = marks_before(machines, before, *id);
-        let now = marks_of(machines, *id);
-        tell_standing(*id, told_of(was.list(), now.list()), told)?;
-    }
-    Ok(())
-}
-
-fn tell_standing(id: BoardId, standing: Option<Told>, told: &mut Happened) -> Result<(), Memory>
+/// Tells a board's standing, where it changed.
+pub fn tell_standing(id: BoardId, standing: Option<Told>, told: &mut Happened) -> Result<(), Memory>
     ensures { OnOk result (told.new ≡ told.old ++ standing_told id standing) }
 {
     match standing {
@@ -45,8 +25,8 @@ fn tell_standing(id: BoardId, standing: Option<Told>, told: &mut Happened) -> Re
     }
 }
 
-/// The ids that acts name, in ascending order, each once.
-fn ids_named(alloc: Global, told: &[Happening]) -> Result<Vec<BoardId>, Memory>
+/// The ids that acts name, in ascending order, each once. `Memory` where there is none for the list.
+pub fn ids_named(alloc: Global, told: &[Happening]) -> Result<Vec<BoardId>, Memory>
     ensures { IfOk result (λ ids. ids.items ≡ ascending (ids_named told.now)) }
 {
     let mut ids = Vec::new(alloc);

@@ -1,21 +1,19 @@
-//! A line of machines in code: their links, the floor under them, and what one line of a script does to all of it.
+//! A line of machines in code, and what one line of a script does to it.
 //!
-//! What a line of the script does is defined in `line_step`, what it tells in `line_report`.
+//! What a line of the script does is defined in `line_step`, what it tells in `line_report`. Links, floor and acts are in
+//! `line_acts`.
 #![tactic(auto)]
 
-mod act_copy;
-mod acts;
 mod changed;
+mod index;
 mod line;
-mod links;
 mod marks;
 mod reasons;
-mod remember;
 mod show;
+mod span;
 mod state;
 mod stepping;
 mod steps;
-mod world;
 
 pub use line::Line;
 pub use line_report::{Happened, Happening, Reason, Summary, write_happening, write_summary};

@@ -4,15 +4,17 @@ ghost use Rattle.line_link.specs.Link.{flow_to};
 ghost use Rattle.line_step.specs.World.{end_of, link_at, link_of};
 ghost use Rattle.line_script.specs.Ranges.{IsWithin};
 ghost use Rattle.line_step.specs.Lines.{LineSteps};
-ghost use Rattle.line_step.specs.State.{no_line};
+ghost use Rattle.line_step.specs.State.{marks_in, no_line};
 ghost use Rattle.line_step.specs.Views.{standing_in, summary_of};
 
+use crate::index::Index;
+use crate::span::stepped;
 use crate::state::State;
 use board_record::BoardId;
 use line_base::{Memory, Side};
 use line_report::{Happened, Summary};
 use line_script::ScriptLine;
-use standings::Standing;
+use standings::{Mark, Standing, standing_of};
 use std::alloc::Global;
 use std::marker::Model;
 
@@ -24,18 +26,20 @@ use std::marker::Model;
 pub struct Line {
     spent: bool,
     state: State,
+    index: Index,
 }
 
 impl Model for Line {
     ghost use Rattle.std.specs.Prelude.{◌≡◌, false};
-    ghost use Rattle.line_step.specs.State.{LineState};
+    ghost use Rattle.line_step.specs.State.{LineState, owned};
     ghost use Rattle.line_step.specs.Together.{IsLineTogether};
+    ghost use Rattle.line_engine.specs.Indexed.{IsIndexOf};
 
     ghost Value = { LineState };
 
     ghost view = { λ line. record line.state { spent = line.spent } };
 
-    ghost invariant = { λ line. line.spent ≡ false → IsLineTogether line.state };
+    ghost invariant = { λ line. line.spent ≡ false → IsLineTogether line.state × IsIndexOf line.index (owned line.state) };
 }
 
 impl Line {
@@ -46,6 +50,7 @@ impl Line {
         Line {
             spent: false,
             state: State::new(alloc),
+            index: Index::new(alloc),
         }
     }
 
@@ -69,7 +74,10 @@ impl Line {
         }
         self.spent = true;
         self.state.unspent();
-        let told = self.state.step(number, line)?;
+        let mut told = self.state.do_line(number, line)?;
+        self.index
+            .follow(self.state.machines(), stepped(line), &mut told)?;
+        self.state.count(number);
         self.state.unspent();
         self.spent = false;
         Ok(told)
@@ -80,7 +88,16 @@ impl Line {
         requires { self.now.spent ≡ false }
         ensures { result ≡ standing_in self.now id }
     {
-        self.state.standing(id)
+        standing_of(self.index.marks(id))
+    }
+
+    /// The marks of a board, in ascending order of machine and at a machine kept, outlet, intake; none exactly where no
+    /// machine has its record.
+    pub fn marks(&self, id: BoardId) -> &[Mark]
+        requires { self.now.spent ≡ false }
+        ensures { result.now ≡ marks_in self.now id }
+    {
+        self.index.marks(id)
     }
 
     /// How many bytes are on their way to a side of a machine; 0 where there is no link. They are never more than

@@ -199,7 +199,7 @@ impl State {
         if !self.has_neighbour(machine, side) {
             return Err(Reason::NoNeighbour);
         }
-        if self.world.is_unlinked(machine, side) {
+        if !self.world.is_linked(machine, side) {
             return Err(Reason::Node(No::NotConnected));
         }
         if !self.world.stands_at(machine, side) {

@@ -1,9 +1,10 @@
 //! What the report shows of all machines.
 
 ghost use Rattle.std.specs.Prelude.{◌≡◌, ◌≤◌, ◌++◌, None, OnOk, drop, length};
+ghost use Rattle.std.specs.Option.{option_copied};
+ghost use Rattle.node_core.specs.Own.{id_of};
 ghost use Rattle.line_step.specs.Shown.{between_shown, kept_shown, shown_from, taken_below};
 
-use crate::marks::id_of;
 use board_record::{BoardId, Record};
 use line_base::Memory;
 use line_report::{Happened, Happening};
@@ -78,5 +79,15 @@ fn show_held(gap: u32, held: Option<BoardId>, told: &mut Happened) -> Result<(),
     match held {
         None => Ok(()),
         Some(id) => told.tell(Happening::ShownBetween { gap, id }),
+    }
+}
+
+/// The id of a half's record, where it holds one.
+fn id_of(board: Option<&Record>) -> Option<BoardId>
+    ensures { result ≡ id_of (option_copied board.entry) }
+{
+    match board {
+        Some(board) => Some(board.id),
+        None => None,
     }
 }

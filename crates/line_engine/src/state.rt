@@ -1,23 +1,15 @@
-ghost use Rattle.std.specs.Prelude.{◌≡◌, ◌+◌, ◌≤◌, IfOk, false, length};
+ghost use Rattle.std.specs.Prelude.{◌≡◌, ◌≤◌, false, length};
 ghost use Rattle.line_link.specs.Flow.{coming};
 ghost use Rattle.line_link.specs.Link.{flow_to};
 ghost use Rattle.line_step.specs.World.{end_of, link_at, link_of};
 ghost use Rattle.std.specs.Option.{option_copied};
-ghost use Rattle.line_script.specs.Ranges.{IsWithin};
-ghost use Rattle.line_step.specs.Lines.{LineSteps};
 ghost use Rattle.line_step.specs.State.{machine_in, no_line};
-ghost use Rattle.line_step.specs.Together.{IsLineTogether};
-ghost use Rattle.line_step.specs.Views.{standing_in, summary_of};
+ghost use Rattle.line_step.specs.Views.{summary_of};
 
-use crate::changed::tell_standings;
-use crate::marks::marks_of;
-use crate::world::World;
-use board_record::BoardId;
+use line_acts::World;
 use line_base::{Memory, Side};
-use line_report::{Happened, Summary};
-use line_script::ScriptLine;
+use line_report::Summary;
 use node_core::Node;
-use standings::{Standing, standing_of};
 use std::alloc::Global;
 use std::marker::Model;
 
@@ -71,29 +63,18 @@ impl State {
         self.machines.get(machine as usize - 1)
     }
 
-    /// Does a line of the script, which has this number: what it did and then the standings that it changed.
-    pub fn step(&mut self, number: u64, line: &ScriptLine) -> Result<Happened, Memory>
-        requires numbered { number ≡ self.old.lines + 1 }
-        requires few { number ≤ 1000000 }
-        requires within { IsWithin line.now }
-        requires together { IsLineTogether self.old }
-        ensures step { IfOk result (LineSteps number line.now self.old self.new) }
-        ensures together { IfOk result (λ _. IsLineTogether self.new) }
-        ensures counted { IfOk result (λ _. self.new.lines ≡ number) }
+    /// The machines of the line.
+    pub fn machines(&self) -> &[Node]
+        ensures { result.now ≡ self.now.machines }
     {
-        let before = self.remember(line)?;
-        let mut told = self.do_line(number, line)?;
-        tell_standings(self.alloc, self.machines.as_slice(), &before, &mut told)?;
-        self.lines = number;
-        Ok(told)
+        self.machines.as_slice()
     }
 
-    /// Where a board's record stands; `None` exactly where its marks give it no standing.
-    pub fn standing(&self, id: BoardId) -> Option<Standing>
-        requires { IsLineTogether self.now }
-        ensures { result ≡ standing_in self.now id }
+    /// A line of the script was done, which has this number.
+    pub fn count(&mut self, number: u64)
+        ensures { self.new ≡ record self.old { lines = number } }
     {
-        standing_of(marks_of(self.machines.as_slice(), id).list())
+        self.lines = number;
     }
 
     /// How many bytes are on their way to a side.

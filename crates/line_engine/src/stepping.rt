@@ -8,8 +8,8 @@ ghost use Rattle.line_step.specs.Together.{IsLineTogether};
 ghost use Rattle.node_core.specs.declared.input.Input.TheVariants as inputs;
 ghost use Rattle.line_engine.specs.Given.{IsGiven};
 
-use crate::acts::{Teller, do_acts};
 use crate::state::State;
+use line_acts::{Teller, do_acts};
 use line_base::{Memory, Moment, Side};
 use line_link::Connected;
 use line_report::Happened;

@@ -1,6 +1,6 @@
 //! What a line of the script does.
 
-ghost use Rattle.std.specs.Prelude.{◌≡◌, ◌+◌, ◌-◌, ◌≤◌, ◌<◌, ◌^◌, [], ◌∷◌, ◌++◌, IfOk, OnOk, length};
+ghost use Rattle.std.specs.Prelude.{◌≡◌, ◌+◌, ◌-◌, ◌≤◌, ◌<◌, ◌^◌, ℕ, [], ◌∷◌, ◌++◌, IfOk, OnOk, length, true};
 ghost use Rattle.node_core.specs.Node.{new_node};
 ghost use Rattle.node_core.specs.declared.input.Input.TheVariants as inputs;
 ghost use Rattle.line_report.specs.declared.happening.Happening.TheVariants as happenings;
@@ -11,13 +11,12 @@ ghost use Rattle.line_step.specs.Shown.{shown};
 ghost use Rattle.line_step.specs.State.{one_more, profile_of};
 ghost use Rattle.line_step.specs.Steps.{MachineSteps};
 ghost use Rattle.line_step.specs.Together.{IsLineTogether};
-ghost use Rattle.line_engine.specs.Given.{IsGiven};
+ghost use Rattle.line_engine.specs.Given.{IsGiven, is_move};
 
-use crate::acts::tell_cut;
-use crate::links::link_of;
 use crate::show::show_all;
 use crate::state::State;
 use board_record::{BoardId, Sensed};
+use line_acts::{link_of, tell_cut};
 use line_base::{Memory, Side, Text};
 use line_report::{Happened, Happening, Reason};
 use line_script::ScriptLine;
@@ -45,12 +44,8 @@ impl State {
                 id,
                 quality,
             } => self.give(number, *machine, Input::Mark(*id, *quality)),
-            ScriptLine::Hold { machine, side } => {
-                self.give(number, *machine, Input::Will(*side, false))
-            }
-            ScriptLine::Go { machine, side } => {
-                self.give(number, *machine, Input::Will(*side, true))
-            }
+            ScriptLine::Hold { machine, side } => self.will(number, *machine, *side, false),
+            ScriptLine::Go { machine, side } => self.will(number, *machine, *side, true),
             ScriptLine::Connect { machine } => self.connect(number, *machine),
             ScriptLine::Flow {
                 machine,
@@ -62,18 +57,27 @@ impl State {
             ScriptLine::Spoil { machine, side } => self.spoil(*machine, *side),
             ScriptLine::Shutdown { machine } => self.give(number, *machine, Input::Shutdown),
             ScriptLine::Tick { machine } => self.give(number, *machine, Input::Tick),
-            ScriptLine::Fault { machine, side } => {
-                self.give(number, *machine, Input::Fault(*side))
-            }
+            ScriptLine::Fault { machine, side } => self.fault(number, *machine, *side),
             ScriptLine::Lie { machine, sensed } => self.lie(number, *machine, *sensed),
             ScriptLine::Sense { machine } => self.sense(number, *machine),
+            ScriptLine::Show => self.show(),
+            _ => self.do_move(line),
+        }
+    }
+
+    /// Does a line that moves a board on the floor.
+    fn do_move(&mut self, line: &ScriptLine) -> Result<Happened, Memory>
+        requires { is_move line.now ≡ true }
+        ensures { (number : ℕ) → IfOk result (LineDoes number line.now self.old self.new) }
+    {
+        match line {
             ScriptLine::Begin { gap } => self.move_board(*gap, Move::Begin),
             ScriptLine::Left { gap } => self.move_board(*gap, Move::Left),
             ScriptLine::Enter { gap } => self.move_board(*gap, Move::Enter),
             ScriptLine::Back { gap } => self.move_board(*gap, Move::Back),
             ScriptLine::HandIn { gap } => self.move_board(*gap, Move::HandIn),
             ScriptLine::Take { gap } => self.move_board(*gap, Move::Take),
-            ScriptLine::Show => self.show(),
+            _ => unreachable!(),
         }
     }
 
@@ -169,6 +173,24 @@ impl State {
     {
         let may = self.may_replace(machine, id);
         self.step_unless(may, number, machine, Input::Replace(id))
+    }
+
+    /// A machine hands boards over at a side, or no more.
+    fn will(&mut self, number: u64, machine: u32, side: Side, on: bool) -> Result<Happened, Memory>
+        requires few { number ≤ 1000000 }
+        requires together { IsLineTogether self.old }
+        ensures { IfOk result (λ told. Unless (may_give machine (inputs.Will side on) self.old) self.old self.new told (MachineSteps number machine (inputs.Will side on) self.old self.new told)) }
+    {
+        self.give(number, machine, Input::Will(side, on))
+    }
+
+    /// The drive at a side fails.
+    fn fault(&mut self, number: u64, machine: u32, side: Side) -> Result<Happened, Memory>
+        requires few { number ≤ 1000000 }
+        requires together { IsLineTogether self.old }
+        ensures { IfOk result (λ told. Unless (may_give machine (inputs.Fault side) self.old) self.old self.new told (MachineSteps number machine (inputs.Fault side) self.old self.new told)) }
+    {
+        self.give(number, machine, Input::Fault(side))
     }
 
     fn sense(&mut self, number: u64, machine: u32) -> Result<Happened, Memory>

@@ -15,6 +15,7 @@ pub fn written<E: Drop>(answer: Result<(), E>) -> Result<(), Memory>
     }
 }
 
+/// Appends bytes to a text.
 pub fn append(bytes: &[u8], to: &mut Vec<u8>) -> Result<(), Memory>
     ensures { OnOk result (to.new.items ≡ to.old.items ++ bytes.now) }
 {

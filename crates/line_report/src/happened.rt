@@ -1,4 +1,4 @@
-ghost use Rattle.std.specs.Prelude.{◌≡◌, [], ◌∷◌, ◌++◌, OnOk};
+ghost use Rattle.std.specs.Prelude.{◌≡◌, [], ◌∷◌, ◌++◌, OnErr, OnOk};
 
 use crate::happening::Happening;
 use line_base::Memory;
@@ -37,9 +37,10 @@ impl Happened {
         self.list.as_slice()
     }
 
-    /// Adds what happened next. `Memory` where there is none for it.
+    /// Adds what happened next. `Memory` where there is none for it; nothing is added then.
     pub fn tell(&mut self, happening: Happening) -> Result<(), Memory>
-        ensures { OnOk result (self.new ≡ self.old ++ happening ∷ []) }
+        ensures told { OnOk result (self.new ≡ self.old ++ happening ∷ []) }
+        ensures unchanged { OnErr result (self.new ≡ self.old) }
     {
         match self.list.push(happening) {
             Ok(()) => Ok(()),

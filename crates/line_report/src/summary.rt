@@ -20,7 +20,7 @@ pub struct Summary {
     pub unvouched: Option<u64>,
 }
 
-/// Appends the last line of the report. `Memory` where there is no room for it; a front of it may stand there then.
+/// Appends the last line of the report. `Memory` where there is no room for it; nothing is promised of the text then.
 pub fn write_summary(summary: &Summary, to: &mut Vec<u8>) -> Result<(), Memory>
     ensures { OnOk result (to.new.items ≡ to.old.items ++ summary_text summary.now) }
 {

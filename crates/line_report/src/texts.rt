@@ -14,7 +14,7 @@ use node_core::{Act, Deed, Setting};
 use std::io::Write;
 
 /// Appends one line of the report: the number of the script line, what happened, and the line's end. `Memory` where there
-/// is no room for it; a front of it may stand there then.
+/// is no room for it; nothing is promised of the text then.
 pub fn write_happening(number: u64, what: &Happening, to: &mut Vec<u8>) -> Result<(), Memory>
     ensures { OnOk result (to.new.items ≡ to.old.items ++ entry number what.now) }
 {
@@ -85,7 +85,11 @@ fn write_board(word: &str, number: u32, id: BoardId, to: &mut Vec<u8>) -> Result
     written(write!(to, "{word} {number} {id}"))
 }
 
-fn write_act(machine: u32, act: &Act, to: &mut Vec<u8>) -> Result<(), Memory>
+/// Appends what a report tells of one act of a machine, and nothing for a drive.
+///
+/// `machine` is the machine's number in the line; a node tells itself by its own. `Memory` where there is no room for it;
+/// nothing is promised of the text then.
+pub fn write_act(machine: u32, act: &Act, to: &mut Vec<u8>) -> Result<(), Memory>
     ensures { OnOk result (to.new.items ≡ to.old.items ++ act_text machine act.now) }
 {
     match act {

@@ -6,6 +6,7 @@ ghost use Rattle.line_report.specs.Texts.{event_text, ping_text, quality_text, s
 use hermes_horizontal::Ping;
 use line_base::{Quality, SensorEvent, Side, Transfer};
 
+/// The word for a side of a machine: `in` for its entry, `out` for its exit.
 pub fn side_word(side: Side) -> &'static str
     ensures { result.now ≡ side_text side }
 {
@@ -15,6 +16,7 @@ pub fn side_word(side: Side) -> &'static str
     }
 }
 
+/// The word for what a sensor saw.
 pub fn event_word(event: SensorEvent) -> &'static str
     ensures { result.now ≡ event_text event }
 {
@@ -27,6 +29,7 @@ pub fn event_word(event: SensorEvent) -> &'static str
     }
 }
 
+/// The word for a board's quality.
 pub fn quality_word(quality: Quality) -> &'static str
     ensures { result.now ≡ quality_text quality }
 {

@@ -4,7 +4,7 @@
 mod forms;
 mod line;
 mod read;
-mod words;
+pub mod words;
 
 pub use line::{LineError, LineWhy, ScriptLine};
 pub use read::{MOST_LINE_BYTES, read_line};

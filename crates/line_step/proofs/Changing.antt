@@ -24,7 +24,7 @@ use Rattle.node_core.specs.Node.{NodeState, new_node}
 use Rattle.line_report.specs.declared.happening.Happening.{Happening}
 use Rattle.line_step.specs.World.{WorldParts, end_of, link_at, link_of, with_floor, with_link}
 use Rattle.line_step.specs.State.{LineState, one_more, profile_of, with_machine, with_world}
-use Rattle.line_step.specs.Acts.{act_did, acts_did, changes, counted, is_answer, is_exit, sent_by}
+use Rattle.line_step.specs.Acts.{act_did, acts_did, answers, changes, counted, sent_by}
 use Rattle.line_step.specs.Steps.{MachineSteps, is_second, read_by}
 use Rattle.line_step.specs.Lines.{lied, moved}
 use Rattle.line_step.specs.Numbered.{Changes, ChangesAround, ChangesBetween, ChangesGap, ChangesLink, ChangesMachine, Each, EachBody, between_at, no_node, node_at, stand_at}
@@ -187,7 +187,7 @@ but_sent true machine side message world = but_link machine Exit (after_answer (
 but_sent false machine side message world = but_link machine side (after_send (end_of side) (canonical message) (link_at (link_of machine side) world)) world
 
 act_same_but : (second : Bool) (machine : ℕ) (act : Act) (world : WorldParts) → SameBut machine world (act_did second machine act world).world
-act_same_but second machine (acts.Sends side message) world = but_sent (second && (is_exit side && is_answer message.body)) machine side message world
+act_same_but second machine (acts.Sends side message) world = but_sent (answers second side message) machine side message world
 act_same_but second machine (acts.Closes side) world = but_link machine side (after_close (end_of side) (link_at (link_of machine side) world)) world
 act_same_but second machine (acts.Notices side) world = but_link machine side (after_close (end_of side) (link_at (link_of machine side) world)) world
 act_same_but second machine (acts.Drive side on) world = but_gap machine side (with_drive (gap_at world.floor (link_of machine side)) side on) world

@@ -1,5 +1,5 @@
 -- How many machines, links and places on the floor there are, and how many lines were done: what stays as it is.
-use Rattle.std.proofs.Common.{◌≡◌, ◌∙◌, ℕ, ◌-◌, ◌&&◌, Bool, true, false, List, [], ◌∷◌, Result, Ok, Err, length, refl, ap, length-set}
+use Rattle.std.proofs.Common.{◌≡◌, ◌∙◌, ℕ, ◌-◌, Bool, true, false, List, [], ◌∷◌, Result, Ok, Err, length, refl, ap, length-set}
 use Rattle.std.specs.Prelude.{cond, nat_lt, slice_set}
 use Rattle.line_base.specs.declared.states.Side.{Side}
 use Rattle.hermes_horizontal.specs.Canonical.{canonical}
@@ -18,7 +18,7 @@ use Rattle.node_core.specs.declared.act.Deed.TheVariants as deeds
 use Rattle.node_core.specs.declared.input.Input.{Input}
 use Rattle.line_step.specs.World.{WorldParts, end_of, link_at, link_of, with_floor, with_link}
 use Rattle.line_step.specs.State.{LineState, with_world}
-use Rattle.line_step.specs.Acts.{act_did, acts_did, counted, sent_by, is_exit, is_answer}
+use Rattle.line_step.specs.Acts.{act_did, acts_did, answers, counted, sent_by}
 use Rattle.line_step.specs.Steps.{MachineSteps, is_second, read_by}
 use Rattle.line_step.specs.Lines.{moved}
 use Rattle.line_step.proofs.Numbers.{floor_stays, links_stay}
@@ -80,7 +80,7 @@ sent_same true machine side message world = link_same_world machine (after_answe
 sent_same false machine side message world = link_same_world (link_of machine side) (after_send (end_of side) (canonical message) (link_at (link_of machine side) world)) world
 
 pub act_same_world : (second : Bool) (machine : ℕ) (act : Act) (world : WorldParts) → SameWorld world (act_did second machine act world).world
-act_same_world second machine (acts.Sends side message) world = sent_same (second && (is_exit side && is_answer message.body)) machine side message world
+act_same_world second machine (acts.Sends side message) world = sent_same (answers second side message) machine side message world
 act_same_world second machine (acts.Closes side) world = link_same_world (link_of machine side) (after_close (end_of side) (link_at (link_of machine side) world)) world
 act_same_world second machine (acts.Notices side) world = link_same_world (link_of machine side) (after_close (end_of side) (link_at (link_of machine side) world)) world
 act_same_world second machine (acts.Drive side on) world = gap_same_world (link_of machine side) _ world

@@ -1,5 +1,5 @@
 -- What acts do to the ends of links: a machine's own ends have connections as its acts say, and no other end changes.
-use Rattle.std.proofs.Common.{◌≡◌, ◌≢◌, ◌⊎◌, ◌∙◌, inl, inr, ℕ, ◌-◌, ◌&&◌, Bool, true, false, List, [], ◌∷◌, Option, Some, None, refl, sym, ap, arith}
+use Rattle.std.proofs.Common.{◌≡◌, ◌≢◌, ◌⊎◌, ◌∙◌, inl, inr, ℕ, ◌-◌, Bool, true, false, List, [], ◌∷◌, Option, Some, None, refl, sym, ap, arith}
 use Rattle.std.specs.Prelude.{cond, is_some}
 use Rattle.line_base.specs.declared.states.Side.{Side}
 use Rattle.line_base.specs.declared.states.Side.TheVariants.{Entry, Exit}
@@ -13,7 +13,7 @@ use Rattle.node_core.specs.declared.act.Act.TheVariants as acts
 use Rattle.node_core.specs.declared.act.Deed.{Deed}
 use Rattle.node_core.specs.declared.act.Deed.TheVariants as deeds
 use Rattle.line_step.specs.World.{WorldParts, end_of, link_at, link_of, with_link}
-use Rattle.line_step.specs.Acts.{act_did, acts_did, counted, sent_by, is_exit, is_answer}
+use Rattle.line_step.specs.Acts.{act_did, acts_did, answers, counted, sent_by}
 use Rattle.line_step.specs.Opened.{closed_at, open_act, open_after}
 use Rattle.line_step.specs.Together.{is_linked}
 use Rattle.line_step.proofs.Numbers.{Written, written, nowhere, link_set, link_set_other, same_or_not, none_or_one}
@@ -156,14 +156,14 @@ sent_links false machine side message world other at =
     same_ends (link_of machine side) (after_send (end_of side) (canonical message) link) world (same_send (end_of side) (canonical message) link) other at
 
 own_act_end : (second : Bool) (machine : ℕ) (act : Act) (world : WorldParts) (at : Side) → is_linked machine at (act_did second machine act world).world ≡ open_act at (is_linked machine at world) act
-own_act_end second machine (acts.Sends side message) world at = sent_links (second && (is_exit side && is_answer message.body)) machine side message world machine at
+own_act_end second machine (acts.Sends side message) world at = sent_links (answers second side message) machine side message world machine at
 own_act_end second machine (acts.Closes side) world at = own_closed machine at side world
 own_act_end second machine (acts.Notices side) world at = own_closed machine at side world
 own_act_end second machine (acts.Deed deed) world at = counted_links deed world machine at
 own_act_end second machine act world at = refl
 
 other_act_end : (second : Bool) (machine : ℕ) (act : Act) (world : WorldParts) (other : ℕ) (at : Side) → other ≢ machine → is_linked other at (act_did second machine act world).world ≡ is_linked other at world
-other_act_end second machine (acts.Sends side message) world other at apart = sent_links (second && (is_exit side && is_answer message.body)) machine side message world other at
+other_act_end second machine (acts.Sends side message) world other at apart = sent_links (answers second side message) machine side message world other at
 other_act_end second machine (acts.Closes side) world other at apart = other_closed machine side world other at apart
 other_act_end second machine (acts.Notices side) world other at apart = other_closed machine side world other at apart
 other_act_end second machine (acts.Deed deed) world other at apart = counted_links deed world other at

@@ -1,5 +1,5 @@
 -- A line of a script does one thing, and so does a run.
-use Rattle.std.proofs.Common.{◌≡◌, ◌+◌, ◌-◌, ◌&&◌, ◌++◌, ℕ, zero, suc, Bool, true, false, List, [], ◌∷◌, Option, Some, None, Result, Ok, Err, length, map, refl, sym, ap, subst, ◌∙◌}
+use Rattle.std.proofs.Common.{◌≡◌, ◌+◌, ◌-◌, ◌++◌, ℕ, zero, suc, Bool, true, false, List, [], ◌∷◌, Option, Some, None, Result, Ok, Err, length, map, refl, sym, ap, subst, ◌∙◌}
 use Rattle.std.specs.Prelude.{pos, slice_get, slice_set, not}
 use Rattle.std.specs.List.{flat_map}
 use Rattle.line_base.specs.declared.states.Side.{Side}
@@ -32,14 +32,14 @@ use Rattle.standings.specs.Marks.{Owned, marks_of}
 use Rattle.standings.specs.Told.{told_of}
 use Rattle.line_report.specs.declared.happening.Happening.{Happening}
 use Rattle.line_report.specs.declared.happening.Happening.TheVariants as happenings
-use Rattle.line_report.specs.declared.happening.Reason.{Reason}
 use Rattle.line_report.specs.declared.happening.Reason.TheVariants as reasons
 use Rattle.line_report.specs.Texts.{entry}
 use Rattle.line_step.specs.World.{WorldParts, link_at, links_more}
-use Rattle.line_step.specs.State.{LineState, machine_in, most_machines, one_more, owned, owned_by, profile_of, with_machine, with_world}
+use Rattle.line_step.specs.State.{LineState, machine_in, one_more, owned, owned_by, profile_of, with_machine, with_world}
 use Rattle.line_step.specs.Acts.{acts_did}
 use Rattle.line_step.specs.Steps.{MachineSteps, is_second, moment_of, read_by, unread_by}
-use Rattle.line_step.specs.Reasons.{May, behind_own, has_neighbour, if_there, is_dry_at, is_here, is_unlinked, link_stands, may_add, may_connect, may_cut, may_do, may_flow, may_give, may_lie, may_notice, may_remove, may_replace, may_sense, may_spoil, no_if}
+use Rattle.line_step.specs.Together.{is_linked}
+use Rattle.line_step.specs.Reasons.{May, behind_own, has_neighbour, if_there, is_dry_at, is_here, link_stands, may_add, may_connect, may_cut, may_do, may_flow, may_give, may_lie, may_notice, may_remove, may_replace, may_sense, may_spoil, no_if}
 use Rattle.line_step.specs.Shown.{ascending, between_shown, ids_owned, kept_shown, shown, shown_from, standing_told, standings_told, taken_below}
 use Rattle.line_step.specs.Lines.{Becomes, Connects, Flows, LineDoes, LineSteps, Moves, Unless, arrived, connecting, cut_in, lied, met, move_told, moved, spoiled}
 use Rattle.line_step.specs.Runs.{Point, IsRun, state_behind, told_text}
@@ -216,7 +216,7 @@ notice-alike machine side s nodes all =
 spoil-alike : (machine : ℕ) (side : Side) (s : LineState) (nodes : List NodeState) → AreAllAlike s.machines nodes → may_spoil machine side (like s nodes) ≡ may_spoil machine side s
 spoil-alike machine side s nodes all =
     there-alike (machine_in machine s) (machine_in machine (like s nodes)) _ _ (found-alike machine s nodes all)
-    (λ a b alike. ap (λ has. no_if (not has) reasons.NoNeighbour (no_if (is_unlinked machine side s.world) (reasons.Node no.NotConnected) (no_if (not (link_stands machine side s.world)) reasons.NotStanding may_do))) (neighbour-alike machine side s nodes all))
+    (λ a b alike. ap (λ has. no_if (not has) reasons.NoNeighbour (no_if (not (is_linked machine side s.world)) (reasons.Node no.NotConnected) (no_if (not (link_stands machine side s.world)) reasons.NotStanding may_do))) (neighbour-alike machine side s nodes all))
 
 sense-alike : (machine : ℕ) (s : LineState) (nodes : List NodeState) → AreAllAlike s.machines nodes → may_sense machine (like s nodes) ≡ may_sense machine s
 sense-alike machine s nodes all = there-alike (machine_in machine s) (machine_in machine (like s nodes)) _ _ (found-alike machine s nodes all) (λ a b alike. refl)

@@ -17,7 +17,7 @@ use Rattle.node_core.specs.declared.act.Deed.{Deed}
 use Rattle.node_core.specs.declared.act.Deed.TheVariants as deeds
 use Rattle.line_report.specs.declared.happening.Happening.{Happening}
 use Rattle.line_step.specs.World.{WorldParts, end_of, link_at, link_of, with_floor, with_link}
-use Rattle.line_step.specs.Acts.{act_did, acts_did, counted, is_answer, is_exit, sent_by}
+use Rattle.line_step.specs.Acts.{act_did, acts_did, answers, counted, sent_by}
 use Rattle.line_step.specs.Near.{HasPlace, Near, at_side, has_gap_at, near_at, near_did, near_driven, near_sent, nears_did, with_link_at, with_side}
 use Rattle.line_step.proofs.Numbers.{Written, written, nowhere, floor_stays, link_set, link_set_other}
 use Rattle.line_step.proofs.Floors.{gap_other, gap_own, gap_past, gaps_stay, place_own, places_stay}
@@ -140,7 +140,7 @@ driven_near machine Entry on world has counted is = gap_near machine Entry (with
 driven_near machine Exit on world has counted is = gap_near machine Exit (with_drive (gap_at world.floor machine) Exit on) world has counted is ∙ set_driven has Exit on (near_at machine world)
 
 act_near : (has : Side → Bool) (second : Bool) (machine : ℕ) (act : Act) (world : WorldParts) → HasPlace machine has world → near_at machine (act_did second machine act world).world ≡ near_did has second act (near_at machine world)
-act_near has second machine (acts.Sends side message) world at = sent_near (second && (is_exit side && is_answer message.body)) machine side message world at.counted
+act_near has second machine (acts.Sends side message) world at = sent_near (answers second side message) machine side message world at.counted
 act_near has second machine (acts.Closes side) world at = closed_near machine side world at.counted
 act_near has second machine (acts.Notices side) world at = closed_near machine side world at.counted
 act_near has second machine (acts.Drive side on) world at = driven_near machine side on world (has side) at.counted (at.gaps side)

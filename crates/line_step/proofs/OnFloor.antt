@@ -1,5 +1,5 @@
 -- What the acts of a step do to the boards on the floor.
-use Rattle.std.proofs.Common.{◌≡◌, ◌-◌, ◌<◌, ◌≤◌, ◌&&◌, ◌++◌, ℕ, Bool, true, false, List, [], ◌∷◌, Option, Some, None, get_or, length, refl, sym, ap, subst, ◌∙◌, append_assoc, append-nil, arith}
+use Rattle.std.proofs.Common.{◌≡◌, ◌-◌, ◌<◌, ◌≤◌, ◌++◌, ℕ, Bool, true, false, List, [], ◌∷◌, Option, Some, None, get_or, length, refl, sym, ap, subst, ◌∙◌, append_assoc, append-nil, arith}
 use Rattle.std.specs.Prelude.{is_some, nat_lt, slice_index_or, slice_set, if◌then◌else◌}
 use Rattle.std.proofs.lemmas.List.{get_or_default, get_or-set_same, length-set}
 use Rattle.std.proofs.lemmas.List.Quantifiers.{position-Some}
@@ -24,7 +24,7 @@ use Rattle.node_core.specs.declared.act.Deed.TheVariants as deeds
 use Rattle.line_report.specs.declared.happening.Happening.{Happening}
 use Rattle.line_report.specs.declared.happening.Happening.TheVariants as happenings
 use Rattle.line_step.specs.World.{WorldParts, end_of, link_at, link_of, with_link}
-use Rattle.line_step.specs.Acts.{act_did, acts_did, changes, counted as after_deed, cut_told, drives_on, is_answer, is_exit, lays, sent_by, takes_off}
+use Rattle.line_step.specs.Acts.{act_did, acts_did, answers, changes, counted as after_deed, cut_told, drives_on, lays, sent_by, takes_off}
 use Rattle.line_step.specs.FloorIds.{AllChange, ChangesBoards, handled_by, handled_in, made_by, made_in}
 use Rattle.line_step.proofs.Hands.{AreQuiet, IsQuiet}
 
@@ -89,7 +89,7 @@ quiet-act : (second : Bool) (machine : ℕ) (act : Act) (world : WorldParts) →
 quiet-act second machine (acts.Reads side event) world quiet = same-still world.floor world.floor refl
 quiet-act second machine (acts.Hears side message) world quiet = same-still world.floor world.floor refl
 quiet-act second machine (acts.Breaches side text) world quiet = same-still world.floor world.floor refl
-quiet-act second machine (acts.Sends side message) world quiet = same-still world.floor _ (sent-floor (second && (is_exit side && is_answer message.body)) machine side message world)
+quiet-act second machine (acts.Sends side message) world quiet = same-still world.floor _ (sent-floor (answers second side message) machine side message world)
 quiet-act second machine (acts.Closes side) world quiet = same-still world.floor _ (link-floor (link_of machine side) _ world)
 quiet-act second machine (acts.Notices side) world quiet = same-still world.floor _ (link-floor (link_of machine side) _ world)
 quiet-act second machine acts.Connects world quiet = same-still world.floor world.floor refl
@@ -169,7 +169,7 @@ sent-still false machine side message world =
     still-join (happenings.Done machine (acts.Sends side message) ∷ []) (cut_told link on) (act-still machine (acts.Sends side message) tt) (cut-still link on)
 
 told-still : (second : Bool) (machine : ℕ) (act : Act) (world : WorldParts) → IsQuiet act → IsStill (act_did second machine act world).told
-told-still second machine (acts.Sends side message) world quiet = sent-still (second && (is_exit side && is_answer message.body)) machine side message world
+told-still second machine (acts.Sends side message) world quiet = sent-still (answers second side message) machine side message world
 told-still second machine (acts.Drive side on) world quiet = still-none
 told-still second machine (acts.Inserts id) world quiet = absurd quiet
 told-still second machine (acts.Removes id) world quiet = absurd quiet

@@ -1,6 +1,6 @@
 -- A step does one thing: what it is told of, and what becomes of its machine but for the undelivered bytes of a side that
 -- has no connection, which nothing depends on.
-use Rattle.std.proofs.Common.{◌≡◌, ◌+◌, ◌-◌, ◌&&◌, ◌++◌, ℕ, zero, suc, ℤ, Bool, true, false, List, [], ◌∷◌, Option, Some, None, Result, Ok, Err, length, refl, sym, ap, subst, ◌∙◌}
+use Rattle.std.proofs.Common.{◌≡◌, ◌++◌, ℕ, ℤ, Bool, true, false, List, [], ◌∷◌, Option, Some, None, refl, sym, ap, subst, ◌∙◌}
 use Rattle.std.specs.Borrow.{Bor}
 use Rattle.line_base.specs.declared.states.Side.{Side}
 use Rattle.line_base.specs.declared.states.Side.TheVariants.{Entry, Exit}
@@ -16,13 +16,12 @@ use Rattle.node_core.specs.declared.word.Word.{Word}
 use Rattle.node_core.specs.Desk.{Desk}
 use Rattle.node_core.specs.Done.{Done, stays, and_then}
 use Rattle.node_core.specs.Sides.{is_open}
-use Rattle.node_core.specs.Connect.{if_open}
-use Rattle.node_core.specs.Event.{Event, Words, event_of, event_did, maker_after}
+use Rattle.node_core.specs.Event.{Words, event_of, maker_after}
 use Rattle.node_core.specs.Reads.{all_read}
 use Rattle.node_core.specs.Announces.{announces}
 use Rattle.node_core.specs.Node.{NodeState, desk_of}
 use Rattle.node_core.specs.Step.{Brings, Steps, machine_step, entry_after, exit_after}
-use Rattle.node_core.specs.Words.{AreAll, AreFirst, AreWords, Means, all_heard, all_more, all_none, first_more, first_none, first_too_long, word_did, too_long}
+use Rattle.node_core.specs.Words.{AreAll, AreFirst, Means, all_heard, all_more, all_none, first_more, first_none, first_too_long, word_did, too_long}
 use Rattle.hermes_stream.specs.Frames.{frames_of}
 use Rattle.line_step.specs.Opened.{open_after, open_act, closed_at, opened_by}
 use Rattle.line_step.proofs.Opening.{steps_open}

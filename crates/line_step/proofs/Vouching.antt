@@ -1,5 +1,5 @@
 -- A line remembers that one of the lines of its script told what was not so.
-use Rattle.std.proofs.Common.{◌≡◌, ◌+◌, ◌&&◌, ◌||◌, ◌++◌, ℕ, Bool, true, false, List, [], ◌∷◌, Option, Some, None, Result, Ok, Err, length, refl, ap, ◌∙◌}
+use Rattle.std.proofs.Common.{◌≡◌, ◌+◌, ◌||◌, ◌++◌, ℕ, Bool, true, false, List, [], ◌∷◌, Option, Some, None, Result, Ok, Err, length, refl, ap, ◌∙◌}
 use Rattle.std.specs.Prelude.{◌==◌, if◌then◌else◌, is_some}
 use Rattle.std.specs.List.{flat_map}
 use Rattle.line_base.specs.declared.states.Side.{Side}
@@ -29,7 +29,7 @@ use Rattle.line_report.specs.declared.happening.Happening.{Happening}
 use Rattle.line_report.specs.declared.happening.Happening.TheVariants as happenings
 use Rattle.line_step.specs.World.{WorldParts, end_of, link_at, link_of}
 use Rattle.line_step.specs.State.{LineState, marks_in, no_line, one_more}
-use Rattle.line_step.specs.Acts.{act_did, acts_did, cut_told, is_answer, is_exit, sent_by}
+use Rattle.line_step.specs.Acts.{act_did, acts_did, answers, cut_told, sent_by}
 use Rattle.line_step.specs.Steps.{MachineSteps, is_second, read_by}
 use Rattle.line_step.specs.Reasons.{May, may_add, may_connect, may_cut, may_flow, may_lie, may_spoil}
 use Rattle.line_step.specs.Shown.{ascending, between_shown, ids_marked, kept_shown, shown_from, standing_told, standings_told, taken_below}
@@ -59,7 +59,7 @@ sent-honest true machine side message world = cut-honest machine (answer_sent (c
 sent-honest false machine side message world = cut-honest (link_of machine side) (sent_of (end_of side) (canonical message) (link_at (link_of machine side) world))
 
 act-honest : (second : Bool) (machine : ℕ) (act : Act) (world : WorldParts) → tells_lie (act_did second machine act world).told ≡ false
-act-honest second machine (acts.Sends side message) world = sent-honest (second && (is_exit side && is_answer message.body)) machine side message world
+act-honest second machine (acts.Sends side message) world = sent-honest (answers second side message) machine side message world
 act-honest second machine (acts.Reads side event) world = refl
 act-honest second machine (acts.Hears side message) world = refl
 act-honest second machine (acts.Breaches side text) world = refl

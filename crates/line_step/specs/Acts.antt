@@ -39,6 +39,14 @@ abbrev pub is_answer : Horizontal → Bool
 is_answer (bodies.Notification code severity text) = code.number == 2
 is_answer _ = false
 
+abbrev pub is_exit : Side → Bool
+is_exit Exit = true
+is_exit Entry = false
+
+-- a message is that answer, in the step of a second connection
+abbrev pub answers : Bool → Side → Message → Bool
+answers second side message = second && (is_exit side && is_answer message.body)
+
 abbrev pub sends_on : ℕ → Side → List ℕ → WorldParts → WorldParts
 sends_on machine side text world = with_link (link_of machine side) (after_send (end_of side) text (link_at (link_of machine side) world)) world
 
@@ -56,10 +64,6 @@ sent_by false machine side message world = record {
   world = sends_on machine side (canonical message) world;
   told = happenings.Done machine (acts.Sends side message) ∷ cut_told (link_of machine side) (sent_of (end_of side) (canonical message) (link_at (link_of machine side) world));
 }
-
-abbrev pub is_exit : Side → Bool
-is_exit Exit = true
-is_exit Entry = false
 
 -- ---- the floor
 
@@ -86,7 +90,7 @@ counted _ world = world
 
 -- an act of a machine in a step, which is that of a second connection or not. A drive is not told
 abbrev pub act_did : Bool → ℕ → Act → WorldParts → Effect
-act_did second machine (acts.Sends side message) world = sent_by (second && (is_exit side && is_answer message.body)) machine side message world
+act_did second machine (acts.Sends side message) world = sent_by (answers second side message) machine side message world
 act_did second machine (acts.Closes side) world = record { world = with_link (link_of machine side) (after_close (end_of side) (link_at (link_of machine side) world)) world; told = told_of_act machine (acts.Closes side) }
 act_did second machine (acts.Notices side) world = record { world = with_link (link_of machine side) (after_close (end_of side) (link_at (link_of machine side) world)) world; told = told_of_act machine (acts.Notices side) }
 act_did second machine (acts.Drive side on) world = record { world = with_floor (drives_on machine side on world.floor) world; told = [] }

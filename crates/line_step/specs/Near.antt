@@ -4,20 +4,17 @@ use Rattle.line_base.specs.declared.states.Side.{Side}
 use Rattle.line_base.specs.declared.states.Side.TheVariants.{Entry, Exit}
 use Rattle.hermes_horizontal.specs.Canonical.{canonical}
 use Rattle.line_link.specs.Link.{LinkParts, after_answer, after_close, after_send}
-use Rattle.line_world.specs.FloorPlan.{AtMachine, FloorPlan, gap_at, machine_at, with_drive, with_new_id, without_board}
+use Rattle.line_world.specs.FloorPlan.{AtMachine, FloorPlan, machine_at, with_drive, with_new_id, without_board}
 use Rattle.node_core.specs.declared.act.Act.{Act}
 use Rattle.node_core.specs.declared.act.Act.TheVariants as acts
-use Rattle.line_step.specs.World.{WorldParts, end_of, link_at, link_of}
-use Rattle.line_step.specs.Acts.{is_answer, is_exit}
-use Rattle.line_step.specs.Numbered.{Between}
+use Rattle.line_step.specs.World.{WorldParts, end_of, link_of}
+use Rattle.line_step.specs.Acts.{answers}
+use Rattle.line_step.specs.Numbered.{Between, between_in}
 
 pub record Near : Type 0 where
   pub place : AtMachine
   pub above : Between
   pub below : Between
-
-abbrev pub between_in : ℕ → WorldParts → Between
-between_in link world = record { link = link_at link world; gap = gap_at world.floor link }
 
 abbrev pub near_at : ℕ → WorldParts → Near
 near_at machine world = record { place = machine_at world.floor machine; above = between_in (machine - 1) world; below = between_in machine world }
@@ -56,7 +53,7 @@ near_driven true side on near = with_side side (record (at_side side near) { gap
 near_driven false side on near = near
 
 abbrev pub near_did : (Side → Bool) → Bool → Act → Near → Near
-near_did has second (acts.Sends side message) near = near_sent (second && (is_exit side && is_answer message.body)) side (canonical message) near
+near_did has second (acts.Sends side message) near = near_sent (answers second side message) side (canonical message) near
 near_did has second (acts.Closes side) near = with_link_at side (after_close (end_of side) (at_side side near).link) near
 near_did has second (acts.Notices side) near = with_link_at side (after_close (end_of side) (at_side side near).link) near
 near_did has second (acts.Drive side on) near = near_driven (has side) side on near

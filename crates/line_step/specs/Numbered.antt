@@ -5,7 +5,7 @@ use Rattle.line_link.specs.Link.{LinkParts}
 use Rattle.line_world.specs.FloorPlan.{AtMachine, gap_at, machine_at}
 use Rattle.line_world.specs.declared.gap.AtGap.{AtGap}
 use Rattle.node_core.specs.Node.{NodeState, new_node}
-use Rattle.line_step.specs.World.{link_at}
+use Rattle.line_step.specs.World.{WorldParts, link_at}
 use Rattle.line_step.specs.State.{LineState, profile_of}
 
 -- a machine with what is at it on the floor
@@ -29,8 +29,11 @@ node_at s (suc place) = slice_index_or s.machines place no_node
 abbrev pub stand_at : LineState → ℕ → Stand
 stand_at s machine = record { node = node_at s machine; place = machine_at s.world.floor machine }
 
+abbrev pub between_in : ℕ → WorldParts → Between
+between_in link world = record { link = link_at link world; gap = gap_at world.floor link }
+
 abbrev pub between_at : LineState → ℕ → Between
-between_at s link = record { link = link_at link s.world; gap = gap_at s.world.floor link }
+between_at s link = between_in link s.world
 
 -- ---- relations of neighbours
 

@@ -7,7 +7,7 @@ use Rattle.board_record.specs.declared.sensed.Sensed.{Sensed}
 use Rattle.line_world.specs.FloorPlan.{machine_at, place_of}
 use Rattle.line_world.specs.declared.moves.MoveNo.TheVariants as moves
 use Rattle.line_link.specs.Flow.{coming}
-use Rattle.line_link.specs.Link.{LinkParts, flow_to, number_of}
+use Rattle.line_link.specs.Link.{LinkParts, flow_to}
 use Rattle.node_core.specs.declared.input.Input.{Input}
 use Rattle.node_core.specs.declared.input.Input.TheVariants as inputs
 use Rattle.node_core.specs.declared.input.No.{No}
@@ -16,6 +16,7 @@ use Rattle.node_core.specs.May.{may_of, may_reach}
 use Rattle.node_core.specs.Node.{NodeState}
 use Rattle.line_step.specs.World.{WorldParts, end_of, link_at, link_of}
 use Rattle.line_step.specs.State.{LineState, machine_in, most_machines}
+use Rattle.line_step.specs.Together.{is_linked}
 use Rattle.line_report.specs.declared.happening.Reason.{Reason}
 use Rattle.line_report.specs.declared.happening.Reason.TheVariants as reasons
 
@@ -67,10 +68,6 @@ link_stands machine side world = (link_at (link_of machine side) world).stands
 abbrev pub is_loose : LinkParts → Bool
 is_loose link = is_none link.upstream && is_none link.downstream
 
--- a side's end of its link has no connection
-abbrev pub is_unlinked : ℕ → Side → WorldParts → Bool
-is_unlinked machine side world = is_none (number_of (end_of side) (link_at (link_of machine side) world))
-
 -- a board lies in a machine's list
 abbrev pub is_here : ℕ → ℕ → WorldParts → Bool
 is_here machine id world = is_some (place_of id (machine_at world.floor machine).boards)
@@ -118,7 +115,7 @@ may_cut gap s = no_if (not (has_link gap s)) (reasons.Move moves.NoGap) (no_if (
 
 -- what flows to a side is spoiled: no neighbour, not connected, not standing
 abbrev pub may_spoil : ℕ → Side → LineState → May
-may_spoil machine side s = if_there (machine_in machine s) (λ node. no_if (not (has_neighbour machine side s)) reasons.NoNeighbour (no_if (is_unlinked machine side s.world) (reasons.Node nos.NotConnected) (no_if (not (link_stands machine side s.world)) reasons.NotStanding may_do)))
+may_spoil machine side s = if_there (machine_in machine s) (λ node. no_if (not (has_neighbour machine side s)) reasons.NoNeighbour (no_if (not (is_linked machine side s.world)) (reasons.Node nos.NotConnected) (no_if (not (link_stands machine side s.world)) reasons.NotStanding may_do)))
 
 -- a machine reads what its sensors saw: nothing to read
 abbrev pub may_sense : ℕ → LineState → May

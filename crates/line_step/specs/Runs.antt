@@ -1,12 +1,11 @@
 -- THE RUN: the lines of a script, one after another, from a line without a machine on.
-use Rattle.std.specs.Prelude.{ℕ, ◌+◌, ◌++◌, List, [], ◌∷◌, take}
-use Rattle.std.specs.List.{AllByRecursion, flat_map}
+use Rattle.std.specs.Prelude.{ℕ, ◌+◌, ◌++◌, List, [], ◌∷◌}
+use Rattle.std.specs.List.{flat_map}
 use Rattle.line_script.specs.declared.line.ScriptLine.{ScriptLine}
 use Rattle.line_step.specs.State.{LineState}
 use Rattle.line_step.specs.Lines.{LineSteps}
 use Rattle.line_report.specs.Texts.{entry}
 use Rattle.line_report.specs.declared.happening.Happening.{Happening}
-use Rattle.line_report.specs.declared.happening.Happening.TheVariants as happenings
 
 -- what a line of the script did, and the state after it
 pub record Point : Type 0 where
@@ -29,12 +28,3 @@ state_behind s (point ∷ points) = state_behind point.after points
 abbrev pub told_text : ℕ → List Point → List ℕ
 told_text number [] = []
 told_text number (point ∷ points) = flat_map (λ happening. entry number happening) point.told ++ told_text (number + 1) points
-
--- ---- HONEST: among the first n lines none told what was not so
-
-abbrev pub IsNoLie : Happening → Type 0
-IsNoLie (happenings.Lie machine sensed) = ⊥
-IsNoLie _ = Unit {0}
-
-abbrev pub IsHonest : List Point → ℕ → Type 0
-IsHonest points n = AllByRecursion (λ (point : Point). AllByRecursion IsNoLie point.told) (take n points)

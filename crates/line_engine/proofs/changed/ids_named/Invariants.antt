@@ -1,6 +1,6 @@
 use Rattle.std.proofs.Common.{◌≡◌, [], drop}
 use Rattle.line_step.specs.Named.{ids_named}
-use Rattle.line_engine.specs.Before.{with_ids}
+use Rattle.line_engine.specs.Stepped.{with_ids}
 use Rattle.line_engine.proofs.changed.ids_named.Given as goal
 
 abbrev pub invariant-loop-happening : goal.invariant-loop-happening
