@@ -1,0 +1,10 @@
+pub mod Folds
+pub mod Orderly
+pub mod Halves
+pub mod Linked
+pub mod Hearing
+pub mod Telling
+pub mod WrongWords
+pub mod Happenings
+pub mod Steps
+pub mod Running

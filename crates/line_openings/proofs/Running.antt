@@ -1,0 +1,351 @@
+-- A machine opens exactly when board and place are announced, over each line of a script and over its run.
+use Rattle.std.proofs.Common.{◌≡◌, ◌≢◌, ◌⊎◌, inl, inr, ◌∙◌, ◌+◌, ◌-◌, ◌++◌, ◌==◌, ℕ, zero, suc, Bool, true, false, List, [], ◌∷◌, Option, Some, None, Result, Ok, Err, length, refl, sym, ap, subst}
+use Rattle.std.specs.Prelude.{slice_get, if◌then◌else◌}
+use Rattle.std.specs.List.{flat_map}
+use Rattle.line_base.specs.declared.states.Side.{Side}
+use Rattle.board_record.specs.declared.record.Record.{Record}
+use Rattle.board_record.specs.Maker.{Maker, next_id}
+use Rattle.board_record.specs.declared.maker.IdsUsedUp.{IdsUsedUp}
+use Rattle.line_script.specs.declared.line.ScriptLine.{ScriptLine}
+use Rattle.line_script.specs.declared.line.ScriptLine.TheVariants as lines
+use Rattle.line_link.specs.Link.{connected_of, spoil_sent}
+use Rattle.line_link.specs.declared.link.Connected.{Connected}
+use Rattle.line_link.specs.declared.link.Connected.TheVariants as connections
+use Rattle.line_world.specs.FloorPlan.{FloorPlan}
+use Rattle.line_world.specs.Moves.{floor_move}
+use Rattle.line_world.specs.declared.moves.Move.{Move}
+use Rattle.line_world.specs.declared.moves.Move.TheVariants as moves
+use Rattle.line_world.specs.declared.moves.MoveNo.{MoveNo}
+use Rattle.node_core.specs.declared.act.Act.{Act}
+use Rattle.node_core.specs.declared.input.Input.{Input}
+use Rattle.node_core.specs.declared.input.Input.TheVariants as inputs
+use Rattle.node_core.specs.declared.input.No.{No}
+use Rattle.node_core.specs.declared.lane.Body.{Body}
+use Rattle.node_core.specs.declared.word.Word.{Word}
+use Rattle.node_core.specs.Event.{Replace, event_of, with_new}
+use Rattle.node_core.specs.May.{may_of, may_do as own_do}
+use Rattle.node_core.specs.Node.{NodeState, desk_of, new_node}
+use Rattle.node_core.specs.Own.{own_of}
+use Rattle.node_core.specs.Sound.{IsSound}
+use Rattle.node_core.specs.Step.{machine_step}
+use Rattle.node_core.proofs.Sound.{HasPlaceFor, step_sound}
+use Rattle.node_core.proofs.Lasting.{may_fits, new_sound}
+use Rattle.standings.specs.Told.{told_of}
+use Rattle.standings.specs.declared.told.Told.{Told as Standing}
+use Rattle.standings.specs.declared.told.Told.TheVariants as tolds
+use Rattle.line_report.specs.declared.happening.Happening.{Happening}
+use Rattle.line_report.specs.declared.happening.Happening.TheVariants as happenings
+use Rattle.line_step.specs.World.{end_of, link_at, link_of}
+use Rattle.line_step.specs.State.{LineState, machine_in, marks_in, no_line, one_more, profile_of}
+use Rattle.line_step.specs.Acts.{acts_did}
+use Rattle.line_step.specs.Steps.{MachineSteps, is_second, moment_of, read_by, unread_by}
+use Rattle.line_step.specs.Reasons.{May, behind_own, if_there, may_add, may_connect, may_cut, may_do, may_flow, may_give, may_lie, may_spoil}
+use Rattle.line_step.specs.Shown.{ascending, between_shown, ids_marked, kept_shown, shown, shown_from, standing_told, standings_told, taken_below}
+use Rattle.line_step.specs.Lines.{Becomes, Connects, Flows, LineDoes, LineSteps, Moves, Unless, arrived, connecting, cut_in, lied, met, move_told, moved, spoil_told, spoiled, unvouched_told}
+use Rattle.line_step.specs.Runs.{Point, IsRun}
+use Rattle.line_step.proofs.Numbers.{machine_set_other, machine_set_own, machine_within, same_or_not}
+use Rattle.line_openings.specs.Announced.{OpensWhenAnnounced, all_told, exit_acts}
+use Rattle.line_openings.proofs.Folds.{exit_append, offered_append, offered_from, ready_append, ready_from}
+use Rattle.line_openings.proofs.Happenings.{Told, opens_as_announced, told_apart, told_both}
+use Rattle.line_openings.proofs.Orderly.{Orderly}
+use Rattle.line_openings.proofs.Halves.{Tells}
+use Rattle.line_openings.proofs.Linked.{Linked, step_linked}
+use Rattle.line_openings.proofs.WrongWords.{good_event}
+use Rattle.line_openings.proofs.Telling.{step_tells}
+use Rattle.line_openings.proofs.Steps.{acts_offered, acts_ready, acts_told, cut_none, none_join, other_acts}
+
+-- ---- machine k between two lines: what its outlet has is what was told
+
+pub record Has (o : Option ℕ) (r : Bool) (node : NodeState) : Type 0 where
+  pub offered : node.lane.body.outlet.offered ≡ o
+  pub ready : node.lane.body.outlet.ready ≡ r
+  pub sound : IsSound node.capacity node.lane.body
+  pub linked : Linked node.lane.body
+
+-- and of a machine that isn't there nothing was told
+pub data Holds : Option ℕ → Bool → Option NodeState → Type 0 where
+  not_there : Holds None false None
+  is_there : {o : Option ℕ} {r : Bool} {node : NodeState} → Has o r node → Holds o r (Some node)
+
+-- what goes on from a state to another, as it is told
+pub record Goes (k : ℕ) (o : Option ℕ) (r : Bool) (after : LineState) (told : List Happening) : Type 0 where
+  pub tells : Told k o r told
+  pub holds : Holds (offered_from o (exit_acts k told)) (ready_from r (exit_acts k told)) (machine_in k after)
+
+goes_both : (k : ℕ) (o : Option ℕ) (r : Bool) (between after : LineState) (a b : List Happening) → Goes k o r between a → (Holds (offered_from o (exit_acts k a)) (ready_from r (exit_acts k a)) (machine_in k between) → Goes k (offered_from o (exit_acts k a)) (ready_from r (exit_acts k a)) after b) → Goes k o r after (a ++ b)
+goes_both k o r between after a b one next =
+    let two = next one.holds in
+    let more : exit_acts k (a ++ b) ≡ exit_acts k a ++ exit_acts k b = exit_append k a b in
+    let offered : offered_from o (exit_acts k (a ++ b)) ≡ offered_from (offered_from o (exit_acts k a)) (exit_acts k b) = ap (λ (x : List Act). offered_from o x) more ∙ offered_append o (exit_acts k a) (exit_acts k b) in
+    let ready : ready_from r (exit_acts k (a ++ b)) ≡ ready_from (ready_from r (exit_acts k a)) (exit_acts k b) = ap (λ (x : List Act). ready_from r x) more ∙ ready_append r (exit_acts k a) (exit_acts k b) in
+    record {
+      tells = told_both b one.tells two.tells;
+      holds = subst (λ (x : Option ℕ). Holds x (ready_from r (exit_acts k (a ++ b))) (machine_in k after)) (sym offered) (subst (λ (x : Bool). Holds (offered_from (offered_from o (exit_acts k a)) (exit_acts k b)) x (machine_in k after)) (sym ready) two.holds);
+    }
+
+-- nothing of machine k is told, and it is as it was
+still : (k : ℕ) (o : Option ℕ) (r : Bool) (before after : LineState) (told : List Happening) → exit_acts k told ≡ [] → machine_in k after ≡ machine_in k before → Holds o r (machine_in k before) → Goes k o r after told
+still k o r before after told none same h = record {
+  tells = told_apart k o r told none;
+  holds = subst (λ (a : List Act). Holds (offered_from o a) (ready_from r a) (machine_in k after)) (sym none) (subst (λ (n : Option NodeState). Holds o r n) (sym same) h);
+}
+
+-- ---- a step of a machine
+
+holds_there : (o : Option ℕ) (r : Bool) (found : Option NodeState) (node : NodeState) → found ≡ Some node → Holds o r found → Has o r node
+holds_there o r found node there not_there = cc
+holds_there o r found node there (is_there {node = other} has) = let same : other ≡ node = cc in subst (λ (n : NodeState). Has o r n) same has
+
+-- the machine's own step
+own_goes : (number k : ℕ) (input : Input) (o : Option ℕ) (r : Bool) (before after : LineState) (told : List Happening) → (steps : MachineSteps number k input before after told)
+    → ((words : List Word) → HasPlaceFor steps.node.capacity (event_of steps.node.maker input words) steps.node.lane.body) → Has o r steps.node → Goes k o r after told
+own_goes number k input o r before after told steps fits has =
+    let node : NodeState = steps.node in
+    let lane = steps.steps.lane in
+    let desk = desk_of node (moment_of number) in
+    let event = event_of node.maker input lane.words in
+    let did = machine_step desk (unread_by k before.world) event node.lane.body in
+    let t : Tells node.lane.body did = step_tells desk (unread_by k before.world) event node.lane.body (good_event input node.maker node.lane steps.next.lane lane.words lane.brings) (record { front = has.sound.offers; linked = has.linked; role = has.sound.exit }) in
+    let read = read_by k before.world in
+    let list = (acts_did (is_second input) k steps.acts read).told in
+    let offered : offered_from o (exit_acts k told) ≡ steps.next.lane.body.outlet.offered =
+    ap (λ (x : List Happening). offered_from o (exit_acts k x)) steps.told_is ∙ acts_offered (is_second input) k steps.acts read o
+    ∙ ap (λ (x : List Act). offered_from o x) lane.told ∙ ap (λ (x : Option ℕ). offered_from x did.acts) (sym has.offered) ∙ sym t.offered ∙ ap (λ (b : Body). b.outlet.offered) (sym lane.body) in
+    let ready : ready_from r (exit_acts k told) ≡ steps.next.lane.body.outlet.ready =
+    ap (λ (x : List Happening). ready_from r (exit_acts k x)) steps.told_is ∙ acts_ready (is_second input) k steps.acts read r
+    ∙ ap (λ (x : List Act). ready_from r x) lane.told ∙ ap (λ (x : Bool). ready_from x did.acts) (sym has.ready) ∙ sym t.ready ∙ ap (λ (b : Body). b.outlet.ready) (sym lane.body) in
+    let orderly : Orderly o r steps.acts = subst (λ (x : List Act). Orderly o r x) (sym lane.told) (subst (λ (x : Option ℕ). Orderly x r did.acts) has.offered (subst (λ (x : Bool). Orderly node.lane.body.outlet.offered x did.acts) has.ready t.orderly)) in
+    let sound : IsSound node.capacity steps.next.lane.body = subst (λ (b : Body). IsSound node.capacity b) (sym lane.body) (step_sound desk (unread_by k before.world) event node.lane.body (fits lane.words) has.sound) in
+    let linked : Linked steps.next.lane.body = subst (λ (b : Body). Linked b) (sym lane.body) (step_linked desk (unread_by k before.world) event node.lane.body has.linked) in
+    let there : machine_in k after ≡ Some steps.next = ap (λ (s : LineState). machine_in k s) steps.after_is ∙ machine_set_own k before node steps.next steps.there in
+    record {
+      tells = subst (λ (x : List Happening). Told k o r x) (sym steps.told_is) (acts_told (is_second input) k read orderly);
+      holds = subst (λ (n : Option NodeState). Holds (offered_from o (exit_acts k told)) (ready_from r (exit_acts k told)) n) (sym there)
+          (is_there (record { offered = sym offered; ready = sym ready; sound = subst (λ (most : ℕ). IsSound most steps.next.lane.body) (sym steps.steps.capacity) sound; linked = linked }));
+    }
+
+-- that of another one
+other_goes : (number k machine : ℕ) (input : Input) (o : Option ℕ) (r : Bool) (before after : LineState) (told : List Happening) → MachineSteps number machine input before after told → k ≢ machine → Holds o r (machine_in k before) → Goes k o r after told
+other_goes number k machine input o r before after told steps apart h =
+    let counted = (machine_within machine before steps.node steps.there).0 in
+    still k o r before after told (ap (λ (x : List Happening). exit_acts k x) steps.told_is ∙ other_acts (is_second input) k machine steps.acts (read_by machine before.world) apart)
+    (ap (λ (s : LineState). machine_in k s) steps.after_is ∙ machine_set_other machine k before steps.next counted apart) h
+
+abbrev Fits : (number machine : ℕ) (input : Input) (before after : LineState) (told : List Happening) → MachineSteps number machine input before after told → Type 0
+Fits number machine input before after told steps = (words : List Word) → HasPlaceFor steps.node.capacity (event_of steps.node.maker input words) steps.node.lane.body
+
+step_goes : (number k machine : ℕ) (input : Input) (o : Option ℕ) (r : Bool) (before after : LineState) (told : List Happening) → (k ≡ machine) ⊎ (k ≢ machine) → (steps : MachineSteps number machine input before after told)
+    → Fits number machine input before after told steps → Holds o r (machine_in k before) → Goes k o r after told
+step_goes number k machine input o r before after told (inl same) steps fits h =
+    subst (λ (m : ℕ). Goes m o r after told) (sym same) (own_goes number machine input o r before after told steps fits (holds_there o r (machine_in machine before) steps.node steps.there (subst (λ (m : ℕ). Holds o r (machine_in m before)) same h)))
+step_goes number k machine input o r before after told (inr apart) steps fits h = other_goes number k machine input o r before after told steps apart h
+
+-- ---- one step, where its input puts in no board
+
+abbrev IsNoInsert : Input → Type 0
+IsNoInsert (inputs.Insert barcode) = ⊥
+IsNoInsert _ = Unit {0}
+
+replace_fits : (most : ℕ) (found : Result ℕ IdsUsedUp) (old : ℕ) (body : Body) → HasPlaceFor most (with_new found (Replace old)) body
+replace_fits most (Ok id) old body = tt
+replace_fits most (Err why) old body = tt
+
+plain_fits : (most : ℕ) (maker : Maker) (input : Input) (words : List Word) (body : Body) → IsNoInsert input → HasPlaceFor most (event_of maker input words) body
+plain_fits most maker (inputs.Insert barcode) words body none = absurd none
+plain_fits most maker (inputs.Replace id) words body none = replace_fits most (next_id maker) id body
+plain_fits most maker _ words body none = tt
+
+plain_goes : (number k machine : ℕ) (input : Input) (o : Option ℕ) (r : Bool) (before after : LineState) (told : List Happening) → IsNoInsert input → MachineSteps number machine input before after told → Holds o r (machine_in k before) → Goes k o r after told
+plain_goes number k machine input o r before after told none steps h =
+    step_goes number k machine input o r before after told (same_or_not k machine) steps (λ words. plain_fits steps.node.capacity steps.node.maker input words steps.node.lane.body none) h
+
+-- ---- what a line becomes
+
+becomes : (k : ℕ) (o : Option ℕ) (r : Bool) (next after : LineState) (what told : List Happening) → Goes k o r next what → Becomes next what after told → Goes k o r after told
+becomes k o r next after what told goes b = subst (λ (s : LineState). Goes k o r s told) (sym b.after_is) (subst (λ (x : List Happening). Goes k o r next x) (sym b.told_is) goes)
+
+unless : (may : May) (k : ℕ) (o : Option ℕ) (r : Bool) (before after : LineState) (told : List Happening) (Done : Type 0) → Holds o r (machine_in k before) → (Done → Goes k o r after told) → Unless may before after told Done → Goes k o r after told
+unless (Ok _) k o r before after told Done h does it = does it
+unless (Err reason) k o r before after told Done h does it = becomes k o r before after (happenings.No reason ∷ []) told (still k o r before before (happenings.No reason ∷ []) refl refl h) it
+
+given : (may : May) (number k machine : ℕ) (input : Input) (o : Option ℕ) (r : Bool) (before after : LineState) (told : List Happening) → IsNoInsert input → Holds o r (machine_in k before) → Unless may before after told (MachineSteps number machine input before after told) → Goes k o r after told
+given may number k machine input o r before after told none h does =
+    unless may k o r before after told (MachineSteps number machine input before after told) h (λ steps. plain_goes number k machine input o r before after told none steps h) does
+
+-- a board is put in only where there is a place
+own_may : (found : Result (Unit {0}) No) → behind_own found may_do ≡ may_do → found ≡ own_do
+own_may (Ok tt) is = refl
+own_may (Err why) is = cc
+
+inserted : (may : May) (number k machine : ℕ) (barcode : Option (List ℕ)) (o : Option ℕ) (r : Bool) (before after : LineState) (told : List Happening) → may_give machine (inputs.Insert barcode) before ≡ may → Holds o r (machine_in k before)
+    → Unless may before after told (MachineSteps number machine (inputs.Insert barcode) before after told) → Goes k o r after told
+inserted (Ok tt) number k machine barcode o r before after told may h steps =
+    let input = inputs.Insert barcode in
+    let own : behind_own (may_of steps.node input) may_do ≡ may_do = sym (ap (λ (n : Option NodeState). if_there n (λ node. behind_own (may_of node input) may_do)) steps.there) ∙ may in
+    step_goes number k machine input o r before after told (same_or_not k machine) steps (λ words. may_fits steps.node input words (own_may (may_of steps.node input) own)) h
+inserted (Err reason) number k machine barcode o r before after told may h it = becomes k o r before after (happenings.No reason ∷ []) told (still k o r before before (happenings.No reason ∷ []) refl refl h) it
+
+-- one machine more
+data Added (old new : Option NodeState) (node : NodeState) : Type 0 where
+  added_none : new ≡ old → Added old new node
+  added_here : old ≡ None → new ≡ Some node → Added old new node
+
+added_at : (nodes : List NodeState) (node : NodeState) (place : ℕ) → Added (slice_get nodes place) (slice_get (nodes ++ node ∷ []) place) node
+added_at [] node zero = added_here refl refl
+added_at [] node (suc place) = added_none refl
+added_at (n ∷ nodes) node zero = added_none refl
+added_at (n ∷ nodes) node (suc place) = added_at nodes node place
+
+added : (k capacity used : ℕ) (s : LineState) → Added (machine_in k s) (machine_in k (one_more capacity used s)) (new_node (profile_of (length s.machines + 1) capacity used))
+added zero capacity used s = added_none refl
+added (suc place) capacity used s = added_at s.machines (new_node (profile_of (length s.machines + 1) capacity used)) place
+
+new_has : (number capacity used : ℕ) → Has None false (new_node (profile_of number capacity used))
+new_has number capacity used = record { offered = refl; ready = refl; sound = new_sound capacity; linked = record { idle = refl; stands = refl } }
+
+holds_more : (o : Option ℕ) (r : Bool) (old new : Option NodeState) (node : NodeState) → Has None false node → Added old new node → Holds o r old → Holds o r new
+holds_more o r old new node has (added_none same) h = subst (λ (n : Option NodeState). Holds o r n) (sym same) h
+holds_more o r old new node has (added_here none here) not_there = subst (λ (n : Option NodeState). Holds None false n) (sym here) (is_there has)
+holds_more o r old new node has (added_here none here) (is_there other) = cc
+
+more_goes : (k capacity used : ℕ) (o : Option ℕ) (r : Bool) (s : LineState) → Holds o r (machine_in k s) → Goes k o r (one_more capacity used s) (happenings.Machine (length s.machines + 1) capacity ∷ [])
+more_goes k capacity used o r s h =
+    record { tells = told_apart k o r _ refl; holds = holds_more o r (machine_in k s) (machine_in k (one_more capacity used s)) (new_node (profile_of (length s.machines + 1) capacity used)) (new_has (length s.machines + 1) capacity used) (added k capacity used s) h }
+
+-- ---- what is shown, and the standings
+
+kept_none : (k machine : ℕ) (boards : List Record) → exit_acts k (kept_shown machine boards) ≡ []
+kept_none k machine [] = refl
+kept_none k machine (board ∷ boards) = kept_none k machine boards
+
+two_none : (k : ℕ) (same : Bool) (gap below : ℕ) → exit_acts k (if same then [] else happenings.ShownBetween gap below ∷ []) ≡ []
+two_none k true gap below = refl
+two_none k false gap below = refl
+
+between_none : (k gap : ℕ) (above below : Option ℕ) → exit_acts k (between_shown gap above below) ≡ []
+between_none k gap None None = refl
+between_none k gap None (Some below) = refl
+between_none k gap (Some above) None = refl
+between_none k gap (Some above) (Some below) = two_none k (above == below) gap below
+
+shown_none : (k machine : ℕ) (nodes : List NodeState) → exit_acts k (shown_from machine nodes) ≡ []
+shown_none k machine [] = refl
+shown_none k machine (node ∷ nodes) =
+    let between = between_shown machine (own_of node.lane.body).held (taken_below nodes) in
+    none_join k (kept_shown machine node.lane.body.kept) (between ++ shown_from (machine + 1) nodes) (kept_none k machine node.lane.body.kept)
+    (none_join k between (shown_from (machine + 1) nodes) (between_none k machine (own_of node.lane.body).held (taken_below nodes)) (shown_none k (machine + 1) nodes))
+
+standing_none : (k id : ℕ) (told : Option Standing) → exit_acts k (standing_told id told) ≡ []
+standing_none k id None = refl
+standing_none k id (Some (tolds.With machine)) = refl
+standing_none k id (Some (tolds.Between gap)) = refl
+standing_none k id (Some tolds.Gone) = refl
+
+flat_none : (k : ℕ) (f : ℕ → List Happening) (ids : List ℕ) → ((id : ℕ) → exit_acts k (f id) ≡ []) → exit_acts k (flat_map f ids) ≡ []
+flat_none k f [] every = refl
+flat_none k f (id ∷ ids) every = none_join k (f id) (flat_map f ids) (every id) (flat_none k f ids every)
+
+standings_none : (k : ℕ) (before next : LineState) → exit_acts k (standings_told before next) ≡ []
+standings_none k before next =
+    flat_none k (λ id. standing_told id (told_of (marks_in before id) (marks_in next id))) (ascending (ids_marked before ++ ids_marked next)) (λ id. standing_none k id (told_of (marks_in before id) (marks_in next id)))
+
+-- ---- each form of line
+
+no_board : (on : Connected) → IsNoInsert (met on)
+no_board connections.Accepted = tt
+no_board connections.Second = tt
+
+same_in : (k : ℕ) (s t : LineState) → t.machines ≡ s.machines → machine_in k t ≡ machine_in k s
+same_in zero s t same = refl
+same_in (suc place) s t same = ap (λ (nodes : List NodeState). slice_get nodes place) same
+
+connects_goes : (number k machine : ℕ) (o : Option ℕ) (r : Bool) (before after : LineState) (told : List Happening) → Holds o r (machine_in k before) → Connects number machine before after told → Goes k o r after told
+connects_goes number k machine o r before after told h steps =
+    let begin : Holds o r (machine_in k (connecting machine before)) = subst (λ (n : Option NodeState). Holds o r n) (sym (same_in k before (connecting machine before) refl)) h in
+    let first = plain_goes number k machine inputs.Connect o r (connecting machine before) steps.between steps.earlier tt steps.first begin in
+    let on = connected_of (link_at (machine - 1) before.world).upstream in
+    subst (λ (x : List Happening). Goes k o r after x) (sym steps.told_is)
+    (goes_both k o r steps.between after steps.earlier steps.later first (λ held. plain_goes number k (machine - 1) (met on) _ _ steps.between after steps.later (no_board on) steps.second held))
+
+flows_goes : (number k machine : ℕ) (side : Side) (count : Option ℕ) (o : Option ℕ) (r : Bool) (before after : LineState) (told : List Happening) → Holds o r (machine_in k before) → Flows number machine side count before after told → Goes k o r after told
+flows_goes number k machine side count o r before after told h flows =
+    let begin : Holds o r (machine_in k (arrived machine side count before)) = subst (λ (n : Option NodeState). Holds o r n) (sym (same_in k before (arrived machine side count before) refl)) h in
+    plain_goes number k machine (inputs.Bytes side flows.piece) o r (arrived machine side count before) after told tt flows.steps begin
+
+move_still : (k gap : ℕ) (step : Move) (o : Option ℕ) (r : Bool) (before : LineState) (answer : Result FloorPlan MoveNo) → Holds o r (machine_in k before) → Goes k o r (moved answer before) (move_told gap step answer)
+move_still k gap step o r before (Ok floor) h = still k o r before (moved (Ok floor) before) (happenings.Moved gap step ∷ []) refl (same_in k before (moved (Ok floor) before) refl) h
+move_still k gap step o r before (Err why) h = still k o r before before (move_told gap step (Err why)) refl refl h
+
+moves_goes : (k gap : ℕ) (step : Move) (o : Option ℕ) (r : Bool) (before after : LineState) (told : List Happening) → Holds o r (machine_in k before) → Moves gap step before after told → Goes k o r after told
+moves_goes k gap step o r before after told h does =
+    let answer = floor_move gap step before.world.floor in
+    becomes k o r (moved answer before) after (move_told gap step answer) told (move_still k gap step o r before answer h) does
+
+unvouched_none : (k : ℕ) (unvouched : Option ℕ) → exit_acts k (unvouched_told unvouched) ≡ []
+unvouched_none k None = refl
+unvouched_none k (Some line) = refl
+
+does_goes : (number k : ℕ) (line : ScriptLine) (o : Option ℕ) (r : Bool) (before after : LineState) (told : List Happening) → Holds o r (machine_in k before) → LineDoes number line before after told → Goes k o r after told
+does_goes number k lines.Blank o r before after told h does = becomes k o r before after [] told (still k o r before before [] refl refl h) does
+does_goes number k (lines.Machine capacity used) o r before after told h does =
+    let what = happenings.Machine (length before.machines + 1) capacity ∷ [] in
+    unless (may_add before) k o r before after told (Becomes (one_more capacity used before) what after told) h (becomes k o r (one_more capacity used before) after what told (more_goes k capacity used o r before h)) does
+does_goes number k (lines.Insert machine barcode) o r before after told h does = inserted (may_give machine (inputs.Insert barcode) before) number k machine barcode o r before after told refl h does
+does_goes number k (lines.Remove machine id) o r before after told h does = given _ number k machine (inputs.Remove id) o r before after told tt h does
+does_goes number k (lines.Replace machine id) o r before after told h does = given _ number k machine (inputs.Replace id) o r before after told tt h does
+does_goes number k (lines.Mark machine id quality) o r before after told h does = given _ number k machine (inputs.Mark id quality) o r before after told tt h does
+does_goes number k (lines.Hold machine side) o r before after told h does = given _ number k machine (inputs.Will side false) o r before after told tt h does
+does_goes number k (lines.Go machine side) o r before after told h does = given _ number k machine (inputs.Will side true) o r before after told tt h does
+does_goes number k (lines.Connect machine) o r before after told h does = unless (may_connect machine before) k o r before after told (Connects number machine before after told) h (connects_goes number k machine o r before after told h) does
+does_goes number k (lines.Flow machine side count) o r before after told h does = unless (may_flow machine side before) k o r before after told (Flows number machine side count before after told) h (flows_goes number k machine side count o r before after told h) does
+does_goes number k (lines.Notice machine side) o r before after told h does = given _ number k machine (inputs.Notice side) o r before after told tt h does
+does_goes number k (lines.Cut gap) o r before after told h does =
+    unless (may_cut gap before) k o r before after told (Becomes (cut_in gap before) (happenings.Cut gap ∷ []) after told) h
+    (becomes k o r (cut_in gap before) after (happenings.Cut gap ∷ []) told (still k o r before (cut_in gap before) (happenings.Cut gap ∷ []) refl (same_in k before (cut_in gap before) refl) h)) does
+does_goes number k (lines.Spoil machine side) o r before after told h does =
+    let what = spoil_told machine side before in
+    let none = cut_none k (link_of machine side) (spoil_sent (end_of side) (link_at (link_of machine side) before.world)) in
+    unless (may_spoil machine side before) k o r before after told (Becomes (spoiled machine side before) what after told) h
+    (becomes k o r (spoiled machine side before) after what told (still k o r before (spoiled machine side before) what none (same_in k before (spoiled machine side before) refl) h)) does
+does_goes number k (lines.Shutdown machine) o r before after told h does = given _ number k machine inputs.Shutdown o r before after told tt h does
+does_goes number k (lines.Tick machine) o r before after told h does = given _ number k machine inputs.Tick o r before after told tt h does
+does_goes number k (lines.Fault machine side) o r before after told h does = given _ number k machine (inputs.Fault side) o r before after told tt h does
+does_goes number k (lines.Lie machine sensed) o r before after told h does =
+    let what = happenings.Lie machine sensed ∷ unvouched_told before.unvouched in
+    unless (may_lie machine sensed.side before) k o r before after told (Becomes (lied number machine sensed before) what after told) h
+    (becomes k o r (lied number machine sensed before) after what told (still k o r before (lied number machine sensed before) what (unvouched_none k before.unvouched) (same_in k before (lied number machine sensed before) refl) h)) does
+does_goes number k (lines.Sense machine) o r before after told h does = given _ number k machine inputs.Nothing o r before after told tt h does
+does_goes number k (lines.Begin gap) o r before after told h does = moves_goes k gap moves.Begin o r before after told h does
+does_goes number k (lines.Left gap) o r before after told h does = moves_goes k gap moves.Left o r before after told h does
+does_goes number k (lines.Enter gap) o r before after told h does = moves_goes k gap moves.Enter o r before after told h does
+does_goes number k (lines.Back gap) o r before after told h does = moves_goes k gap moves.Back o r before after told h does
+does_goes number k (lines.HandIn gap) o r before after told h does = moves_goes k gap moves.HandIn o r before after told h does
+does_goes number k (lines.Take gap) o r before after told h does = moves_goes k gap moves.Take o r before after told h does
+does_goes number k lines.Show o r before after told h does = becomes k o r before after (shown before) told (still k o r before before (shown before) (shown_none k 1 before.machines) refl h) does
+
+-- EACH LINE STEP
+steps_goes : (number k : ℕ) (line : ScriptLine) (o : Option ℕ) (r : Bool) (before after : LineState) (told : List Happening) → Holds o r (machine_in k before) → LineSteps number line before after told → Goes k o r after told
+steps_goes number k line o r before after told h steps =
+    let next = steps.next in
+    let count : LineState = record next { lines = next.lines + 1 } in
+    let one = does_goes number k line o r before next steps.done h steps.does in
+    subst (λ (s : LineState). Goes k o r s told) (sym steps.after_is) (subst (λ (x : List Happening). Goes k o r count x) (sym steps.told_is)
+    (goes_both k o r next count steps.done (standings_told before next) one (λ held. still k _ _ next count (standings_told before next) (standings_none k before next) (same_in k next count refl) held)))
+
+-- ---- over a run
+
+run_told : (k : ℕ) (o : Option ℕ) (r : Bool) (s : LineState) (asked : List ScriptLine) (points : List Point) → Holds o r (machine_in k s) → IsRun s asked points → Told k o r (all_told points)
+run_told k o r s [] [] h run = told_apart k o r [] refl
+run_told k o r s [] (point ∷ points) h run = absurd run
+run_told k o r s (line ∷ asked) [] h run = absurd run
+run_told k o r s (line ∷ asked) (point ∷ points) h run =
+    let one = steps_goes (s.lines + 1) k line o r s point.after point.told h run.0 in
+    told_both (all_told points) one.tells (run_told k (offered_from o (exit_acts k point.told)) (ready_from r (exit_acts k point.told)) point.after asked points one.holds run.1)
+
+none_holds : (k : ℕ) → Holds None false (machine_in k no_line)
+none_holds zero = not_there
+none_holds (suc place) = not_there
+
+-- OPENINGS EXACTLY WHEN ANNOUNCED
+pub opens_when_announced : OpensWhenAnnounced
+opens_when_announced asked points k run = opens_as_announced k (all_told points) (run_told k None false no_line asked points (none_holds k) run)

@@ -1,0 +1,162 @@
+-- What a step of a machine tells in the line: its acts, with what they do to the links among them.
+use Rattle.std.proofs.Common.{◌≡◌, ◌≢◌, inl, inr, ◌∙◌, ◌++◌, ◌==◌, ◌&&◌, ℕ, Bool, true, false, List, [], ◌∷◌, Option, Some, refl, sym, ap, subst}
+use Rattle.std.specs.Prelude.{cond}
+use Rattle.std.proofs.lemmas.Bool.{false≢true}
+use Rattle.std.proofs.lemmas.Bool.Decides.{eqb_tells}
+use Rattle.line_base.specs.declared.states.Side.{Side}
+use Rattle.line_base.specs.declared.states.Side.TheVariants.{Exit}
+use Rattle.hermes_horizontal.specs.Canonical.{canonical}
+use Rattle.hermes_horizontal.specs.declared.message.Message.{Message}
+use Rattle.line_link.specs.Link.{answer_sent, sent_of}
+use Rattle.line_link.specs.declared.link.Sent.{Sent}
+use Rattle.line_link.specs.declared.link.Sent.TheVariants as sent
+use Rattle.node_core.specs.declared.act.Act.{Act}
+use Rattle.node_core.specs.declared.act.Act.TheVariants as acts
+use Rattle.node_core.specs.declared.act.Deed.TheVariants as deeds
+use Rattle.line_report.specs.declared.happening.Happening.{Happening}
+use Rattle.line_report.specs.declared.happening.Happening.TheVariants as happenings
+use Rattle.line_step.specs.Acts.{act_did, acts_did, cut_told, is_answer, is_exit, sent_by}
+use Rattle.line_step.specs.World.{WorldParts, end_of, link_at, link_of}
+use Rattle.line_openings.specs.Announced.{bears_on_offer, bears_on_place, exit_acts, is_on_exit, is_ready_in, offered_in}
+use Rattle.line_openings.proofs.Folds.{exit_append, offered_act, offered_append, offered_from, ready_act, ready_append, ready_from}
+use Rattle.line_openings.proofs.Orderly.{Orderly, are_plain, ends, goes_on, is_opened, is_plain, is_refused, is_broken}
+use Rattle.line_openings.proofs.Happenings.{Told, all_told, own_act, told_apart, told_both, told_on, told_opened, told_refused, told_broken}
+
+-- ---- an act of machine k
+
+pub record IsOff (act : Act) : Type 0 where
+  pub offer : bears_on_offer act ≡ false
+  pub place : bears_on_place act ≡ false
+  pub plain : is_plain act ≡ true
+
+-- an act that is not on the exit bears on nothing there
+off_exit : (act : Act) → is_on_exit act ≡ false → IsOff act
+off_exit (acts.Breaches Exit text) off = absurd (false≢true (sym off))
+off_exit (acts.Hears Exit message) off = absurd (false≢true (sym off))
+off_exit (acts.Sends Exit message) off = absurd (false≢true (sym off))
+off_exit (acts.Closes Exit) off = absurd (false≢true (sym off))
+off_exit (acts.Notices Exit) off = absurd (false≢true (sym off))
+off_exit (acts.Deed (deeds.Opens id)) off = absurd (false≢true (sym off))
+off_exit (acts.Deed (deeds.Refuses id)) off = absurd (false≢true (sym off))
+off_exit _ off = record { offer = refl; place = refl; plain = refl }
+
+-- what the acts among what is told say is what the act says
+record IsSaid (k : ℕ) (act : Act) (told : List Happening) : Type 0 where
+  offered : (o : Option ℕ) → offered_from o (exit_acts k told) ≡ offered_act o act
+  ready : (r : Bool) → ready_from r (exit_acts k told) ≡ ready_act r act
+  goes : (o : Option ℕ) (r : Bool) → is_plain act ≡ true → Told k o r told
+
+said_by : (act : Act) (at : Bool) → is_on_exit act ≡ at → (o : Option ℕ) → offered_from o (cond at (act ∷ []) []) ≡ offered_act o act
+said_by act true is o = refl
+said_by act false is o = sym (ap (λ (b : Bool). cond b (offered_in (Some act)) o) (off_exit act is).offer)
+
+ready_by : (act : Act) (at : Bool) → is_on_exit act ≡ at → (r : Bool) → ready_from r (cond at (act ∷ []) []) ≡ ready_act r act
+ready_by act true is r = refl
+ready_by act false is r = sym (ap (λ (b : Bool). cond b (is_ready_in (Some act)) r) (off_exit act is).place)
+
+plain_by : (act : Act) (at : Bool) → is_plain act ≡ true → are_plain (cond at (act ∷ []) []) ≡ true
+plain_by act true plain = rw plain refl
+plain_by act false plain = refl
+
+-- the act, and behind it what is of no machine
+said_first : (k : ℕ) (act : Act) (rest : List Happening) → exit_acts k rest ≡ [] → IsSaid k act (happenings.Done k act ∷ rest)
+said_first k act rest none =
+    let own = own_act k act in
+    let at = is_on_exit act in
+    let all : exit_acts k (happenings.Done k act ∷ rest) ≡ cond at (act ∷ []) [] ++ [] = ap (λ (a : List Act). a ++ exit_acts k rest) own ∙ ap (λ (a : List Act). cond at (act ∷ []) [] ++ a) none in
+    record {
+      offered = λ o. ap (λ (a : List Act). offered_from o a) all ∙ offered_append o (cond at (act ∷ []) []) [] ∙ said_by act at refl o;
+      ready = λ r. ap (λ (a : List Act). ready_from r a) all ∙ ready_append r (cond at (act ∷ []) []) [] ∙ ready_by act at refl r;
+      goes = λ o r plain. told_on (ap are_plain own ∙ plain_by act at plain) (told_apart k _ _ rest none);
+    }
+
+pub cut_none : (k link : ℕ) (on : Sent) → exit_acts k (cut_told link on) ≡ []
+cut_none k link sent.Cuts = refl
+cut_none k link sent.Flows = refl
+cut_none k link sent.Vanishes = refl
+
+said_sent : (answers : Bool) (k : ℕ) (side : Side) (message : Message) (world : WorldParts) → IsSaid k (acts.Sends side message) (sent_by answers k side message world).told
+said_sent true k side message world = said_first k (acts.Sends side message) (cut_told k (answer_sent (canonical message) (link_at k world))) (cut_none k k (answer_sent (canonical message) (link_at k world)))
+said_sent false k side message world = said_first k (acts.Sends side message) (cut_told (link_of k side) (sent_of (end_of side) (canonical message) (link_at (link_of k side) world))) (cut_none k (link_of k side) (sent_of (end_of side) (canonical message) (link_at (link_of k side) world)))
+
+said_act : (second : Bool) (k : ℕ) (act : Act) (world : WorldParts) → IsSaid k act (act_did second k act world).told
+said_act second k (acts.Sends side message) world = said_sent (second && (is_exit side && is_answer message.body)) k side message world
+said_act second k (acts.Drive side on) world = record { offered = λ o. refl; ready = λ r. refl; goes = λ o r plain. all_told }
+said_act second k (acts.Reads side event) world = said_first k (acts.Reads side event) [] refl
+said_act second k (acts.Hears side message) world = said_first k (acts.Hears side message) [] refl
+said_act second k (acts.Breaches side text) world = said_first k (acts.Breaches side text) [] refl
+said_act second k (acts.Closes side) world = said_first k (acts.Closes side) [] refl
+said_act second k (acts.Notices side) world = said_first k (acts.Notices side) [] refl
+said_act second k acts.Connects world = said_first k acts.Connects [] refl
+said_act second k (acts.Deed deed) world = said_first k (acts.Deed deed) [] refl
+said_act second k (acts.Marks id quality) world = said_first k (acts.Marks id quality) [] refl
+said_act second k (acts.Inserts id) world = said_first k (acts.Inserts id) [] refl
+said_act second k (acts.Removes id) world = said_first k (acts.Removes id) [] refl
+said_act second k (acts.Replaces was now) world = said_first k (acts.Replaces was now) [] refl
+said_act second k (acts.Sets setting) world = said_first k (acts.Sets setting) [] refl
+
+-- ---- the acts of a step of machine k
+
+pub acts_offered : (second : Bool) (k : ℕ) (told : List Act) (world : WorldParts) (o : Option ℕ) → offered_from o (exit_acts k (acts_did second k told world).told) ≡ offered_from o told
+acts_offered second k [] world o = refl
+acts_offered second k (act ∷ others) world o =
+    let one = act_did second k act world in
+    let rest = (acts_did second k others one.world).told in
+    ap (λ (a : List Act). offered_from o a) (exit_append k one.told rest) ∙ offered_append o (exit_acts k one.told) (exit_acts k rest)
+    ∙ ap (λ (x : Option ℕ). offered_from x (exit_acts k rest)) ((said_act second k act world).offered o) ∙ acts_offered second k others one.world (offered_act o act)
+
+pub acts_ready : (second : Bool) (k : ℕ) (told : List Act) (world : WorldParts) (r : Bool) → ready_from r (exit_acts k (acts_did second k told world).told) ≡ ready_from r told
+acts_ready second k [] world r = refl
+acts_ready second k (act ∷ others) world r =
+    let one = act_did second k act world in
+    let rest = (acts_did second k others one.world).told in
+    ap (λ (a : List Act). ready_from r a) (exit_append k one.told rest) ∙ ready_append r (exit_acts k one.told) (exit_acts k rest)
+    ∙ ap (λ (x : Bool). ready_from x (exit_acts k rest)) ((said_act second k act world).ready r) ∙ acts_ready second k others one.world (ready_act r act)
+
+pub acts_told : {o : Option ℕ} {r : Bool} {told : List Act} (second : Bool) (k : ℕ) (world : WorldParts) → Orderly o r told → Told k o r (acts_did second k told world).told
+acts_told second k world ends = all_told
+acts_told {o = o} {r = r} second k world (goes_on {act = act} {told = others} plain more) =
+    let one = act_did second k act world in
+    let said = said_act second k act world in
+    let rest = (acts_did second k others one.world).told in
+    told_both rest (said.goes o r plain) (subst (λ (x : Option ℕ). Told k x (ready_from r (exit_acts k one.told)) rest) (sym (said.offered o)) (subst (λ (x : Bool). Told k (offered_act o act) x rest) (sym (said.ready r)) (acts_told second k one.world more)))
+acts_told second k world (is_opened start more) = told_opened start (acts_told second k _ more)
+acts_told second k world (is_refused start apart more) = told_refused start apart (acts_told second k _ more)
+acts_told second k world (is_broken place more) = told_broken place (acts_told second k _ more)
+
+-- ---- the acts of another machine
+
+other_number : (k machine : ℕ) → k ≢ machine → (machine == k) ≡ false
+other_number k machine apart = elim (eqb_tells machine k) [ inl same ↦ absurd (apart (sym same.1)) | inr differs ↦ differs.0 ]
+
+pub none_join : (k : ℕ) (a b : List Happening) → exit_acts k a ≡ [] → exit_acts k b ≡ [] → exit_acts k (a ++ b) ≡ []
+none_join k a b one two = exit_append k a b ∙ ap (λ (x : List Act). x ++ exit_acts k b) one ∙ two
+
+other_first : (k machine : ℕ) (act : Act) (rest : List Happening) → k ≢ machine → exit_acts k rest ≡ [] → exit_acts k (happenings.Done machine act ∷ rest) ≡ []
+other_first k machine act rest apart none = rw (other_number k machine apart) none
+
+other_sent : (answers : Bool) (k machine : ℕ) (side : Side) (message : Message) (world : WorldParts) → k ≢ machine → exit_acts k (sent_by answers machine side message world).told ≡ []
+other_sent true k machine side message world apart = other_first k machine (acts.Sends side message) (cut_told machine (answer_sent (canonical message) (link_at machine world))) apart (cut_none k machine (answer_sent (canonical message) (link_at machine world)))
+other_sent false k machine side message world apart = other_first k machine (acts.Sends side message) (cut_told (link_of machine side) (sent_of (end_of side) (canonical message) (link_at (link_of machine side) world))) apart (cut_none k (link_of machine side) (sent_of (end_of side) (canonical message) (link_at (link_of machine side) world)))
+
+other_act : (second : Bool) (k machine : ℕ) (act : Act) (world : WorldParts) → k ≢ machine → exit_acts k (act_did second machine act world).told ≡ []
+other_act second k machine (acts.Sends side message) world apart = other_sent (second && (is_exit side && is_answer message.body)) k machine side message world apart
+other_act second k machine (acts.Drive side on) world apart = refl
+other_act second k machine (acts.Reads side event) world apart = other_first k machine (acts.Reads side event) [] apart refl
+other_act second k machine (acts.Hears side message) world apart = other_first k machine (acts.Hears side message) [] apart refl
+other_act second k machine (acts.Breaches side text) world apart = other_first k machine (acts.Breaches side text) [] apart refl
+other_act second k machine (acts.Closes side) world apart = other_first k machine (acts.Closes side) [] apart refl
+other_act second k machine (acts.Notices side) world apart = other_first k machine (acts.Notices side) [] apart refl
+other_act second k machine acts.Connects world apart = other_first k machine acts.Connects [] apart refl
+other_act second k machine (acts.Deed deed) world apart = other_first k machine (acts.Deed deed) [] apart refl
+other_act second k machine (acts.Marks id quality) world apart = other_first k machine (acts.Marks id quality) [] apart refl
+other_act second k machine (acts.Inserts id) world apart = other_first k machine (acts.Inserts id) [] apart refl
+other_act second k machine (acts.Removes id) world apart = other_first k machine (acts.Removes id) [] apart refl
+other_act second k machine (acts.Replaces was now) world apart = other_first k machine (acts.Replaces was now) [] apart refl
+other_act second k machine (acts.Sets setting) world apart = other_first k machine (acts.Sets setting) [] apart refl
+
+pub other_acts : (second : Bool) (k machine : ℕ) (told : List Act) (world : WorldParts) → k ≢ machine → exit_acts k (acts_did second machine told world).told ≡ []
+other_acts second k machine [] world apart = refl
+other_acts second k machine (act ∷ others) world apart =
+    let one = act_did second machine act world in
+    none_join k one.told (acts_did second machine others one.world).told (other_act second k machine act world apart) (other_acts second k machine others one.world apart)

@@ -1,0 +1,216 @@
+-- What a hand takes from the floor is told, and lay there; and a step without one leaves every board where it is.
+use Rattle.std.proofs.Common.{Bool, List, None, Option, Ok, Err, Result, Some, [], ap, arith, false, length, length-set, refl, slice_set, subst, suc, sym, true, zero, ℕ, ◌++◌, ◌-◌, ◌∙◌, ◌∷◌, ◌≡◌, ◌≤◌}
+use Rattle.std.specs.Prelude.{not}
+use Rattle.std.specs.List.{AllByRecursion}
+use Rattle.board_record.specs.Maker.{Maker, next_id}
+use Rattle.board_record.specs.Record.{plain_record}
+use Rattle.board_record.specs.declared.maker.IdsUsedUp.{IdsUsedUp}
+use Rattle.line_base.specs.declared.states.Side.TheVariants.{Entry, Exit}
+use Rattle.line_world.specs.declared.board.Board.{Board}
+use Rattle.line_world.specs.FloorPlan.{AtMachine, IsWhole, has_id, machine_at, place_of}
+use Rattle.line_world.proofs.Differing.{same_differ}
+use Rattle.line_world.proofs.Keeping.{as_many_machines, boards_unread}
+use Rattle.line_world.proofs.Placing.{changes_id, lost_with}
+use Rattle.node_core.specs.declared.act.Act.{Act}
+use Rattle.node_core.specs.declared.act.Act.TheVariants as acts
+use Rattle.node_core.specs.declared.input.Input.{Input}
+use Rattle.node_core.specs.declared.input.Input.TheVariants as inputs
+use Rattle.node_core.specs.declared.input.No.{No}
+use Rattle.node_core.specs.declared.lane.Body.{Body}
+use Rattle.node_core.specs.declared.word.Word.{Word}
+use Rattle.node_core.specs.Announces.{announces}
+use Rattle.node_core.specs.Boards.{if_kept, is_kept, replaces, with_instead, with_kept, without}
+use Rattle.node_core.specs.Desk.{Desk}
+use Rattle.node_core.specs.Event.{Insert, Replace, event_did, event_of, maker_after, with_new}
+use Rattle.node_core.specs.May.{may_of}
+use Rattle.node_core.specs.Node.{NodeState, desk_of}
+use Rattle.node_core.specs.Reads.{all_read}
+use Rattle.line_report.specs.declared.happening.Happening.{Happening}
+use Rattle.line_report.specs.declared.happening.Happening.TheVariants as happenings
+use Rattle.line_report.specs.declared.happening.Reason.TheVariants as reasons
+use Rattle.line_step.specs.Acts.{act_did, acts_did}
+use Rattle.line_step.specs.FloorIds.{boards_of}
+use Rattle.line_step.specs.Reasons.{May, behind_own, if_there, is_here, may_do, may_remove, may_replace, no_if}
+use Rattle.line_step.specs.State.{LineState, machine_in, with_machine, with_world}
+use Rattle.line_step.specs.Steps.{MachineSteps, is_second, moment_of, read_by, unread_by}
+use Rattle.line_step.specs.World.{WorldParts}
+use Rattle.line_step.proofs.FloorLaws.{Holds}
+use Rattle.line_step.proofs.Hands.{AreQuiet, announces-quiet, both_shut-quiet, both_tick-quiet, faults-quiet, heard-quiet, marks-quiet, notices-quiet, opens-quiet, quiet-join, read-quiet, second-quiet}
+use Rattle.line_step.proofs.Makers.{AreNumbered, IsOld, numbered-at, numbered-set, old-set}
+use Rattle.line_step.proofs.OnFloor.{LiesThere, as_many_gaps, lies-there_by, quiet-acts}
+use Rattle.one_standing.specs.Carried.{Trace, between_of, stand_of}
+use Rattle.one_standing.specs.Places.{LiesAt, at_machine, lies_at}
+use Rattle.one_standing.proofs.ApartFloor.{counted, counted_lies}
+use Rattle.one_standing.proofs.ApartStep.{IsTold, Parted, gone_count, parted_by, told_behind, told_first}
+
+-- ---- a board that is here lies here
+
+there_counted : (x : ℕ) (boards : List Board) → LiesThere x boards → 1 ≤ counted x boards
+there_counted x boards there =
+    let found = changes_id x x boards there.place there.found in
+    let more = lost_with x found.2.front found.2.back found.0 true found.1 in
+    rw found.2.before (omega (arith, more))
+
+pub here_lies : (t : Trace) (s : LineState) (m x : ℕ) → is_here m x s.world ≡ true → LiesAt (stand_of s) (between_of t s) x (at_machine m)
+here_lies t s m x here =
+    let boards = (machine_at s.world.floor m).boards in
+    lies_at (counted_lies x boards (there_counted x boards (lies-there_by (place_of x boards) x boards refl here)))
+
+here_behind : (own : Result (Unit {0}) No) (here : Bool) (next : May) (done : Unit {0}) → behind_own own (no_if (not here) reasons.NotHere next) ≡ Ok done → here ≡ true
+here_behind (Err why) here next done is = cc
+here_behind (Ok _) true next done is = refl
+here_behind (Ok _) false next done is = cc
+
+here_if : (there : Option NodeState) (own : NodeState → Result (Unit {0}) No) (here : Bool) (next : NodeState → May) (done : Unit {0}) → if_there there (λ node. behind_own (own node) (no_if (not here) reasons.NotHere (next node))) ≡ Ok done → here ≡ true
+here_if None own here next done is = cc
+here_if (Some node) own here next done is = here_behind (own node) here (next node) done is
+
+pub remove_here : (m x : ℕ) (s : LineState) (done : Unit {0}) → may_remove m x s ≡ Ok done → is_here m x s.world ≡ true
+remove_here m x s done may = here_if (machine_in m s) (λ node. may_of node (inputs.Remove x)) (is_here m x s.world) (λ node. may_do) done may
+
+pub replace_here : (m x : ℕ) (s : LineState) (done : Unit {0}) → may_replace m x s ≡ Ok done → is_here m x s.world ≡ true
+replace_here m x s done may = here_if (machine_in m s) (λ node. may_of node (inputs.Remove x)) (is_here m x s.world) (λ node. behind_own (may_of node (inputs.Replace x)) may_do) done may
+
+-- ---- what is done by hand is told
+
+acts_told : (second : Bool) (m : ℕ) (act : Act) (front back : List Act) (world : WorldParts) → ((w : WorldParts) → (act_did second m act w).told ≡ happenings.Done m act ∷ []) → IsTold (happenings.Done m act) (acts_did second m (front ++ act ∷ back) world).told
+acts_told second m act [] back world plain = rw (plain world) told_first
+acts_told second m act (one ∷ front) back world plain = told_behind (act_did second m one world).told (acts_told second m act front back (act_did second m one world).world plain)
+
+-- the body with its sensor events read
+abbrev pub body_then : (number m : ℕ) (input : Input) (s after : LineState) (told : List Happening) → MachineSteps number m input s after told → Body
+body_then number m input s after told steps = (all_read (desk_of steps.node (moment_of number)) (unread_by m s.world) steps.node.lane.body).body
+
+abbrev hand_then : (number m : ℕ) (input : Input) (s after : LineState) (told : List Happening) → MachineSteps number m input s after told → List Act
+hand_then number m input s after told steps = (event_did (desk_of steps.node (moment_of number)) (event_of steps.node.maker input steps.steps.lane.words) (body_then number m input s after told steps)).acts
+
+step_told : (number m : ℕ) (input : Input) (act : Act) (s after : LineState) (told : List Happening) (steps : MachineSteps number m input s after told) → hand_then number m input s after told steps ≡ act ∷ [] → ((w : WorldParts) → (act_did (is_second input) m act w).told ≡ happenings.Done m act ∷ []) → IsTold (happenings.Done m act) told
+step_told number m input act s after told steps one plain =
+    let desk = desk_of steps.node (moment_of number) in
+    let read = all_read desk (unread_by m s.world) steps.node.lane.body in
+    let last = announces desk (event_did desk (event_of steps.node.maker input steps.steps.lane.words) read.body).body in
+    let all : steps.acts ≡ read.acts ++ (act ∷ [] ++ last.acts) = steps.steps.lane.told ∙ ap (λ hand. read.acts ++ (hand ++ last.acts)) one in
+    let P : List Act → Type 0 = λ list. IsTold (happenings.Done m act) (acts_did (is_second input) m list (read_by m s.world)).told in
+    let Q : List Happening → Type 0 = λ list. IsTold (happenings.Done m act) list in
+    subst Q (sym steps.told_is) (subst P (sym all) (acts_told (is_second input) m act read.acts last.acts (read_by m s.world) plain))
+
+-- a machine puts a board in under its next id
+pub inserts_told : (number m new : ℕ) (barcode : Option (List ℕ)) (s after : LineState) (told : List Happening) (steps : MachineSteps number m (inputs.Insert barcode) s after told) → next_id steps.node.maker ≡ Ok new → IsTold (happenings.Done m (acts.Inserts new)) told
+inserts_told number m new barcode s after told steps is =
+    let desk = desk_of steps.node (moment_of number) in
+    let body = body_then number m (inputs.Insert barcode) s after told steps in
+    let f : Result ℕ IdsUsedUp → List Act = λ answer. (event_did desk (with_new answer (λ id. Insert id barcode)) body).acts in
+    step_told number m (inputs.Insert barcode) (acts.Inserts new) s after told steps (ap f is) (λ w. refl)
+
+-- a machine that keeps the board's record removes it, or gives it another id
+pub removes_told : (number m x : ℕ) (s after : LineState) (told : List Happening) (steps : MachineSteps number m (inputs.Remove x) s after told) → is_kept x (body_then number m (inputs.Remove x) s after told steps).kept ≡ true → IsTold (happenings.Done m (acts.Removes x)) told
+removes_told number m x s after told steps kept =
+    let body = body_then number m (inputs.Remove x) s after told steps in
+    let f : Bool → List Act = λ kept. (if_kept kept (with_kept (without x body.kept) body) (acts.Removes x) body).acts in
+    step_told number m (inputs.Remove x) (acts.Removes x) s after told steps (ap f kept) (λ w. refl)
+
+pub replaces_told : (number m x now : ℕ) (s after : LineState) (told : List Happening) (steps : MachineSteps number m (inputs.Replace x) s after told) → next_id steps.node.maker ≡ Ok now → is_kept x (body_then number m (inputs.Replace x) s after told steps).kept ≡ true → IsTold (happenings.Done m (acts.Replaces x now)) told
+replaces_told number m x now s after told steps new kept =
+    let desk = desk_of steps.node (moment_of number) in
+    let body = body_then number m (inputs.Replace x) s after told steps in
+    let f : Result ℕ IdsUsedUp → List Act = λ answer. (event_did desk (with_new answer (Replace x)) body).acts in
+    let g : Bool → List Act = λ kept. (if_kept kept (with_kept (with_instead x (plain_record now desk.name None) body.kept) body) (acts.Replaces x now) body).acts in
+    let some : hand_then number m (inputs.Replace x) s after told steps ≡ (replaces desk x now body).acts = ap f new in
+    let one : (replaces desk x now body).acts ≡ acts.Replaces x now ∷ [] = ap g kept in
+    step_told number m (inputs.Replace x) (acts.Replaces x now) s after told steps (some ∙ one) (λ w. refl)
+
+-- ---- a step without a hand
+
+-- an input that is not of the hands that put boards in, take them out or change them
+abbrev pub IsHandless : Input → Type 0
+IsHandless (inputs.Insert barcode) = ⊥
+IsHandless (inputs.Remove id) = ⊥
+IsHandless (inputs.Replace id) = ⊥
+IsHandless _ = Unit {0}
+
+event_quiet : (desk : Desk) (maker : Maker) (input : Input) (words : List Word) (body : Body) → IsHandless input → AreQuiet (event_did desk (event_of maker input words) body).acts
+event_quiet desk maker inputs.Nothing words body handless = tt
+event_quiet desk maker inputs.Connect words body handless = (tt, opens-quiet desk Entry body)
+event_quiet desk maker inputs.Accepted words body handless = opens-quiet desk Exit body
+event_quiet desk maker inputs.Second words body handless = second-quiet desk body
+event_quiet desk maker (inputs.Bytes side piece) words body handless = heard-quiet desk side words body
+event_quiet desk maker (inputs.Notice side) words body handless = notices-quiet desk side body
+event_quiet desk maker inputs.Tick words body handless = both_tick-quiet desk body
+event_quiet desk maker inputs.Shutdown words body handless = both_shut-quiet desk body
+event_quiet desk maker (inputs.Fault side) words body handless = faults-quiet desk side body
+event_quiet desk maker (inputs.Will side on) words body handless = (tt, tt)
+event_quiet desk maker (inputs.Insert barcode) words body handless = absurd handless
+event_quiet desk maker (inputs.Remove id) words body handless = absurd handless
+event_quiet desk maker (inputs.Replace id) words body handless = absurd handless
+event_quiet desk maker (inputs.Mark id quality) words body handless = marks-quiet (is_kept id body.kept) _ body (acts.Marks id quality) tt
+
+same_maker : (input : Input) (maker : Maker) → IsHandless input → maker_after input maker ≡ maker
+same_maker (inputs.Insert barcode) maker handless = absurd handless
+same_maker (inputs.Remove id) maker handless = absurd handless
+same_maker (inputs.Replace id) maker handless = absurd handless
+same_maker _ maker handless = refl
+
+-- each board is where it was, and all old ids are
+pub record IsStill (s after : LineState) : Type 0 where
+  pub holds : Holds after
+  pub boards : boards_of after ≡ boards_of s
+  pub olds : (id : ℕ) → IsOld 1 s.machines id → IsOld 1 after.machines id
+
+older : (old new : List NodeState) (boards : List Board) → ((id : ℕ) → IsOld 1 old id → IsOld 1 new id) → AllByRecursion (λ (board : Board). (id : ℕ) → has_id id board ≡ true → IsOld 1 old id) boards → AllByRecursion (λ (board : Board). (id : ℕ) → has_id id board ≡ true → IsOld 1 new id) boards
+older old new [] olds all = tt
+older old new (board ∷ boards) olds all = (λ id has. olds id (all.0 id has), older old new boards olds all.1)
+
+still_holds : (s after : LineState) → Holds s → AreNumbered 1 after.machines → length after.world.floor.machines ≡ length after.machines → IsWhole after.world.floor → boards_of after ≡ boards_of s → ((id : ℕ) → IsOld 1 s.machines id → IsOld 1 after.machines id) → IsStill s after
+still_holds s after h own many whole same olds =
+    let P : List Board → Type 0 = λ boards. AllByRecursion (λ (board : Board). (id : ℕ) → has_id id board ≡ true → IsOld 1 after.machines id) boards in
+    record {
+      holds = record {
+        own = own;
+        many = many;
+        whole = whole;
+        old = subst P (sym same) (older s.machines after.machines (boards_of s) olds h.old);
+        differ = same_differ s.world.floor after.world.floor same h.differ;
+      };
+      boards = same;
+      olds = olds;
+    }
+
+node_stays : (s : LineState) (m : ℕ) (node next : NodeState) → machine_in m s ≡ Some node → next.maker ≡ node.maker → AreNumbered 1 s.machines → AreNumbered 1 (slice_set s.machines (m - 1) next) × ((id : ℕ) → IsOld 1 s.machines id → IsOld 1 (slice_set s.machines (m - 1) next) id)
+node_stays s zero node next there maker own = cc
+node_stays s (suc place) node next there maker own =
+    let here = numbered-at 1 s.machines place node own there in
+    let before : suc place - 1 ≡ place = omega arith in
+    let used : node.maker.used ≤ next.maker.used = rw maker (omega arith) in
+    rw before (numbered-set 1 s.machines place node next own there (record { machine = ap (λ (k : Maker). k.machine) maker ∙ here.machine }), λ id old. old-set 1 s.machines place node next id there used old)
+
+pub step_still : (number m : ℕ) (input : Input) (s after : LineState) (told : List Happening) → IsHandless input → Holds s → MachineSteps number m input s after told → IsStill s after
+step_still number m input s after told handless h steps =
+    let desk = desk_of steps.node (moment_of number) in
+    let read = all_read desk (unread_by m s.world) steps.node.lane.body in
+    let event = event_did desk (event_of steps.node.maker input steps.steps.lane.words) read.body in
+    let last = announces desk event.body in
+    let P : List Act → Type 0 = λ list. AreQuiet list in
+    let quiet : AreQuiet steps.acts =
+    subst P (sym steps.steps.lane.told)
+    (quiet-join read.acts (event.acts ++ last.acts) (read-quiet desk (unread_by m s.world) steps.node.lane.body)
+    (quiet-join event.acts last.acts (event_quiet desk steps.node.maker input steps.steps.lane.words read.body handless) (announces-quiet desk event.body))) in
+    let world = read_by m s.world in
+    let plan = s.world.floor in
+    let now : AtMachine = record (machine_at plan m) { unread = [] } in
+    let same = quiet-acts (is_second input) m steps.acts world quiet in
+    let end : LineState = with_world (acts_did (is_second input) m steps.acts world).world (with_machine m steps.next s) in
+    let many : length end.world.floor.machines ≡ length plan.machines = ap length same.machines ∙ as_many_machines plan m now in
+    let gaps : length end.world.floor.gaps ≡ length plan.gaps = same.gaps ∙ ap length (as_many_gaps plan m now) in
+    let nodes = node_stays s m steps.node steps.next steps.there (steps.steps.lane.made ∙ same_maker input steps.node.maker handless) h.own in
+    let still : IsStill s end =
+    still_holds s end h nodes.0 (many ∙ h.many ∙ sym (length-set s.machines (m - 1) steps.next)) (gaps ∙ h.whole ∙ ap (λ n. n - 1) (sym many)) (same.boards ∙ boards_unread plan m []) nodes.1 in
+    let Q : LineState → Type 0 = λ a. IsStill s a in
+    subst Q (sym steps.after_is) still
+
+-- nothing more is gone
+pub apart_still : (t t2 : Trace) (s after : LineState) → IsStill s after → ((k y : ℕ) → t2.gone k y ≡ t.gone k y) → Parted t s → Parted t2 after
+apart_still t t2 s after still same parted =
+    parted_by t2 after still.holds
+    (λ k x gone. ap (λ (boards : List Board). counted x boards) still.boards ∙ gone_count t s k x parted (sym (same k x) ∙ gone))
+    (λ j k x one two. parted.apart.gone_once j k x (sym (same j x) ∙ one) (sym (same k x) ∙ two))
+    (λ k x gone. still.olds x (parted.olds k x (sym (same k x) ∙ gone)))

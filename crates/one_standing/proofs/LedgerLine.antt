@@ -1,0 +1,394 @@
+-- THE LEDGER FOLLOWS EACH LINE of a script.
+use Rattle.std.proofs.Common.{Bool, Err, List, None, Ok, Option, Result, Some, [], ap, append-nil, arith, false, inl, inr, leb-false, length, nat_le, refl, subst, suc, sym, true, zero, ℕ, ◌++◌, ◌+◌, ◌-◌, ◌<◌, ◌∙◌, ◌∷◌, ◌≡◌, ◌≢◌, ◌≤◌, ◌⊎◌}
+use Rattle.std.specs.Prelude.{slice_get, slice_index_or, slice_set}
+use Rattle.line_base.specs.declared.states.Side.{Side}
+use Rattle.board_record.specs.Maker.{Maker, after_next, made_id, next_id}
+use Rattle.board_record.specs.declared.maker.IdsUsedUp.{IdsUsedUp}
+use Rattle.line_link.specs.Link.{connected_of, spoil_sent}
+use Rattle.line_link.specs.declared.link.Connected.{Connected}
+use Rattle.line_link.specs.declared.link.Connected.TheVariants as connections
+use Rattle.line_script.specs.declared.line.ScriptLine.{ScriptLine}
+use Rattle.line_script.specs.declared.line.ScriptLine.TheVariants as lines
+use Rattle.line_world.specs.FloorPlan.{FloorPlan}
+use Rattle.line_world.specs.Moves.{floor_move}
+use Rattle.line_world.specs.declared.moves.Move.{Move}
+use Rattle.line_world.specs.declared.moves.Move.TheVariants as moves
+use Rattle.line_world.specs.declared.moves.MoveNo.{MoveNo}
+use Rattle.node_core.specs.Event.{Event, Insert, Replace, event_of, maker_after, with_new}
+use Rattle.node_core.specs.Node.{NodeState, desk_of, new_node}
+use Rattle.node_core.specs.Own.{own_of}
+use Rattle.node_core.specs.Step.{machine_step}
+use Rattle.node_core.specs.declared.act.Act.{Act}
+use Rattle.node_core.specs.declared.input.Input.{Input}
+use Rattle.node_core.specs.declared.input.Input.TheVariants as inputs
+use Rattle.node_core.specs.declared.lane.Body.{Body}
+use Rattle.node_core.specs.declared.word.Word.{Word}
+use Rattle.line_report.specs.declared.happening.Happening.{Happening}
+use Rattle.line_report.specs.declared.happening.Happening.TheVariants as happenings
+use Rattle.standings.specs.Ledger.{AreLegal, Ledger, are_different, has_entry, ledger_after_all}
+use Rattle.standings.specs.Marks.{Owned, Where, has_at}
+use Rattle.standings.specs.declared.deed.Deed.{Deed}
+use Rattle.line_step.specs.Lines.{Becomes, Connects, Flows, LineDoes, LineSteps, Unless, arrived, connecting, cut_in, lied, met, move_told, moved, spoil_told, spoiled, unvouched_told}
+use Rattle.line_step.specs.Numbered.{ChangesMachine, Stand, no_node, node_at}
+use Rattle.line_step.specs.Reasons.{May}
+use Rattle.line_step.specs.Shown.{shown, standings_told}
+use Rattle.line_step.specs.State.{LineState, machine_in, one_more, profile_of, owned_by}
+use Rattle.line_step.specs.Steps.{MachineSteps, is_second, moment_of, read_by, unread_by}
+use Rattle.line_step.specs.World.{end_of, link_at, link_of}
+use Rattle.line_step.proofs.Changing.{more_changes, step_changes}
+use Rattle.line_step.proofs.FloorLaws.{steps-goes}
+use Rattle.line_step.proofs.Makers.{AreNumbered, IsOld, numbered-at, old-apart, old-new}
+use Rattle.line_step.proofs.Numbers.{machine_set_own, machine_within, same_or_not}
+use Rattle.one_standing.specs.Carried.{Trace}
+use Rattle.one_standing.specs.Replay.{deeds_of}
+use Rattle.one_standing.specs.Stands.{Stands}
+use Rattle.one_standing.proofs.LedgerMarks.{FitsLine, differ_of, taken_old}
+use Rattle.one_standing.proofs.LedgerSteps.{IsMadeNow, all_of, deeds_by, did_goes}
+use Rattle.one_standing.proofs.LedgerTold.{acts_deeds, cut_none, deeds_join, shown_none, standings_none}
+use Rattle.one_standing.proofs.LedgerTurns.{Fits, Follows, after_append, entry_at, legal_append}
+use Rattle.one_standing.proofs.LedgerWalk.{Did, IsNewFor, step_did}
+use Rattle.one_standing.proofs.Mirroring.{node_there}
+
+-- the deeds of what is told are legal, and the ledger behind them is that of the line after
+pub record Led (Old : ℕ → Type 0) (after : LineState) (ledger : Ledger) (told : List Happening) : Type 0 where
+  pub legal : AreLegal ledger (deeds_of told)
+  pub fits : FitsLine Old after (ledger_after_all ledger (deeds_of told))
+
+led_told : {Old : ℕ → Type 0} {after : LineState} {ledger : Ledger} (told what : List Happening) → deeds_of told ≡ deeds_of what → Led Old after ledger what → Led Old after ledger told
+led_told {Old} {after} {ledger} told what same led = record {
+  legal = subst (λ (ds : List Deed). AreLegal ledger ds) (sym same) led.legal;
+  fits = subst (λ (ds : List Deed). FitsLine Old after (ledger_after_all ledger ds)) (sym same) led.fits;
+}
+
+led_both : {Older Old : ℕ → Type 0} {between after : LineState} {ledger : Ledger} (a b : List Happening) → Led Older between ledger a → Led Old after (ledger_after_all ledger (deeds_of a)) b → Led Old after ledger (a ++ b)
+led_both {Old = Old} {after = after} {ledger = ledger} a b one two = record {
+  legal = subst (λ (ds : List Deed). AreLegal ledger ds) (sym (deeds_join a b)) (legal_append ledger (deeds_of a) (deeds_of b) one.legal two.legal);
+  fits = subst (λ (ds : List Deed). FitsLine Old after (ledger_after_all ledger ds)) (sym (deeds_join a b)) (subst (λ (l : Ledger). FitsLine Old after l) (sym (after_append ledger (deeds_of a) (deeds_of b))) two.fits);
+}
+
+-- ---- nothing is done with a record
+
+-- each machine owns what it did
+abbrev OwnSame : LineState → LineState → Type 0
+OwnSame before after = (machine : ℕ) → owned_by (node_at after machine) ≡ owned_by (node_at before machine)
+
+fits_same : {Older Old : ℕ → Type 0} (before after : LineState) (ledger : Ledger) → OwnSame before after → ((x : ℕ) → Older x → Old x) → FitsLine Older before ledger → FitsLine Old after ledger
+fits_same before after ledger same more fits = record {
+  past = fits.past;
+  is = fits.is;
+  all = λ place machine x. fits.all place machine x ∙ ap (λ (o : Owned). has_at place o x) (sym (same machine));
+  olds = λ x seen. more x (fits.olds x seen);
+}
+
+still_led : {Older Old : ℕ → Type 0} (before after : LineState) (ledger : Ledger) (told : List Happening) → OwnSame before after → deeds_of told ≡ [] → ((x : ℕ) → Older x → Old x) → FitsLine Older before ledger → Led Old after ledger told
+still_led before after ledger told same none more fits = led_told told [] none (record { legal = tt; fits = fits_same before after ledger same more fits })
+
+same_nodes : (s t : LineState) → t.machines ≡ s.machines → (machine : ℕ) → node_at t machine ≡ node_at s machine
+same_nodes s t is zero = refl
+same_nodes s t is (suc place) = ap (λ (nodes : List NodeState). slice_index_or nodes place no_node) is
+
+own_nodes : (s t : LineState) → t.machines ≡ s.machines → OwnSame s t
+own_nodes s t is machine = ap owned_by (same_nodes s t is machine)
+
+-- ---- a machine's step
+
+-- the ids that an input makes
+abbrev IsNewInput : (ℕ → Type 0) → Input → Maker → Type 0
+IsNewInput New (inputs.Insert barcode) maker = (id : ℕ) → next_id maker ≡ Ok id → New id
+IsNewInput New (inputs.Replace old) maker = (id : ℕ) → next_id maker ≡ Ok id → New id
+IsNewInput New _ maker = Unit {0}
+
+new_with : (New : ℕ → Type 0) (found : Result ℕ IdsUsedUp) (event : ℕ → Event) → ((id : ℕ) → found ≡ Ok id → IsNewFor New (event id)) → IsNewFor New (with_new found event)
+new_with New (Ok id) event new = new id refl
+new_with New (Err why) event new = tt
+
+new_event : (New : ℕ → Type 0) (maker : Maker) (input : Input) (words : List Word) → IsNewInput New input maker → IsNewFor New (event_of maker input words)
+new_event New maker (inputs.Insert barcode) words new = new_with New (next_id maker) (λ id. Insert id barcode) (λ id is. new id is)
+new_event New maker (inputs.Replace old) words new = new_with New (next_id maker) (Replace old) (λ id is. new id is)
+new_event New maker inputs.Nothing words new = tt
+new_event New maker inputs.Connect words new = tt
+new_event New maker inputs.Accepted words new = tt
+new_event New maker inputs.Second words new = tt
+new_event New maker (inputs.Bytes side piece) words new = tt
+new_event New maker (inputs.Notice side) words new = tt
+new_event New maker inputs.Tick words new = tt
+new_event New maker inputs.Shutdown words new = tt
+new_event New maker (inputs.Fault side) words new = tt
+new_event New maker (inputs.Will side on) words new = tt
+new_event New maker (inputs.Remove id) words new = tt
+new_event New maker (inputs.Mark id quality) words new = tt
+
+step_own : {New : ℕ → Type 0} (number machine : ℕ) (input : Input) (before after : LineState) (told : List Happening) (steps : MachineSteps number machine input before after told) → IsNewInput New input steps.node.maker
+    → Did New (own_of steps.node.lane.body) steps.acts (own_of steps.next.lane.body)
+step_own {New} number machine input before after told steps new =
+    let lane = steps.steps.lane in
+    let event = event_of steps.node.maker input lane.words in
+    let desk = desk_of steps.node (moment_of number) in
+    let unread = unread_by machine before.world in
+    subst (λ (b : Body). Did New (own_of steps.node.lane.body) steps.acts (own_of b)) (sym lane.body)
+    (subst (λ (a : List Act). Did New (own_of steps.node.lane.body) a (own_of (machine_step desk unread event steps.node.lane.body).body)) (sym lane.told) (step_did desk unread event steps.node.lane.body (new_event New steps.node.maker input lane.words new)))
+
+machine_led : {Older Old : ℕ → Type 0} (number machine : ℕ) (input : Input) (before after : LineState) (told : List Happening) → ((x : ℕ) → Older x → Old x) → (steps : MachineSteps number machine input before after told)
+    → IsNewInput (IsMadeNow Older Old) input steps.node.maker → are_different (all_of (own_of (node_at before machine).lane.body)) ≡ true → ((id : ℕ) → (own_of (node_at after machine).lane.body).taking ≡ Some id → Old id)
+    → (ledger : Ledger) → FitsLine Older before ledger → Led Old after ledger told
+machine_led {Older} {Old} number machine input before after told more steps new different taken ledger fits =
+    let others : Where → ℕ → ℕ → Bool = λ place other x. has_at place (owned_by (node_at before other)) x in
+    let node_is : node_at before machine ≡ steps.node = node_there machine before steps.node steps.there in
+    let next_is : node_at after machine ≡ steps.next = node_there machine after steps.next (ap (machine_in machine) steps.after_is ∙ machine_set_own machine before steps.node steps.next steps.there) in
+    let counted : 1 ≤ machine = (machine_within machine before steps.node steps.there).0 in
+    let at : machine - 1 + 1 ≡ machine = omega (arith, counted) in
+    let does : Did (IsMadeNow Older Old) (own_of (node_at before machine).lane.body) steps.acts (own_of (node_at after machine).lane.body) =
+    subst (λ (n : NodeState). Did (IsMadeNow Older Old) (own_of n.lane.body) steps.acts (own_of (node_at after machine).lane.body)) (sym node_is)
+    (subst (λ (n : NodeState). Did (IsMadeNow Older Old) (own_of steps.node.lane.body) steps.acts (own_of n.lane.body)) (sym next_is) (step_own number machine input before after told steps new)) in
+    let here : Fits Older machine (own_of (node_at before machine).lane.body) others ledger =
+    record { past = fits.past; is = fits.is; here = λ place x. fits.all place machine x; there = λ place other x apart. fits.all place other x; olds = fits.olds } in
+    let follows : Follows Old machine (own_of (node_at after machine).lane.body) others ledger (deeds_by machine steps.acts) = did_goes at more does different taken ledger here in
+    let same : deeds_of told ≡ deeds_by machine steps.acts = ap deeds_of steps.told_is ∙ acts_deeds (is_second input) machine steps.acts (read_by machine before.world) in
+    let changes : ChangesMachine machine before after = step_changes number machine input before after told steps in
+    let last : FitsLine Old after (ledger_after_all ledger (deeds_by machine steps.acts)) = record {
+      past = follows.fits.past;
+      is = follows.fits.is;
+      all = λ place other x. place_by place other x follows changes (same_or_not other machine);
+      olds = follows.fits.olds;
+    } in
+    record { legal = subst (λ (ds : List Deed). AreLegal ledger ds) (sym same) follows.legal; fits = subst (λ (ds : List Deed). FitsLine Old after (ledger_after_all ledger ds)) (sym same) last } where
+      place_by : (place : Where) (other x : ℕ) → Follows Old machine (own_of (node_at after machine).lane.body) (λ p n y. has_at p (owned_by (node_at before n)) y) ledger (deeds_by machine steps.acts) → ChangesMachine machine before after
+          → (other ≡ machine) ⊎ (other ≢ machine) → has_entry (entry_at other place x) (ledger_after_all ledger (deeds_by machine steps.acts)).marks ≡ has_at place (owned_by (node_at after other)) x
+      place_by place other x follows changes (inl is) =
+          subst (λ (n : ℕ). has_entry (entry_at n place x) (ledger_after_all ledger (deeds_by machine steps.acts)).marks ≡ has_at place (owned_by (node_at after n)) x) (sym is) (follows.fits.here place x)
+      place_by place other x follows changes (inr apart) =
+          follows.fits.there place other x apart ∙ ap (λ (s : Stand). has_at place (owned_by s.node) x) (sym (changes.machines other apart))
+
+-- ---- a new id
+
+record IsNew (maker : Maker) (id : ℕ) : Type 0 where
+  is : id ≡ made_id maker.machine (maker.used + 1)
+  small : maker.used + 1 < 281474976710656
+  now : (after_next maker).used ≡ maker.used + 1
+
+same_ok : {id other : ℕ} → ◌≡◌ {A = Result ℕ IdsUsedUp} (Ok id) (Ok other) → id ≡ other
+same_ok e = cc
+
+not_err : {id : ℕ} {why : IdsUsedUp} → ◌≡◌ {A = Result ℕ IdsUsedUp} (Err why) (Ok id) → ⊥
+not_err e = cc
+
+new_by : (full : Bool) (maker : Maker) (id : ℕ) → nat_le 281474976710655 maker.used ≡ full → next_id maker ≡ Ok id → IsNew maker id
+new_by true maker id test is = absurd (not_err {id = id} {why = record {}} (sym (rw test refl) ∙ is))
+new_by false maker id test is =
+    let above : maker.used < 281474976710655 = leb-false 281474976710655 maker.used test in
+    let some : next_id maker ≡ Ok (made_id maker.machine (maker.used + 1)) = rw test refl in
+    record { is = same_ok (sym is ∙ some); small = omega (arith, above); now = rw test refl }
+
+new_at : (nodes : List NodeState) (place id : ℕ) (node next : NodeState) → AreNumbered 1 nodes → slice_get nodes place ≡ Some node → next.maker ≡ after_next node.maker → next_id node.maker ≡ Ok id → IsMadeNow (IsOld 1 nodes) (IsOld 1 (slice_set nodes place next)) id
+new_at nodes place id node next own found made is =
+    let new : IsNew node.maker id = new_by (nat_le 281474976710655 node.maker.used) node.maker id refl is in
+    let number : node.maker.machine ≡ 1 + place = (numbered-at 1 nodes place node own found).machine in
+    let made_there : id ≡ made_id (1 + place) (node.maker.used + 1) = new.is ∙ ap (λ (m : ℕ). made_id m (node.maker.used + 1)) number in
+    let used : next.maker.used ≡ node.maker.used + 1 = ap (λ (m : Maker). m.used) made ∙ new.now in
+    record {
+      apart = λ other old same. old-apart 1 nodes place node other id (node.maker.used + 1) found (omega arith) new.small made_there old same;
+      old = old-new 1 nodes place node next id found (record { count = node.maker.used + 1; counted = omega (arith, used); small = new.small; is = made_there });
+    }
+
+made_here : (number machine : ℕ) (input : Input) (before after : LineState) (told : List Happening) (steps : MachineSteps number machine input before after told) → AreNumbered 1 before.machines → maker_after input steps.node.maker ≡ after_next steps.node.maker
+    → (id : ℕ) → next_id steps.node.maker ≡ Ok id → IsMadeNow (IsOld 1 before.machines) (IsOld 1 after.machines) id
+made_here number zero input before after told steps own makes id is = absurd (let h : ◌≡◌ {A = Option NodeState} None (Some steps.node) = steps.there in cc)
+made_here number (suc place) input before after told steps own makes id is =
+    let at : suc place - 1 ≡ place = omega arith in
+    let nodes : after.machines ≡ slice_set before.machines place steps.next = ap (λ (s : LineState). s.machines) steps.after_is ∙ ap (λ (n : ℕ). slice_set before.machines n steps.next) at in
+    subst (λ (ns : List NodeState). IsMadeNow (IsOld 1 before.machines) (IsOld 1 ns) id) (sym nodes) (new_at before.machines place id steps.node steps.next own steps.there (steps.steps.lane.made ∙ makes) is)
+
+-- ---- the forms
+
+-- what a line is done in, and what holds behind it: a machine's ids differ before it, what an intake takes behind it is
+-- old, and what was old stays so
+record Around (before next : LineState) : Type 0 where
+  different : (machine : ℕ) → are_different (all_of (own_of (node_at before machine).lane.body)) ≡ true
+  taken : (machine id : ℕ) → (own_of (node_at next machine).lane.body).taking ≡ Some id → IsOld 1 next.machines id
+  own : AreNumbered 1 before.machines
+  olds : (x : ℕ) → IsOld 1 before.machines x → IsOld 1 next.machines x
+
+abbrev LedLine : LineState → LineState → Ledger → List Happening → Type 0
+LedLine before next ledger told = FitsLine (IsOld 1 before.machines) before ledger → Led (IsOld 1 next.machines) next ledger told
+
+becomes_led : (before now next : LineState) (what told : List Happening) (ledger : Ledger) → Around before next → Becomes now what next told → OwnSame before now → deeds_of what ≡ [] → LedLine before next ledger told
+becomes_led before now next what told ledger a becomes same none fits =
+    still_led before next ledger told (subst (λ (s : LineState). OwnSame before s) (sym becomes.after_is) same) (ap deeds_of becomes.told_is ∙ none) a.olds fits
+
+unless_led : (may : May) (before next : LineState) (told : List Happening) (ledger : Ledger) (Done : Type 0) → Around before next → (Done → LedLine before next ledger told) → Unless may before next told Done → LedLine before next ledger told
+unless_led (Ok _) before next told ledger Done a led does = led does
+unless_led (Err reason) before next told ledger Done a led does = becomes_led before before next (happenings.No reason ∷ []) told ledger a does (λ machine. refl) refl
+
+-- an input that makes no id
+abbrev MakesNone : Input → Type 0
+MakesNone (inputs.Insert barcode) = ⊥
+MakesNone (inputs.Replace old) = ⊥
+MakesNone _ = Unit {0}
+
+none_new : (New : ℕ → Type 0) (input : Input) (maker : Maker) → MakesNone input → IsNewInput New input maker
+none_new New (inputs.Insert barcode) maker none = absurd none
+none_new New (inputs.Replace old) maker none = absurd none
+none_new New inputs.Nothing maker none = tt
+none_new New inputs.Connect maker none = tt
+none_new New inputs.Accepted maker none = tt
+none_new New inputs.Second maker none = tt
+none_new New (inputs.Bytes side piece) maker none = tt
+none_new New (inputs.Notice side) maker none = tt
+none_new New inputs.Tick maker none = tt
+none_new New inputs.Shutdown maker none = tt
+none_new New (inputs.Fault side) maker none = tt
+none_new New (inputs.Will side on) maker none = tt
+none_new New (inputs.Remove id) maker none = tt
+none_new New (inputs.Mark id quality) maker none = tt
+
+given_led : (may : May) (number machine : ℕ) (input : Input) (before next : LineState) (told : List Happening) (ledger : Ledger) → MakesNone input → Around before next → Unless may before next told (MachineSteps number machine input before next told) → LedLine before next ledger told
+given_led may number machine input before next told ledger none a does =
+    unless_led may before next told ledger (MachineSteps number machine input before next told) a
+    (λ steps. machine_led number machine input before next told a.olds steps (none_new (IsMadeNow (IsOld 1 before.machines) (IsOld 1 next.machines)) input steps.node.maker none) (a.different machine) (a.taken machine) ledger) does
+
+inserted_led : (may : May) (number machine : ℕ) (barcode : Option (List ℕ)) (before next : LineState) (told : List Happening) (ledger : Ledger) → Around before next
+    → Unless may before next told (MachineSteps number machine (inputs.Insert barcode) before next told) → LedLine before next ledger told
+inserted_led may number machine barcode before next told ledger a does =
+    unless_led may before next told ledger (MachineSteps number machine (inputs.Insert barcode) before next told) a
+    (λ steps. machine_led number machine (inputs.Insert barcode) before next told a.olds steps (made_here number machine (inputs.Insert barcode) before next told steps a.own refl) (a.different machine) (a.taken machine) ledger) does
+
+replaced_led : (may : May) (number machine old : ℕ) (before next : LineState) (told : List Happening) (ledger : Ledger) → Around before next
+    → Unless may before next told (MachineSteps number machine (inputs.Replace old) before next told) → LedLine before next ledger told
+replaced_led may number machine old before next told ledger a does =
+    unless_led may before next told ledger (MachineSteps number machine (inputs.Replace old) before next told) a
+    (λ steps. machine_led number machine (inputs.Replace old) before next told a.olds steps (made_here number machine (inputs.Replace old) before next told steps a.own refl) (a.different machine) (a.taken machine) ledger) does
+
+-- bytes arrive: the link alone changes before the machine's step
+flows_led : (number machine : ℕ) (side : Side) (count : Option ℕ) (before next : LineState) (told : List Happening) (ledger : Ledger) → Around before next → Flows number machine side count before next told → LedLine before next ledger told
+flows_led number machine side count before next told ledger a flows fits =
+    let start : LineState = arrived machine side count before in
+    machine_led number machine (inputs.Bytes side flows.piece) start next told a.olds flows.steps tt (ap (λ (n : NodeState). are_different (all_of (own_of n.lane.body))) (same_nodes before start refl machine) ∙ a.different machine) (a.taken machine) ledger
+    (fits_same before start ledger (own_nodes before start refl) (λ x old. old) fits)
+
+met_new : (New : ℕ → Type 0) (on : Connected) (maker : Maker) → IsNewInput New (met on) maker
+met_new New connections.Accepted maker = tt
+met_new New connections.Second maker = tt
+
+-- a connection is made: a step of each of two machines
+connects_led : (number machine : ℕ) (before next : LineState) (told : List Happening) (ledger : Ledger) → Around before next → Connects number machine before next told → LedLine before next ledger told
+connects_led number machine before next told ledger a twice fits =
+    let Old : ℕ → Type 0 = IsOld 1 next.machines in
+    let start : LineState = connecting machine before in
+    let on : Connected = connected_of (link_at (machine - 1) before.world).upstream in
+    let counted : 1 ≤ machine = (machine_within machine start twice.first.node twice.first.there).0 in
+    let apart : machine ≢ machine - 1 = omega (arith, counted) in
+    let beside : machine - 1 ≢ machine = omega (arith, counted) in
+    let early : ChangesMachine machine start twice.between = step_changes number machine inputs.Connect start twice.between twice.earlier twice.first in
+    let late : ChangesMachine (machine - 1) twice.between next = step_changes number (machine - 1) (met on) twice.between next twice.later twice.second in
+    let here : node_at next machine ≡ node_at twice.between machine = ap (λ (s : Stand). s.node) (late.machines machine apart) in
+    let above : node_at twice.between (machine - 1) ≡ node_at before (machine - 1) = ap (λ (s : Stand). s.node) (early.machines (machine - 1) beside) ∙ same_nodes before start refl (machine - 1) in
+    let one : Led Old twice.between ledger twice.earlier =
+    machine_led number machine inputs.Connect start twice.between twice.earlier a.olds twice.first tt (ap (λ (n : NodeState). are_different (all_of (own_of n.lane.body))) (same_nodes before start refl machine) ∙ a.different machine)
+    (λ id is. a.taken machine id (ap (λ (n : NodeState). (own_of n.lane.body).taking) here ∙ is)) ledger (fits_same before start ledger (own_nodes before start refl) (λ x old. old) fits) in
+    let two : Led Old next (ledger_after_all ledger (deeds_of twice.earlier)) twice.later =
+    machine_led number (machine - 1) (met on) twice.between next twice.later (λ x old. old) twice.second (met_new (IsMadeNow Old Old) on twice.second.node.maker) (ap (λ (n : NodeState). are_different (all_of (own_of n.lane.body))) above ∙ a.different (machine - 1))
+    (a.taken (machine - 1)) (ledger_after_all ledger (deeds_of twice.earlier)) one.fits in
+    led_told told (twice.earlier ++ twice.later) (ap deeds_of twice.told_is) (led_both twice.earlier twice.later one two)
+
+-- ---- one machine more
+
+last_node : (nodes : List NodeState) (new : NodeState) → slice_index_or (nodes ++ new ∷ []) (length nodes) no_node ≡ new
+last_node [] new = refl
+last_node (node ∷ nodes) new = last_node nodes new
+
+no_last : (nodes : List NodeState) → slice_index_or nodes (length nodes) no_node ≡ no_node
+no_last [] = refl
+no_last (node ∷ nodes) = no_last nodes
+
+more_own : (capacity used : ℕ) (s : LineState) → OwnSame s (one_more capacity used s)
+more_own capacity used s machine = by (same_or_not machine (length s.machines + 1)) where
+  new : (n : ℕ) → n ≡ length s.machines → owned_by (slice_index_or (one_more capacity used s).machines n no_node) ≡ owned_by (slice_index_or s.machines n no_node)
+  new n is = rw is (rw (last_node s.machines (new_node (profile_of (length s.machines + 1) capacity used)), no_last s.machines) refl)
+
+  by : (machine ≡ length s.machines + 1) ⊎ (machine ≢ length s.machines + 1) → owned_by (node_at (one_more capacity used s) machine) ≡ owned_by (node_at s machine)
+  by (inl is) =
+      let next : machine ≡ suc (length s.machines) = omega (arith, is) in
+      subst (λ (m : ℕ). owned_by (node_at (one_more capacity used s) m) ≡ owned_by (node_at s m)) (sym next) (new (length s.machines) refl)
+  by (inr apart) = ap (λ (x : Stand). owned_by x.node) ((more_changes capacity used s).machines machine apart)
+
+-- ---- each form
+
+moved_own : (s : LineState) (answer : Result FloorPlan MoveNo) → OwnSame s (moved answer s)
+moved_own s (Ok floor) = own_nodes s (moved (Ok floor) s) refl
+moved_own s (Err why) = λ machine. refl
+
+moved_none : (gap : ℕ) (step : Move) (answer : Result FloorPlan MoveNo) → deeds_of (move_told gap step answer) ≡ []
+moved_none gap step (Ok floor) = refl
+moved_none gap step (Err why) = refl
+
+move_led : (gap : ℕ) (step : Move) (before next : LineState) (told : List Happening) (ledger : Ledger) → Around before next → Becomes (moved (floor_move gap step before.world.floor) before) (move_told gap step (floor_move gap step before.world.floor)) next told → LedLine before next ledger told
+move_led gap step before next told ledger a does =
+    let answer : Result FloorPlan MoveNo = floor_move gap step before.world.floor in
+    becomes_led before (moved answer before) next (move_told gap step answer) told ledger a does (moved_own before answer) (moved_none gap step answer)
+
+unvouched_none : (unvouched : Option ℕ) → deeds_of (unvouched_told unvouched) ≡ []
+unvouched_none None = refl
+unvouched_none (Some line) = refl
+
+does_led : (number : ℕ) (line : ScriptLine) (before next : LineState) (told : List Happening) (ledger : Ledger) → Around before next → LineDoes number line before next told → LedLine before next ledger told
+does_led number lines.Blank before next told ledger a does = becomes_led before before next [] told ledger a does (λ machine. refl) refl
+does_led number (lines.Machine capacity used) before next told ledger a does =
+    let now : LineState = one_more capacity used before in
+    let what : List Happening = happenings.Machine (length before.machines + 1) capacity ∷ [] in
+    unless_led _ before next told ledger (Becomes now what next told) a (λ becomes. becomes_led before now next what told ledger a becomes (more_own capacity used before) refl) does
+does_led number (lines.Insert machine barcode) before next told ledger a does = inserted_led _ number machine barcode before next told ledger a does
+does_led number (lines.Remove machine id) before next told ledger a does = given_led _ number machine (inputs.Remove id) before next told ledger tt a does
+does_led number (lines.Replace machine id) before next told ledger a does = replaced_led _ number machine id before next told ledger a does
+does_led number (lines.Mark machine id quality) before next told ledger a does = given_led _ number machine (inputs.Mark id quality) before next told ledger tt a does
+does_led number (lines.Hold machine side) before next told ledger a does = given_led _ number machine (inputs.Will side false) before next told ledger tt a does
+does_led number (lines.Go machine side) before next told ledger a does = given_led _ number machine (inputs.Will side true) before next told ledger tt a does
+does_led number (lines.Connect machine) before next told ledger a does = unless_led _ before next told ledger (Connects number machine before next told) a (connects_led number machine before next told ledger a) does
+does_led number (lines.Flow machine side count) before next told ledger a does = unless_led _ before next told ledger (Flows number machine side count before next told) a (flows_led number machine side count before next told ledger a) does
+does_led number (lines.Notice machine side) before next told ledger a does = given_led _ number machine (inputs.Notice side) before next told ledger tt a does
+does_led number (lines.Cut gap) before next told ledger a does =
+    let now : LineState = cut_in gap before in
+    let what : List Happening = happenings.Cut gap ∷ [] in
+    unless_led _ before next told ledger (Becomes now what next told) a (λ becomes. becomes_led before now next what told ledger a becomes (own_nodes before now refl) refl) does
+does_led number (lines.Spoil machine side) before next told ledger a does =
+    let now : LineState = spoiled machine side before in
+    let what : List Happening = spoil_told machine side before in
+    unless_led _ before next told ledger (Becomes now what next told) a
+    (λ becomes. becomes_led before now next what told ledger a becomes (own_nodes before now refl) (cut_none (link_of machine side) (spoil_sent (end_of side) (link_at (link_of machine side) before.world)))) does
+does_led number (lines.Shutdown machine) before next told ledger a does = given_led _ number machine inputs.Shutdown before next told ledger tt a does
+does_led number (lines.Tick machine) before next told ledger a does = given_led _ number machine inputs.Tick before next told ledger tt a does
+does_led number (lines.Fault machine side) before next told ledger a does = given_led _ number machine (inputs.Fault side) before next told ledger tt a does
+does_led number (lines.Sense machine) before next told ledger a does = given_led _ number machine inputs.Nothing before next told ledger tt a does
+does_led number (lines.Begin gap) before next told ledger a does = move_led gap moves.Begin before next told ledger a does
+does_led number (lines.Left gap) before next told ledger a does = move_led gap moves.Left before next told ledger a does
+does_led number (lines.Enter gap) before next told ledger a does = move_led gap moves.Enter before next told ledger a does
+does_led number (lines.Back gap) before next told ledger a does = move_led gap moves.Back before next told ledger a does
+does_led number (lines.HandIn gap) before next told ledger a does = move_led gap moves.HandIn before next told ledger a does
+does_led number (lines.Take gap) before next told ledger a does = move_led gap moves.Take before next told ledger a does
+does_led number (lines.Lie machine sensed) before next told ledger a does =
+    let now : LineState = lied number machine sensed before in
+    let what : List Happening = happenings.Lie machine sensed ∷ unvouched_told before.unvouched in
+    unless_led _ before next told ledger (Becomes now what next told) a (λ becomes. becomes_led before now next what told ledger a becomes (own_nodes before now refl) (unvouched_none before.unvouched)) does
+does_led number lines.Show before next told ledger a does = becomes_led before before next (shown before) told ledger a does (λ machine. refl) (shown_none 1 before.machines)
+
+-- ---- THE LINE
+
+around_of : (t t2 : Trace) (number : ℕ) (line : ScriptLine) (before after : LineState) (told : List Happening) → Stands t before → Stands t2 after → (steps : LineSteps number line before after told) → Around before steps.next
+around_of t t2 number line before after told st st2 steps =
+    let same : after.machines ≡ steps.next.machines = ap (λ (s : LineState). s.machines) steps.after_is in
+    record {
+      different = λ machine. differ_of machine st;
+      taken = λ machine id is. subst (λ (ns : List NodeState). IsOld 1 ns id) same (taken_old machine id st2 (ap (λ (n : NodeState). (own_of n.lane.body).taking) (same_nodes steps.next after same machine) ∙ is));
+      own = st.ids.own;
+      olds = λ x old. subst (λ (ns : List NodeState). IsOld 1 ns x) same ((steps-goes number line before after told st.ids steps).olds x old);
+    }
+
+pub line_led : (t t2 : Trace) (number : ℕ) (line : ScriptLine) (before after : LineState) (told : List Happening) (ledger : Ledger) → Stands t before → Stands t2 after → LineSteps number line before after told
+    → FitsLine (IsOld 1 before.machines) before ledger → Led (IsOld 1 after.machines) after ledger told
+line_led t t2 number line before after told ledger st st2 steps fits =
+    let same : after.machines ≡ steps.next.machines = ap (λ (s : LineState). s.machines) steps.after_is in
+    let led : Led (IsOld 1 steps.next.machines) steps.next ledger steps.done = does_led number line before steps.next steps.done ledger (around_of t t2 number line before after told st st2 steps) steps.does fits in
+    let none : deeds_of told ≡ deeds_of steps.done = ap deeds_of steps.told_is ∙ deeds_join steps.done (standings_told before steps.next) ∙ ap (λ (ds : List Deed). deeds_of steps.done ++ ds) (standings_none before steps.next) ∙ append-nil (deeds_of steps.done) in
+    led_told told steps.done none (record {
+      legal = led.legal;
+      fits = fits_same steps.next after (ledger_after_all ledger (deeds_of steps.done)) (own_nodes steps.next after same) (λ x old. subst (λ (ns : List NodeState). IsOld 1 ns x) (sym same) old) led.fits;
+    })

@@ -1,0 +1,63 @@
+-- The ledger and the custody facts along a run of a script in which the line stands in its relation.
+use Rattle.std.proofs.Common.{List, arith, [], false, refl, suc, take, true, zero, ℕ, ◌+◌, ◌∷◌, ◌≡◌, subst, sym, ◌++◌}
+use Rattle.std.specs.List.{AllByRecursion}
+use Rattle.line_script.specs.declared.line.ScriptLine.{ScriptLine}
+use Rattle.line_report.specs.declared.happening.Happening.{Happening}
+use Rattle.standings.specs.declared.deed.Deed.{Deed}
+use Rattle.standings.specs.Ledger.{Ledger, empty_ledger, ledger_after_all}
+use Rattle.standings.specs.Marks.{Where, has_at, intake, kept, outlet}
+use Rattle.line_step.specs.Lines.{LineSteps}
+use Rattle.line_step.specs.Numbered.{node_at}
+use Rattle.line_step.specs.Runs.{IsRun, Point}
+use Rattle.line_step.specs.State.{LineState, no_line, owned_by}
+use Rattle.line_step.proofs.Makers.{IsOld}
+use Rattle.one_standing.specs.Facts.{CustodyFacts, HasCustodyFacts}
+use Rattle.one_standing.specs.Replay.{Follows, IsLedgerOf, LedgerFollows, deeds_of}
+use Rattle.one_standing.specs.Carried.{Trace}
+use Rattle.one_standing.specs.Stands.{Stands}
+use Rattle.one_standing.proofs.FactsOf.{facts_of}
+use Rattle.one_standing.proofs.LedgerLine.{Led, line_led}
+use Rattle.one_standing.proofs.LedgerMarks.{FitsLine, entries_of, ledger_of}
+use Rattle.one_standing.proofs.LedgerTurns.{after_append}
+use Rattle.one_standing.proofs.LedgerStandings.{standing_told}
+use Rattle.one_standing.proofs.LineForms.{ConnectsBear}
+use Rattle.one_standing.proofs.LineRun.{AreStood, Stood, none_stood, run_stood}
+use Rattle.one_standing.proofs.Carrying.{SaysAlone}
+
+-- ---- the facts
+
+pub facts_run : SaysAlone → (points : List Point) → AreStood points → AllByRecursion (λ (point : Point). HasCustodyFacts point.after) points
+facts_run alone [] all = tt
+facts_run alone (point ∷ points) all = (facts_of alone all.0.trace point.after all.0.stands all.0.waits, facts_run alone points all.1)
+
+-- ---- the ledger
+
+none_has : (place : Where) (machine x : ℕ) → false ≡ has_at place (owned_by (node_at no_line machine)) x
+none_has kept zero x = refl
+none_has outlet zero x = refl
+none_has intake zero x = refl
+none_has kept (suc before) x = refl
+none_has outlet (suc before) x = refl
+none_has intake (suc before) x = refl
+
+none_fits : FitsLine (IsOld 1 no_line.machines) no_line empty_ledger
+none_fits = record { past = []; is = refl; all = λ place machine x. none_has place machine x; olds = λ x seen. absurd (let h : false ≡ true = seen in cc) }
+
+ledger_run : (s : LineState) (asked : List ScriptLine) (points : List Point) (n : ℕ) (ledger : Ledger) → Stood s → IsRun s asked points → AreStood (take n points) → FitsLine (IsOld 1 s.machines) s ledger → Follows ledger (take n points)
+ledger_run s asked points zero ledger was run all fits = tt
+ledger_run s [] [] (suc n) ledger was run all fits = tt
+ledger_run s [] (point ∷ points) (suc n) ledger was run all fits = elim run [ ]
+ledger_run s (line ∷ asked) [] (suc n) ledger was run all fits = elim run [ ]
+ledger_run s (line ∷ asked) (point ∷ points) (suc n) ledger was run all fits =
+    let led : Led (IsOld 1 point.after.machines) point.after ledger point.told = line_led was.trace all.0.trace (s.lines + 1) line s point.after point.told ledger was.stands all.0.stands run.0 fits in
+    let later : Ledger = ledger_after_all ledger (deeds_of point.told) in
+    (led.legal, ledger_of point.after later led.fits, standing_told later point.after (ledger_of point.after later led.fits), ledger_run point.after asked points n later all.0 run.1 all.1 led.fits)
+
+-- ---- THE LAWS
+
+pub custody_facts : SaysAlone → ConnectsBear → CustodyFacts
+custody_facts alone connects asked points n fit few run honest = facts_run alone (take n points) (run_stood alone connects no_line asked points n fit (omega (arith, few)) none_stood run honest)
+
+-- from the empty ledger on
+pub ledger_follows : SaysAlone → ConnectsBear → LedgerFollows
+ledger_follows alone connects asked points n fit few run honest = ledger_run no_line asked points n empty_ledger none_stood run (run_stood alone connects no_line asked points n fit (omega (arith, few)) none_stood run honest) none_fits

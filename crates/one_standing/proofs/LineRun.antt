@@ -1,0 +1,109 @@
+-- The relation of the line along a run of a script.
+use Rattle.std.proofs.Common.{Bool, List, [], ap, arith, false, length, refl, suc, subst, sym, take, true, zero, ℕ, ◌++◌, ◌+◌, ◌||◌, ◌∙◌, ◌∷◌, ◌≡◌, ◌≤◌}
+use Rattle.std.proofs.lemmas.Bool.{false≢true}
+use Rattle.std.specs.List.{AllByRecursion}
+use Rattle.line_script.specs.declared.line.ScriptLine.{ScriptLine}
+use Rattle.line_report.specs.declared.happening.Happening.{Happening}
+use Rattle.line_step.specs.Lies.{has_lie, is_lie, tells_lie}
+use Rattle.line_step.specs.Lines.{LineDoes, LineSteps}
+use Rattle.line_step.specs.Runs.{IsRun, Point}
+use Rattle.line_step.specs.Shown.{standings_told}
+use Rattle.line_step.specs.State.{LineState, no_line}
+use Rattle.line_step.specs.Together.{IsLineTogether}
+use Rattle.line_step.proofs.Keeps.{does_together, lines_stay}
+use Rattle.one_standing.specs.Carried.{Trace}
+use Rattle.one_standing.specs.Stands.{Stands}
+use Rattle.one_standing.specs.Standing.{HasOneStanding, IsFitLine, OneStanding}
+use Rattle.one_standing.specs.Waits.{AreWaiting}
+use Rattle.one_standing.proofs.ApartStep.{does_goes, told_before}
+use Rattle.one_standing.proofs.Behind.{Bears}
+use Rattle.one_standing.proofs.Carrying.{SaysAlone}
+use Rattle.one_standing.proofs.HandSteps.{Around}
+use Rattle.one_standing.proofs.LineForms.{ConnectsBear, line_bears}
+use Rattle.one_standing.proofs.OneStand.{one_standing_of}
+use Rattle.one_standing.proofs.RestMore.{counted_stands}
+use Rattle.one_standing.proofs.RestNone.{no_trace, none_stands}
+use Rattle.one_standing.proofs.SpoilingWaits.{does_waiting, none_waiting}
+use Rattle.one_standing.proofs.WholeLinks.{does_whole_links}
+
+-- a line of a script leaves the line in its relation
+pub record Stood (s : LineState) : Type 0 where
+  pub trace : Trace
+  pub stands : Stands trace s
+  pub waits : AreWaiting s
+
+or_first : (a b : Bool) → (a || b) ≡ false → a ≡ false
+or_first true b is = is
+or_first false b is = refl
+
+or_second : (a b : Bool) → (a || b) ≡ false → b ≡ false
+or_second true b is = absurd (false≢true (sym is))
+or_second false b is = is
+
+both_false : (a b : Bool) → a ≡ false → b ≡ false → (a || b) ≡ false
+both_false true b first second = first
+both_false false b first second = second
+
+honest_front : (a b : List Happening) → tells_lie (a ++ b) ≡ false → tells_lie a ≡ false
+honest_front [] b is = refl
+honest_front (h ∷ a) b is = both_false (is_lie h) (tells_lie a) (or_first (is_lie h) (tells_lie (a ++ b)) is) (honest_front a b (or_second (is_lie h) (tells_lie (a ++ b)) is))
+
+does_stood : SaysAlone → ConnectsBear → (number : ℕ) (line : ScriptLine) (before next : LineState) (done : List Happening) → number ≤ 1000000 → IsFitLine line → tells_lie done ≡ false → Stood before → LineDoes number line before next done → Stood next
+does_stood alone connects number line before next done few fit honest was does =
+    let st = was.stands in
+    let goes = does_goes number line before next done st.ids does in
+    let together : IsLineTogether next = does_together number line before next done st.together does in
+    let around : Around was.trace before next (done ++ standings_told before next) = record { st = st; together = together; goes = goes } in
+    let bears = line_bears connects number line was.trace before next done (done ++ standings_told before next)
+    (record { alone = alone; few = few; waits = was.waits; around = around; within = λ h is. told_before (standings_told before next) is }) honest fit does in
+    let b : Bears bears.0 next = bears.1 in
+    record {
+      trace = bears.0;
+      stands = record { keeps = b.keeps; carried = b.carried; rest = b.rest; fit = b.fit; sound = b.sound; links = does_whole_links number line before next done st.links does; together = together; ids = goes.holds; olds = b.olds };
+      waits = does_waiting number line before next done was.waits does;
+    }
+
+pub line_stood : SaysAlone → ConnectsBear → (number : ℕ) (line : ScriptLine) (before after : LineState) (told : List Happening) → number ≡ before.lines + 1 → number ≤ 1000000 → IsFitLine line → tells_lie told ≡ false → Stood before → LineSteps number line before after told → Stood after
+line_stood alone connects number line before after told is few fit honest was steps =
+    let next : LineState = steps.next in
+    let front : tells_lie steps.done ≡ false = honest_front steps.done (standings_told before next) (ap tells_lie (sym steps.told_is) ∙ honest) in
+    let stood : Stood next = does_stood alone connects number line before next steps.done few fit front was steps.does in
+    let same : next.lines ≡ before.lines = lines_stay number line before next steps.done steps.does in
+    let counted : next.lines + 1 ≤ 1000000 = omega (arith, same, is, few) in
+    subst (λ (s : LineState). Stood s) (sym steps.after_is) (record {
+      trace = stood.trace;
+      stands = counted_stands stood.trace next (next.lines + 1) counted stood.stands;
+      waits = λ machine. stood.waits machine;
+    })
+
+-- ---- along a run
+
+lines_after : (number : ℕ) (line : ScriptLine) (before after : LineState) (told : List Happening) → LineSteps number line before after told → after.lines ≡ before.lines + 1
+lines_after number line before after told steps = ap (λ (s : LineState). s.lines) steps.after_is ∙ ap (λ (n : ℕ). n + 1) (lines_stay number line before steps.next steps.done steps.does)
+
+abbrev pub AreStood : List Point → Type 0
+AreStood points = AllByRecursion (λ (point : Point). Stood point.after) points
+
+pub run_stood : SaysAlone → ConnectsBear → (s : LineState) (asked : List ScriptLine) (points : List Point) (n : ℕ) → AllByRecursion IsFitLine asked → s.lines + length asked ≤ 1000000 → Stood s → IsRun s asked points → has_lie (take n points) ≡ false → AreStood (take n points)
+run_stood alone connects s asked points zero fit few was run honest = tt
+run_stood alone connects s [] [] (suc n) fit few was run honest = tt
+run_stood alone connects s [] (point ∷ points) (suc n) fit few was run honest = elim run [ ]
+run_stood alone connects s (line ∷ asked) [] (suc n) fit few was run honest = elim run [ ]
+run_stood alone connects s (line ∷ asked) (point ∷ points) (suc n) fit few was run honest =
+    let one : tells_lie point.told ≡ false = or_first (tells_lie point.told) (has_lie (take n points)) honest in
+    let others : has_lie (take n points) ≡ false = or_second (tells_lie point.told) (has_lie (take n points)) honest in
+    let here : s.lines + 1 ≤ 1000000 = omega (arith, few) in
+    let stood : Stood point.after = line_stood alone connects (s.lines + 1) line s point.after point.told refl here fit.0 one was run.0 in
+    let left : point.after.lines + length asked ≤ 1000000 = omega (arith, few, lines_after (s.lines + 1) line s point.after point.told run.0) in
+    (stood, run_stood alone connects point.after asked points n fit.1 left stood run.1 others)
+
+pub none_stood : Stood no_line
+none_stood = record { trace = no_trace; stands = none_stands; waits = none_waiting }
+
+standing_each : (points : List Point) → AreStood points → AllByRecursion (λ (point : Point). HasOneStanding point.after) points
+standing_each [] all = tt
+standing_each (point ∷ points) all = (one_standing_of all.0.trace point.after all.0.stands, standing_each points all.1)
+
+-- THE HEADLINE
+pub one_standing : SaysAlone → ConnectsBear → OneStanding
+one_standing alone connects asked points n fit few run honest = standing_each (take n points) (run_stood alone connects no_line asked points n fit (omega (arith, few)) none_stood run honest)

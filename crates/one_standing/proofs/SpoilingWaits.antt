@@ -1,0 +1,209 @@
+-- What waits at an open side comes to no message, after each line of the script.
+use Rattle.std.proofs.Common.{Bool, List, Option, Some, [], ap, append-nil, arith, false, inl, inr, length, refl, subst, suc, sym, true, zero, ℕ, ◌++◌, ◌+◌, ◌-◌, ◌∙◌, ◌∷◌, ◌≡◌, ◌≢◌, ◌⊎◌}
+use Rattle.std.specs.Prelude.{Err, Ok, Result, slice_index_or}
+use Rattle.std.proofs.lemmas.Bool.{false≢true}
+use Rattle.line_base.specs.declared.states.Side.{Side}
+use Rattle.line_base.specs.declared.states.Side.TheVariants.{Entry, Exit}
+use Rattle.hermes_stream.proofs.Streams.{left_of-need_more, without_blanks-again}
+use Rattle.hermes_stream.specs.Frames.{Answer, Frame, NeedMore, TooLong, answer_at, answer_of, end_within, frames_of, frames_within, joined, left_of, without_blanks}
+use Rattle.line_link.specs.Link.{connected_of}
+use Rattle.line_report.specs.declared.happening.Happening.{Happening}
+use Rattle.line_script.specs.declared.line.ScriptLine.{ScriptLine}
+use Rattle.line_script.specs.declared.line.ScriptLine.TheVariants as lines
+use Rattle.line_world.specs.FloorPlan.{FloorPlan}
+use Rattle.line_world.specs.Moves.{floor_move}
+use Rattle.line_world.specs.declared.moves.Move.{Move}
+use Rattle.line_world.specs.declared.moves.Move.TheVariants as move
+use Rattle.line_world.specs.declared.moves.MoveNo.{MoveNo}
+use Rattle.node_core.specs.Node.{NodeState, new_node}
+use Rattle.node_core.specs.Sides.{is_open}
+use Rattle.node_core.specs.Step.{Brings}
+use Rattle.node_core.specs.Words.{AreAll, all_more, all_none}
+use Rattle.node_core.specs.declared.act.Act.{Act}
+use Rattle.node_core.specs.declared.act.Act.TheVariants as acts
+use Rattle.node_core.specs.declared.input.Input.{Input}
+use Rattle.node_core.specs.declared.input.Input.TheVariants as inputs
+use Rattle.node_core.specs.declared.lane.Lane.{Lane}
+use Rattle.node_core.specs.declared.word.Word.{Word}
+use Rattle.line_step.specs.Lines.{Becomes, Connects, Flows, LineDoes, Moves, Unless, arrived, connecting, cut_in, lied, met, moved, spoiled}
+use Rattle.line_step.specs.Numbered as numbered
+use Rattle.line_step.specs.Numbered.{no_node, node_at, stand_at}
+use Rattle.line_step.specs.Opened.{open_act, open_after, opened_by}
+use Rattle.line_step.specs.Reasons.{May}
+use Rattle.line_step.specs.State.{LineState, machine_in, no_line, one_more, profile_of}
+use Rattle.line_step.specs.Steps.{MachineSteps, moment_of, unread_by}
+use Rattle.line_step.specs.World.{link_at}
+use Rattle.line_step.proofs.Changing.{more_changes, step_changes}
+use Rattle.line_step.proofs.Numbers.{machine_set_own, same_or_not}
+use Rattle.line_step.proofs.Opening.{steps_open}
+use Rattle.one_standing.specs.Waits.{AreWaiting, Waits}
+use Rattle.one_standing.proofs.RestLine.{node_there}
+
+-- ---- what is left behind all frames
+
+needs_none : answer_of [] ≡ NeedMore
+unfolding answer_of
+needs_none = refl
+
+needs_left : (bytes : List ℕ) → answer_of bytes ≡ NeedMore → answer_of (left_of bytes) ≡ NeedMore
+unfolding answer_of
+needs_left bytes needs =
+    let again : without_blanks (without_blanks bytes) ≡ without_blanks bytes = ap without_blanks (sym (append-nil (without_blanks bytes))) ∙ without_blanks-again bytes [] ∙ ap without_blanks (append-nil bytes) in
+    ap answer_of (left_of-need_more bytes needs) ∙ ap (λ (b : List ℕ). answer_at b (end_within b)) again ∙ needs
+
+rest_within : (more : ℕ) (bytes rest : List ℕ) → (frames_within more bytes).rest ≡ Some rest → answer_of rest ≡ NeedMore
+unfolding frames_within
+rest_within zero bytes rest is = absurd (cc)
+rest_within (suc more) bytes rest is = by (answer_of bytes) refl is (rest_within more (left_of bytes) rest)
+  where
+    by : (answer : Answer) → answer_of bytes ≡ answer → (joined answer (left_of bytes) (frames_within more (left_of bytes))).rest ≡ Some rest → ((frames_within more (left_of bytes)).rest ≡ Some rest → answer_of rest ≡ NeedMore) → answer_of rest ≡ NeedMore
+    by (Frame message) front is later = later is
+    by NeedMore front is later =
+        let same : left_of bytes ≡ rest = cc in
+        subst (λ (b : List ℕ). answer_of b ≡ NeedMore) same (needs_left bytes front)
+    by TooLong front is later = absurd (cc)
+
+rest_needs : (bytes rest : List ℕ) → (frames_of bytes).rest ≡ Some rest → answer_of rest ≡ NeedMore
+unfolding frames_of
+rest_needs bytes rest is = rest_within (length bytes + 1) bytes rest is
+
+all_rest : {frames : List (List ℕ)} {rest : Option (List ℕ)} {words : List Word} {left : List ℕ} → AreAll frames rest words left → rest ≡ Some left
+all_rest all_none = refl
+all_rest (all_more means others) = all_rest others
+
+-- ---- a step
+
+still_closed : (side : Side) (act : Act) → open_act side false act ≡ false
+still_closed Entry (acts.Closes Entry) = refl
+still_closed Entry (acts.Closes Exit) = refl
+still_closed Exit (acts.Closes Entry) = refl
+still_closed Exit (acts.Closes Exit) = refl
+still_closed Entry (acts.Notices Entry) = refl
+still_closed Entry (acts.Notices Exit) = refl
+still_closed Exit (acts.Notices Entry) = refl
+still_closed Exit (acts.Notices Exit) = refl
+still_closed side act = refl
+
+all_closed : (side : Side) (told : List Act) → open_after side false told ≡ false
+all_closed side [] = refl
+all_closed side (act ∷ told) = ap (λ (o : Bool). open_after side o told) (still_closed side act) ∙ all_closed side told
+
+was_open : (side : Side) (opened : Bool) (told : List Act) → open_after side opened told ≡ true → opened ≡ true
+was_open side true told is = refl
+was_open side false told is = absurd (false≢true (sym (all_closed side told) ∙ is))
+
+lane_waits : (input : Input) (old new : Lane) (words : List Word) → Brings input old new words → ((side : Side) → is_open side new.body ≡ true → opened_by input side (is_open side old.body) ≡ true) → Waits old → Waits new
+lane_waits (inputs.Bytes Entry piece) old new words brings opens waits Entry there = rest_needs (old.entry_bytes ++ piece.now) new.entry_bytes (all_rest (brings.0.all there))
+lane_waits (inputs.Bytes Entry piece) old new words brings opens waits Exit there = ap answer_of brings.1 ∙ waits Exit (opens Exit there)
+lane_waits (inputs.Bytes Exit piece) old new words brings opens waits Entry there = ap answer_of brings.1 ∙ waits Entry (opens Entry there)
+lane_waits (inputs.Bytes Exit piece) old new words brings opens waits Exit there = rest_needs (old.exit_bytes ++ piece.now) new.exit_bytes (all_rest (brings.0.all there))
+lane_waits inputs.Connect old new words brings opens waits Entry there = ap answer_of brings.0 ∙ needs_none
+lane_waits inputs.Connect old new words brings opens waits Exit there = ap answer_of brings.1 ∙ waits Exit (opens Exit there)
+lane_waits inputs.Accepted old new words brings opens waits Entry there = ap answer_of brings.0 ∙ waits Entry (opens Entry there)
+lane_waits inputs.Accepted old new words brings opens waits Exit there = ap answer_of brings.1 ∙ needs_none
+lane_waits input old new words brings opens waits Entry there = ap answer_of brings.0 ∙ waits Entry (opens Entry there)
+lane_waits input old new words brings opens waits Exit there = ap answer_of brings.1 ∙ waits Exit (opens Exit there)
+
+steps : (number machine : ℕ) (input : Input) (before after : LineState) (told : List Happening) → MachineSteps number machine input before after told → AreWaiting before → AreWaiting after
+steps number machine input before after told did waits k = by (same_or_not k machine)
+  where
+    own : Waits did.next.lane
+    own = lane_waits input did.node.lane did.next.lane did.steps.lane.words did.steps.lane.brings
+        (λ side there. was_open side (opened_by input side (is_open side did.node.lane.body)) did.acts (sym (steps_open did.node (unread_by machine before.world) input (moment_of number) did.next did.acts side did.steps) ∙ there))
+        (subst (λ (n : NodeState). Waits n.lane) (node_there machine before did.node did.there) (waits machine))
+
+    next : machine_in machine after ≡ Some did.next
+    next = ap (machine_in machine) did.after_is ∙ machine_set_own machine before did.node did.next did.there
+
+    by : (k ≡ machine) ⊎ (k ≢ machine) → Waits (node_at after k).lane
+    by (inl is) = subst (λ (n : ℕ). Waits (node_at after n).lane) (sym is) (subst (λ (n : NodeState). Waits n.lane) (sym (node_there machine after did.next next)) own)
+    by (inr apart) = subst (λ (n : NodeState). Waits n.lane) (sym (ap (λ (x : numbered.Stand). x.node) ((step_changes number machine input before after told did).machines k apart))) (waits k)
+
+-- ---- what changes no machine
+
+-- machines are what a line has of them
+pub same_node : (s s2 : LineState) → s2.machines ≡ s.machines → (k : ℕ) → node_at s2 k ≡ node_at s k
+same_node s s2 same zero = refl
+same_node s s2 same (suc place) = ap (λ (nodes : List NodeState). slice_index_or nodes place no_node) same
+
+pub still_waiting : (s s2 : LineState) → s2.machines ≡ s.machines → AreWaiting s → AreWaiting s2
+still_waiting s s2 same waits k = subst (λ (n : NodeState). Waits n.lane) (sym (same_node s s2 same k)) (waits k)
+
+flows : (number machine : ℕ) (side : Side) (count : Option ℕ) (before after : LineState) (told : List Happening) → Flows number machine side count before after told → AreWaiting before → AreWaiting after
+flows number machine side count before after told flow waits =
+    steps number machine (inputs.Bytes side flow.piece) (arrived machine side count before) after told flow.steps (still_waiting before (arrived machine side count before) refl waits)
+
+connects : (number machine : ℕ) (before after : LineState) (told : List Happening) → Connects number machine before after told → AreWaiting before → AreWaiting after
+connects number machine before after told twice waits =
+    steps number (machine - 1) (met (connected_of (link_at (machine - 1) before.world).upstream)) twice.between after twice.later twice.second
+    (steps number machine inputs.Connect (connecting machine before) twice.between twice.earlier twice.first (still_waiting before (connecting machine before) refl waits))
+
+moved_still : (answer : Result FloorPlan MoveNo) (s : LineState) → AreWaiting s → AreWaiting (moved answer s)
+moved_still (Ok floor) s waits = still_waiting s (moved (Ok floor) s) refl waits
+moved_still (Err why) s waits = waits
+
+-- ---- one machine more
+
+new_waits : (profile_number capacity used : ℕ) → Waits (new_node (profile_of profile_number capacity used)).lane
+new_waits number capacity used Entry there = needs_none
+new_waits number capacity used Exit there = needs_none
+
+got_last : (nodes : List NodeState) (new : NodeState) → slice_index_or (nodes ++ new ∷ []) (length nodes) no_node ≡ new
+got_last [] new = refl
+got_last (n ∷ nodes) new = got_last nodes new
+
+more_waits : (capacity used : ℕ) (s : LineState) → AreWaiting s → AreWaiting (one_more capacity used s)
+more_waits capacity used s waits k = by (same_or_not k (length s.machines + 1))
+  where
+    next : length s.machines + 1 ≡ suc (length s.machines)
+    next = omega arith
+
+    by : (k ≡ length s.machines + 1) ⊎ (k ≢ length s.machines + 1) → Waits (node_at (one_more capacity used s) k).lane
+    by (inl is) =
+        let new : NodeState = new_node (profile_of (length s.machines + 1) capacity used) in
+        subst (λ (n : ℕ). Waits (node_at (one_more capacity used s) n).lane) (sym (is ∙ next))
+        (subst (λ (n : NodeState). Waits n.lane) (sym (got_last s.machines new)) (new_waits (length s.machines + 1) capacity used))
+    by (inr apart) = subst (λ (n : NodeState). Waits n.lane) (sym (ap (λ (x : numbered.Stand). x.node) ((more_changes capacity used s).machines k apart))) (waits k)
+
+-- ---- a line of the script
+
+made : (before next after : LineState) (what told : List Happening) → Becomes next what after told → AreWaiting next → AreWaiting after
+made before next after what told is waits = subst (λ (s : LineState). AreWaiting s) (sym is.after_is) waits
+
+unless : (may : May) (before after : LineState) (told : List Happening) (Done : Type 0) → Unless may before after told Done → AreWaiting before → (Done → AreWaiting after) → AreWaiting after
+unless (Ok _) before after told Done what waits then = then what
+unless (Err reason) before after told Done what waits then = made before before after _ told what waits
+
+moves : (gap : ℕ) (step : Move) (before after : LineState) (told : List Happening) → Moves gap step before after told → AreWaiting before → AreWaiting after
+moves gap step before after told is waits = made before (moved (floor_move gap step before.world.floor) before) after _ told is (moved_still (floor_move gap step before.world.floor) before waits)
+
+pub none_waiting : AreWaiting no_line
+none_waiting zero side there = new_waits 0 1 0 side there
+none_waiting (suc place) side there = new_waits 0 1 0 side there
+
+pub does_waiting : (number : ℕ) (line : ScriptLine) (before next : LineState) (told : List Happening) → AreWaiting before → LineDoes number line before next told → AreWaiting next
+does_waiting number lines.Blank before next told waits is = made before before next [] told is waits
+does_waiting number (lines.Machine capacity used) before next told waits is = unless _ before next told _ is waits (λ done. made before (one_more capacity used before) next _ told done (more_waits capacity used before waits))
+does_waiting number (lines.Insert machine barcode) before next told waits is = unless _ before next told _ is waits (λ done. steps number machine (inputs.Insert barcode) before next told done waits)
+does_waiting number (lines.Remove machine id) before next told waits is = unless _ before next told _ is waits (λ done. steps number machine (inputs.Remove id) before next told done waits)
+does_waiting number (lines.Replace machine id) before next told waits is = unless _ before next told _ is waits (λ done. steps number machine (inputs.Replace id) before next told done waits)
+does_waiting number (lines.Mark machine id quality) before next told waits is = unless _ before next told _ is waits (λ done. steps number machine (inputs.Mark id quality) before next told done waits)
+does_waiting number (lines.Hold machine side) before next told waits is = unless _ before next told _ is waits (λ done. steps number machine (inputs.Will side false) before next told done waits)
+does_waiting number (lines.Go machine side) before next told waits is = unless _ before next told _ is waits (λ done. steps number machine (inputs.Will side true) before next told done waits)
+does_waiting number (lines.Connect machine) before next told waits is = unless _ before next told _ is waits (λ done. connects number machine before next told done waits)
+does_waiting number (lines.Flow machine side count) before next told waits is = unless _ before next told _ is waits (λ done. flows number machine side count before next told done waits)
+does_waiting number (lines.Notice machine side) before next told waits is = unless _ before next told _ is waits (λ done. steps number machine (inputs.Notice side) before next told done waits)
+does_waiting number (lines.Cut gap) before next told waits is = unless _ before next told _ is waits (λ done. made before (cut_in gap before) next _ told done (still_waiting before (cut_in gap before) refl waits))
+does_waiting number (lines.Spoil machine side) before next told waits is = unless _ before next told _ is waits (λ done. made before (spoiled machine side before) next _ told done (still_waiting before (spoiled machine side before) refl waits))
+does_waiting number (lines.Shutdown machine) before next told waits is = unless _ before next told _ is waits (λ done. steps number machine inputs.Shutdown before next told done waits)
+does_waiting number (lines.Tick machine) before next told waits is = unless _ before next told _ is waits (λ done. steps number machine inputs.Tick before next told done waits)
+does_waiting number (lines.Fault machine side) before next told waits is = unless _ before next told _ is waits (λ done. steps number machine (inputs.Fault side) before next told done waits)
+does_waiting number (lines.Sense machine) before next told waits is = unless _ before next told _ is waits (λ done. steps number machine inputs.Nothing before next told done waits)
+does_waiting number (lines.Begin gap) before next told waits is = moves gap move.Begin before next told is waits
+does_waiting number (lines.Left gap) before next told waits is = moves gap move.Left before next told is waits
+does_waiting number (lines.Enter gap) before next told waits is = moves gap move.Enter before next told is waits
+does_waiting number (lines.Back gap) before next told waits is = moves gap move.Back before next told is waits
+does_waiting number (lines.HandIn gap) before next told waits is = moves gap move.HandIn before next told is waits
+does_waiting number (lines.Take gap) before next told waits is = moves gap move.Take before next told is waits
+does_waiting number (lines.Lie machine sensed) before next told waits is = unless _ before next told _ is waits (λ done. made before (lied number machine sensed before) next _ told done (still_waiting before (lied number machine sensed before) refl waits))
+does_waiting number lines.Show before next told waits is = made before before next _ told is waits

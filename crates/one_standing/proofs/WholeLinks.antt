@@ -1,0 +1,294 @@
+-- What stands together in each link still does after a line of the script.
+use Rattle.std.proofs.Common.{Bool, List, None, Option, Some, [], ap, arith, eqb-true, false, inl, inr, length, lt-ltb, ltb-true, refl, subst, sym, true, ℕ, ◌&&◌, ◌++◌, ◌+◌, ◌-◌, ◌<◌, ◌∷◌, ◌≡◌, ◌≢◌, ◌⊎◌}
+use Rattle.std.specs.Prelude.{Err, Ok, Result, cond, drop, is_some, not, suc, take, zero}
+use Rattle.std.proofs.lemmas.Bool.{eq-eqb}
+use Rattle.std.proofs.lemmas.List.{length-append, length-take-le}
+use Rattle.line_base.specs.declared.states.Role.{Role}
+use Rattle.line_base.specs.declared.states.Role.TheVariants.{Downstream, Upstream}
+use Rattle.line_base.specs.declared.states.Side.{Side}
+use Rattle.hermes_horizontal.specs.Canonical.{canonical}
+use Rattle.hermes_horizontal.specs.declared.message.Message.{Message}
+use Rattle.line_link.specs.Flow.{Stream, dry, flowing, is_begun, nul_put, reached, with_arrival, with_nul, with_text}
+use Rattle.line_link.specs.Link.{LinkParts, across, after_answer, after_close, after_connect, after_flow, after_send, after_spoil, answer_of, are_joined, connected, connected_of, cut, flow_to, is_dry_without, is_too_much, next_number, no_link, number_of, texted, with_flow_to, within_limit}
+use Rattle.line_link.specs.Texts.{with_byte_at}
+use Rattle.line_link.proofs.Reaching.{begun_by}
+use Rattle.line_report.specs.declared.happening.Happening.{Happening}
+use Rattle.line_report.specs.declared.happening.Reason.TheVariants as reasons
+use Rattle.line_script.specs.declared.line.ScriptLine.{ScriptLine}
+use Rattle.line_script.specs.declared.line.ScriptLine.TheVariants as lines
+use Rattle.line_world.specs.FloorPlan.{FloorPlan}
+use Rattle.line_world.specs.Moves.{floor_move}
+use Rattle.line_world.specs.declared.moves.Move.{Move}
+use Rattle.line_world.specs.declared.moves.Move.TheVariants as move
+use Rattle.line_world.specs.declared.moves.MoveNo.{MoveNo}
+use Rattle.node_core.specs.Node.{NodeState}
+use Rattle.node_core.specs.declared.act.Act.{Act}
+use Rattle.node_core.specs.declared.act.Act.TheVariants as acts
+use Rattle.node_core.specs.declared.act.Deed.{Deed}
+use Rattle.node_core.specs.declared.act.Deed.TheVariants as deeds
+use Rattle.node_core.specs.declared.input.Input.{Input}
+use Rattle.node_core.specs.declared.input.Input.TheVariants as inputs
+use Rattle.node_core.specs.declared.input.No.TheVariants as nos
+use Rattle.line_step.specs.Acts.{act_did, acts_did, counted, is_answer, is_exit, sent_by}
+use Rattle.line_step.specs.Lines.{Becomes, Connects, Flows, LineDoes, Moves, Unless, arrived, connecting, cut_in, met, moved, spoiled}
+use Rattle.line_step.specs.Together.{is_linked}
+use Rattle.line_step.specs.Reasons.{May, has_neighbour, if_there, link_stands, may_do, may_spoil, no_if}
+use Rattle.line_step.specs.State.{LineState, machine_in, no_line, one_more}
+use Rattle.line_step.specs.Steps.{MachineSteps, is_second, read_by}
+use Rattle.line_step.specs.World.{WorldParts, end_of, link_at, link_of, with_link}
+use Rattle.line_step.proofs.Keeps.{more_at}
+use Rattle.line_step.proofs.Numbers.{Written, link_beyond, link_set, link_set_other, nowhere, same_or_not, written}
+use Rattle.one_standing.specs.Links.{AreWholeLinks, IsWholeLink}
+
+-- ---- what flows
+
+begun_more : (texts : List (List ℕ)) (arrived byte : ℕ) (bytes : List ℕ) → is_begun texts arrived ≡ true → is_begun (texts ++ (byte ∷ bytes) ∷ []) arrived ≡ true
+begun_more [] arrived byte bytes begun = lt-ltb arrived (length (byte ∷ bytes)) (omega (arith, eqb-true arrived 0 begun))
+begun_more (text ∷ texts) arrived byte bytes begun = begun
+
+begun_text : (text : List ℕ) (stream : Stream) → is_begun stream.texts stream.arrived ≡ true → is_begun (with_text text stream).texts (with_text text stream).arrived ≡ true
+begun_text [] stream begun = begun
+begun_text (byte ∷ bytes) stream begun = begun_more stream.texts stream.arrived byte bytes begun
+
+begun_nul : (texts : List (List ℕ)) (arrived : ℕ) → is_begun texts arrived ≡ true → is_begun (nul_put texts arrived).texts (nul_put texts arrived).arrived ≡ true
+begun_nul [] arrived begun = refl
+begun_nul (text ∷ texts) arrived begun =
+    let short : arrived < length text = ltb-true arrived (length text) begun in
+    let front = length-take-le arrived text (omega arith) in
+    lt-ltb arrived (length (with_byte_at arrived 0 text)) (omega (arith, length-append (take arrived text) (0 ∷ drop arrived text), front))
+
+begun_arrival : (count : ℕ) (stream : Stream) → is_begun (with_arrival count stream).texts (with_arrival count stream).arrived ≡ true
+begun_arrival count stream = begun_by (with_arrival count stream) (stream.arrived + count) stream.texts refl
+
+dry_none : (number : Option ℕ) → is_dry_without number [] ≡ true
+dry_none None = refl
+dry_none (Some number) = refl
+
+still_dry : (number : Option ℕ) (count : ℕ) (texts : List (List ℕ)) → is_dry_without number texts ≡ true → is_dry_without number (reached count texts).texts ≡ true
+still_dry None count [] dry = refl
+still_dry None count (text ∷ texts) dry = absurd (cc)
+still_dry (Some number) count texts dry = refl
+
+-- ---- a link
+
+pub whole_none : IsWholeLink no_link
+whole_none = record { joined = refl; dry_upstream = refl; dry_downstream = refl; begun = record { upstream = refl; downstream = refl } }
+
+pub begun_at : (to : Role) (link : LinkParts) → IsWholeLink link → is_begun (flow_to to link).texts (flow_to to link).arrived ≡ true
+begun_at Upstream link whole = whole.begun.upstream
+begun_at Downstream link whole = whole.begun.downstream
+
+dry_at : (to : Role) (link : LinkParts) → IsWholeLink link → is_dry_without (number_of to link) (flow_to to link).texts ≡ true
+dry_at Upstream link whole = whole.dry_upstream
+dry_at Downstream link whole = whole.dry_downstream
+
+-- both ends of a link that stands have a number
+numbered_by : (to : Role) (stands : Bool) (link : LinkParts) (upstream downstream : Option ℕ) → link.upstream ≡ upstream → link.downstream ≡ downstream → stands ≡ true → are_joined stands upstream downstream ≡ true → is_some (number_of to link) ≡ true
+numbered_by to false link upstream downstream up down on joined = absurd (cc)
+numbered_by to true link None downstream up down on joined = absurd (cc)
+numbered_by to true link (Some number) None up down on joined = absurd (cc)
+numbered_by Upstream true link (Some number) (Some other) up down on joined = ap (λ (n : Option ℕ). is_some n) up
+numbered_by Downstream true link (Some number) (Some other) up down on joined = ap (λ (n : Option ℕ). is_some n) down
+
+pub numbered : (to : Role) (link : LinkParts) → IsWholeLink link → link.stands ≡ true → is_some (number_of to link) ≡ true
+numbered to link whole on = numbered_by to link.stands link link.upstream link.downstream refl refl on whole.joined
+
+dry_numbered : (number : Option ℕ) (texts : List (List ℕ)) → is_some number ≡ true → is_dry_without number texts ≡ true
+dry_numbered None texts some = absurd (cc)
+dry_numbered (Some number) texts some = refl
+
+pub whole_cut : (link : LinkParts) → IsWholeLink (cut link)
+whole_cut link = record { joined = refl; dry_upstream = dry_none link.upstream; dry_downstream = dry_none link.downstream; begun = record { upstream = refl; downstream = refl } }
+
+either : (test : Bool) (one other : LinkParts) → IsWholeLink one → IsWholeLink other → IsWholeLink (cond test one other)
+either true one other a b = a
+either false one other a b = b
+
+whole_limit : (to : Role) (link : LinkParts) → IsWholeLink link → IsWholeLink (within_limit to link)
+whole_limit to link whole = either (is_too_much to link) (cut link) link (whole_cut link) whole
+
+-- something else flows to an end
+whole_flow : (to : Role) (stream : Stream) (link : LinkParts) → IsWholeLink link → is_dry_without (number_of to link) stream.texts ≡ true → is_begun stream.texts stream.arrived ≡ true → IsWholeLink (with_flow_to to stream link)
+whole_flow Upstream stream link whole dry begun = record { joined = whole.joined; dry_upstream = dry; dry_downstream = whole.dry_downstream; begun = record { upstream = begun; downstream = whole.begun.downstream } }
+whole_flow Downstream stream link whole dry begun = record { joined = whole.joined; dry_upstream = whole.dry_upstream; dry_downstream = dry; begun = record { upstream = whole.begun.upstream; downstream = begun } }
+
+whole_send : (from : Role) (text : List ℕ) (link : LinkParts) → IsWholeLink link → IsWholeLink (after_send from text link)
+whole_send from text link whole = by link.stands refl
+  where
+    by : (test : Bool) → link.stands ≡ test → IsWholeLink (cond test (within_limit (across from) (texted (across from) text link)) link)
+    by true stands =
+        let now = with_text text (flow_to (across from) link) in
+        whole_limit (across from) (texted (across from) text link)
+        (whole_flow (across from) now link whole (dry_numbered (number_of (across from) link) now.texts (numbered (across from) link whole stands)) (begun_text text (flow_to (across from) link) (begun_at (across from) link whole)))
+    by false stands = whole
+
+whole_answer : (text : List ℕ) (link : LinkParts) → IsWholeLink link → IsWholeLink (after_answer text link)
+whole_answer text link whole = by link.downstream refl
+  where
+    by : (number : Option ℕ) → link.downstream ≡ number → IsWholeLink (answer_of number text link)
+    by None is = whole
+    by (Some number) is =
+        whole_limit Downstream (texted Downstream text link) (whole_flow Downstream (with_text text (flow_to Downstream link)) link whole (rw is refl) (begun_text text (flow_to Downstream link) (begun_at Downstream link whole)))
+
+whole_close : (end : Role) (link : LinkParts) → IsWholeLink link → IsWholeLink (after_close end link)
+whole_close Upstream link whole = record { joined = refl; dry_upstream = refl; dry_downstream = whole.dry_downstream; begun = record { upstream = refl; downstream = whole.begun.downstream } }
+whole_close Downstream link whole = record { joined = refl; dry_upstream = whole.dry_upstream; dry_downstream = refl; begun = record { upstream = whole.begun.upstream; downstream = refl } }
+
+whole_arrival : (to : Role) (count : Option ℕ) (link : LinkParts) → IsWholeLink link → IsWholeLink (after_flow to count link)
+whole_arrival to count link whole =
+    let stream = flow_to to link in
+    let many = flowing count stream in
+    whole_flow to (with_arrival many stream) link whole (still_dry (number_of to link) (stream.arrived + many) stream.texts (dry_at to link whole)) (begun_arrival many stream)
+
+whole_connect : (link : LinkParts) → IsWholeLink link → IsWholeLink (after_connect link)
+whole_connect link whole = by link.upstream
+  where
+    by : (number : Option ℕ) → IsWholeLink (connected number (next_number link.made) link)
+    by None = record { joined = eq-eqb (next_number link.made) (next_number link.made) refl; dry_upstream = refl; dry_downstream = refl; begun = whole.begun }
+    by (Some number) = record { joined = refl; dry_upstream = whole.dry_upstream; dry_downstream = refl; begun = whole.begun }
+
+pub whole_spoil : (to : Role) (link : LinkParts) → link.stands ≡ true → IsWholeLink link → IsWholeLink (after_spoil to link)
+whole_spoil to link stands whole =
+    let now = with_nul (flow_to to link) in
+    whole_limit to (with_flow_to to now link) (whole_flow to now link whole (dry_numbered (number_of to link) now.texts (numbered to link whole stands)) (begun_nul (flow_to to link).texts (flow_to to link).arrived (begun_at to link whole)))
+
+-- ---- the links of a world
+
+abbrev AreWhole : WorldParts → Type 0
+AreWhole world = (link : ℕ) → IsWholeLink (link_at link world)
+
+pub whole_links : (link : ℕ) (parts : LinkParts) (world : WorldParts) → ((k : ℕ) → IsWholeLink (link_at k world)) → IsWholeLink parts → (k : ℕ) → IsWholeLink (link_at k (with_link link parts world))
+whole_links link parts world all whole k = by (same_or_not k link)
+  where
+    own : Written link parts world → IsWholeLink (link_at link (with_link link parts world))
+    own (written is) = subst IsWholeLink (sym is) whole
+    own (nowhere is was) = subst IsWholeLink (sym is) whole_none
+
+    by : (k ≡ link) ⊎ (k ≢ link) → IsWholeLink (link_at k (with_link link parts world))
+    by (inl is) = subst (λ (n : ℕ). IsWholeLink (link_at n (with_link link parts world))) (sym is) (own (link_set link parts world))
+    by (inr apart) = subst IsWholeLink (sym (link_set_other link k parts world apart)) (all k)
+
+-- ---- acts
+
+whole_sent : (second : Bool) (machine : ℕ) (side : Side) (message : Message) (world : WorldParts) → AreWhole world → AreWhole (sent_by second machine side message world).world
+whole_sent true machine side message world all = whole_links machine (after_answer (canonical message) (link_at machine world)) world all (whole_answer (canonical message) (link_at machine world) (all machine))
+whole_sent false machine side message world all =
+    let link = link_of machine side in
+    whole_links link (after_send (end_of side) (canonical message) (link_at link world)) world all (whole_send (end_of side) (canonical message) (link_at link world) (all link))
+
+whole_closed : (machine : ℕ) (side : Side) (world : WorldParts) → AreWhole world → AreWhole (with_link (link_of machine side) (after_close (end_of side) (link_at (link_of machine side) world)) world)
+whole_closed machine side world all = let link = link_of machine side in whole_links link (after_close (end_of side) (link_at link world)) world all (whole_close (end_of side) (link_at link world) (all link))
+
+whole_counted : (deed : Deed) (world : WorldParts) → AreWhole world → AreWhole (counted deed world)
+whole_counted (deeds.Opens id) world all = all
+whole_counted (deeds.Settles id) world all = all
+whole_counted (deeds.Refuses id) world all = all
+whole_counted (deeds.Leaves id) world all = all
+whole_counted (deeds.Returns id) world all = all
+whole_counted (deeds.Loses id) world all = all
+whole_counted (deeds.Starts id) world all = all
+whole_counted (deeds.Drops id) world all = all
+
+whole_act : (second : Bool) (machine : ℕ) (act : Act) (world : WorldParts) → AreWhole world → AreWhole (act_did second machine act world).world
+whole_act second machine (acts.Sends side message) world all = whole_sent (second && (is_exit side && is_answer message.body)) machine side message world all
+whole_act second machine (acts.Closes side) world all = whole_closed machine side world all
+whole_act second machine (acts.Notices side) world all = whole_closed machine side world all
+whole_act second machine (acts.Deed deed) world all = whole_counted deed world all
+whole_act second machine act world all = all
+
+whole_acts : (second : Bool) (machine : ℕ) (told : List Act) (world : WorldParts) → AreWhole world → AreWhole (acts_did second machine told world).world
+whole_acts second machine [] world all = all
+whole_acts second machine (act ∷ others) world all = whole_acts second machine others (act_did second machine act world).world (whole_act second machine act world all)
+
+-- ---- a step, a connection, a move
+
+steps : (number machine : ℕ) (input : Input) (before after : LineState) (told : List Happening) → MachineSteps number machine input before after told → AreWholeLinks before → AreWholeLinks after
+steps number machine input before after told did all =
+    subst (λ (s : LineState). AreWholeLinks s) (sym did.after_is) (whole_acts (is_second input) machine did.acts (read_by machine before.world) all)
+
+flows : (number machine : ℕ) (side : Side) (count : Option ℕ) (before after : LineState) (told : List Happening) → Flows number machine side count before after told → AreWholeLinks before → AreWholeLinks after
+flows number machine side count before after told flow all =
+    let link = link_of machine side in
+    steps number machine (inputs.Bytes side flow.piece) (arrived machine side count before) after told flow.steps
+    (whole_links link (after_flow (end_of side) count (link_at link before.world)) before.world all (whole_arrival (end_of side) count (link_at link before.world) (all link)))
+
+connects : (number machine : ℕ) (before after : LineState) (told : List Happening) → Connects number machine before after told → AreWholeLinks before → AreWholeLinks after
+connects number machine before after told twice all =
+    let link = machine - 1 in
+    steps number link (met (connected_of (link_at link before.world).upstream)) twice.between after twice.later twice.second
+    (steps number machine inputs.Connect (connecting machine before) twice.between twice.earlier twice.first
+    (whole_links link (after_connect (link_at link before.world)) before.world all (whole_connect (link_at link before.world) (all link))))
+
+moved_whole : (answer : Result FloorPlan MoveNo) (s : LineState) → AreWholeLinks s → AreWholeLinks (moved answer s)
+moved_whole (Ok floor) s all = all
+moved_whole (Err why) s all = all
+
+more_whole : (capacity used : ℕ) (s : LineState) → AreWholeLinks s → AreWholeLinks (one_more capacity used s)
+more_whole capacity used s all link = subst IsWholeLink (sym (more_at capacity used s link)) (all link)
+
+-- a link that is spoiled stands, and lies between two machines
+pub record CanSpoil (machine : ℕ) (side : Side) (s : LineState) : Type 0 where
+  pub node : NodeState
+  pub there : machine_in machine s ≡ Some node
+  pub neighbour : has_neighbour machine side s ≡ true
+  pub stands : (link_at (link_of machine side) s.world).stands ≡ true
+
+can_by : (machine : ℕ) (side : Side) (s : LineState) (found : Option NodeState) (a b c : Bool) → machine_in machine s ≡ found → has_neighbour machine side s ≡ a → (link_at (link_of machine side) s.world).stands ≡ c
+    → if_there found (λ (node : NodeState). no_if (not a) reasons.NoNeighbour (no_if b (reasons.Node nos.NotConnected) (no_if (not c) reasons.NotStanding may_do))) ≡ may_do → CanSpoil machine side s
+can_by machine side s None a b c there neighbour stands may = absurd (cc)
+can_by machine side s (Some node) false b c there neighbour stands may = absurd (cc)
+can_by machine side s (Some node) true true c there neighbour stands may = absurd (cc)
+can_by machine side s (Some node) true false false there neighbour stands may = absurd (cc)
+can_by machine side s (Some node) true false true there neighbour stands may = record { node = node; there = there; neighbour = neighbour; stands = stands }
+
+pub can_spoil : (machine : ℕ) (side : Side) (s : LineState) → may_spoil machine side s ≡ may_do → CanSpoil machine side s
+can_spoil machine side s may =
+    can_by machine side s (machine_in machine s) (has_neighbour machine side s) (not (is_linked machine side s.world)) (link_stands machine side s.world) refl refl refl may
+
+-- ---- a line of the script
+
+made : (before next after : LineState) (what told : List Happening) → Becomes next what after told → AreWholeLinks next → AreWholeLinks after
+made before next after what told is all = subst (λ (s : LineState). AreWholeLinks s) (sym is.after_is) all
+
+unless : (may : May) (before after : LineState) (told : List Happening) (Done : Type 0) → Unless may before after told Done → AreWholeLinks before → (may ≡ may_do → Done → AreWholeLinks after) → AreWholeLinks after
+unless (Ok _) before after told Done what all then = then refl what
+unless (Err reason) before after told Done what all then = made before before after _ told what all
+
+moves : (gap : ℕ) (step : Move) (before after : LineState) (told : List Happening) → Moves gap step before after told → AreWholeLinks before → AreWholeLinks after
+moves gap step before after told is all = made before (moved (floor_move gap step before.world.floor) before) after _ told is (moved_whole (floor_move gap step before.world.floor) before all)
+
+pub none_whole_links : AreWholeLinks no_line
+none_whole_links zero = whole_none
+none_whole_links (suc place) = subst IsWholeLink (sym (link_beyond (suc place) no_line.world (omega arith))) whole_none
+
+pub does_whole_links : (number : ℕ) (line : ScriptLine) (before next : LineState) (told : List Happening) → AreWholeLinks before → LineDoes number line before next told → AreWholeLinks next
+does_whole_links number lines.Blank before next told all is = made before before next [] told is all
+does_whole_links number (lines.Machine capacity used) before next told all is = unless _ before next told _ is all (λ may done. made before (one_more capacity used before) next _ told done (more_whole capacity used before all))
+does_whole_links number (lines.Insert machine barcode) before next told all is = unless _ before next told _ is all (λ may done. steps number machine (inputs.Insert barcode) before next told done all)
+does_whole_links number (lines.Remove machine id) before next told all is = unless _ before next told _ is all (λ may done. steps number machine (inputs.Remove id) before next told done all)
+does_whole_links number (lines.Replace machine id) before next told all is = unless _ before next told _ is all (λ may done. steps number machine (inputs.Replace id) before next told done all)
+does_whole_links number (lines.Mark machine id quality) before next told all is = unless _ before next told _ is all (λ may done. steps number machine (inputs.Mark id quality) before next told done all)
+does_whole_links number (lines.Hold machine side) before next told all is = unless _ before next told _ is all (λ may done. steps number machine (inputs.Will side false) before next told done all)
+does_whole_links number (lines.Go machine side) before next told all is = unless _ before next told _ is all (λ may done. steps number machine (inputs.Will side true) before next told done all)
+does_whole_links number (lines.Connect machine) before next told all is = unless _ before next told _ is all (λ may done. connects number machine before next told done all)
+does_whole_links number (lines.Flow machine side count) before next told all is = unless _ before next told _ is all (λ may done. flows number machine side count before next told done all)
+does_whole_links number (lines.Notice machine side) before next told all is = unless _ before next told _ is all (λ may done. steps number machine (inputs.Notice side) before next told done all)
+does_whole_links number (lines.Cut gap) before next told all is =
+    unless _ before next told _ is all (λ may done. made before (cut_in gap before) next _ told done (whole_links gap (cut (link_at gap before.world)) before.world all (whole_cut (link_at gap before.world))))
+does_whole_links number (lines.Spoil machine side) before next told all is =
+    let link = link_of machine side in
+    unless (may_spoil machine side before) before next told _ is all
+    (λ may done. made before (spoiled machine side before) next _ told done
+    (whole_links link (after_spoil (end_of side) (link_at link before.world)) before.world all (whole_spoil (end_of side) (link_at link before.world) (can_spoil machine side before may).stands (all link))))
+does_whole_links number (lines.Shutdown machine) before next told all is = unless _ before next told _ is all (λ may done. steps number machine inputs.Shutdown before next told done all)
+does_whole_links number (lines.Tick machine) before next told all is = unless _ before next told _ is all (λ may done. steps number machine inputs.Tick before next told done all)
+does_whole_links number (lines.Fault machine side) before next told all is = unless _ before next told _ is all (λ may done. steps number machine (inputs.Fault side) before next told done all)
+does_whole_links number (lines.Sense machine) before next told all is = unless _ before next told _ is all (λ may done. steps number machine inputs.Nothing before next told done all)
+does_whole_links number (lines.Begin gap) before next told all is = moves gap move.Begin before next told is all
+does_whole_links number (lines.Left gap) before next told all is = moves gap move.Left before next told is all
+does_whole_links number (lines.Enter gap) before next told all is = moves gap move.Enter before next told is all
+does_whole_links number (lines.Back gap) before next told all is = moves gap move.Back before next told is all
+does_whole_links number (lines.HandIn gap) before next told all is = moves gap move.HandIn before next told is all
+does_whole_links number (lines.Take gap) before next told all is = moves gap move.Take before next told is all
+does_whole_links number (lines.Lie machine sensed) before next told all is = unless _ before next told _ is all (λ may done. made before _ next _ told done all)
+does_whole_links number lines.Show before next told all is = made before before next _ told is all

@@ -1,0 +1,11 @@
+pub mod Relation
+pub mod Kept
+pub mod Places
+pub mod Carried
+pub mod Links
+pub mod Stands
+pub mod Standing
+pub mod Mirrors
+pub mod Facts
+pub mod Replay
+pub mod Waits
