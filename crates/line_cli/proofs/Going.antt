@@ -175,6 +175,7 @@ refused-reports script rest old now place text text' number why going refuses =
 ended : (number : ℕ) (why : LineWhy) (script : List ℕ) (left old now now' : Option (List ℕ)) (before after : ℕ) (shown text : List ℕ) (end : LineState) (status : Status) → Reports script (shown ++ text) (Some (record { line = number; why = why })) end → Grows old now shown → EndsRefused (errors.Refused number why) now now' before after text status → RunsScript script left old now' status
 ended number why script left old now now' before after shown text end statuses.Done reports grows ends = absurd ends
 ended number why script left old now now' before after shown text end statuses.Usage reports grows ends = absurd ends
+ended number why script left old now now' before after shown text end (statuses.Refuted refuted because) reports grows ends = absurd ends
 ended number why script left old now now' before after shown text end (statuses.ScriptRefused line reason) reports grows ends =
     whole-report script (shown ++ text) (Some (record { line = number; why = why })) end old now' (statuses.ScriptRefused line reason) reports (grows_more old now now' shown text grows ends.3) (rw (ends.0, ends.1) refl)
 ended number why script left old now now' before after shown text end statuses.ReadFault reports grows ends = absurd ends
@@ -186,6 +187,7 @@ ended number why script left old now now' before after shown text end statuses.U
 ended-memory : (script rest : List ℕ) (left old now now' : Option (List ℕ)) (before after : ℕ) (place : Place) (text other : List ℕ) (status : Status) → IsGoing script rest old now place text → EndsRefused errors.Memory now now' before after other status → RunsScript script left old now' status
 ended-memory script rest left old now now' before after place text other statuses.Done going ends = absurd ends
 ended-memory script rest left old now now' before after place text other statuses.Usage going ends = absurd ends
+ended-memory script rest left old now now' before after place text other (statuses.Refuted refuted because) going ends = absurd ends
 ended-memory script rest left old now now' before after place text other (statuses.ScriptRefused line reason) going ends = absurd ends
 ended-memory script rest left old now now' before after place text other statuses.ReadFault going ends = absurd ends
 ended-memory script rest left old now now' before after place text other statuses.WriteFault going ends = absurd ends
@@ -247,6 +249,7 @@ whole-ended : (unvouched : Bool) (script : List ℕ) (left old now now' : Option
 whole-ended unvouched script left old now now' before after shown text end statuses.Done over told reports grows ends =
     (whole-report script (shown ++ text) None end old now' statuses.Done reports (grows_more old now now' shown text grows ends.2) (ap (status_of None) (sym ends.0 ∙ told)), over)
 whole-ended unvouched script left old now now' before after shown text end statuses.Usage over told reports grows ends = absurd ends
+whole-ended unvouched script left old now now' before after shown text end (statuses.Refuted refuted because) over told reports grows ends = absurd ends
 whole-ended unvouched script left old now now' before after shown text end (statuses.ScriptRefused line reason) over told reports grows ends = absurd ends
 whole-ended unvouched script left old now now' before after shown text end statuses.ReadFault over told reports grows ends = absurd ends
 whole-ended unvouched script left old now now' before after shown text end statuses.WriteFault over told reports grows ends = front-report script text shown None end old now now' reports grows ends.2
@@ -266,6 +269,7 @@ runs-whole unvouched (Some script) (Some rest) left' old now now' before after p
 pub causes-refused : (error : RunError) (now now' : Option (List ℕ)) (text : List ℕ) (status : Status) (reads reads' writes before after : ℕ) → reads ≤ reads' → writes ≤ before → EndsRefused error now now' before after text status → HasCauses status reads reads' writes after
 causes-refused (errors.Refused number why) now now' text statuses.Done reads reads' writes before after r w ends = absurd ends
 causes-refused (errors.Refused number why) now now' text statuses.Usage reads reads' writes before after r w ends = absurd ends
+causes-refused (errors.Refused number why) now now' text (statuses.Refuted refuted because) reads reads' writes before after r w ends = absurd ends
 causes-refused (errors.Refused number why) now now' text (statuses.ScriptRefused line reason) reads reads' writes before after r w ends = record { reads = r; writes = omega (arith, w, ends.2); read_fault = λ is. cc; write_fault = λ is. cc }
 causes-refused (errors.Refused number why) now now' text statuses.ReadFault reads reads' writes before after r w ends = absurd ends
 causes-refused (errors.Refused number why) now now' text statuses.WriteFault reads reads' writes before after r w ends = record { reads = r; writes = omega (arith, w, ends.0); read_fault = λ is. cc; write_fault = λ is. rose_after writes before after w ends.0 ends.1 }
@@ -274,6 +278,7 @@ causes-refused (errors.Refused number why) now now' text statuses.Unvouched read
 causes-refused errors.Memory now now' text statuses.Unvouched reads reads' writes before after r w ends = absurd ends
 causes-refused errors.Memory now now' text statuses.Done reads reads' writes before after r w ends = absurd ends
 causes-refused errors.Memory now now' text statuses.Usage reads reads' writes before after r w ends = absurd ends
+causes-refused errors.Memory now now' text (statuses.Refuted refuted because) reads reads' writes before after r w ends = absurd ends
 causes-refused errors.Memory now now' text (statuses.ScriptRefused line reason) reads reads' writes before after r w ends = absurd ends
 causes-refused errors.Memory now now' text statuses.ReadFault reads reads' writes before after r w ends = absurd ends
 causes-refused errors.Memory now now' text statuses.WriteFault reads reads' writes before after r w ends = absurd ends
@@ -283,6 +288,7 @@ pub causes-whole : (unvouched : Bool) (now now' : Option (List ℕ)) (text : Lis
 causes-whole unvouched now now' text statuses.Done reads reads' writes before after r w ends = record { reads = r; writes = omega (arith, w, ends.1); read_fault = λ is. cc; write_fault = λ is. cc }
 causes-whole unvouched now now' text statuses.Unvouched reads reads' writes before after r w ends = record { reads = r; writes = omega (arith, w, ends.1); read_fault = λ is. cc; write_fault = λ is. cc }
 causes-whole unvouched now now' text statuses.Usage reads reads' writes before after r w ends = absurd ends
+causes-whole unvouched now now' text (statuses.Refuted refuted because) reads reads' writes before after r w ends = absurd ends
 causes-whole unvouched now now' text (statuses.ScriptRefused line reason) reads reads' writes before after r w ends = absurd ends
 causes-whole unvouched now now' text statuses.ReadFault reads reads' writes before after r w ends = absurd ends
 causes-whole unvouched now now' text statuses.WriteFault reads reads' writes before after r w ends = record { reads = r; writes = omega (arith, w, ends.0); read_fault = λ is. cc; write_fault = λ is. rose_after writes before after w ends.0 ends.1 }

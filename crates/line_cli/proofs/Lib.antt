@@ -5,3 +5,5 @@ pub mod ReadFrames
 pub mod ReadSteps
 pub mod ReadOnce
 pub mod ReportOnce
+pub mod Checked
+pub mod FitScript

@@ -157,6 +157,7 @@ ended-read : (stream rest : List ℕ) (left old now now' : Option (List ℕ)) (w
 ended-read stream rest left old now now' waiting far text large before after statuses.Done reading over whole is_large over_left most ends =
     (not-large (length stream) large is_large ends.0, record { text = reading.shown ++ (text ++ ending_text far.done far.too_long (length waiting) large); is = is-read far.too_long stream rest old now waiting far text large reading over whole is_large; grows = grows_more old now now' reading.shown (text ++ ending_text far.done far.too_long (length waiting) large) reading.grows ends.2 }, over_left ends.0)
 ended-read stream rest left old now now' waiting far text large before after statuses.Usage reading over whole is_large over_left most ends = absurd ends
+ended-read stream rest left old now now' waiting far text large before after (statuses.Refuted refuted because) reading over whole is_large over_left most ends = absurd ends
 ended-read stream rest left old now now' waiting far text large before after statuses.Unvouched reading over whole is_large over_left most ends = absurd ends
 ended-read stream rest left old now now' waiting far text large before after (statuses.ScriptRefused line why) reading over whole is_large over_left most ends =
     (ends.1, ends.2, is-large (length stream) large is_large ends.0, record { text = reading.shown ++ (text ++ ending_text far.done far.too_long (length waiting) large); is = is-read far.too_long stream rest old now waiting far text large reading over whole is_large; grows = grows_more old now now' reading.shown (text ++ ending_text far.done far.too_long (length waiting) large) reading.grows ends.4 })
@@ -211,6 +212,7 @@ reads-large (Some stream) (Some rest) (Some rest') old now now' waiting waiting'
 pub causes-ended : (far : Progress) (waits : ℕ) (large : Bool) (now now' : Option (List ℕ)) (text : List ℕ) (status : Status) (reads reads' writes before after : ℕ) → reads ≤ reads' → writes ≤ before → EndsRead far waits large now now' before after text status → HasCauses status reads reads' writes after
 causes-ended far waits large now now' text statuses.Done reads reads' writes before after r w ends = record { reads = r; writes = omega (arith, w, ends.1); read_fault = λ is. cc; write_fault = λ is. cc }
 causes-ended far waits large now now' text statuses.Usage reads reads' writes before after r w ends = absurd ends
+causes-ended far waits large now now' text (statuses.Refuted refuted because) reads reads' writes before after r w ends = absurd ends
 causes-ended far waits large now now' text statuses.Unvouched reads reads' writes before after r w ends = absurd ends
 causes-ended far waits large now now' text (statuses.ScriptRefused line why) reads reads' writes before after r w ends = record { reads = r; writes = omega (arith, w, ends.3); read_fault = λ is. cc; write_fault = λ is. cc }
 causes-ended far waits large now now' text statuses.ReadFault reads reads' writes before after r w ends = absurd ends

@@ -9,6 +9,7 @@ use Rattle.line_step.specs.State.{no_line}
 use Rattle.line_step.specs.Runs.{Point, IsRun}
 use Rattle.line_step.specs.Lies.{has_lie}
 use Rattle.line_cli.specs.Stream.{Reads}
+use Rattle.line_cli.specs.Checking.{Checks}
 use Rattle.line_cli.specs.declared.status.Status.{Status}
 use Rattle.line_cli.specs.declared.status.Status.TheVariants as statuses
 use Rattle.line_cli.specs.declared.status.InputWhy.TheVariants as inputs
@@ -22,9 +23,10 @@ exit_number statuses.ReadFault = 4
 exit_number statuses.WriteFault = 5
 exit_number statuses.Memory = 6
 exit_number statuses.Unvouched = 7
+exit_number (statuses.Refuted line why) = 8
 
 abbrev pub usage_text : List ℕ
-usage_text = codes "usage: line run | line read | line make <number>\n"
+usage_text = codes "usage: line run | line read | line check | line make <number>\n"
 
 -- whether the words are this word alone
 abbrev pub is_word : List ℕ → List (List ℕ) → Bool
@@ -37,6 +39,9 @@ is_run words = is_word (codes "run") words
 
 abbrev pub is_read : List (List ℕ) → Bool
 is_read words = is_word (codes "read") words
+
+abbrev pub is_check : List (List ℕ) → Bool
+is_check words = is_word (codes "check") words
 
 -- how the run of a script ends, whose whole report was written
 abbrev pub status_of : Option Refusal → Bool → Status
@@ -67,6 +72,7 @@ RunsScript script left old new (statuses.ScriptRefused line why) = WritesReport 
 RunsScript script left old new statuses.ReadFault = WritesFront script old new
 RunsScript script left old new statuses.WriteFault = WritesFront script old new
 RunsScript script left old new statuses.Memory = WritesFront script old new
+RunsScript script left old new (statuses.Refuted line why) = ⊥
 
 -- the same, where the source tells its bytes
 abbrev pub Runs : Option (List ℕ) → Option (List ℕ) → Option (List ℕ) → Option (List ℕ) → Status → Type 0
@@ -81,11 +87,12 @@ pub record Refers (left_old left_new old new : Option (List ℕ)) (before now : 
   pub pushed : Pushed
   pub text : PushesAll old new before now usage_text pushed
 
--- WHAT THE PROGRAM DOES with its words: whether they are `run`, and whether they are `read`
-abbrev pub DoesAs : Bool → Bool → Option (List ℕ) → Option (List ℕ) → Option (List ℕ) → Option (List ℕ) → ℕ → ℕ → Status → Type 0
-DoesAs true reads left_old left_new old new before now status = Runs left_old left_new old new status
-DoesAs false true left_old left_new old new before now status = Reads left_old left_new old new status
-DoesAs false false left_old left_new old new before now status = Refers left_old left_new old new before now status
+-- WHAT THE PROGRAM DOES with its words: whether they are `run`, whether they are `read`, and whether they are `check`
+abbrev pub DoesAs : Bool → Bool → Bool → Option (List ℕ) → Option (List ℕ) → Option (List ℕ) → Option (List ℕ) → ℕ → ℕ → Status → Type 0
+DoesAs true reads checks left_old left_new old new before now status = Runs left_old left_new old new status
+DoesAs false true checks left_old left_new old new before now status = Reads left_old left_new old new status
+DoesAs false false true left_old left_new old new before now status = Checks left_old left_new old new status
+DoesAs false false false left_old left_new old new before now status = Refers left_old left_new old new before now status
 
 -- whatever the source tells, what `run` may answer: a line of a script, numbered from 1, is refused for a
 -- reason of the script grammar, and a stream's size is none of its concern
@@ -98,6 +105,7 @@ IsRunStatus statuses.ReadFault = Unit {0}
 IsRunStatus statuses.WriteFault = Unit {0}
 IsRunStatus statuses.Memory = Unit {0}
 IsRunStatus statuses.Unvouched = Unit {0}
+IsRunStatus (statuses.Refuted line why) = ⊥
 
 -- and what `read` may answer: a stream is refused for its size alone
 abbrev pub IsReadStatus : Status → Type 0
@@ -109,12 +117,25 @@ IsReadStatus statuses.ReadFault = Unit {0}
 IsReadStatus statuses.WriteFault = Unit {0}
 IsReadStatus statuses.Memory = Unit {0}
 IsReadStatus statuses.Unvouched = ⊥
+IsReadStatus (statuses.Refuted line why) = ⊥
 
--- WHAT THE PROGRAM MAY ANSWER to its words: `Usage` exactly where they are neither `run` nor `read`
-abbrev pub FitsWords : Bool → Bool → Status → Type 0
-FitsWords true reads status = IsRunStatus status
-FitsWords false true status = IsReadStatus status
-FitsWords false false status = status ≡ statuses.Usage
+-- and what `check` may answer: a log is refuted, and not refused
+abbrev pub IsCheckStatus : Status → Type 0
+IsCheckStatus statuses.Done = Unit {0}
+IsCheckStatus statuses.Usage = ⊥
+IsCheckStatus (statuses.ScriptRefused line why) = ⊥
+IsCheckStatus statuses.ReadFault = Unit {0}
+IsCheckStatus statuses.WriteFault = Unit {0}
+IsCheckStatus statuses.Memory = Unit {0}
+IsCheckStatus statuses.Unvouched = ⊥
+IsCheckStatus (statuses.Refuted line why) = Unit {0}
+
+-- WHAT THE PROGRAM MAY ANSWER to its words: `Usage` exactly where they are neither `run` nor `read` nor `check`
+abbrev pub FitsWords : Bool → Bool → Bool → Status → Type 0
+FitsWords true reads checks status = IsRunStatus status
+FitsWords false true checks status = IsReadStatus status
+FitsWords false false true status = IsCheckStatus status
+FitsWords false false false status = status ≡ statuses.Usage
 
 -- no count of faults falls, and a fault comes only where the count of that object rose
 pub record HasCauses (status : Status) (reads_before reads_now writes_before writes_now : ℕ) : Type 0 where

@@ -4,7 +4,9 @@ pub mod Report
 pub mod LineEnds
 pub mod Reader
 pub mod Command
+pub mod Checking
 pub mod Ending
 pub mod ReadText
 pub mod Stream
 pub mod StreamReader
+pub mod Premises

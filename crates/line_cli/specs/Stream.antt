@@ -29,6 +29,7 @@ ReadsStream stream left old new statuses.ReadFault = WritesFront stream old new
 ReadsStream stream left old new statuses.WriteFault = WritesFront stream old new
 ReadsStream stream left old new statuses.Memory = WritesFront stream old new
 ReadsStream stream left old new statuses.Unvouched = ⊥
+ReadsStream stream left old new (statuses.Refuted line why) = ⊥
 
 -- the same, where the source tells its bytes
 abbrev pub Reads : Option (List ℕ) → Option (List ℕ) → Option (List ℕ) → Option (List ℕ) → Status → Type 0

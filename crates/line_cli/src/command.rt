@@ -1,7 +1,13 @@
 ghost use Rattle.std.specs.Prelude.{◌≡◌};
 ghost use Rattle.line_step.specs.FloorIds.{IdsStay};
-ghost use Rattle.line_cli.specs.Command.{DoesAs, FitsWords, HasCauses, is_word, is_run, is_read, usage_text};
+ghost use Rattle.line_openings.specs.Announced.{OpensWhenAnnounced};
+ghost use Rattle.one_standing.specs.Facts.{CustodyFacts};
+ghost use Rattle.one_standing.specs.Replay.{LedgerFollows};
+ghost use Rattle.one_standing.specs.Standing.{OneStanding};
+ghost use Rattle.line_cli.specs.Command.{DoesAs, FitsWords, HasCauses, is_word, is_run, is_read, is_check, usage_text};
+ghost use Rattle.line_cli.specs.Premises.{ScriptsAreFit};
 
+use crate::checking::check_merged;
 use crate::reading::read_stream;
 use crate::running::run_script;
 use crate::status::Status;
@@ -10,7 +16,7 @@ use line_outside::{Sink, Source, push_all};
 use std::alloc::Global;
 
 /// What is written where the words are none of the program's forms.
-const USAGE: &str = "usage: line run | line read | line make <number>\n";
+const USAGE: &str = "usage: line run | line read | line check | line make <number>\n";
 
 /// The program `line`: does what the words behind its name ask for.
 ///
@@ -18,25 +24,44 @@ const USAGE: &str = "usage: line run | line read | line make <number>\n";
 /// a line of it is refused, `Unvouched` where all was done and a line told what was not so. With
 /// `read` it reads a stream of messages from `script` and writes a line for each to `report`; a stream
 /// of more than 1,073,741,824 bytes is `ScriptRefused` as `TooLarge`, with line 0, behind the lines of
-/// what stands in its first 1,073,741,824. Other words are answered by `Usage` and the usage text, and
-/// nothing is read.
+/// what stands in its first 1,073,741,824. With `check` it reads the merged log of a line's machines
+/// from `script` and writes to `report` that it is right, or the first reason against it at the first
+/// line where one holds, which is `Refuted`. Other words are answered by `Usage` and the usage text,
+/// and nothing is read.
 pub fn line_main<S: Source, K: Sink>(
     alloc: Global,
     words: &Words,
     script: &mut S,
     report: &mut K,
 ) -> Status
-    ensures does { DoesAs (is_run words.now) (is_read words.now) (S.left script.old) (S.left script.new) (K.contents report.old) (K.contents report.new) (K.faults report.old) (K.faults report.new) result }
-    ensures fits { FitsWords (is_run words.now) (is_read words.now) result }
+    ensures does { DoesAs (is_run words.now) (is_read words.now) (is_check words.now) (S.left script.old) (S.left script.new) (K.contents report.old) (K.contents report.new) (K.faults report.old) (K.faults report.new) result }
+    ensures fits { FitsWords (is_run words.now) (is_read words.now) (is_check words.now) result }
     ensures causes { HasCauses result (S.faults script.old) (S.faults script.new) (K.faults report.old) (K.faults report.new) }
     // unique ids on the floor, and ids that stay, over the run of every script
     ensures ids { IdsStay }
+    // each record with one machine or in one named handover, over the run of every script up to its first lie
+    ensures standing { OneStanding }
+    // where its board lies then, and whose half holds it
+    ensures custody { CustodyFacts }
+    // and what the report tells of records is what becomes of them
+    ensures ledger { LedgerFollows }
+    // which ask of a script what each script that is read has
+    ensures fit { ScriptsAreFit }
+    // a handover opens exactly when board and place are announced, over the run of every script
+    ensures opens { OpensWhenAnnounced }
 {
+    one_standing::laws::one_standing_after_each_line();
+    one_standing::laws::the_custody_facts_hold_after_each_line();
+    one_standing::laws::the_ledger_follows_the_report();
+    line_openings::laws::a_machine_opens_exactly_when_announced();
     if is_word(words.list(), b"run") {
         return run_script(alloc, script, report);
     }
     if is_word(words.list(), b"read") {
         return read_stream(alloc, script, report);
+    }
+    if is_word(words.list(), b"check") {
+        return check_merged(alloc, script, report);
     }
     let _pushed = push_all(report, USAGE.as_bytes());
     Status::Usage

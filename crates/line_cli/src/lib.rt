@@ -1,6 +1,7 @@
 //! The program `line`: what its words ask for, and what it answers.
 #![tactic(auto)]
 
+mod checking;
 mod command;
 mod laws;
 mod reading;

@@ -1,6 +1,7 @@
 ghost use Rattle.std.specs.Prelude.{◌≡◌};
 ghost use Rattle.line_cli.specs.Command.{exit_number};
 
+use line_check::CheckWhy;
 use line_script::LineWhy;
 
 /// Why an input is refused.
@@ -29,6 +30,8 @@ pub enum Status {
     Memory,
     /// All was read and all was written, but a line of the script told what was not so.
     Unvouched,
+    /// The log is refuted at this line, counted from 1, for this reason.
+    Refuted { line: u64, why: CheckWhy },
 }
 
 impl Status {
@@ -44,6 +47,7 @@ impl Status {
             Status::WriteFault => 5,
             Status::Memory => 6,
             Status::Unvouched => 7,
+            Status::Refuted { .. } => 8,
         }
     }
 }

@@ -6,7 +6,7 @@ ghost use Rattle.line_cli.specs.ReadText.{message_text};
 ghost use Rattle.line_cli.specs.ReadText.{ending_text, end_text};
 ghost use Rattle.line_cli.specs.StreamReader.{WritesLine, TakesPiece, TakesSome, IsOver};
 
-use hermes_horizontal::{Horizontal, Message, MessageError, append_horizontal, read_horizontal};
+use hermes_horizontal::{Horizontal, Message, MessageError, read_horizontal, write_horizontal};
 use hermes_stream::{Cut, Cutter};
 use line_base::Memory;
 use std::alloc::Global;
@@ -198,7 +198,7 @@ fn write_body(message: &Message, to: &mut Vec<u8>) -> Result<(), Memory>
 {
     match &message.body {
         Horizontal::Other(name) => write_other(name.bytes(), to),
-        _ => append_horizontal(message, to),
+        _ => write_horizontal(message, to),
     }
 }
 

@@ -1,0 +1,229 @@
+-- Each script that is read has barcodes that are texts, and at most 1,000,000 lines.
+use Rattle.std.proofs.Common.{Bool, List, [], arith, false, length, refl, suc, true, ℕ, ◌+◌, ◌∷◌, ◌≡◌, ◌≤◌, sym}
+use Rattle.std.proofs.lemmas.Bool.Decides.{nat_tests}
+use Rattle.std.specs.Prelude.{Err, Ok, Result, if◌then◌else◌, nat_eq, nat_le, nat_lt}
+use Rattle.std.specs.List.{AllByRecursion, list_all, list_any}
+use Rattle.std.specs.Str.{bytes_eq}
+use Rattle.std.specs.Str.Lines.{lines as lines_in}
+use Rattle.line_base.specs.declared.states.SensorEvent.{SensorEvent}
+use Rattle.line_base.specs.declared.states.Side.{Side}
+use Rattle.line_script.specs.Grammar.{Form, Value, arguments_as, board, forms, graded, insert_form, is_comment, is_later, is_seen_at, lie_of, line_among, line_as, line_of_words, mapped_ok, numeral, read_of, seen, sided, spelled, then_ok}
+use Rattle.line_script.specs.Grammar as grammar
+use Rattle.line_script.specs.Words.{is_text_byte, number_in, token_of, words_of}
+use Rattle.line_script.specs.declared.line.LineWhy.{LineWhy}
+use Rattle.line_script.specs.declared.line.LineWhy.TheVariants as whys
+use Rattle.line_script.specs.declared.line.ScriptLine.{ScriptLine}
+use Rattle.line_script.specs.declared.line.ScriptLine.TheVariants as lines
+use Rattle.line_script.proofs.Tokens.{IsAllowed-from_text}
+use Rattle.line_cli.specs.Premises.{ScriptsAreFit}
+use Rattle.line_cli.specs.Script.{Script, before_all, either, meaning_at, refused_at, script_from, script_of}
+use Rattle.one_standing.specs.Standing.{IsFitLine}
+
+-- an answer is a refusal, or a line whose barcode is a text
+abbrev Fit : Result ScriptLine LineWhy → Type 0
+Fit (Ok line) = IsFitLine line
+Fit (Err why) = Unit {0}
+
+-- ---- each form
+
+made_machine : (values : List Value) → Fit (grammar.made_machine values)
+made_machine (numeral capacity ∷ []) = tt
+made_machine (numeral capacity ∷ spelled used ∷ numeral count ∷ []) = tt
+made_machine _ = tt
+
+made_remove : (values : List Value) → Fit (grammar.made_remove values)
+made_remove (numeral machine ∷ board id ∷ []) = tt
+made_remove _ = tt
+
+made_replace : (values : List Value) → Fit (grammar.made_replace values)
+made_replace (numeral machine ∷ board id ∷ []) = tt
+made_replace _ = tt
+
+made_mark : (values : List Value) → Fit (grammar.made_mark values)
+made_mark (numeral machine ∷ board id ∷ graded quality ∷ []) = tt
+made_mark _ = tt
+
+made_hold : (values : List Value) → Fit (grammar.made_hold values)
+made_hold (numeral machine ∷ sided side ∷ []) = tt
+made_hold _ = tt
+
+made_go : (values : List Value) → Fit (grammar.made_go values)
+made_go (numeral machine ∷ sided side ∷ []) = tt
+made_go _ = tt
+
+made_connect : (values : List Value) → Fit (grammar.made_connect values)
+made_connect (numeral machine ∷ []) = tt
+made_connect _ = tt
+
+made_flow : (values : List Value) → Fit (grammar.made_flow values)
+made_flow (numeral machine ∷ sided side ∷ []) = tt
+made_flow (numeral machine ∷ sided side ∷ numeral count ∷ []) = tt
+made_flow _ = tt
+
+made_notice : (values : List Value) → Fit (grammar.made_notice values)
+made_notice (numeral machine ∷ sided side ∷ []) = tt
+made_notice _ = tt
+
+made_cut : (values : List Value) → Fit (grammar.made_cut values)
+made_cut (numeral gap ∷ []) = tt
+made_cut _ = tt
+
+made_spoil : (values : List Value) → Fit (grammar.made_spoil values)
+made_spoil (numeral machine ∷ sided side ∷ []) = tt
+made_spoil _ = tt
+
+made_shutdown : (values : List Value) → Fit (grammar.made_shutdown values)
+made_shutdown (numeral machine ∷ []) = tt
+made_shutdown _ = tt
+
+made_tick : (values : List Value) → Fit (grammar.made_tick values)
+made_tick (numeral machine ∷ []) = tt
+made_tick _ = tt
+
+made_fault : (values : List Value) → Fit (grammar.made_fault values)
+made_fault (numeral machine ∷ sided side ∷ []) = tt
+made_fault _ = tt
+
+made_sense : (values : List Value) → Fit (grammar.made_sense values)
+made_sense (numeral machine ∷ []) = tt
+made_sense _ = tt
+
+made_begin : (values : List Value) → Fit (grammar.made_begin values)
+made_begin (numeral gap ∷ []) = tt
+made_begin _ = tt
+
+made_left : (values : List Value) → Fit (grammar.made_left values)
+made_left (numeral gap ∷ []) = tt
+made_left _ = tt
+
+made_enter : (values : List Value) → Fit (grammar.made_enter values)
+made_enter (numeral gap ∷ []) = tt
+made_enter _ = tt
+
+made_back : (values : List Value) → Fit (grammar.made_back values)
+made_back (numeral gap ∷ []) = tt
+made_back _ = tt
+
+made_hand_in : (values : List Value) → Fit (grammar.made_hand_in values)
+made_hand_in (numeral gap ∷ []) = tt
+made_hand_in _ = tt
+
+made_take : (values : List Value) → Fit (grammar.made_take values)
+made_take (numeral gap ∷ []) = tt
+made_take _ = tt
+
+made_show : (values : List Value) → Fit (grammar.made_show values)
+made_show [] = tt
+made_show _ = tt
+
+lie_by : (machine : ℕ) (side : Side) (event : SensorEvent) (is_seen : Bool) → is_seen ≡ is_seen_at side event → Fit (lie_of machine side event)
+lie_by machine side event true is = rw (sym is) tt
+lie_by machine side event false is = rw (sym is) tt
+
+made_lie : (values : List Value) → Fit (grammar.made_lie values)
+made_lie (numeral machine ∷ sided side ∷ seen event ∷ []) = lie_by machine side event (is_seen_at side event) refl
+made_lie _ = tt
+
+-- ---- a form, whatever its words
+
+abbrev FitForm : Form → Type 0
+FitForm form = (words : List (List ℕ)) → Fit (line_as form words)
+
+fit_then : (values : Result (List Value) LineWhy) (made : List Value → Result ScriptLine LineWhy) → ((all : List Value) → Fit (made all)) → Fit (then_ok values made)
+fit_then (Ok values) made fits = fits values
+fit_then (Err why) made fits = tt
+
+by_values : (form : Form) → ((all : List Value) → Fit (form.made all)) → FitForm form
+by_values form fits words = fit_then (arguments_as form.counts form.arguments words) form.made fits
+
+-- the barcode of an insertion is a text
+barcode_by : (machine : ℕ) (word : List ℕ) (short plain : Bool) → short ≡ nat_le (length word) 64 → plain ≡ list_all is_text_byte word → Fit (then_ok (then_ok (Ok (numeral machine)) (λ value. mapped_ok (λ values. value ∷ values) (then_ok (mapped_ok spelled (token_of word)) (λ value. mapped_ok (λ values. value ∷ values) (Ok []))))) grammar.made_insert)
+barcode_by machine word true true short plain = rw (sym short) (rw (sym plain) (record { short = grind (arith, nat_tests); allowed = IsAllowed-from_text word (sym plain) }))
+barcode_by machine word true false short plain = rw (sym short) (rw (sym plain) tt)
+barcode_by machine word false plain short is = rw (sym short) tt
+
+insert_at : (number : Result ℕ LineWhy) (word : List ℕ) → Fit (then_ok (then_ok (mapped_ok numeral number) (λ value. mapped_ok (λ values. value ∷ values) (then_ok (mapped_ok spelled (token_of word)) (λ value. mapped_ok (λ values. value ∷ values) (Ok []))))) grammar.made_insert)
+insert_at (Ok machine) word = barcode_by machine word (nat_le (length word) 64) (list_all is_text_byte word) refl refl
+insert_at (Err why) word = tt
+
+insert_alone : (number : Result ℕ LineWhy) → Fit (then_ok (then_ok (mapped_ok numeral number) (λ value. mapped_ok (λ values. value ∷ values) (Ok []))) grammar.made_insert)
+insert_alone (Ok machine) = tt
+insert_alone (Err why) = tt
+
+too_many : (n : ℕ) → list_any (nat_eq (suc (suc (suc n)))) (1 ∷ 2 ∷ []) ≡ false
+too_many n = grind (arith, nat_tests)
+
+fit_insert : FitForm insert_form
+fit_insert [] = tt
+fit_insert (first ∷ []) = insert_alone (number_in 1 64 first)
+fit_insert (first ∷ word ∷ []) = insert_at (number_in 1 64 first) word
+fit_insert (first ∷ word ∷ other ∷ words) = rw (too_many (length words)) tt
+
+-- ---- all forms
+
+abbrev AllFit : List Form → Type 0
+AllFit rows = AllByRecursion FitForm rows
+
+none_among : (first : List ℕ) (words : List (List ℕ)) (is : Bool) → is ≡ is_later first → Fit (line_among [] first words)
+none_among first words true is = rw (sym is) tt
+none_among first words false is = rw (sym is) tt
+
+among_by : (form : Form) (rows : List Form) (first : List ℕ) (words : List (List ℕ)) (is : Bool) → is ≡ bytes_eq first form.word → Fit (line_as form words) → Fit (line_among rows first words) → Fit (line_among (form ∷ rows) first words)
+among_by form rows first words true is this others = rw (sym is) this
+among_by form rows first words false is this others = rw (sym is) others
+
+among : (rows : List Form) (first : List ℕ) (words : List (List ℕ)) → AllFit rows → Fit (line_among rows first words)
+among [] first words all = none_among first words (is_later first) refl
+among (form ∷ rows) first words all = among_by form rows first words (bytes_eq first form.word) refl (all.0 words) (among rows first words all.1)
+
+all_fit : AllFit forms
+all_fit = (by_values grammar.machine_form made_machine, (fit_insert, (by_values grammar.remove_form made_remove, (by_values grammar.replace_form made_replace, (by_values grammar.mark_form made_mark, (by_values grammar.hold_form made_hold, (by_values grammar.go_form made_go, (by_values grammar.connect_form made_connect, (by_values grammar.flow_form made_flow, (by_values grammar.notice_form made_notice, (by_values grammar.cut_form made_cut, (by_values grammar.spoil_form made_spoil, (by_values grammar.shutdown_form made_shutdown, (by_values grammar.tick_form made_tick, (by_values grammar.fault_form made_fault, (by_values grammar.lie_form made_lie, (by_values grammar.sense_form made_sense, (by_values grammar.begin_form made_begin, (by_values grammar.left_form made_left, (by_values grammar.enter_form made_enter, (by_values grammar.back_form made_back, (by_values grammar.hand_in_form made_hand_in, (by_values grammar.take_form made_take, (by_values grammar.show_form made_show, tt))))))))))))))))))))))))
+
+comment_by : (first : List ℕ) (words : List (List ℕ)) (is : Bool) → is ≡ is_comment first → Fit (line_of_words (first ∷ words))
+comment_by first words true is = rw (sym is) tt
+comment_by first words false is = rw (sym is) (among forms first words all_fit)
+
+fit_words : (words : List (List ℕ)) → Fit (line_of_words words)
+fit_words [] = tt
+fit_words (first ∷ words) = comment_by first words (is_comment first) refl
+
+text_by : (bytes : List ℕ) (text : Bool) → text ≡ list_all is_text_byte bytes → Fit (if list_all is_text_byte bytes then line_of_words (words_of bytes) else Err whys.NotText)
+text_by bytes true is = rw (sym is) (fit_words (words_of bytes))
+text_by bytes false is = rw (sym is) tt
+
+-- ---- a script
+
+meaning_by : (number : ℕ) (line : List ℕ) (long many : Bool) → long ≡ nat_lt 4096 (length line) → many ≡ nat_lt 1000000 number → Fit (meaning_at number line)
+meaning_by number line true many long is = rw (sym long) tt
+meaning_by number line false true long is = rw (sym long) (rw (sym is) tt)
+meaning_by number line false false long is = rw (sym long) (rw (sym is) (text_by line (list_all is_text_byte line) refl))
+
+-- a line that is not refused has a number that a script may have
+few_of : (long many : Bool) (read : Result ScriptLine LineWhy) (asked : ScriptLine) → (if long then Err whys.LongLine else (if many then Err whys.TooManyLines else read)) ≡ Ok asked → many ≡ false
+few_of true many read asked answer = cc
+few_of false true read asked answer = cc
+few_of false false read asked answer = refl
+
+few_at : (number : ℕ) (line : List ℕ) (asked : ScriptLine) → meaning_at number line ≡ Ok asked → number ≤ 1000000
+few_at number line asked answer =
+    let few : nat_lt 1000000 number ≡ false = few_of (nat_lt 4096 (length line)) (nat_lt 1000000 number) (read_of line) asked answer in
+    grind (arith, nat_tests)
+
+abbrev FitFrom : ℕ → Script → Type 0
+FitFrom done script = AllByRecursion IsFitLine script.lines × (done + length script.lines ≤ 1000000)
+
+from_by : (done : ℕ) (line : List ℕ) (others : List (List ℕ)) (answer : Result ScriptLine LineWhy) → answer ≡ meaning_at (done + 1) line → Fit answer → done ≤ 1000000 → (done + 1 ≤ 1000000 → FitFrom (done + 1) (script_from (done + 1) others)) → FitFrom done (either answer (λ asked. before_all asked (script_from (done + 1) others)) (λ why. refused_at (done + 1) why))
+from_by done line others (Ok asked) is fit small later =
+    let rest : FitFrom (done + 1) (script_from (done + 1) others) = later (few_at (done + 1) line asked (sym is)) in
+    ((fit, rest.0), omega (arith, rest.1))
+from_by done line others (Err why) is fit small later = (tt, omega (arith, small))
+
+from : (done : ℕ) (lines_left : List (List ℕ)) → done ≤ 1000000 → FitFrom done (script_from done lines_left)
+from done [] small = (tt, omega (arith, small))
+from done (line ∷ others) small = from_by done line others (meaning_at (done + 1) line) refl (meaning_by (done + 1) line (nat_lt 4096 (length line)) (nat_lt 1000000 (done + 1)) refl refl) small (λ next. from (done + 1) others next)
+
+-- WHATEVER BYTES A SCRIPT IS READ FROM
+pub scripts_are_fit : ScriptsAreFit
+scripts_are_fit bytes =
+    let all : FitFrom 0 (script_of bytes) = from 0 (lines_in bytes) (omega (arith)) in
+    record { fit = all.0; few = omega (arith, all.1) }
