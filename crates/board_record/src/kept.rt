@@ -1,6 +1,8 @@
-ghost use Rattle.std.specs.Prelude.{◌≡◌, ◌+◌, ◌-◌, ◌<◌, ◌≤◌, [], ◌∷◌, ◌++◌, Some, OnOk, OnErr, drop, length, remove, slice_get, slice_set, vec_capacity, vec_len};
+ghost use Rattle.std.specs.Prelude.{◌≡◌, ◌==◌, ◌+◌, ◌-◌, ◌<◌, ◌≤◌, [], ◌∷◌, ◌++◌, Some, OnOk, OnErr, drop, length, position, remove, slice_get, slice_set, vec_capacity, vec_len};
+ghost use Rattle.board_record.specs.declared.record.Record.{Record};
 ghost use Rattle.board_record.specs.Kept.{Shelf, with_quality};
 
+use crate::id::BoardId;
 use crate::record::Record;
 use line_base::{Memory, Quality};
 use std::alloc::Global;
@@ -101,6 +103,13 @@ impl Kept {
         ensures spare { self.new.spare ≡ self.old.spare }
     {
         self.boards[place].quality = quality;
+    }
+
+    /// The first place with a board of this id; `None` exactly where there is none.
+    pub fn place_of(&self, id: BoardId) -> Option<usize>
+        ensures { result ≡ position (λ (board : Record). board.id == id) self.now.boards }
+    {
+        self.boards.iter().position(|board| board.id == id)
     }
 
     /// The records, the front first.

@@ -61,6 +61,9 @@ fn numbered(
     if what == "front" {
         return pushed_front(alloc, kept, number_of(numbers));
     }
+    if what == "place" {
+        return found(alloc, kept.place_of(BoardId::of(number_of(numbers))));
+    }
     if what == "replace" {
         return match numbers.split_once(':') {
             Some((place, number)) => replaced(alloc, kept, place_of(place), number_of(number)),
@@ -68,6 +71,14 @@ fn numbered(
         };
     }
     placed(alloc, kept, what, place_of(numbers))
+}
+
+/// The place at which a board was found.
+fn found(alloc: Global, place: Option<usize>) -> Result<String, AllocError> {
+    match place {
+        Some(place) => format!(in alloc; "at {place}"),
+        None => String::from_str(alloc, "nowhere"),
+    }
 }
 
 fn number_of(word: &str) -> u128 {

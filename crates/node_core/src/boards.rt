@@ -1,6 +1,5 @@
-ghost use Rattle.std.specs.Prelude.{◌≡◌, ◌==◌, ◌++◌, IfSome, OnOk, None, false, position};
-ghost use Rattle.board_record.specs.declared.record.Record.{Record};
-ghost use Rattle.node_core.specs.Boards.{IsFirstAt, is_kept, inserts, removes, replaces, marks, faults, wills};
+ghost use Rattle.std.specs.Prelude.{◌≡◌, ◌++◌, OnOk};
+ghost use Rattle.node_core.specs.Boards.{is_kept, inserts, removes, replaces, marks, faults, wills};
 
 use crate::act::{Act, Outputs, Setting};
 use crate::desk::Desk;
@@ -10,27 +9,12 @@ use handover_in::InInput;
 use handover_out::OutInput;
 use line_base::{Memory, Quality, Side, Text};
 
-fn position_of(kept: &[Record], id: BoardId) -> Option<usize>
-    ensures { result ≡ position (λ (board : Record). board.id == id) kept.now }
-{
-    kept.iter().position(|board| board.id == id)
-}
-
-/// The place of the first record of this id.
-#[tactic(auto, using(crate::proofs::First::position_first, crate::proofs::First::position_none))]
-fn place_of(kept: &[Record], id: BoardId) -> Option<usize>
-    ensures first { IfSome result (IsFirstAt id kept.now) }
-    ensures none { result ≡ None → is_kept id kept.now ≡ false }
-{
-    position_of(kept, id)
-}
-
 impl Body {
     /// Whether a record of this id is kept.
     pub(crate) fn keeps(&self, id: BoardId) -> bool
         ensures { result ≡ is_kept id self.now.kept }
     {
-        match place_of(self.kept.list(), id) {
+        match self.kept.place_of(id) {
             Some(_) => true,
             None => false,
         }
@@ -57,7 +41,7 @@ impl Body {
         ensures body { OnOk result (self.new ≡ (removes id self.old).body) }
         ensures acts { OnOk result (to.new ≡ to.old ++ (removes id self.old).acts) }
     {
-        match place_of(self.kept.list(), id) {
+        match self.kept.place_of(id) {
             Some(place) => {
                 self.kept.remove(place);
                 to.push(Act::Removes(id))
@@ -77,7 +61,7 @@ impl Body {
         ensures body { OnOk result (self.new ≡ (replaces desk.now old new self.old).body) }
         ensures acts { OnOk result (to.new ≡ to.old ++ (replaces desk.now old new self.old).acts) }
     {
-        match place_of(self.kept.list(), old) {
+        match self.kept.place_of(old) {
             Some(place) => {
                 let name = desk.name().copy(desk.alloc())?;
                 self.kept.replace(place, Record::plain(new, name, None));
@@ -97,7 +81,7 @@ impl Body {
         ensures body { OnOk result (self.new ≡ (marks id quality self.old).body) }
         ensures acts { OnOk result (to.new ≡ to.old ++ (marks id quality self.old).acts) }
     {
-        match place_of(self.kept.list(), id) {
+        match self.kept.place_of(id) {
             Some(place) => {
                 self.kept.set_quality(place, quality);
                 to.push(Act::Marks(id, quality))

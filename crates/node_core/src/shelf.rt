@@ -1,7 +1,8 @@
-ghost use Rattle.std.specs.Prelude.{◌≡◌, ◌<◌, [], ◌∷◌, ◌++◌, OnOk, drop, length, remove, slice_get, slice_set};
+ghost use Rattle.std.specs.Prelude.{◌≡◌, ◌<◌, [], ◌∷◌, ◌++◌, IfSome, None, OnOk, drop, false, length, remove, slice_get, slice_set};
 ghost use Rattle.board_record.specs.Kept.{with_quality};
+ghost use Rattle.node_core.specs.Boards.{IsFirstAt, is_kept};
 
-use board_record::{Kept, Record};
+use board_record::{BoardId, Kept, Record};
 use line_base::{Memory, Quality};
 use std::alloc::Global;
 use std::marker::Model;
@@ -73,6 +74,15 @@ impl Shelf {
         ensures { self.new ≡ with_quality self.old place quality }
     {
         self.kept.set_quality(place, quality);
+    }
+
+    /// The place of the first record of this id.
+    #[tactic(auto, using(crate::proofs::First::position_first, crate::proofs::First::position_none))]
+    pub(crate) fn place_of(&self, id: BoardId) -> Option<usize>
+        ensures first { IfSome result (IsFirstAt id self.now) }
+        ensures none { result ≡ None → is_kept id self.now ≡ false }
+    {
+        self.kept.place_of(id)
     }
 
     pub(crate) fn list(&self) -> &[Record]
