@@ -1,20 +1,30 @@
-ghost use Rattle.std.specs.Prelude.{◌≡◌, ◌++◌, OnOk};
-ghost use Rattle.node_core.specs.Boards.{is_kept, inserts, removes, replaces, marks, faults, wills};
+ghost use Rattle.std.specs.Prelude.{◌≡◌, ◌++◌, IfSome, OnOk, None, false};
+ghost use Rattle.node_core.specs.Boards.{IsFirstAt, is_kept, inserts, removes, replaces, marks, faults, wills};
 
 use crate::act::{Act, Outputs, Setting};
 use crate::desk::Desk;
 use crate::lane::Body;
+use crate::shelf::Shelf;
 use board_record::{BoardId, Record};
 use handover_in::InInput;
 use handover_out::OutInput;
 use line_base::{Memory, Quality, Side, Text};
+
+/// The place of the first record of this id.
+#[tactic(auto, using(crate::proofs::First::position_first, crate::proofs::First::position_none))]
+fn place_of(kept: &Shelf, id: BoardId) -> Option<usize>
+    ensures first { IfSome result (IsFirstAt id kept.now) }
+    ensures none { result ≡ None → is_kept id kept.now ≡ false }
+{
+    kept.position(id)
+}
 
 impl Body {
     /// Whether a record of this id is kept.
     pub(crate) fn keeps(&self, id: BoardId) -> bool
         ensures { result ≡ is_kept id self.now.kept }
     {
-        match self.kept.place_of(id) {
+        match place_of(&self.kept, id) {
             Some(_) => true,
             None => false,
         }
@@ -41,7 +51,7 @@ impl Body {
         ensures body { OnOk result (self.new ≡ (removes id self.old).body) }
         ensures acts { OnOk result (to.new ≡ to.old ++ (removes id self.old).acts) }
     {
-        match self.kept.place_of(id) {
+        match place_of(&self.kept, id) {
             Some(place) => {
                 self.kept.remove(place);
                 to.push(Act::Removes(id))
@@ -61,7 +71,7 @@ impl Body {
         ensures body { OnOk result (self.new ≡ (replaces desk.now old new self.old).body) }
         ensures acts { OnOk result (to.new ≡ to.old ++ (replaces desk.now old new self.old).acts) }
     {
-        match self.kept.place_of(old) {
+        match place_of(&self.kept, old) {
             Some(place) => {
                 let name = desk.name().copy(desk.alloc())?;
                 self.kept.replace(place, Record::plain(new, name, None));
@@ -81,7 +91,7 @@ impl Body {
         ensures body { OnOk result (self.new ≡ (marks id quality self.old).body) }
         ensures acts { OnOk result (to.new ≡ to.old ++ (marks id quality self.old).acts) }
     {
-        match self.kept.place_of(id) {
+        match place_of(&self.kept, id) {
             Some(place) => {
                 self.kept.set_quality(place, quality);
                 to.push(Act::Marks(id, quality))

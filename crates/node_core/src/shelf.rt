@@ -1,6 +1,6 @@
-ghost use Rattle.std.specs.Prelude.{◌≡◌, ◌<◌, [], ◌∷◌, ◌++◌, IfSome, None, OnOk, drop, false, length, remove, slice_get, slice_set};
+ghost use Rattle.std.specs.Prelude.{◌≡◌, ◌==◌, ◌<◌, [], ◌∷◌, ◌++◌, OnOk, drop, length, position, remove, slice_get, slice_set};
+ghost use Rattle.board_record.specs.declared.record.Record.{Record};
 ghost use Rattle.board_record.specs.Kept.{with_quality};
-ghost use Rattle.node_core.specs.Boards.{IsFirstAt, is_kept};
 
 use board_record::{BoardId, Kept, Record};
 use line_base::{Memory, Quality};
@@ -76,11 +76,9 @@ impl Shelf {
         self.kept.set_quality(place, quality);
     }
 
-    /// The place of the first record of this id.
-    #[tactic(auto, using(crate::proofs::First::position_first, crate::proofs::First::position_none))]
-    pub(crate) fn place_of(&self, id: BoardId) -> Option<usize>
-        ensures first { IfSome result (IsFirstAt id self.now) }
-        ensures none { result ≡ None → is_kept id self.now ≡ false }
+    /// The first place with a board of this id.
+    pub(crate) fn position(&self, id: BoardId) -> Option<usize>
+        ensures { result ≡ position (λ (board : Record). board.id == id) self.now }
     {
         self.kept.place_of(id)
     }
