@@ -16,7 +16,7 @@ fn place_of(kept: &Shelf, id: BoardId) -> Option<usize>
     ensures first { IfSome result (IsFirstAt id kept.now) }
     ensures none { result ≡ None → is_kept id kept.now ≡ false }
 {
-    kept.position(id)
+    kept.position_of(id)
 }
 
 impl Body {

@@ -77,7 +77,7 @@ impl Shelf {
     }
 
     /// The first place with a board of this id.
-    pub(crate) fn position(&self, id: BoardId) -> Option<usize>
+    pub(crate) fn position_of(&self, id: BoardId) -> Option<usize>
         ensures { result ≡ position (λ (board : Record). board.id == id) self.now }
     {
         self.kept.place_of(id)
