@@ -5,6 +5,7 @@ use Rattle.std.specs.List.{AllByRecursion}
 use Rattle.board_record.specs.Maker.{Maker, next_id}
 use Rattle.board_record.specs.Record.{plain_record}
 use Rattle.board_record.specs.declared.maker.IdsUsedUp.{IdsUsedUp}
+use Rattle.line_base.specs.declared.states.Quality.{Quality}
 use Rattle.line_base.specs.declared.states.Side.TheVariants.{Entry, Exit}
 use Rattle.line_world.specs.declared.board.Board.{Board}
 use Rattle.line_world.specs.FloorPlan.{AtMachine, IsWhole, has_id, machine_at, place_of}
@@ -19,7 +20,7 @@ use Rattle.node_core.specs.declared.input.No.{No}
 use Rattle.node_core.specs.declared.lane.Body.{Body}
 use Rattle.node_core.specs.declared.word.Word.{Word}
 use Rattle.node_core.specs.Announces.{announces}
-use Rattle.node_core.specs.Boards.{if_kept, is_kept, replaces, with_instead, with_kept, without}
+use Rattle.node_core.specs.Boards.{if_kept, is_kept, replaces, with_instead, with_kept, with_mark, without}
 use Rattle.node_core.specs.Desk.{Desk}
 use Rattle.node_core.specs.Event.{Insert, Replace, event_did, event_of, maker_after, with_new}
 use Rattle.node_core.specs.May.{may_of}
@@ -41,7 +42,8 @@ use Rattle.line_step.proofs.OnFloor.{LiesThere, as_many_gaps, lies-there_by, qui
 use Rattle.one_standing.specs.Carried.{Trace, between_of, stand_of}
 use Rattle.one_standing.specs.Places.{LiesAt, at_machine, lies_at}
 use Rattle.one_standing.proofs.ApartFloor.{counted, counted_lies}
-use Rattle.one_standing.proofs.ApartStep.{IsTold, Parted, gone_count, parted_by, told_behind, told_first}
+use Rattle.one_standing.specs.Told.{IsTold, told_first}
+use Rattle.one_standing.proofs.ApartStep.{Parted, gone_count, parted_by, told_behind}
 
 -- ---- a board that is here lies here
 
@@ -102,7 +104,7 @@ inserts_told number m new barcode s after told steps is =
     let f : Result ℕ IdsUsedUp → List Act = λ answer. (event_did desk (with_new answer (λ id. Insert id barcode)) body).acts in
     step_told number m (inputs.Insert barcode) (acts.Inserts new) s after told steps (ap f is) (λ w. refl)
 
--- a machine that keeps the board's record removes it, or gives it another id
+-- a machine that keeps the board's record removes it, gives it another id, or marks it
 pub removes_told : (number m x : ℕ) (s after : LineState) (told : List Happening) (steps : MachineSteps number m (inputs.Remove x) s after told) → is_kept x (body_then number m (inputs.Remove x) s after told steps).kept ≡ true → IsTold (happenings.Done m (acts.Removes x)) told
 removes_told number m x s after told steps kept =
     let body = body_then number m (inputs.Remove x) s after told steps in
@@ -118,6 +120,12 @@ replaces_told number m x now s after told steps new kept =
     let some : hand_then number m (inputs.Replace x) s after told steps ≡ (replaces desk x now body).acts = ap f new in
     let one : (replaces desk x now body).acts ≡ acts.Replaces x now ∷ [] = ap g kept in
     step_told number m (inputs.Replace x) (acts.Replaces x now) s after told steps (some ∙ one) (λ w. refl)
+
+pub marks_told : (number m x : ℕ) (quality : Quality) (s after : LineState) (told : List Happening) (steps : MachineSteps number m (inputs.Mark x quality) s after told) → is_kept x (body_then number m (inputs.Mark x quality) s after told steps).kept ≡ true → IsTold (happenings.Done m (acts.Marks x quality)) told
+marks_told number m x quality s after told steps kept =
+    let body = body_then number m (inputs.Mark x quality) s after told steps in
+    let f : Bool → List Act = λ kept. (if_kept kept (with_kept (with_mark x quality body.kept) body) (acts.Marks x quality) body).acts in
+    step_told number m (inputs.Mark x quality) (acts.Marks x quality) s after told steps (ap f kept) (λ w. refl)
 
 -- ---- a step without a hand
 

@@ -23,6 +23,7 @@ use Rattle.line_step.proofs.Makers.{IsOld}
 use Rattle.line_step.proofs.Numbers.{none_or_one}
 use Rattle.one_standing.specs.Carried.{Trace, between_of, stand_of}
 use Rattle.one_standing.specs.Places.{AreApart, LiesAt, LiesIn, Spot}
+use Rattle.one_standing.specs.Told.{IsTold, told_first, told_later}
 use Rattle.one_standing.proofs.ApartFloor.{counted, floor_lies, lies_counted, lies_in_gap, lies_on_floor, list_once, one_place_of}
 
 -- ---- what a line does, before it is counted
@@ -100,11 +101,6 @@ all_count (h ∷ told) x old new change apart =
     let first = happening_count h x old change.0 change.1 (not_front x (made_in h) (made_by told) apart) in
     let then = all_count told x change.0 new change.2 (not_back x (made_in h) (made_by told) apart) in
     omega (arith, first, then)
-
--- this is among what is told
-pub data IsTold (h : Happening) : List Happening → Type 0 where
-  told_first : {told : List Happening} → IsTold h (h ∷ told)
-  told_later : {other : Happening} {told : List Happening} → IsTold h told → IsTold h (other ∷ told)
 
 pub told_before : {h : Happening} {told : List Happening} (more : List Happening) → IsTold h told → IsTold h (told ++ more)
 told_before more told_first = told_first

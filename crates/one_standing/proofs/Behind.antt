@@ -171,7 +171,7 @@ each_machine P machine before after changes all own k = by (same_or_not k machin
 pub same_has : (link : ℕ) (before after : LineState) → length after.machines ≡ length before.machines → has_link link after ≡ has_link link before
 same_has link before after many = rw many refl
 
-fit_machine : (t s : LineState) (machine : ℕ) → node_at s machine ≡ node_at t machine → IsFitMachine t machine → IsFitMachine s machine
+pub fit_machine : (t s : LineState) (machine : ℕ) → node_at s machine ≡ node_at t machine → IsFitMachine t machine → IsFitMachine s machine
 fit_machine t s machine is fit = record {
   body = subst (λ (n : NodeState). IsFitBody n.lane.body) (sym is) fit.body;
   maker = subst (λ (n : NodeState). IsFitMaker n.maker) (sym is) fit.maker;

@@ -56,7 +56,8 @@ use Rattle.one_standing.specs.Relation.{Between, Stand}
 use Rattle.one_standing.specs.Stands.{Stands}
 use Rattle.one_standing.proofs.ApartFloor.{lies_on_floor}
 use Rattle.one_standing.proofs.ApartHands.{here_lies, inserts_told, removes_told, replaces_told}
-use Rattle.one_standing.proofs.ApartStep.{IsTold, apart_removed, apart_replaced, apart_stays, floor_old, grown, told_first, told_later}
+use Rattle.one_standing.specs.Told.{IsTold, told_first, told_later}
+use Rattle.one_standing.proofs.ApartStep.{apart_removed, apart_replaced, apart_stays, floor_old, grown}
 use Rattle.one_standing.proofs.Behind.{Bears}
 use Rattle.one_standing.proofs.Elsewhere.{afar_at, elsewhere_of, good_at, unique_at}
 use Rattle.one_standing.proofs.HandsThere.{gone_renamed, gone_without, lies_renamed, lies_without}
@@ -151,7 +152,7 @@ GoodAt j t s body = Good (afar_at (stand_of s) (between_of t s) j) (stand_of s j
 pub good_node : (j : ℕ) (t : Trace) (s : LineState) (node : NodeState) → Stands t s → node_at s (j + 1) ≡ node → GoodAt j t s node.lane.body
 good_node j t s node st is = subst (λ (n : NodeState). GoodAt j t s n.lane.body) is (good_at (stand_of s) (between_of t s) j st.keeps)
 
-offers_node : (j : ℕ) (t : Trace) (s : LineState) (node : NodeState) → Stands t s → node_at s (j + 1) ≡ node → OffersFront node.lane.body
+pub offers_node : (j : ℕ) (t : Trace) (s : LineState) (node : NodeState) → Stands t s → node_at s (j + 1) ≡ node → OffersFront node.lane.body
 offers_node j t s node st is = subst (λ (n : NodeState). OffersFront n.lane.body) is (st.keeps.machines.at j).offers
 
 -- ---- steps without a hand

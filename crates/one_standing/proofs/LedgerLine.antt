@@ -83,7 +83,7 @@ fits_same before after ledger same more fits = record {
 still_led : {Older Old : ℕ → Type 0} (before after : LineState) (ledger : Ledger) (told : List Happening) → OwnSame before after → deeds_of told ≡ [] → ((x : ℕ) → Older x → Old x) → FitsLine Older before ledger → Led Old after ledger told
 still_led before after ledger told same none more fits = led_told told [] none (record { legal = tt; fits = fits_same before after ledger same more fits })
 
-same_nodes : (s t : LineState) → t.machines ≡ s.machines → (machine : ℕ) → node_at t machine ≡ node_at s machine
+pub same_nodes : (s t : LineState) → t.machines ≡ s.machines → (machine : ℕ) → node_at t machine ≡ node_at s machine
 same_nodes s t is zero = refl
 same_nodes s t is (suc place) = ap (λ (nodes : List NodeState). slice_index_or nodes place no_node) is
 
@@ -190,7 +190,7 @@ new_at nodes place id node next own found made is =
       old = old-new 1 nodes place node next id found (record { count = node.maker.used + 1; counted = omega (arith, used); small = new.small; is = made_there });
     }
 
-made_here : (number machine : ℕ) (input : Input) (before after : LineState) (told : List Happening) (steps : MachineSteps number machine input before after told) → AreNumbered 1 before.machines → maker_after input steps.node.maker ≡ after_next steps.node.maker
+pub made_here : (number machine : ℕ) (input : Input) (before after : LineState) (told : List Happening) (steps : MachineSteps number machine input before after told) → AreNumbered 1 before.machines → maker_after input steps.node.maker ≡ after_next steps.node.maker
     → (id : ℕ) → next_id steps.node.maker ≡ Ok id → IsMadeNow (IsOld 1 before.machines) (IsOld 1 after.machines) id
 made_here number zero input before after told steps own makes id is = absurd (let h : ◌≡◌ {A = Option NodeState} None (Some steps.node) = steps.there in cc)
 made_here number (suc place) input before after told steps own makes id is =
@@ -292,11 +292,11 @@ connects_led number machine before next told ledger a twice fits =
 
 -- ---- one machine more
 
-last_node : (nodes : List NodeState) (new : NodeState) → slice_index_or (nodes ++ new ∷ []) (length nodes) no_node ≡ new
+pub last_node : (nodes : List NodeState) (new : NodeState) → slice_index_or (nodes ++ new ∷ []) (length nodes) no_node ≡ new
 last_node [] new = refl
 last_node (node ∷ nodes) new = last_node nodes new
 
-no_last : (nodes : List NodeState) → slice_index_or nodes (length nodes) no_node ≡ no_node
+pub no_last : (nodes : List NodeState) → slice_index_or nodes (length nodes) no_node ≡ no_node
 no_last [] = refl
 no_last (node ∷ nodes) = no_last nodes
 

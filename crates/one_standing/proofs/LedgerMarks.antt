@@ -125,7 +125,7 @@ has_either x a b has = either_by (has_id x a) (sym (list_any-append (λ (other :
 in_own_gap : (j : ℕ) → j + 1 ≡ j + 1 - 1 → ⊥
 in_own_gap j e = omega (arith, e)
 
-kept_alone : {t : Trace} {s : LineState} {x : ℕ} {r : Record} (j : ℕ) → Stands t s → Kept x (node_at s (j + 1)).lane.body.kept → held_in (node_at s (j + 1)).lane.body.intake.phase ≡ Some r → r.id ≡ x → ⊥
+pub kept_alone : {t : Trace} {s : LineState} {x : ℕ} {r : Record} (j : ℕ) → Stands t s → Kept x (node_at s (j + 1)).lane.body.kept → held_in (node_at s (j + 1)).lane.body.intake.phase ≡ Some r → r.id ≡ x → ⊥
 kept_alone {s = s} {x = x} j st k e same = in_own_gap j (same_link {mark = marks.Kept (j + 1)} {other = marks.Intake (j + 1)} st (has_kept k) (has_intake e same))
 
 held_alone : {t : Trace} {s : LineState} {x : ℕ} {q r : Record} (j : ℕ) → Stands t s → held_out (node_at s (j + 1)).lane.body.outlet.phase ≡ Some q → q.id ≡ x → held_in (node_at s (j + 1)).lane.body.intake.phase ≡ Some r → r.id ≡ x → ⊥

@@ -1,24 +1,18 @@
 -- The ledger and the custody facts along a run of a script in which the line stands in its relation.
-use Rattle.std.proofs.Common.{List, arith, [], false, refl, suc, take, true, zero, ℕ, ◌+◌, ◌∷◌, ◌≡◌, subst, sym, ◌++◌}
+use Rattle.std.proofs.Common.{List, arith, [], false, refl, suc, take, true, zero, ℕ, ◌+◌, ◌∷◌, ◌≡◌}
 use Rattle.std.specs.List.{AllByRecursion}
 use Rattle.line_script.specs.declared.line.ScriptLine.{ScriptLine}
-use Rattle.line_report.specs.declared.happening.Happening.{Happening}
-use Rattle.standings.specs.declared.deed.Deed.{Deed}
 use Rattle.standings.specs.Ledger.{Ledger, empty_ledger, ledger_after_all}
 use Rattle.standings.specs.Marks.{Where, has_at, intake, kept, outlet}
-use Rattle.line_step.specs.Lines.{LineSteps}
 use Rattle.line_step.specs.Numbered.{node_at}
 use Rattle.line_step.specs.Runs.{IsRun, Point}
 use Rattle.line_step.specs.State.{LineState, no_line, owned_by}
 use Rattle.line_step.proofs.Makers.{IsOld}
 use Rattle.one_standing.specs.Facts.{CustodyFacts, HasCustodyFacts}
-use Rattle.one_standing.specs.Replay.{Follows, IsLedgerOf, LedgerFollows, deeds_of}
-use Rattle.one_standing.specs.Carried.{Trace}
-use Rattle.one_standing.specs.Stands.{Stands}
+use Rattle.one_standing.specs.Replay.{Follows, LedgerFollows, deeds_of}
 use Rattle.one_standing.proofs.FactsOf.{facts_of}
 use Rattle.one_standing.proofs.LedgerLine.{Led, line_led}
-use Rattle.one_standing.proofs.LedgerMarks.{FitsLine, entries_of, ledger_of}
-use Rattle.one_standing.proofs.LedgerTurns.{after_append}
+use Rattle.one_standing.proofs.LedgerMarks.{FitsLine, ledger_of}
 use Rattle.one_standing.proofs.LedgerStandings.{standing_told}
 use Rattle.one_standing.proofs.LineForms.{ConnectsBear}
 use Rattle.one_standing.proofs.LineRun.{AreStood, Stood, none_stood, run_stood}
@@ -40,7 +34,7 @@ none_has kept (suc before) x = refl
 none_has outlet (suc before) x = refl
 none_has intake (suc before) x = refl
 
-none_fits : FitsLine (IsOld 1 no_line.machines) no_line empty_ledger
+pub none_fits : FitsLine (IsOld 1 no_line.machines) no_line empty_ledger
 none_fits = record { past = []; is = refl; all = λ place machine x. none_has place machine x; olds = λ x seen. absurd (let h : false ≡ true = seen in cc) }
 
 ledger_run : (s : LineState) (asked : List ScriptLine) (points : List Point) (n : ℕ) (ledger : Ledger) → Stood s → IsRun s asked points → AreStood (take n points) → FitsLine (IsOld 1 s.machines) s ledger → Follows ledger (take n points)

@@ -104,7 +104,7 @@ dropped_ids held ids id is =
     ap (λ (l : List ℕ). are_different (one_of held ++ l)) (append-nil ids)
     ∙ different_front (one_of held ++ ids) (id ∷ []) (ap are_different (append_assoc (one_of held) ids (id ∷ [])) ∙ is)
 
-kept_different : (own : Own) → are_different (all_of own) ≡ true → are_different own.kept ≡ true
+pub kept_different : (own : Own) → are_different (all_of own) ≡ true → are_different own.kept ≡ true
 kept_different own is = different_front own.kept (one_of own.taking) (different_behind (one_of own.held) (own.kept ++ one_of own.taking) is)
 
 -- ---- what a machine has is old

@@ -1,6 +1,6 @@
 -- What a machine owns goes from place to place as the acts of its step say: each deed finds its id where it takes it from.
 -- One lemma for each definition of the machine step, in the order of the definitions.
-use Rattle.std.proofs.Common.{if◌then◌else◌, ◌&&◌, ◌≢◌, subst, ◌≡◌, ◌∙◌, ◌++◌, ◌==◌, ◌||◌, ℕ, Bool, true, false, List, [], ◌∷◌, Option, Some, None, refl, sym, ap}
+use Rattle.std.proofs.Common.{if◌then◌else◌, ◌&&◌, subst, ◌≡◌, ◌∙◌, ◌++◌, ◌==◌, ◌||◌, ℕ, Bool, true, false, List, [], ◌∷◌, Option, Some, None, refl, sym, ap}
 use Rattle.std.specs.Prelude.{is_some, slice_get}
 use Rattle.std.proofs.lemmas.Bool.{false≢true}
 use Rattle.std.proofs.lemmas.List.{map-append}

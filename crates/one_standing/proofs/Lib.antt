@@ -2,6 +2,13 @@ pub mod ApartFloor
 pub mod ApartHands
 pub mod ApartStep
 pub mod Behind
+pub mod BlameFlows
+pub mod BlameJoins
+pub mod BlameLines
+pub mod BlameLinks
+pub mod BlameSteps
+pub mod BlameTold
+pub mod BlameWords
 pub mod Carrying
 pub mod CarryingActs
 pub mod CarryingAnswer
@@ -10,7 +17,10 @@ pub mod Counting
 pub mod CountingQuiet
 pub mod Elsewhere
 pub mod Ends
+pub mod FactsBlame
+pub mod FactsContents
 pub mod FactsFlight
+pub mod FactsKeeps
 pub mod FactsOf
 pub mod HandSteps
 pub mod HandsThere
@@ -54,3 +64,5 @@ pub mod WholeLinks
 pub mod FirstJoin
 pub mod SecondJoin
 pub mod Connected
+pub mod Reaching
+pub mod Reached

@@ -28,7 +28,7 @@ use Rattle.one_standing.specs.Stands.{Stands}
 use Rattle.one_standing.specs.Standing.{IsFitLine}
 use Rattle.one_standing.specs.Waits.{AreWaiting}
 use Rattle.one_standing.proofs.ApartHands.{remove_here, replace_here}
-use Rattle.one_standing.proofs.ApartStep.{IsTold}
+use Rattle.one_standing.specs.Told.{IsTold}
 use Rattle.one_standing.proofs.Behind.{Bears}
 use Rattle.one_standing.proofs.Carrying.{SaysAlone}
 use Rattle.one_standing.proofs.HandSteps.{Around, Bearing, IsPlainInput, flow_bears, insert_bears, is_fault, is_notice, is_nothing, is_shutdown, is_tick, is_will, mark_bears, other_bears, remove_bears, replace_bears}
@@ -77,7 +77,7 @@ less_one : (n : ℕ) → 1 ≤ n → n - 1 + 1 ≡ n
 less_one n counted = omega (arith, counted)
 
 -- what is shown of each machine j + 1 holds of a machine that is there
-numbered : (Q : ℕ → Type 0) (machine : ℕ) (s : LineState) (node : NodeState) → machine_in machine s ≡ Some node → ((j : ℕ) → Q (j + 1)) → Q machine
+pub numbered : (Q : ℕ → Type 0) (machine : ℕ) (s : LineState) (node : NodeState) → machine_in machine s ≡ Some node → ((j : ℕ) → Q (j + 1)) → Q machine
 numbered Q machine s node there all = subst Q (less_one machine (machine_within machine s node there).0) (all (machine - 1))
 
 -- ---- what is had of a line

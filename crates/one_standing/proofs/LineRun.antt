@@ -78,7 +78,7 @@ line_stood alone connects number line before after told is few fit honest was st
 
 -- ---- along a run
 
-lines_after : (number : ℕ) (line : ScriptLine) (before after : LineState) (told : List Happening) → LineSteps number line before after told → after.lines ≡ before.lines + 1
+pub lines_after : (number : ℕ) (line : ScriptLine) (before after : LineState) (told : List Happening) → LineSteps number line before after told → after.lines ≡ before.lines + 1
 lines_after number line before after told steps = ap (λ (s : LineState). s.lines) steps.after_is ∙ ap (λ (n : ℕ). n + 1) (lines_stay number line before steps.next steps.done steps.does)
 
 abbrev pub AreStood : List Point → Type 0

@@ -116,7 +116,7 @@ read_like {new_entry = ne} {new_exit = nx} {far_above = fa} {far_below = fb} j s
 moment_fits : (number : ℕ) → number ≤ 1000000 → IsMomentMillis (moment_of number)
 moment_fits number few = (record { le = tt }, record { le = le→leb number 253402300799999 (omega (arith, few)) })
 
-fit_desk : (node : NodeState) (number : ℕ) (s : LineState) (machine : ℕ) → node_at s machine ≡ node → number ≤ 1000000 → IsFitMachine s machine → IsFitDesk (desk_of node (moment_of number))
+pub fit_desk : (node : NodeState) (number : ℕ) (s : LineState) (machine : ℕ) → node_at s machine ≡ node → number ≤ 1000000 → IsFitMachine s machine → IsFitDesk (desk_of node (moment_of number))
 fit_desk node number s machine is few fit = record {
   name = subst (λ (n : NodeState). IsText n.name) is fit.name;
   lane = subst (λ (n : NodeState). n.number ≤ 999_999_999) is fit.lane;

@@ -86,7 +86,7 @@ dry_of None [] none dry = refl
 dry_of None (text ∷ texts) none dry = absurd (cc)
 dry_of (Some n) texts none dry = absurd (cc)
 
-coming_none : (stream : Stream) → stream.texts ≡ [] → coming stream ≡ []
+pub coming_none : (stream : Stream) → stream.texts ≡ [] → coming stream ≡ []
 coming_none stream none = ap (λ (texts : List (List ℕ)). drop stream.arrived (bytes_of texts)) none ∙ drop_none stream.arrived
 
 pub dry_up : (link : LinkParts) → IsWholeLink link → link.upstream ≡ None → coming link.flows.to_upstream ≡ []

@@ -78,11 +78,11 @@ whole_home : {stands : Bool} {new : List ℕ} {stream : Stream} (side : Side) (t
     → Carries stands new stream (bodies (drop (length words) said)) → Carries stands new stream (drop (heard_in side told) (bodies said))
 whole_home {stands = stands} {new = new} {stream = stream} side told words said count k = subst (λ (ms : List Horizontal). Carries stands new stream ms) (bodies_drop (length words) said ∙ ap (λ (n : ℕ). drop n (bodies said)) (sym count)) k
 
-no_words : (words : List Word) → AreOldest words [] → is_wrong_first words ≡ false → words ≡ []
+pub no_words : (words : List Word) → AreOldest words [] → is_wrong_first words ≡ false → words ≡ []
 no_words _ oldest_none good = refl
 no_words _ oldest_wrong good = absurd (false≢true (sym good))
 
-empty_of : (bytes : List ℕ) → bytes ≡ [] → is_empty bytes ≡ true
+pub empty_of : (bytes : List ℕ) → bytes ≡ [] → is_empty bytes ≡ true
 empty_of bytes is = ap is_empty is
 
 pub arrives : {stands : Bool} {stream : Stream} {messages : List Horizontal} → SaysAlone → (side : Side) (told : List Act) (words : List Word) (old piece new : List ℕ) (still : Bool) (later : Stream)
@@ -110,7 +110,7 @@ arrives {stream = stream} alone side told words old piece new still later is som
 
 -- ---- what the step of the machine says of it
 
-words_heard : (number j : ℕ) (side : Side) (piece : Bor (List ℕ)) (start after : LineState) (told : List Happening) (steps : MachineSteps number (j + 1) (inputs.Bytes side piece) start after told)
+pub words_heard : (number j : ℕ) (side : Side) (piece : Bor (List ℕ)) (start after : LineState) (told : List Happening) (steps : MachineSteps number (j + 1) (inputs.Bytes side piece) start after told)
     → is_open side steps.next.lane.body ≡ true → HearsAll side steps.steps.lane.words steps.acts
 words_heard number j side piece start after told steps on =
     let node : NodeState = steps.node in
@@ -128,7 +128,7 @@ words_close number j side piece start after told steps on off =
 
 -- ---- the bytes that arrive
 
-arrival : (n : ℕ) (stream : Stream) (piece : List ℕ) → piece ≡ take n (coming stream) → coming stream ≡ piece ++ coming (with_arrival n stream)
+pub arrival : (n : ℕ) (stream : Stream) (piece : List ℕ) → piece ≡ take n (coming stream) → coming stream ≡ piece ++ coming (with_arrival n stream)
 arrival n stream piece is = sym (take-append-drop n (coming stream)) ∙ ap (λ (front : List ℕ). front ++ drop n (coming stream)) (sym is) ∙ ap (λ (back : List ℕ). piece ++ back) (sym (coming_of_arrival n stream))
 
 -- what may flow: there is a link, the side is open, and something comes

@@ -59,7 +59,7 @@ heard_plain : (input : Input) (words : List Word) (c : Scene) → is_plain_input
 heard_plain (inputs.Bytes side piece) words c plain = absurd (false≢true plain)
 heard_plain _ words c plain = tt
 
-brings_plain : (input : Input) (old new : Lane) (words : List Word) → is_plain_input input ≡ true → Brings input old new words → (new.entry_bytes ≡ old.entry_bytes) × (new.exit_bytes ≡ old.exit_bytes)
+pub brings_plain : (input : Input) (old new : Lane) (words : List Word) → is_plain_input input ≡ true → Brings input old new words → (new.entry_bytes ≡ old.entry_bytes) × (new.exit_bytes ≡ old.exit_bytes)
 brings_plain (inputs.Bytes side piece) old new words plain brings = absurd (false≢true plain)
 brings_plain inputs.Connect old new words plain brings = absurd (false≢true plain)
 brings_plain inputs.Accepted old new words plain brings = absurd (false≢true plain)
@@ -69,7 +69,7 @@ no_words : (maker : Maker) (input : Input) (words : List Word) → is_plain_inpu
 no_words maker (inputs.Bytes side piece) words plain = absurd (false≢true plain)
 no_words maker _ words plain = refl
 
-event_fits : (maker : Maker) (input : Input) (words : List Word) → is_plain_input input ≡ true → IsFitMaker maker → IsFitInput input → IsFitEvent (event_of maker input words)
+pub event_fits : (maker : Maker) (input : Input) (words : List Word) → is_plain_input input ≡ true → IsFitMaker maker → IsFitInput input → IsFitEvent (event_of maker input words)
 event_fits maker input words plain m i = subst (λ (e : Event). IsFitEvent e) (sym (no_words maker input words plain)) (event_of_fits maker input [] m i none_heard)
 
 -- ---- a side that hears nothing

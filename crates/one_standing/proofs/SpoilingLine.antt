@@ -202,7 +202,7 @@ nul_carries : {stands : Bool} {waiting : List ℕ} {messages : List Horizontal} 
 nul_carries {waiting = waiting} stream begun needs = carries_spoiled (subst (λ (bytes : List ℕ). Spoiled waiting bytes) (sym (coming_of_nul stream begun)) (puts_a_nul waiting (coming stream) needs))
 
 -- a side of a link that stands is open, and what waits there comes to no message
-spoil_needs : (machine : ℕ) (side : Side) (t : Trace) (s : LineState) → Stands t s → AreWaiting s → CanSpoil machine side s → answer_of (waiting_at side (node_at s machine).lane) ≡ NeedMore
+pub spoil_needs : (machine : ℕ) (side : Side) (t : Trace) (s : LineState) → Stands t s → AreWaiting s → CanSpoil machine side s → answer_of (waiting_at side (node_at s machine).lane) ≡ NeedMore
 spoil_needs machine side t s st waits can =
     let link : LinkParts = link_at (link_of machine side) s.world in
     let open_end : is_some (number_of (end_of side) link) ≡ true = numbered (end_of side) link (st.links (link_of machine side)) can.stands in

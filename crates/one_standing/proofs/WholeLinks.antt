@@ -134,13 +134,13 @@ whole_close : (end : Role) (link : LinkParts) → IsWholeLink link → IsWholeLi
 whole_close Upstream link whole = record { joined = refl; dry_upstream = refl; dry_downstream = whole.dry_downstream; begun = record { upstream = refl; downstream = whole.begun.downstream } }
 whole_close Downstream link whole = record { joined = refl; dry_upstream = whole.dry_upstream; dry_downstream = refl; begun = record { upstream = whole.begun.upstream; downstream = refl } }
 
-whole_arrival : (to : Role) (count : Option ℕ) (link : LinkParts) → IsWholeLink link → IsWholeLink (after_flow to count link)
+pub whole_arrival : (to : Role) (count : Option ℕ) (link : LinkParts) → IsWholeLink link → IsWholeLink (after_flow to count link)
 whole_arrival to count link whole =
     let stream = flow_to to link in
     let many = flowing count stream in
     whole_flow to (with_arrival many stream) link whole (still_dry (number_of to link) (stream.arrived + many) stream.texts (dry_at to link whole)) (begun_arrival many stream)
 
-whole_connect : (link : LinkParts) → IsWholeLink link → IsWholeLink (after_connect link)
+pub whole_connect : (link : LinkParts) → IsWholeLink link → IsWholeLink (after_connect link)
 whole_connect link whole = by link.upstream
   where
     by : (number : Option ℕ) → IsWholeLink (connected number (next_number link.made) link)
@@ -189,20 +189,20 @@ whole_counted (deeds.Loses id) world all = all
 whole_counted (deeds.Starts id) world all = all
 whole_counted (deeds.Drops id) world all = all
 
-whole_act : (second : Bool) (machine : ℕ) (act : Act) (world : WorldParts) → AreWhole world → AreWhole (act_did second machine act world).world
+pub whole_act : (second : Bool) (machine : ℕ) (act : Act) (world : WorldParts) → AreWhole world → AreWhole (act_did second machine act world).world
 whole_act second machine (acts.Sends side message) world all = whole_sent (second && (is_exit side && is_answer message.body)) machine side message world all
 whole_act second machine (acts.Closes side) world all = whole_closed machine side world all
 whole_act second machine (acts.Notices side) world all = whole_closed machine side world all
 whole_act second machine (acts.Deed deed) world all = whole_counted deed world all
 whole_act second machine act world all = all
 
-whole_acts : (second : Bool) (machine : ℕ) (told : List Act) (world : WorldParts) → AreWhole world → AreWhole (acts_did second machine told world).world
+pub whole_acts : (second : Bool) (machine : ℕ) (told : List Act) (world : WorldParts) → AreWhole world → AreWhole (acts_did second machine told world).world
 whole_acts second machine [] world all = all
 whole_acts second machine (act ∷ others) world all = whole_acts second machine others (act_did second machine act world).world (whole_act second machine act world all)
 
 -- ---- a step, a connection, a move
 
-steps : (number machine : ℕ) (input : Input) (before after : LineState) (told : List Happening) → MachineSteps number machine input before after told → AreWholeLinks before → AreWholeLinks after
+pub steps : (number machine : ℕ) (input : Input) (before after : LineState) (told : List Happening) → MachineSteps number machine input before after told → AreWholeLinks before → AreWholeLinks after
 steps number machine input before after told did all =
     subst (λ (s : LineState). AreWholeLinks s) (sym did.after_is) (whole_acts (is_second input) machine did.acts (read_by machine before.world) all)
 

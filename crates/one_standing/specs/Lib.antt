@@ -5,7 +5,11 @@ pub mod Carried
 pub mod Links
 pub mod Stands
 pub mod Standing
+pub mod Told
 pub mod Mirrors
 pub mod Facts
 pub mod Replay
+pub mod Reached
 pub mod Waits
+pub mod Contents
+pub mod Blame

@@ -1,6 +1,9 @@
 //! What holds of the boards of a line over the run of every script. Each law is a contract over the definitions of specs/.
 
+ghost use Rattle.one_standing.specs.Blame.{NoFalseBlame};
+ghost use Rattle.one_standing.specs.Contents.{ContentsAreKept};
 ghost use Rattle.one_standing.specs.Facts.{CustodyFacts};
+ghost use Rattle.one_standing.specs.Reached.{CustodyAlong, IdsAlong, LedgerAlong, StandsAlong};
 ghost use Rattle.one_standing.specs.Replay.{LedgerFollows};
 ghost use Rattle.one_standing.specs.Standing.{OneStanding};
 
@@ -37,6 +40,47 @@ pub fn the_custody_facts_hold_after_each_line()
 /// ledger on, and behind each of the same lines the ledger's marks are those of the machines.
 pub fn the_ledger_follows_the_report()
     ensures { LedgerFollows }
+{
+    link_messages::laws::the_words_of_a_piece_are_the_oldest_messages();
+    link_messages::laws::a_frame_with_a_nul_is_a_wrong_word();
+    link_messages::laws::fit_messages_are_sayable();
+    link_messages::laws::the_words_of_fit_messages_are_fit();
+    link_messages::laws::the_words_behind_a_nul_are_fit();
+}
+
+/// Contents are kept: over each of the same lines, a record that a machine keeps before the line and behind it is the same,
+/// unless the line tells that the machine marked that board.
+pub fn contents_are_kept_over_each_line()
+    ensures { ContentsAreKept }
+{
+    link_messages::laws::the_words_of_a_piece_are_the_oldest_messages();
+    link_messages::laws::a_frame_with_a_nul_is_a_wrong_word();
+    link_messages::laws::fit_messages_are_sayable();
+    link_messages::laws::the_words_of_fit_messages_are_fit();
+    link_messages::laws::the_words_behind_a_nul_are_fit();
+}
+
+/// No false blame: in each of the same lines a breach at a side of a machine is told only where an earlier line told that
+/// what flows to that side was spoiled.
+pub fn a_breach_is_told_only_behind_a_spoiled_text()
+    ensures { NoFalseBlame }
+{
+    link_messages::laws::the_words_of_a_piece_are_the_oldest_messages();
+    link_messages::laws::a_frame_with_a_nul_is_a_wrong_word();
+    link_messages::laws::fit_messages_are_sayable();
+    link_messages::laws::the_words_of_fit_messages_are_fit();
+    link_messages::laws::the_words_behind_a_nul_are_fit();
+}
+
+/// The same a line at a time. Of each state that the run of a script has led to: one standing and the custody facts, where no
+/// line told of a sensor event that was not; and in any case that no two boards share an id, and that each id was made by a
+/// machine of the line. And of its next line: what is told of records is legal in every ledger that has the marks of the
+/// machines before the line, and leads to one that has those after it.
+pub fn what_a_run_leads_to()
+    ensures standing { StandsAlong }
+    ensures custody { CustodyAlong }
+    ensures ids { IdsAlong }
+    ensures ledger { LedgerAlong }
 {
     link_messages::laws::the_words_of_a_piece_are_the_oldest_messages();
     link_messages::laws::a_frame_with_a_nul_is_a_wrong_word();

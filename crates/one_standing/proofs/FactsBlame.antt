@@ -1,0 +1,583 @@
+-- NO FALSE BLAME, for a machine's step: where all that it hears are messages that the machine at the other end sends, in the
+-- order in which they were sent, nothing is told of a breach. And whatever is heard so, or wrong, the machine sends only such
+-- messages itself.
+use Rattle.std.proofs.Common.{Bool, List, None, Option, Some, [], ap, false, is_some, map, refl, subst, sym, true, ℕ, ℤ, ◌&&◌, ◌++◌, ◌∙◌, ◌∷◌, ◌≡◌}
+use Rattle.std.specs.Prelude.{slice_get}
+use Rattle.std.proofs.lemmas.Bool.{false≢true}
+use Rattle.line_base.specs.declared.states.Code.{Code}
+use Rattle.line_base.specs.declared.states.Role.{Role}
+use Rattle.line_base.specs.declared.states.Severity.{Severity}
+use Rattle.line_base.specs.declared.states.Severity.TheVariants.{Fatal}
+use Rattle.hermes_horizontal.specs.Parts.{kind_of}
+use Rattle.session_core.specs.Acts.{two}
+use Rattle.session_core.specs.Handling.{handling_of}
+use Rattle.session_core.specs.Row.{actions_at, service_row, taken_row, traffic_row}
+use Rattle.session_core.specs.declared.actions.Tell.TheVariants.{Unsettled}
+use Rattle.handover_out.specs.declared.phase.Phase.{Phase as Out}
+use Rattle.handover_in.specs.declared.phase.Phase.{Phase as In}
+use Rattle.node_core.proofs.Offers.{OffersOf}
+use Rattle.node_core.proofs.Keeping.{hears_keeps}
+use Rattle.node_core.proofs.Sound.{all_read_keeps}
+use Rattle.machine_custody.specs.ByHand.{body_read, scene_read}
+use Rattle.machine_custody.specs.Flight.{AreOldest, oldest_says, unheard}
+use Rattle.machine_custody.proofs.BehindReading.{read_leaves}
+use Rattle.machine_custody.proofs.HearingAll.{deaf}
+use Rattle.machine_custody.proofs.HearingEntry.{entry_hears}
+use Rattle.machine_custody.proofs.HearingExit.{exit_hears}
+use Rattle.machine_custody.proofs.Listening.{Then, breach_shuts, closed, entry_hears_then, exit_hears_then, still}
+use Rattle.machine_custody.proofs.Reading.{all_read_good}
+use Rattle.custody.specs.Apart.{Exit as Alone, exit_called, exit_called_stuck, exit_described, exit_described_stuck, exit_idle}
+use Rattle.custody.specs.Contents.{Looks}
+use Rattle.custody.specs.Events.{gone_by}
+use Rattle.custody.specs.Flight.{Readies, Starts}
+use Rattle.custody.specs.Pair.{Ghost, LinkState}
+use Rattle.custody.specs.Place.{Place}
+use Rattle.custody.specs.Shape.{Shape, no_handover, start_and_stop_sent, start_sent}
+use Rattle.custody.specs.Talks.{Talks, apart, apart_start, apart_start_stop, live, shaking_idle, shaking_stuck, shaking_waiting}
+use Rattle.custody.specs.Words.{DownWord, DownstreamService, UpWord}
+use Rattle.custody.proofs.EntryEvents.{hears_available, hears_finished, hears_revoke_available, hears_upstream}
+use Rattle.custody.proofs.ExitEvents.{hears_ready, hears_revoke_ready, hears_start, hears_stop}
+use Rattle.custody.proofs.Promised.{finds_for_a_start}
+use Rattle.machine_custody.specs.Good.{Afar, GoesBy, Good}
+use Rattle.machine_custody.specs.Scene.{Scene, all_met, link_above, link_below}
+use Rattle.machine_custody.proofs.Keeping.{front_found, kept_lies, offers_the_front}
+use Rattle.machine_custody.proofs.Rows.{unheard_above, unheard_below}
+use Rattle.std.specs.List.{AllByRecursion}
+use Rattle.line_base.specs.declared.states.Role.TheVariants.{Downstream, Upstream}
+use Rattle.line_base.specs.declared.states.Side.{Side}
+use Rattle.line_base.specs.declared.states.Side.TheVariants.{Entry, Exit}
+use Rattle.board_record.specs.declared.record.Record.{Record}
+use Rattle.board_record.specs.declared.sensed.Sensed.{Sensed as Seen}
+use Rattle.hermes_horizontal.specs.declared.message.Horizontal.{Horizontal}
+use Rattle.hermes_horizontal.specs.declared.message.Horizontal.TheVariants as message
+use Rattle.hermes_horizontal.specs.declared.message.Message.{Message}
+use Rattle.hermes_horizontal.specs.declared.message.Ping.{Ping}
+use Rattle.hermes_horizontal.specs.declared.message.Ping.TheVariants as ping
+use Rattle.hermes_horizontal.specs.declared.message.Service.{Service}
+use Rattle.session_core.specs.declared.actions.Action.{Action}
+use Rattle.session_core.specs.declared.actions.Action.TheVariants.{Close, Pass, Ping as Pings, Pong, SendService, Stand, Tell}
+use Rattle.session_core.specs.declared.actions.Actions.{Actions}
+use Rattle.session_core.specs.declared.state.SessionState.{SessionState}
+use Rattle.session_core.specs.declared.state.SessionState.TheVariants.{Handshake, NotConnected, Standing}
+use Rattle.session_core.specs.Acts.{nothing, one}
+use Rattle.session_core.specs.End.{SessionEnd, at_rest, is_connected_state, stands, taken as heard_from}
+use Rattle.session_core.specs.Input.{heard, opened, second, shutdown, tick}
+use Rattle.session_core.specs.Row.{SessionRow, alive_actions, connected_row, described_row, session_row}
+use Rattle.handover_out.specs.declared.act.OutAct.{OutAct}
+use Rattle.handover_out.specs.declared.act.OutDeed.{OutDeed}
+use Rattle.handover_out.specs.declared.act.OutSend.{OutSend}
+use Rattle.handover_out.specs.declared.act.OutSend.TheVariants as out_sends
+use Rattle.handover_out.specs.declared.input.OutInput.TheVariants as out_input
+use Rattle.handover_out.specs.Row.{OutRow, outlet_row}
+use Rattle.handover_out.specs.State.{held, would_open}
+use Rattle.handover_in.specs.declared.act.InAct.{InAct}
+use Rattle.handover_in.specs.declared.act.InDeed.{InDeed}
+use Rattle.handover_in.specs.declared.act.InSend.{InSend}
+use Rattle.handover_in.specs.declared.act.InSend.TheVariants as in_sends
+use Rattle.handover_in.specs.declared.input.InInput.TheVariants as in_input
+use Rattle.handover_in.specs.Row.{InRow, intake_row}
+use Rattle.node_core.specs.Announces.{announces, offer, offer_by, offers_now, ready, ready_by, readies_now, revoke, revoke_by, revokes_now, start, start_by, starts_now, unready, unready_by, unreadies_now}
+use Rattle.node_core.specs.Boards.{if_kept, is_kept}
+use Rattle.node_core.specs.Connect.{if_open, opens, shuts_down, ticks}
+use Rattle.node_core.specs.Desk.{Desk}
+use Rattle.node_core.specs.Done.{Done, and_then, behind}
+use Rattle.node_core.specs.Event.{Accepted, Connect, Event, Fault, Insert, Mark, Nothing, Notice, Remove, Replace, Second, Shutdown, Tick, Will, Words, event_did}
+use Rattle.node_core.specs.Halves.{behind_opening, ended, half_closed, intake_row_did, opening_board, outlet_row_did}
+use Rattle.node_core.specs.Hears.{hears, intake_took, outlet_took, passed, rowed, taken}
+use Rattle.node_core.specs.Reads.{all_read, reads, saw}
+use Rattle.node_core.specs.Session.{action_did, actions_did, breaches, maybe_did, session_did}
+use Rattle.node_core.specs.Sides.{is_open, session_at, with_session}
+use Rattle.node_core.specs.Step.{machine_step}
+use Rattle.node_core.specs.Told.{drives, in_does, in_sends as in_said, in_told, notification, out_does, out_sends as out_said, out_told, sends}
+use Rattle.node_core.specs.Words.{all_heard}
+use Rattle.node_core.specs.declared.act.Act.{Act}
+use Rattle.node_core.specs.declared.act.Act.TheVariants as acts
+use Rattle.node_core.specs.declared.lane.Body.{Body}
+use Rattle.node_core.specs.declared.word.Word.{Word}
+use Rattle.node_core.specs.declared.word.Word.TheVariants as words
+
+-- ---- acts that breach nothing but at such sides, and send only such messages as come to the side at the other end
+
+-- what the machine above says to an entry, and the one below to an exit
+abbrev pub is_from : Side → Horizontal → Bool
+is_from side (message.CheckAlive ping id) = true
+is_from side (message.ServiceDescription service) = true
+is_from side (message.Notification code severity text) = true
+is_from Entry (message.BoardAvailable board) = true
+is_from Entry message.RevokeBoardAvailable = true
+is_from Entry (message.TransportFinished state id) = true
+is_from Exit (message.MachineReady quality) = true
+is_from Exit message.RevokeMachineReady = true
+is_from Exit (message.StartTransport id) = true
+is_from Exit (message.StopTransport state id) = true
+is_from side what = false
+
+abbrev pub is_mild : (Side → Bool) → Act → Bool
+is_mild may (acts.Breaches side text) = may side
+is_mild may (acts.Sends Entry m) = is_from Exit m.body
+is_mild may (acts.Sends Exit m) = is_from Entry m.body
+is_mild may _ = true
+
+abbrev pub are_mild : (Side → Bool) → List Act → Bool
+are_mild may [] = true
+are_mild may (act ∷ others) = is_mild may act && are_mild may others
+
+record Mild (may : Side → Bool) (d : Done) : Type 0 where
+  mild : are_mild may d.acts ≡ true
+
+-- at no side, and at this one alone
+abbrev pub at_none : Side → Bool
+at_none side = false
+
+abbrev pub at_one : Side → Side → Bool
+at_one Entry Entry = true
+at_one Entry Exit = false
+at_one Exit Entry = false
+at_one Exit Exit = true
+
+both_mild : (a b : Bool) → a ≡ true → b ≡ true → (a && b) ≡ true
+both_mild true b one two = two
+both_mild false b one two = one
+
+mild_append : (may : Side → Bool) (a b : List Act) → are_mild may a ≡ true → are_mild may b ≡ true → are_mild may (a ++ b) ≡ true
+mild_append may [] b one two = two
+mild_append may (act ∷ a) b one two = mild_by (is_mild may act) one (λ later. mild_append may a b later two) where
+  mild_by : (first : Bool) → (first && are_mild may a) ≡ true → (are_mild may a ≡ true → are_mild may (a ++ b) ≡ true) → (first && are_mild may (a ++ b)) ≡ true
+  mild_by true is next = next is
+  mild_by false is next = is
+
+mild_both : {may : Side → Bool} (first : Done) (next : Body → Done) → Mild may first → Mild may (next first.body) → Mild may (and_then first next)
+mild_both first next a b = record { mild = mild_append _ first.acts (next first.body).acts a.mild b.mild }
+
+mild_behind : {may : Side → Bool} (told : List Act) (d : Done) → are_mild may told ≡ true → Mild may d → Mild may (behind told d)
+mild_behind told d one two = record { mild = mild_append _ told d.acts one two.mild }
+
+-- ---- the halves and the sessions
+
+out_does_mild : (may : Side → Bool) (deed : Option OutDeed) → are_mild may (out_does deed) ≡ true
+out_does_mild may None = refl
+out_does_mild may (Some deed) = refl
+
+out_said_mild : (may : Side → Bool) (desk : Desk) (kept : List Record) (send : Option OutSend) → are_mild may (out_said desk kept send) ≡ true
+out_said_mild may desk kept None = refl
+out_said_mild may desk [] (Some out_sends.BoardAvailable) = refl
+out_said_mild may desk (r ∷ rs) (Some out_sends.BoardAvailable) = refl
+out_said_mild may desk kept (Some out_sends.RevokeBoardAvailable) = refl
+out_said_mild may desk kept (Some (out_sends.Finished state id)) = refl
+
+drives_mild : (may : Side → Bool) (side : Side) (drive : Option Bool) → are_mild may (drives side drive) ≡ true
+drives_mild may side None = refl
+drives_mild may side (Some on) = refl
+
+out_mild : (may : Side → Bool) (desk : Desk) (kept : List Record) (act : OutAct) → are_mild may (out_told desk kept act) ≡ true
+out_mild may desk kept act = mild_append may (out_does act.deed) (out_said desk kept act.send ++ drives Exit act.drive) (out_does_mild may act.deed) (mild_append may (out_said desk kept act.send) (drives Exit act.drive) (out_said_mild may desk kept act.send) (drives_mild may Exit act.drive))
+
+in_does_mild : (may : Side → Bool) (deed : Option InDeed) → are_mild may (in_does deed) ≡ true
+in_does_mild may None = refl
+in_does_mild may (Some deed) = refl
+
+in_said_mild : (may : Side → Bool) (desk : Desk) (send : Option InSend) → are_mild may (in_said desk send) ≡ true
+in_said_mild may desk None = refl
+in_said_mild may desk (Some in_sends.MachineReady) = refl
+in_said_mild may desk (Some in_sends.RevokeMachineReady) = refl
+in_said_mild may desk (Some (in_sends.Start id)) = refl
+in_said_mild may desk (Some (in_sends.Stop state id)) = refl
+
+in_mild : (may : Side → Bool) (desk : Desk) (act : InAct) → are_mild may (in_told desk act) ≡ true
+in_mild may desk act = mild_append may (in_does act.deed) (in_said desk act.send ++ drives Entry act.drive) (in_does_mild may act.deed) (mild_append may (in_said desk act.send) (drives Entry act.drive) (in_said_mild may desk act.send) (drives_mild may Entry act.drive))
+
+outlet_mild : {may : Side → Bool} (desk : Desk) (body : Body) (found : Option OutRow) → Mild may (outlet_row_did desk body found)
+outlet_mild desk body None = record { mild = refl }
+outlet_mild desk body (Some r) = record { mild = out_mild _ desk body.kept r.act }
+
+intake_mild : {may : Side → Bool} (desk : Desk) (body : Body) (found : Option InRow) → Mild may (intake_row_did desk body found)
+intake_mild desk body None = record { mild = refl }
+intake_mild desk body (Some r) = record { mild = in_mild _ desk r.act }
+
+half_mild : {may : Side → Bool} (desk : Desk) (side : Side) (body : Body) → Mild may (half_closed desk side body)
+half_mild desk Entry body = intake_mild desk body (intake_row body.intake in_input.Closed)
+half_mild desk Exit body = outlet_mild desk body (outlet_row body.outlet out_input.Closed)
+
+action_mild : {may : Side → Bool} (desk : Desk) (side : Side) (action : Action) (body : Body) → Mild may (action_did desk side action body)
+action_mild desk Entry SendService body = record { mild = refl }
+action_mild desk Exit SendService body = record { mild = refl }
+action_mild desk Entry (Pong id) body = record { mild = refl }
+action_mild desk Exit (Pong id) body = record { mild = refl }
+action_mild desk Entry (Pings n) body = record { mild = refl }
+action_mild desk Exit (Pings n) body = record { mild = refl }
+action_mild desk Entry (Tell what) body = record { mild = refl }
+action_mild desk Exit (Tell what) body = record { mild = refl }
+action_mild desk side Close body = mild_behind (acts.Closes side ∷ []) (half_closed desk side body) refl (half_mild desk side body)
+action_mild desk side Stand body = intake_mild desk body (intake_row body.intake in_input.Stand)
+action_mild desk side (Pass what) body = record { mild = refl }
+
+maybe_mild : {may : Side → Bool} (desk : Desk) (side : Side) (action : Option Action) (body : Body) → Mild may (maybe_did desk side action body)
+maybe_mild desk side None body = record { mild = refl }
+maybe_mild desk side (Some action) body = action_mild desk side action body
+
+actions_mild : {may : Side → Bool} (desk : Desk) (side : Side) (actions : Actions) (body : Body) → Mild may (actions_did desk side actions body)
+actions_mild desk side actions body =
+    let first : Done = maybe_did desk side actions.first body in
+    mild_both first (λ (b : Body). and_then (maybe_did desk side actions.second b) (maybe_did desk side actions.third)) (maybe_mild desk side actions.first body)
+    (mild_both (maybe_did desk side actions.second first.body) (maybe_did desk side actions.third) (maybe_mild desk side actions.second first.body) (maybe_mild desk side actions.third (maybe_did desk side actions.second first.body).body))
+
+session_mild : {may : Side → Bool} (desk : Desk) (side : Side) (body : Body) (found : Option SessionRow) → Mild may (session_did desk side found body)
+session_mild desk side body None = record { mild = refl }
+session_mild desk side body (Some r) = actions_mild desk side r.actions (with_session side r.after body)
+
+ended_mild : {may : Side → Bool} (desk : Desk) (side : Side) (body : Body) → Mild may (half_closed desk side (with_session side (at_rest (session_at side body).role) body))
+ended_mild desk side body = half_mild desk side (with_session side (at_rest (session_at side body).role) body)
+
+saw_mild : {may : Side → Bool} (desk : Desk) (seen : Seen) (body : Body) → Mild may (reads desk seen body)
+saw_mild desk seen body = mild_behind (acts.Reads seen.side seen.event ∷ []) (saw desk seen.side seen.event body) refl (by seen.side) where
+  by : {may : Side → Bool} (side : Side) → Mild may (saw desk side seen.event body)
+  by Entry = intake_mild desk body (intake_row body.intake (in_input.Sensed seen.event))
+  by Exit = outlet_mild desk body (outlet_row body.outlet (out_input.Sensed seen.event))
+
+read_mild : {may : Side → Bool} (desk : Desk) (unread : List Seen) (body : Body) → Mild may (all_read desk unread body)
+read_mild desk [] body = record { mild = refl }
+read_mild desk (s ∷ ss) body = mild_both (reads desk s body) (all_read desk ss) (saw_mild desk s body) (read_mild desk ss (reads desk s body).body)
+
+if_mild : {may : Side → Bool} (test : Bool) (d : Done) (body : Body) → Mild may d → Mild may (if_open test d body)
+if_mild true d body m = m
+if_mild false d body m = record { mild = refl }
+
+kept_mild : {may : Side → Bool} (test : Bool) (body after : Body) (act : Act) → is_mild may act ≡ true → Mild may (if_kept test after act body)
+kept_mild true body after act mild = record { mild = both_mild _ true mild refl }
+kept_mild false body after act mild = record { mild = refl }
+
+-- ---- the announcements
+
+revoke_mild : {may : Side → Bool} (desk : Desk) (test : Bool) (body : Body) → Mild may (revoke_by desk test body)
+revoke_mild desk true body = outlet_mild desk body (outlet_row body.outlet out_input.Revoke)
+revoke_mild desk false body = record { mild = refl }
+
+unready_mild : {may : Side → Bool} (desk : Desk) (test : Bool) (body : Body) → Mild may (unready_by desk test body)
+unready_mild desk true body = intake_mild desk body (intake_row body.intake in_input.Unready)
+unready_mild desk false body = record { mild = refl }
+
+offer_mild : {may : Side → Bool} (desk : Desk) (test : Bool) (front : Option Record) (body : Body) → Mild may (offer_by desk test front body)
+offer_mild desk true (Some front) body = outlet_mild desk body (outlet_row body.outlet (out_input.Offer front.id))
+offer_mild desk true None body = record { mild = refl }
+offer_mild desk false front body = record { mild = refl }
+
+ready_mild : {may : Side → Bool} (desk : Desk) (test : Bool) (body : Body) → Mild may (ready_by desk test body)
+ready_mild desk true body = intake_mild desk body (intake_row body.intake in_input.Ready)
+ready_mild desk false body = record { mild = refl }
+
+start_mild : {may : Side → Bool} (desk : Desk) (test : Bool) (body : Body) → Mild may (start_by desk test body)
+start_mild desk true body = intake_mild desk body (intake_row body.intake in_input.Start)
+start_mild desk false body = record { mild = refl }
+
+announces_mild : {may : Side → Bool} (desk : Desk) (body : Body) → Mild may (announces desk body)
+announces_mild desk body =
+    let one = (revoke desk body).body in
+    let two = (unready desk one).body in
+    let three = (offer desk two).body in
+    let four = (ready desk three).body in
+    mild_both (revoke desk body) (λ (b : Body). and_then (unready desk b) (λ c. and_then (offer desk c) (λ d. and_then (ready desk d) (start desk)))) (revoke_mild desk (revokes_now body) body)
+    (mild_both (unready desk one) (λ (c : Body). and_then (offer desk c) (λ d. and_then (ready desk d) (start desk))) (unready_mild desk (unreadies_now desk one) one)
+    (mild_both (offer desk two) (λ (d : Body). and_then (ready desk d) (start desk)) (offer_mild desk (offers_now two) (slice_get two.kept 0) two)
+    (mild_both (ready desk three) (start desk) (ready_mild desk (readies_now desk three) three) (start_mild desk (starts_now four) four))))
+
+-- ---- what befalls a machine, but words
+
+abbrev pub IsNoWords : Event → Type 0
+IsNoWords (Words side words) = ⊥
+IsNoWords _ = Unit {0}
+
+event_mild : {may : Side → Bool} (desk : Desk) (event : Event) (body : Body) → IsNoWords event → Mild may (event_did desk event body)
+event_mild desk Nothing body other = record { mild = refl }
+event_mild desk Connect body other = mild_behind (acts.Connects ∷ []) (opens desk Entry body) refl (session_mild desk Entry body (session_row (session_at Entry body) opened))
+event_mild desk Accepted body other = session_mild desk Exit body (session_row (session_at Exit body) opened)
+event_mild desk Second body other = session_mild desk Exit body (session_row (session_at Exit body) second)
+event_mild desk (Words side words) body other = absurd other
+event_mild desk (Notice side) body other = if_mild (is_open side body) (behind (acts.Notices side ∷ []) (half_closed desk side (with_session side (at_rest (session_at side body).role) body))) body
+    (mild_behind (acts.Notices side ∷ []) (half_closed desk side (with_session side (at_rest (session_at side body).role) body)) refl (ended_mild desk side body))
+event_mild desk Tick body other = mild_both (ticks desk Entry body) (ticks desk Exit) (session_mild desk Entry body (session_row (session_at Entry body) tick))
+    (let b = (ticks desk Entry body).body in session_mild desk Exit b (session_row (session_at Exit b) tick))
+event_mild desk Shutdown body other = mild_both (shuts_down desk Entry body) (shuts_down desk Exit) (session_mild desk Entry body (session_row (session_at Entry body) shutdown))
+    (let b = (shuts_down desk Entry body).body in session_mild desk Exit b (session_row (session_at Exit b) shutdown))
+event_mild desk (Fault Entry) body other = intake_mild desk body (intake_row body.intake in_input.Fault)
+event_mild desk (Fault Exit) body other = outlet_mild desk body (outlet_row body.outlet out_input.Fault)
+event_mild desk (Will side on) body other = record { mild = refl }
+event_mild desk (Insert id barcode) body other = record { mild = refl }
+event_mild desk (Remove id) body other = kept_mild (is_kept id body.kept) body _ (acts.Removes id) refl
+event_mild desk (Replace old new) body other = kept_mild (is_kept old body.kept) body _ (acts.Replaces old new) refl
+event_mild desk (Mark id quality) body other = kept_mild (is_kept id body.kept) body _ (acts.Marks id quality) refl
+
+step_mild_by : {may : Side → Bool} (desk : Desk) (unread : List Seen) (event : Event) (body : Body) → Mild may (event_did desk event (all_read desk unread body).body) → Mild may (machine_step desk unread event body)
+step_mild_by desk unread event body m =
+    let read = all_read desk unread body in
+    mild_both read (λ (b : Body). and_then (event_did desk event b) (announces desk)) (read_mild desk unread body)
+    (mild_both (event_did desk event read.body) (announces desk) m (announces_mild desk (event_did desk event read.body).body))
+
+-- without words nothing is breached
+pub quiet_step_mild : (may : Side → Bool) (desk : Desk) (unread : List Seen) (event : Event) (body : Body) → IsNoWords event → are_mild may (machine_step desk unread event body).acts ≡ true
+quiet_step_mild may desk unread event body other = (step_mild_by desk unread event body (event_mild desk event (all_read desk unread body).body other)).mild
+
+-- ---- a message that the machine at the other end sends
+
+abbrev IsNoPass : Option Action → Type 0
+IsNoPass (Some (Pass what)) = ⊥
+IsNoPass action = Unit {0}
+
+taken_aside : {may : Side → Bool} (desk : Desk) (side : Side) (m : Message) (first : Option Action) (actions : Actions) (body : Body) → IsNoPass first → Mild may (taken desk side m first actions body)
+taken_aside desk side m None actions body plain = mild_behind (acts.Hears side m ∷ []) (actions_did desk side actions body) refl (actions_mild desk side actions body)
+taken_aside desk side m (Some SendService) actions body plain = mild_behind (acts.Hears side m ∷ []) (actions_did desk side actions body) refl (actions_mild desk side actions body)
+taken_aside desk side m (Some (Pong id)) actions body plain = mild_behind (acts.Hears side m ∷ []) (actions_did desk side actions body) refl (actions_mild desk side actions body)
+taken_aside desk side m (Some (Pings n)) actions body plain = mild_behind (acts.Hears side m ∷ []) (actions_did desk side actions body) refl (actions_mild desk side actions body)
+taken_aside desk side m (Some (Tell what)) actions body plain = mild_behind (acts.Hears side m ∷ []) (actions_did desk side actions body) refl (actions_mild desk side actions body)
+taken_aside desk side m (Some Close) actions body plain = mild_behind (acts.Hears side m ∷ []) (actions_did desk side actions body) refl (actions_mild desk side actions body)
+taken_aside desk side m (Some Stand) actions body plain = mild_behind (acts.Hears side m ∷ []) (actions_did desk side actions body) refl (actions_mild desk side actions body)
+taken_aside desk side m (Some (Pass what)) actions body plain = absurd plain
+
+-- the session has a row
+hears_by : {may : Side → Bool} (desk : Desk) (side : Side) (m : Message) (body : Body) (r : SessionRow) → session_row (session_at side body) (heard m.body (is_some (held body.outlet))) ≡ Some r
+    → Mild may (taken desk side m r.actions.first r.actions (with_session side r.after body)) → Mild may (hears desk side m body)
+hears_by {may} desk side m body r is mild = subst (λ (found : Option SessionRow). Mild may (rowed desk side m body found)) (sym is) mild
+
+aside : {may : Side → Bool} (desk : Desk) (side : Side) (m : Message) (body : Body) (r : SessionRow) → session_row (session_at side body) (heard m.body (is_some (held body.outlet))) ≡ Some r → IsNoPass r.actions.first → Mild may (hears desk side m body)
+aside desk side m body r is plain = hears_by desk side m body r is (taken_aside desk side m r.actions.first r.actions (with_session side r.after body) plain)
+
+connected_is : (state : SessionState) (after : SessionEnd) (actions : Actions) → is_connected_state state ≡ true → connected_row state after actions ≡ Some (record { after = after; actions = actions })
+connected_is NotConnected after actions is = absurd (let h : false ≡ true = is in cc)
+connected_is Handshake after actions is = refl
+connected_is Standing after actions is = refl
+
+alive_plain : (p : Option Ping) (id : Option (List ℕ)) → IsNoPass (alive_actions p id).first
+alive_plain None id = tt
+alive_plain (Some ping.Ask) id = tt
+alive_plain (Some ping.Answer) id = tt
+
+alive_mild : {may : Side → Bool} (desk : Desk) (side : Side) (stamp : Option ℤ) (p : Option Ping) (id : Option (List ℕ)) (body : Body) → is_open side body ≡ true → Mild may (hears desk side (record { stamp = stamp; body = message.CheckAlive p id }) body)
+alive_mild desk side stamp p id body on =
+    let s : SessionEnd = session_at side body in
+    aside desk side (record { stamp = stamp; body = message.CheckAlive p id }) body (record { after = heard_from s; actions = alive_actions p id }) (connected_is s.state (heard_from s) (alive_actions p id) on) (alive_plain p id)
+
+notified_mild : {may : Side → Bool} (desk : Desk) (side : Side) (stamp : Option ℤ) (code : Code) (severity : Severity) (text : List ℕ) (body : Body) → is_open side body ≡ true → Mild may (hears desk side (record { stamp = stamp; body = message.Notification code severity text }) body)
+notified_mild desk side stamp code severity text body on =
+    let s : SessionEnd = session_at side body in
+    aside desk side (record { stamp = stamp; body = message.Notification code severity text }) body (record { after = heard_from s; actions = nothing }) (connected_is s.state (heard_from s) nothing on) tt
+
+traffic_is : (s : SessionEnd) (what : Horizontal) (role : Role) → s.state ≡ Standing → s.role ≡ role → actions_at (handling_of (kind_of what) role) what ≡ Some (one (Pass what)) → traffic_row s.state s what ≡ Some (record { after = heard_from s; actions = one (Pass what) })
+traffic_is s what role stands is passes =
+    ap (λ (state : SessionState). traffic_row state s what) stands ∙ ap (λ (r : Role). taken_row s (actions_at (handling_of (kind_of what) r) what)) is ∙ ap (λ (a : Option Actions). taken_row s a) passes
+
+passed_in : {may : Side → Bool} (desk : Desk) (m : Message) (body : Body) (found : Option InRow) (r : InRow) → found ≡ Some r → Mild may (passed desk Entry m body (intake_took desk body found))
+passed_in {may} desk m body found r is = subst (λ (f : Option InRow). Mild may (passed desk Entry m body (intake_took desk body f))) (sym is) (record { mild = in_mild _ desk r.act })
+
+passed_out : {may : Side → Bool} (desk : Desk) (m : Message) (body after : Body) (found : Option OutRow) (r : OutRow) → found ≡ Some r → Mild may (passed desk Exit m body (outlet_took desk after found))
+passed_out {may} desk m body after found r is = subst (λ (f : Option OutRow). Mild may (passed desk Exit m body (outlet_took desk after f))) (sym is) (record { mild = out_mild _ desk after.kept r.act })
+
+described_in : (s : SessionEnd) (service : Service) (unsettled : Bool) → s.state ≡ Handshake → s.role ≡ Downstream → session_row s (heard (message.ServiceDescription service) unsettled) ≡ Some (record { after = stands s service.features; actions = one Stand })
+described_in s service unsettled shakes is = ap (λ (state : SessionState). service_row state s service.features unsettled) shakes ∙ ap (λ (r : Role). described_row r s service.features unsettled) is
+
+-- an entry hears what comes to it
+entry_mild : {may : Side → Bool} {afar : Afar} {above : List Record} {ga gb : Ghost} (desk : Desk) (stamp : Option ℤ) (what : Horizontal) (rest : List Horizontal) (body : Body) (c : Scene) → Good afar above [] ga gb body (unheard_above (what ∷ rest) c) → is_open Entry body ≡ true → is_from Entry what ≡ true
+    → Mild may (hears desk Entry (record { stamp = stamp; body = what }) body)
+entry_mild desk stamp (message.CheckAlive p id) rest body c g on from = alive_mild desk Entry stamp p id body on
+entry_mild desk stamp (message.Notification code severity text) rest body c g on from = notified_mild desk Entry stamp code severity text body on
+entry_mild {afar} {above} {ga} desk stamp (message.ServiceDescription service) rest body c g on from =
+    let k = hears_upstream {Gone = gone_by afar.gone_above} {above = above} ga (link_above [] body c) service rest g.above_pair in
+    let s : SessionEnd = body.entry.session in
+    aside desk Entry (record { stamp = stamp; body = message.ServiceDescription service }) body (record { after = stands s service.features; actions = one Stand }) (described_in s service (is_some (held body.outlet)) k.0 g.entry_role) tt
+entry_mild {afar} {above} {ga} desk stamp (message.BoardAvailable board) rest body c g on from =
+    let k = hears_available {Gone = gone_by afar.gone_above} {above = above} ga (link_above [] body c) board rest g.above_pair in
+    let s : SessionEnd = body.entry.session in
+    let m : Message = record { stamp = stamp; body = message.BoardAvailable board } in
+    let row : SessionRow = record { after = heard_from s; actions = one (Pass (message.BoardAvailable board)) } in
+    let found : Option InRow = intake_row body.intake (in_input.BoardAvailable board) in
+    hears_by desk Entry m body row (traffic_is s (message.BoardAvailable board) Downstream k.0 g.entry_role refl) (passed_in desk m (with_session Entry (heard_from s) body) found k.1.row k.1.is)
+entry_mild {afar} {above} {ga} desk stamp message.RevokeBoardAvailable rest body c g on from =
+    let k = hears_revoke_available {Gone = gone_by afar.gone_above} {above = above} ga (link_above [] body c) rest g.above_pair in
+    let s : SessionEnd = body.entry.session in
+    let m : Message = record { stamp = stamp; body = message.RevokeBoardAvailable } in
+    let row : SessionRow = record { after = heard_from s; actions = one (Pass message.RevokeBoardAvailable) } in
+    let found : Option InRow = intake_row body.intake in_input.RevokeBoardAvailable in
+    hears_by desk Entry m body row (traffic_is s message.RevokeBoardAvailable Downstream k.0 g.entry_role refl) (passed_in desk m (with_session Entry (heard_from s) body) found k.1.row k.1.is)
+entry_mild {afar} {above} {ga} desk stamp (message.TransportFinished state id) rest body c g on from =
+    let k = hears_finished {Gone = gone_by afar.gone_above} {above = above} ga (link_above [] body c) state id rest g.above_pair in
+    let s : SessionEnd = body.entry.session in
+    let m : Message = record { stamp = stamp; body = message.TransportFinished state id } in
+    let row : SessionRow = record { after = heard_from s; actions = one (Pass (message.TransportFinished state id)) } in
+    let found : Option InRow = intake_row body.intake (in_input.Finished state id) in
+    hears_by desk Entry m body row (traffic_is s (message.TransportFinished state id) Downstream k.0 g.entry_role refl) (passed_in desk m (with_session Entry (heard_from s) body) found k.1.row k.1.is)
+entry_mild desk stamp (message.MachineReady quality) rest body c g on from = absurd (false≢true from)
+entry_mild desk stamp message.RevokeMachineReady rest body c g on from = absurd (false≢true from)
+entry_mild desk stamp (message.StartTransport id) rest body c g on from = absurd (false≢true from)
+entry_mild desk stamp (message.StopTransport state id) rest body c g on from = absurd (false≢true from)
+entry_mild desk stamp (message.BoardForecast info) rest body c g on from = absurd (false≢true from)
+entry_mild desk stamp (message.QueryBoardInfo top bottom) rest body c g on from = absurd (false≢true from)
+entry_mild desk stamp (message.SendBoardInfo info) rest body c g on from = absurd (false≢true from)
+entry_mild desk stamp (message.Other name) rest body c g on from = absurd (false≢true from)
+
+-- ---- an exit
+
+readies_no_description : {a b : Bool} {up : List UpWord} → Readies a (DownstreamService ∷ up) b → ⊥
+readies_no_description r = elim r [ ]
+
+starts_no_description : {a : Bool} {x : ℕ} {up rest : List UpWord} → Starts a (DownstreamService ∷ up) x rest → ⊥
+starts_no_description r = elim r [ ]
+
+shape_no_description : {o : Out} {of : Option ℕ} {rd : Bool} {i : In} {f : Option Record} {ri : Bool} {p : Place} {up : List UpWord} {down : List DownWord} → Shape o of rd i f ri p (DownstreamService ∷ up) down → ⊥
+shape_no_description (no_handover r f) = readies_no_description r
+shape_no_description (start_sent s d) = starts_no_description s
+shape_no_description (start_and_stop_sent s d) = starts_no_description s
+
+exit_alone_shakes : {b : Bool} {x : SessionState} {o : Out} {of : Option ℕ} {rd : Bool} {up : List UpWord} → Alone b x o of rd (DownstreamService ∷ up) → is_connected_state x ≡ true → x ≡ Handshake
+exit_alone_shakes exit_called on = absurd (false≢true on)
+exit_alone_shakes exit_called_stuck on = absurd (false≢true on)
+exit_alone_shakes exit_described on = refl
+exit_alone_shakes exit_described_stuck on = refl
+exit_alone_shakes (exit_idle r) on = absurd (readies_no_description r)
+
+-- an exit to which a description is on its way, and that has a connection, is in its handshake
+exit_shakes : {b : Bool} {x y : SessionState} {o : Out} {of : Option ℕ} {rd : Bool} {i : In} {f : Option Record} {ri : Bool} {p : Place} {up : List UpWord} {down : List DownWord} → Talks b x o of rd y i f ri p (DownstreamService ∷ up) down → is_connected_state x ≡ true → x ≡ Handshake
+exit_shakes (live shape) on = absurd (shape_no_description shape)
+exit_shakes shaking_idle on = refl
+exit_shakes shaking_waiting on = refl
+exit_shakes shaking_stuck on = refl
+exit_shakes (apart_start s a) on = absurd (starts_no_description s)
+exit_shakes (apart_start_stop s a) on = absurd (starts_no_description s)
+exit_shakes (apart x e) on = exit_alone_shakes x on
+
+described_out : {may : Side → Bool} (desk : Desk) (stamp : Option ℤ) (service : Service) (body : Body) (unsettled : Bool) → is_some (held body.outlet) ≡ unsettled → body.exit.session.state ≡ Handshake → body.exit.session.role ≡ Upstream → Mild may (hears desk Exit (record { stamp = stamp; body = message.ServiceDescription service }) body)
+described_out desk stamp service body false test shakes is =
+    let s : SessionEnd = body.exit.session in
+    aside desk Exit (record { stamp = stamp; body = message.ServiceDescription service }) body (record { after = stands s service.features; actions = one SendService })
+    (ap (λ (u : Bool). session_row s (heard (message.ServiceDescription service) u)) test ∙ ap (λ (state : SessionState). service_row state s service.features false) shakes ∙ ap (λ (r : Role). described_row r s service.features false) is) tt
+described_out desk stamp service body true test shakes is =
+    let s : SessionEnd = body.exit.session in
+    aside desk Exit (record { stamp = stamp; body = message.ServiceDescription service }) body (record { after = at_rest s.role; actions = two (Tell Unsettled) Close })
+    (ap (λ (u : Bool). session_row s (heard (message.ServiceDescription service) u)) test ∙ ap (λ (state : SessionState). service_row state s service.features true) shakes ∙ ap (λ (r : Role). described_row r s service.features true) is) tt
+
+exit_mild : {may : Side → Bool} {afar : Afar} {above : List Record} {ga gb : Ghost} (desk : Desk) (stamp : Option ℤ) (what : Horizontal) (rest : List Horizontal) (body : Body) (c : Scene) → OffersOf body → Good afar above [] ga gb body (unheard_below (what ∷ rest) c) → is_open Exit body ≡ true → is_from Exit what ≡ true
+    → Mild may (hears desk Exit (record { stamp = stamp; body = what }) body)
+exit_mild desk stamp (message.CheckAlive p id) rest body c offers g on from = alive_mild desk Exit stamp p id body on
+exit_mild desk stamp (message.Notification code severity text) rest body c offers g on from = notified_mild desk Exit stamp code severity text body on
+exit_mild desk stamp (message.ServiceDescription service) rest body c offers g on from = described_out desk stamp service body (is_some (held body.outlet)) refl (exit_shakes g.below_pair.talk on) g.exit_role
+exit_mild {afar} {gb = gb} desk stamp (message.MachineReady quality) rest body c offers g on from =
+    let k = hears_ready {Gone = gone_by afar.gone_below} gb (link_below [] body c) quality rest g.below_pair in
+    let s : SessionEnd = body.exit.session in
+    let m : Message = record { stamp = stamp; body = message.MachineReady quality } in
+    let row : SessionRow = record { after = heard_from s; actions = one (Pass (message.MachineReady quality)) } in
+    let body2 : Body = with_session Exit (heard_from s) body in
+    hears_by desk Exit m body row (traffic_is s (message.MachineReady quality) Upstream k.0 g.exit_role refl) (passed_out desk m body2 body2 (outlet_row body.outlet out_input.MachineReady) k.1.row k.1.is)
+exit_mild {afar} {gb = gb} desk stamp message.RevokeMachineReady rest body c offers g on from =
+    let k = hears_revoke_ready {Gone = gone_by afar.gone_below} gb (link_below [] body c) rest g.below_pair in
+    let s : SessionEnd = body.exit.session in
+    let m : Message = record { stamp = stamp; body = message.RevokeMachineReady } in
+    let row : SessionRow = record { after = heard_from s; actions = one (Pass message.RevokeMachineReady) } in
+    let body2 : Body = with_session Exit (heard_from s) body in
+    hears_by desk Exit m body row (traffic_is s message.RevokeMachineReady Upstream k.0 g.exit_role refl) (passed_out desk m body2 body2 (outlet_row body.outlet out_input.RevokeMachineReady) k.1.row k.1.is)
+exit_mild {afar} {gb = gb} desk stamp (message.StopTransport state id) rest body c offers g on from =
+    let k = hears_stop {Gone = gone_by afar.gone_below} gb (link_below [] body c) state id rest g.below_pair in
+    let s : SessionEnd = body.exit.session in
+    let m : Message = record { stamp = stamp; body = message.StopTransport state id } in
+    let row : SessionRow = record { after = heard_from s; actions = one (Pass (message.StopTransport state id)) } in
+    let body2 : Body = with_session Exit (heard_from s) body in
+    hears_by desk Exit m body row (traffic_is s (message.StopTransport state id) Upstream k.0 g.exit_role refl) (passed_out desk m body2 body2 (outlet_row body.outlet (out_input.Stop state id)) k.1.row k.1.is)
+exit_mild {afar} {gb = gb} desk stamp (message.StartTransport id) rest body c offers g on from =
+    let l : LinkState = link_below [] body c in
+    let open_it : Bool = would_open body.outlet id in
+    let front = offers_the_front body offers in
+    let looks = subst (λ brought. Looks body.outlet.offered body.kept id brought) (sym (front_found open_it body.kept)) (finds_for_a_start gb l id rest body.kept g.below_pair front) in
+    let k = hears_start {Gone = gone_by afar.gone_below} gb l id (opening_board open_it body.kept) body.kept rest g.below_pair looks front (λ x kept. g.here x (kept_lies kept g.boards)) g.below_contents in
+    let s : SessionEnd = body.exit.session in
+    let m : Message = record { stamp = stamp; body = message.StartTransport id } in
+    let row : SessionRow = record { after = heard_from s; actions = one (Pass (message.StartTransport id)) } in
+    let body2 : Body = with_session Exit (heard_from s) body in
+    hears_by desk Exit m body row (traffic_is s (message.StartTransport id) Upstream k.0 g.exit_role refl)
+    (passed_out desk m body2 (record body2 { kept = behind_opening open_it body.kept }) (outlet_row body.outlet (out_input.Start id (opening_board open_it body.kept))) k.1.row k.1.is)
+exit_mild desk stamp (message.BoardAvailable board) rest body c offers g on from = absurd (false≢true from)
+exit_mild desk stamp message.RevokeBoardAvailable rest body c offers g on from = absurd (false≢true from)
+exit_mild desk stamp (message.TransportFinished state id) rest body c offers g on from = absurd (false≢true from)
+exit_mild desk stamp (message.BoardForecast info) rest body c offers g on from = absurd (false≢true from)
+exit_mild desk stamp (message.QueryBoardInfo top bottom) rest body c offers g on from = absurd (false≢true from)
+exit_mild desk stamp (message.SendBoardInfo info) rest body c offers g on from = absurd (false≢true from)
+exit_mild desk stamp (message.Other name) rest body c offers g on from = absurd (false≢true from)
+
+-- ---- words, one after another
+
+-- the oldest message is the one that is heard first
+pub record Front (body : Horizontal) (others : List Word) (sent : List Horizontal) : Type 0 where
+  pub rest : List Horizontal
+  pub is : sent ≡ body ∷ rest
+  pub oldest : AreOldest others rest
+
+pub front_of : {m : Message} {others : List Word} {sent : List Horizontal} → AreOldest (words.Says m ∷ others) sent → Front m.body others sent
+front_of (oldest_says {messages = rest} others) = record { rest = rest; is = refl; oldest = others }
+
+-- one message is heard: nothing is breached, and the relation is kept
+record HearsOne (may : Side → Bool) (afar : Afar) (above : List Record) (side : Side) (rest : List Horizontal) (c : Scene) (d : Done) : Type 0 where
+  mild : Mild may d
+  a : Ghost
+  b : Ghost
+  good : Good afar above [] a b d.body (all_met d.acts c)
+  then : Then side rest d c
+
+hears_one : {may : Side → Bool} {afar : Afar} {above : List Record} {ga gb : Ghost} (desk : Desk) (side : Side) (m : Message) (rest : List Horizontal) (body : Body) (c : Scene) → unheard side c ≡ m.body ∷ rest → OffersOf body → Good afar above [] ga gb body c → is_open side body ≡ true → is_from side m.body ≡ true
+    → HearsOne may afar above side rest c (hears desk side m body)
+hears_one {afar = afar} {above = above} {ga = ga} {gb = gb} desk Entry m rest body c is offers g on from =
+    let same : unheard_above (m.body ∷ rest) c ≡ c = ap (λ (ms : List Horizontal). unheard_above ms c) (sym is) in
+    let here : Good afar above [] ga gb body (unheard_above (m.body ∷ rest) c) = subst (λ (may : Scene). Good afar above [] ga gb body may) (sym same) g in
+    let goes : GoesBy afar above [] ga gb c (hears desk Entry m body) = subst (λ (may : Scene). GoesBy afar above [] ga gb may (hears desk Entry m body)) same (entry_hears body c desk m rest here) in
+    record { mild = entry_mild desk m.stamp m.body rest body c here on from; a = goes.a; b = goes.b; good = goes.good; then = entry_hears_then desk m rest body c g.entry_role is }
+hears_one {afar = afar} {above = above} {ga = ga} {gb = gb} desk Exit m rest body c is offers g on from =
+    let same : unheard_below (m.body ∷ rest) c ≡ c = ap (λ (ms : List Horizontal). unheard_below ms c) (sym is) in
+    let here : Good afar above [] ga gb body (unheard_below (m.body ∷ rest) c) = subst (λ (may : Scene). Good afar above [] ga gb body may) (sym same) g in
+    let goes : GoesBy afar above [] ga gb c (hears desk Exit m body) = subst (λ (may : Scene). GoesBy afar above [] ga gb may (hears desk Exit m body)) same (exit_hears body c desk m rest offers here) in
+    record { mild = exit_mild desk m.stamp m.body rest body c offers here on from; a = goes.a; b = goes.b; good = goes.good; then = exit_hears_then desk m rest body c g.exit_role is }
+
+open_mild : {may : Side → Bool} (test : Bool) (d : Done) (body : Body) → (test ≡ true → Mild may d) → Mild may (if_open test d body)
+open_mild true d body m = m refl
+open_mild false d body m = record { mild = refl }
+
+abbrev pub said : List Message → List Word
+said messages = map (λ (m : Message). words.Says m) messages
+
+-- all of them are such as come to this side
+abbrev pub AreFrom : Side → List Message → Type 0
+AreFrom side messages = AllByRecursion (λ (m : Message). is_from side m.body ≡ true) messages
+
+-- the others are heard, or there is nobody to hear them
+rest_mild : {may : Side → Bool} (desk : Desk) (side : Side) (messages : List Message) (rest : List Horizontal) (d : Done) (c : Scene) → Then side rest d c → (unheard side (all_met d.acts c) ≡ rest → Mild may (all_heard desk side (said messages) d.body)) → Mild may (all_heard desk side (said messages) d.body)
+rest_mild desk side messages rest d c (still is) go_on = go_on is
+rest_mild {may} desk side messages rest d c (closed off) go_on = subst (λ (e : Done). Mild may e) (sym (deaf desk side (said messages) d.body off)) (record { mild = refl })
+
+said_mild : {may : Side → Bool} {afar : Afar} {above : List Record} (desk : Desk) (side : Side) (messages : List Message) (sent : List Horizontal) {ga gb : Ghost} (body : Body) (c : Scene) → AreOldest (said messages) sent → unheard side c ≡ sent → OffersOf body → Good afar above [] ga gb body c → AreFrom side messages
+    → Mild may (all_heard desk side (said messages) body)
+said_mild desk side [] sent body c oldest is offers g from = record { mild = refl }
+said_mild desk side (m ∷ messages) sent body c oldest is offers g from =
+    let f : Front m.body (said messages) sent = front_of oldest in
+    let d : Done = hears desk side m body in
+    open_mild (is_open side body) (and_then d (all_heard desk side (said messages))) body (λ on.
+    let h = hears_one desk side m f.rest body c (is ∙ f.is) offers g on from.0 in
+    mild_both d (all_heard desk side (said messages)) h.mild
+    (rest_mild desk side messages f.rest d c h.then (λ is_rest. said_mild desk side messages f.rest d.body (all_met d.acts c) f.oldest is_rest ((hears_keeps 0 desk side m body).offers offers) h.good from.1)))
+
+-- a machine's step in which all that is heard was sent so
+pub heard_step_mild : (may : Side → Bool) {afar : Afar} {above : List Record} {ga gb : Ghost} (desk : Desk) (unread : List Seen) (side : Side) (messages : List Message) (body : Body) (c : Scene) → AreOldest (said messages) (unheard side c) → AreFrom side messages → OffersOf body → Good afar above unread ga gb body c
+    → are_mild may (machine_step desk unread (Words side (said messages)) body).acts ≡ true
+heard_step_mild may desk unread side messages body c oldest from offers g =
+    (step_mild_by desk unread (Words side (said messages)) body
+    (said_mild desk side messages (unheard side c) (body_read desk unread body) (scene_read desk unread body c) oldest (read_leaves side desk unread body c) ((all_read_keeps 0 desk unread body).offers offers) (all_read_good desk unread body c g) from)).mild
+
+-- nothing is heard
+pub silent_step_mild : (may : Side → Bool) (desk : Desk) (unread : List Seen) (side : Side) (body : Body) → are_mild may (machine_step desk unread (Words side []) body).acts ≡ true
+silent_step_mild may desk unread side body = (step_mild_by desk unread (Words side []) body (record { mild = refl })).mild
+
+-- ---- a wrong word
+
+breaches_mild : (desk : Desk) (side : Side) (text : List ℕ) (body : Body) → Mild (at_one side) (breaches desk side text body)
+breaches_mild desk Entry text body = mild_behind (acts.Breaches Entry text ∷ (sends desk Entry (notification 1 Fatal text) ++ acts.Closes Entry ∷ [])) (ended desk Entry body) refl (ended_mild desk Entry body)
+breaches_mild desk Exit text body = mild_behind (acts.Breaches Exit text ∷ (sends desk Exit (notification 1 Fatal text) ++ acts.Closes Exit ∷ [])) (ended desk Exit body) refl (ended_mild desk Exit body)
+
+-- a step in which a wrong word is heard first breaches at that side alone, and sends no other messages either
+pub wrong_step_mild : (desk : Desk) (unread : List Seen) (side : Side) (text : List ℕ) (others : List Word) (body : Body) → are_mild (at_one side) (machine_step desk unread (Words side (words.Wrong text ∷ others)) body).acts ≡ true
+wrong_step_mild desk unread side text others body =
+    let b : Body = (all_read desk unread body).body in
+    let d : Done = breaches desk side text b in
+    (step_mild_by desk unread (Words side (words.Wrong text ∷ others)) body (open_mild (is_open side b) (and_then d (all_heard desk side others)) b (λ on. mild_both d (all_heard desk side others) (breaches_mild desk side text b)
+    (subst (λ (e : Done). Mild (at_one side) e) (sym (deaf desk side others d.body (breach_shuts desk side text b))) (record { mild = refl }))))).mild

@@ -1,0 +1,146 @@
+-- The laws of a line that a run has led to.
+use Rattle.std.proofs.Common.{Bool, List, None, [], ap, arith, false, length, refl, subst, sym, true, ℕ, ◌++◌, ◌+◌, ◌||◌, ◌∙◌, ◌∷◌, ◌≡◌, ◌≤◌}
+use Rattle.std.proofs.lemmas.Bool.{false≢true}
+use Rattle.std.specs.Prelude.{Option, is_some}
+use Rattle.std.specs.List.{AllByRecursion}
+use Rattle.line_script.specs.declared.line.ScriptLine.{ScriptLine}
+use Rattle.line_report.specs.declared.happening.Happening.{Happening}
+use Rattle.standings.specs.Ledger.{Ledger, empty_ledger, ledger_after_all}
+use Rattle.line_step.specs.FloorIds.{boards_of}
+use Rattle.line_step.specs.Lies.{has_lie, tells_lie}
+use Rattle.line_step.specs.Lines.{LineSteps}
+use Rattle.line_step.specs.Runs.{IsRun, Point, state_behind}
+use Rattle.line_step.specs.State.{LineState, marks_in, no_line}
+use Rattle.line_step.proofs.FloorLaws.{Holds, steps-goes}
+use Rattle.line_step.proofs.Makers.{IsOld}
+use Rattle.line_step.proofs.Vouching.{lies_remembered}
+use Rattle.one_standing.specs.Reached.{Books, CustodyAlong, IdsAlong, IsBook, IsReached, LedgerAlong, StandsAlong}
+use Rattle.one_standing.specs.Replay.{deeds_of}
+use Rattle.one_standing.specs.Standing.{IsFitLine}
+use Rattle.one_standing.proofs.Carrying.{SaysAlone}
+use Rattle.one_standing.proofs.FactsOf.{facts_of}
+use Rattle.one_standing.proofs.LedgerLine.{Led, line_led}
+use Rattle.one_standing.proofs.LedgerMarks.{FitsLine, entries_of, ledger_of, mark_old}
+use Rattle.one_standing.proofs.LedgerRun.{none_fits}
+use Rattle.one_standing.proofs.LedgerStandings.{standing_told}
+use Rattle.one_standing.proofs.LineForms.{ConnectsBear}
+use Rattle.one_standing.proofs.LineRun.{Stood, line_stood, none_stood}
+use Rattle.one_standing.proofs.MarksOf.{first_among, mark_stands}
+use Rattle.one_standing.proofs.OneStand.{one_standing_of}
+use Rattle.one_standing.proofs.Reaching.{behind_more, boards_made, lines_more, made_of, old_of, reached_run}
+
+-- ---- no lie in the lines so far, nor in the next
+
+or_first : (a b : Bool) → (a || b) ≡ false → a ≡ false
+or_first true b is = is
+or_first false b is = refl
+
+or_second : (a b : Bool) → (a || b) ≡ false → b ≡ false
+or_second true b is = absurd (false≢true (sym is))
+or_second false b is = is
+
+both_false : (a b : Bool) → a ≡ false → b ≡ false → (a || b) ≡ false
+both_false true b first second = first
+both_false false b first second = second
+
+honest_before : (points : List Point) (point : Point) → has_lie (points ++ point ∷ []) ≡ false → has_lie points ≡ false
+honest_before [] point is = refl
+honest_before (first ∷ points) point is =
+    let parts : Bool = has_lie (points ++ point ∷ []) in
+    both_false (tells_lie first.told) (has_lie points) (or_first (tells_lie first.told) parts is) (honest_before points point (or_second (tells_lie first.told) parts is))
+
+honest_last : (points : List Point) (point : Point) → has_lie (points ++ point ∷ []) ≡ false → tells_lie point.told ≡ false
+honest_last [] point is = or_first (tells_lie point.told) false is
+honest_last (first ∷ points) point is = honest_last points point (or_second (tells_lie first.told) (has_lie (points ++ point ∷ [])) is)
+
+honest_run : (s : LineState) (asked : List ScriptLine) (points : List Point) → IsRun no_line asked points → state_behind no_line points ≡ s → s.unvouched ≡ None → has_lie points ≡ false
+honest_run s asked points run behind none = sym (lies_remembered asked points run) ∙ ap (λ (t : LineState). is_some t.unvouched) behind ∙ ap (λ (o : Option ℕ). is_some o) none
+
+honest : (s : LineState) (reached : IsReached s) → s.unvouched ≡ None → has_lie reached.points ≡ false
+honest s reached none = honest_run s reached.asked reached.points reached.run reached.behind none
+
+-- ---- what an honest run leaves
+
+record Told (s : LineState) : Type 0 where
+  stood : Stood s
+  ledger : Ledger
+  fits : FitsLine (IsOld 1 s.machines) s ledger
+
+told_line : SaysAlone → ConnectsBear → (line : ScriptLine) (before after : LineState) (told : List Happening) → before.lines + 1 ≤ 1000000 → IsFitLine line → tells_lie told ≡ false → Told before → LineSteps (before.lines + 1) line before after told → Told after
+told_line alone connects line before after told few fit none was steps =
+    let stood : Stood after = line_stood alone connects (before.lines + 1) line before after told refl few fit none was.stood steps in
+    let led : Led (IsOld 1 after.machines) after was.ledger told = line_led was.stood.trace stood.trace (before.lines + 1) line before after told was.ledger was.stood.stands stood.stands steps was.fits in
+    record { stood = stood; ledger = ledger_after_all was.ledger (deeds_of told); fits = led.fits }
+
+told_run : SaysAlone → ConnectsBear → (s : LineState) (asked : List ScriptLine) (points : List Point) → AllByRecursion IsFitLine asked → s.lines + length asked ≤ 1000000 → Told s → IsRun s asked points → has_lie points ≡ false → Told (state_behind s points)
+told_run alone connects s [] [] fit few was run none = was
+told_run alone connects s [] (point ∷ points) fit few was run none = absurd run
+told_run alone connects s (line ∷ asked) [] fit few was run none = absurd run
+told_run alone connects s (line ∷ asked) (point ∷ points) fit few was run none =
+    let now : Told point.after = told_line alone connects line s point.after point.told (omega (arith, few)) fit.0 (or_first (tells_lie point.told) (has_lie points) none) was run.0 in
+    let left : point.after.lines + length asked ≤ 1000000 = omega (arith, few, lines_more (s.lines + 1) line s point.after point.told run.0) in
+    told_run alone connects point.after asked points fit.1 left now run.1 (or_second (tells_lie point.told) (has_lie points) none)
+
+none_told : Told no_line
+none_told = record { stood = none_stood; ledger = empty_ledger; fits = none_fits }
+
+told_by : SaysAlone → ConnectsBear → (s : LineState) (reached : IsReached s) → has_lie reached.points ≡ false → Told s
+told_by alone connects s reached none =
+    let few : 0 + length reached.asked ≤ 1000000 = omega (arith, reached.counted, reached.few) in
+    subst (λ (t : LineState). Told t) reached.behind (told_run alone connects no_line reached.asked reached.points reached.fit few none_told reached.run none)
+
+pub stands_along : SaysAlone → ConnectsBear → StandsAlong
+stands_along alone connects s reached none =
+    let now : Told s = told_by alone connects s reached (honest s reached none) in
+    one_standing_of now.stood.trace s now.stood.stands
+
+pub custody_along : SaysAlone → ConnectsBear → CustodyAlong
+custody_along alone connects s reached none =
+    let now : Told s = told_by alone connects s reached (honest s reached none) in
+    facts_of alone now.stood.trace s now.stood.stands now.stood.waits
+
+-- ---- unique ids
+
+holds_run : (s : LineState) (asked : List ScriptLine) (points : List Point) → Holds s → IsRun s asked points → Holds (state_behind s points)
+holds_run s [] [] was run = was
+holds_run s [] (point ∷ points) was run = absurd run
+holds_run s (line ∷ asked) [] was run = absurd run
+holds_run s (line ∷ asked) (point ∷ points) was run = holds_run point.after asked points (steps-goes (s.lines + 1) line s point.after point.told was run.0).holds run.1
+
+pub ids_along : SaysAlone → ConnectsBear → IdsAlong
+ids_along alone connects s reached =
+    let held : Holds s = subst (λ (t : LineState). Holds t) reached.behind (holds_run no_line reached.asked reached.points none_stood.stands.ids reached.run) in
+    record {
+      differ = held.differ;
+      boards = boards_made s (boards_of s) held.old;
+      marked = λ none id has. (let now : Told s = told_by alone connects s reached (honest s reached none) in
+          let first = first_among (marks_in s id) has in
+          made_of s id (mark_old {mark = first.0} now.stood.stands (mark_stands s id first.0 first.1)));
+    }
+
+-- ---- the ledger
+
+book_of : (s : LineState) (ledger : Ledger) → FitsLine (IsOld 1 s.machines) s ledger → IsBook ledger s
+book_of s ledger fits = record { past = fits.past; led = fits.is; marks = ledger_of s ledger fits; seen = λ id has. made_of s id (fits.olds id has) }
+
+fits_of : (s : LineState) (ledger : Ledger) → IsBook ledger s → FitsLine (IsOld 1 s.machines) s ledger
+fits_of s ledger book = record { past = book.past; is = book.led; all = entries_of s ledger book.marks; olds = λ id has. old_of s id (book.seen id has) }
+
+books_line : (before after : LineState) (line : ScriptLine) (told : List Happening) (ledger : Ledger) → Stood before → Stood after → LineSteps (before.lines + 1) line before after told → IsBook ledger before → Books before after told ledger
+books_line before after line told ledger was now steps book =
+    let led : Led (IsOld 1 after.machines) after ledger told = line_led was.trace now.trace (before.lines + 1) line before after told ledger was.stands now.stands steps (fits_of before ledger book) in
+    let later : Ledger = ledger_after_all ledger (deeds_of told) in
+    record { legal = led.legal; book = book_of after later led.fits; standings = standing_told later after (ledger_of after later led.fits) }
+
+pub ledger_along : SaysAlone → ConnectsBear → LedgerAlong
+ledger_along alone connects line before after told reached fit few steps none =
+    let point : Point = record { told = told; after = after } in
+    let run : IsRun no_line (reached.asked ++ line ∷ []) (reached.points ++ point ∷ []) = reached_run line before after told reached steps in
+    let all : has_lie (reached.points ++ point ∷ []) ≡ false = honest_run after (reached.asked ++ line ∷ []) (reached.points ++ point ∷ []) run (behind_more no_line reached.points point) none in
+    let was : Told before = told_by alone connects before reached (honest_before reached.points point all) in
+    let now : Told after = told_line alone connects line before after told few fit (honest_last reached.points point all) was steps in
+    record {
+      ledger = was.ledger;
+      beside = book_of before was.ledger was.fits;
+      each = λ other book. books_line before after line told other was.stood now.stood steps book;
+    }
