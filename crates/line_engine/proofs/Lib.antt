@@ -2,6 +2,7 @@ pub mod Along
 pub mod Counted
 pub mod Followed
 pub mod Following
+pub mod Keeping
 pub mod Naming
 pub mod Patched
 pub mod Places

@@ -1,3 +1,5 @@
 pub mod Given
 pub mod Stepped
 pub mod Indexed
+pub mod Kept
+pub mod Opens

@@ -1,17 +1,22 @@
-ghost use Rattle.std.specs.Prelude.{◌≡◌, ◌+◌, ◌≤◌, true, false, IfOk, IsErr, OnErr, length};
+ghost use Rattle.std.specs.Prelude.{◌≡◌, ◌+◌, ◌≤◌, ℕ, None, true, false, IfOk, IsErr, OnErr, length};
 ghost use Rattle.line_link.specs.Flow.{coming};
 ghost use Rattle.line_link.specs.Link.{flow_to};
 ghost use Rattle.line_step.specs.World.{end_of, link_at, link_of};
 ghost use Rattle.line_script.specs.Ranges.{IsWithin};
+ghost use Rattle.line_script.specs.declared.line.ScriptLine.TheVariants as lines;
 ghost use Rattle.line_step.specs.Lines.{LineSteps};
 ghost use Rattle.line_step.specs.State.{marks_in, no_line};
 ghost use Rattle.line_step.specs.Views.{standing_in, summary_of};
+ghost use Rattle.one_standing.specs.Facts.{HasCustodyFacts};
+ghost use Rattle.one_standing.specs.Reached.{FollowsLine, HasUniqueIds, IsReached};
+ghost use Rattle.one_standing.specs.Standing.{HasOneStanding, IsFitLine};
+ghost use Rattle.line_engine.specs.Opens.{OpensNext};
 
 use crate::index::Index;
 use crate::span::stepped;
 use crate::state::State;
 use board_record::BoardId;
-use line_base::{Memory, Side};
+use line_base::{Memory, Side, Text};
 use line_report::{Happened, Summary};
 use line_script::ScriptLine;
 use standings::{Mark, Standing, standing_of};
@@ -31,15 +36,14 @@ pub struct Line {
 
 impl Model for Line {
     ghost use Rattle.std.specs.Prelude.{◌≡◌, false};
-    ghost use Rattle.line_step.specs.State.{LineState, owned};
-    ghost use Rattle.line_step.specs.Together.{IsLineTogether};
-    ghost use Rattle.line_engine.specs.Indexed.{IsIndexOf};
+    ghost use Rattle.line_step.specs.State.{LineState};
+    ghost use Rattle.line_engine.specs.Kept.{IsKept};
 
     ghost Value = { LineState };
 
     ghost view = { λ line. record line.state { spent = line.spent } };
 
-    ghost invariant = { λ line. line.spent ≡ false → IsLineTogether line.state × IsIndexOf line.index (owned line.state) };
+    ghost invariant = { λ line. line.spent ≡ false → IsKept line.index line.state };
 }
 
 impl Line {
@@ -47,6 +51,7 @@ impl Line {
     pub fn new(alloc: Global) -> Line
         ensures { result ≡ no_line }
     {
+        one_standing::laws::what_a_run_leads_to();
         Line {
             spent: false,
             state: State::new(alloc),
@@ -68,12 +73,27 @@ impl Line {
         ensures counted { IfOk result (λ told. self.new.lines ≡ number) }
         // what it did is the line step
         ensures step { IfOk result (LineSteps number line.now self.old self.new) }
+        // a run of a script has led to where it is then
+        ensures reached { IfOk result (λ _. IsReached self.new) }
+        // each record stands with one machine or in one handover, while no line told what was not so
+        ensures standing { IfOk result (λ _. self.new.unvouched ≡ None → HasOneStanding self.new) }
+        // and then where its board lies, and whose half holds it
+        ensures custody { IfOk result (λ _. self.new.unvouched ≡ None → HasCustodyFacts self.new) }
+        // no two boards share an id, and each id was made by a machine of the line
+        ensures ids { IfOk result (λ _. HasUniqueIds self.new) }
+        // what it told of records leads from the marks before it to the marks after it
+        ensures ledger { IfOk result (λ told. self.new.unvouched ≡ None → FollowsLine self.old self.new told) }
+        // a handover opens exactly when board and place are announced, behind a lie too
+        ensures opens { IfOk result (OpensNext self.old) }
     {
         if self.spent {
             return Err(Memory);
         }
         self.spent = true;
         self.state.unspent();
+        is_fit(line);
+        one_standing::laws::what_a_run_leads_to();
+        line_openings::laws::a_machine_opens_exactly_when_announced();
         let mut told = self.state.do_line(number, line)?;
         self.index
             .follow(self.state.machines(), stepped(line), &mut told)?;
@@ -86,7 +106,8 @@ impl Line {
     /// Where a board's record stands; `None` exactly where its marks give it no standing.
     pub fn standing(&self, id: BoardId) -> Option<Standing>
         requires { self.now.spent ≡ false }
-        ensures { result ≡ standing_in self.now id }
+        ensures answer { result ≡ standing_in self.now id }
+        ensures standing { self.now.unvouched ≡ None → HasOneStanding self.now }
     {
         standing_of(self.index.marks(id))
     }
@@ -95,7 +116,8 @@ impl Line {
     /// machine has its record.
     pub fn marks(&self, id: BoardId) -> &[Mark]
         requires { self.now.spent ≡ false }
-        ensures { result.now ≡ marks_in self.now id }
+        ensures answer { result.now ≡ marks_in self.now id }
+        ensures standing { self.now.unvouched ≡ None → HasOneStanding self.now }
     {
         self.index.marks(id)
     }
@@ -116,5 +138,23 @@ impl Line {
         ensures { result ≡ summary_of self.now }
     {
         self.state.summary()
+    }
+}
+
+/// The barcode of a line is a text, as its type says.
+fn is_fit(line: &ScriptLine)
+    ensures { IsFitLine line.now }
+{
+    match line {
+        ScriptLine::Insert { barcode, .. } => is_text(barcode),
+        _ => {}
+    }
+}
+
+fn is_text(barcode: &Option<Text>)
+    ensures { (machine : ℕ) → IsFitLine (lines.Insert machine barcode.now) }
+{
+    if let Some(text) = barcode {
+        let _bytes = text.bytes();
     }
 }

@@ -4,37 +4,62 @@ use Rattle.standings.specs.Marks.{Owned}
 use Rattle.line_step.specs.Lines.{LineSteps}
 use Rattle.line_step.specs.Named.{ids_named}
 use Rattle.line_step.specs.State.{LineState, owned, owned_by}
-use Rattle.line_step.proofs.Keeps.{does_together, keeps_together}
+use Rattle.line_step.proofs.Keeps.{does_together}
 use Rattle.line_engine.specs.Indexed.{IsIndexOf}
+use Rattle.line_engine.specs.Kept.{IsKept}
 use Rattle.line_engine.specs.Stepped.{changed_told}
 use Rattle.line_engine.proofs.Followed.{follows_as}
 use Rattle.line_engine.proofs.Counted.{line_steps, steps_as}
+use Rattle.line_engine.proofs.Keeping.{Step, step_follows, step_keeps, step_opens, step_seen}
 use Rattle.line_engine.proofs.line.Line.step.Goals as goal
+use Rattle.line_engine.proofs.line.Line.step.Goals.{After-unspent-2}
 
 pub follow-requires-clause-few : goal.follow-requires-clause-few
 follow-requires-clause-few c =
-    rw c.machines.ensures (does_together c.args.number c.args.line.now c.self.inside.state c.do_line.new.self c.in_ok-told.told (c.self.invariant c.if-self.false).0 c.in_ok-told.ensures).few
+    rw c.machines.ensures (does_together c.args.number c.args.line.now c.self.inside.state c.do_line.new.self c.in_ok-told.told (c.self.invariant c.if-self.false).together c.in_ok-told.ensures).few
 
-pub returns-clause-step : goal.returns-clause-step
-returns-clause-step c =
+-- the step from the state before to the state after it, and the index there
+step_of : (c : After-unspent-2) → Step c.args.number c.args.line.now c.self.inside.index c.self.inside.state c.follow.new.self c.count.new.self c.follow.new.told
+step_of c =
+    let kept : IsKept c.self.inside.index c.self.inside.state = c.self.invariant c.if-self.false in
     let numbered : c.args.number ≡ c.self.inside.state.lines + 1 = subst (λ (s : LineState). c.args.number ≡ s.lines + 1) (sym c.self.view_is) c.requires.numbered in
     let follows = follows_as c.args.number c.args.line.now c.self.inside.state c.do_line.new.self c.in_ok-told.told c.stepped.result.first c.stepped.result.last c.machines.result.now c.stepped.ensures.first c.stepped.ensures.last c.machines.ensures c.in_ok-told.ensures in
-    let told = c.in_ok-follow.ensures.told (owned c.self.inside.state) (c.self.invariant c.if-self.false).1 follows
+    let told = c.in_ok-follow.ensures.told (owned c.self.inside.state) kept.index follows
     ∙ ap (λ (nodes : List NodeState). c.in_ok-told.told ++ changed_told (ids_named c.in_ok-told.told) (owned c.self.inside.state) (map owned_by nodes)) c.machines.ensures in
     let steps = line_steps c.args.number c.args.line.now c.self.inside.state c.do_line.new.self c.in_ok-told.told c.follow.new.told numbered c.in_ok-told.ensures told in
-    rw (← c.self.view_is) (steps_as c.args.number c.args.line.now c.self.inside.state c.count.new.self c.follow.new.told c.self.inside.spent false c.unspent.ensures c.unspent-2.ensures c.if-self.false refl
-    (subst (λ (s : LineState). LineSteps c.args.number c.args.line.now c.self.inside.state s c.follow.new.told) (sym c.count.ensures) steps))
+    let index = c.in_ok-follow.ensures.index (owned c.self.inside.state) kept.index follows in
+    let laws = c.what_a_run_leads_to.ensures in
+    record {
+      laws = record { standing = laws.standing; custody = laws.custody; ids = laws.ids; ledger = laws.ledger };
+      numbered = numbered;
+      few = c.requires.few;
+      fit = c.is_fit.ensures;
+      kept = kept;
+      unspent = c.unspent-2.ensures;
+      steps = subst (λ (s : LineState). LineSteps c.args.number c.args.line.now c.self.inside.state s c.follow.new.told) (sym c.count.ensures) steps;
+      index = subst (λ (line : List Owned). IsIndexOf c.follow.new.self line) (ap (map owned_by) (c.machines.ensures ∙ sym (ap (λ (s : LineState). s.machines) c.count.ensures))) index;
+    }
 
 pub invariant_of-self-2 : goal.invariant_of-self-2
-invariant_of-self-2 c =
-    let numbered : c.args.number ≡ c.self.inside.state.lines + 1 = subst (λ (s : LineState). c.args.number ≡ s.lines + 1) (sym c.self.view_is) c.requires.numbered in
-    let follows = follows_as c.args.number c.args.line.now c.self.inside.state c.do_line.new.self c.in_ok-told.told c.stepped.result.first c.stepped.result.last c.machines.result.now c.stepped.ensures.first c.stepped.ensures.last c.machines.ensures c.in_ok-told.ensures in
-    let told = c.in_ok-follow.ensures.told (owned c.self.inside.state) (c.self.invariant c.if-self.false).1 follows
-    ∙ ap (λ (nodes : List NodeState). c.in_ok-told.told ++ changed_told (ids_named c.in_ok-told.told) (owned c.self.inside.state) (map owned_by nodes)) c.machines.ensures in
-    let steps = line_steps c.args.number c.args.line.now c.self.inside.state c.do_line.new.self c.in_ok-told.told c.follow.new.told numbered c.in_ok-told.ensures told in
-    let counted = subst (λ (s : LineState). LineSteps c.args.number c.args.line.now c.self.inside.state s c.follow.new.told) (sym c.count.ensures) steps in
-    let index = c.in_ok-follow.ensures.index (owned c.self.inside.state) (c.self.invariant c.if-self.false).1 follows in
-    λ unspent. (
-      keeps_together c.args.number c.args.line.now c.self.inside.state c.count.new.self c.follow.new.told numbered c.requires.few (c.self.invariant c.if-self.false).0 counted,
-      subst (λ (line : List Owned). IsIndexOf c.follow.new.self line) (ap (map owned_by) (c.machines.ensures ∙ sym (ap (λ (s : LineState). s.machines) c.count.ensures))) index,
-    )
+invariant_of-self-2 c = λ unspent. step_keeps (step_of (goal.at.invariant_of-self-2 c).After-unspent-2)
+
+pub returns-clause-step : goal.returns-clause-step
+returns-clause-step c = rw (← c.self.view_is) (steps_as c.args.number c.args.line.now c.self.inside.state c.count.new.self c.follow.new.told c.self.inside.spent false c.unspent.ensures c.unspent-2.ensures c.if-self.false refl (step_of (goal.at.returns-clause-step c).After-unspent-2).steps)
+
+pub returns-clause-reached : goal.returns-clause-reached
+returns-clause-reached c = (step_seen (step_of (goal.at.returns-clause-reached c).After-unspent-2)).reached
+
+pub returns-clause-standing : goal.returns-clause-standing
+returns-clause-standing c = (step_seen (step_of (goal.at.returns-clause-standing c).After-unspent-2)).standing
+
+pub returns-clause-custody : goal.returns-clause-custody
+returns-clause-custody c = (step_seen (step_of (goal.at.returns-clause-custody c).After-unspent-2)).custody
+
+pub returns-clause-ids : goal.returns-clause-ids
+returns-clause-ids c = (step_seen (step_of (goal.at.returns-clause-ids c).After-unspent-2)).ids
+
+pub returns-clause-ledger : goal.returns-clause-ledger
+returns-clause-ledger c = λ none. rw (← c.self.view_is) (step_follows (step_of (goal.at.returns-clause-ledger c).After-unspent-2) c.self.inside.spent c.if-self.false none)
+
+pub returns-clause-opens : goal.returns-clause-opens
+returns-clause-opens c = rw (← c.self.view_is) (step_opens (step_of (goal.at.returns-clause-opens c).After-unspent-2) c.a_machine_opens_exactly_when_announced.ensures c.self.inside.spent c.if-self.false)

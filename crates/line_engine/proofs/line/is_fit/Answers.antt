@@ -1,0 +1,7 @@
+use Rattle.std.proofs.Common.{subst, sym}
+use Rattle.line_script.specs.declared.line.ScriptLine.{ScriptLine}
+use Rattle.one_standing.specs.Standing.{IsFitLine}
+use Rattle.line_engine.proofs.line.is_fit.Goals as goal
+
+pub returns-in-Insert : goal.returns-in-Insert
+returns-in-Insert c = subst (λ (line : ScriptLine). IsFitLine line) (sym c.in-Insert.is) (c.is_text.ensures c.in-Insert.machine)
