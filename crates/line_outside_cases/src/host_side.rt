@@ -40,6 +40,7 @@ where
         return "no host";
     };
     both(
+        host,
         &mut SocketPorts::new(one),
         &mut SocketPorts::new(other),
         port,
@@ -55,6 +56,7 @@ fn free_port(host: &impl Net) -> Option<u16> {
 }
 
 fn both<R: Net + rt::Clock + Drop>(
+    host: &R,
     server: &mut SocketPorts<R>,
     client: &mut SocketPorts<R>,
     port: u16,
@@ -69,22 +71,23 @@ fn both<R: Net + rt::Clock + Drop>(
     if client.connect(Way::Upstream, address) != Opened::Done {
         return "can't connect";
     }
-    if found(client, Way::Upstream) != Got::Arrived
-        || found(server, Way::Downstream) != Got::Arrived
+    if found(host, client, Way::Upstream) != Got::Arrived
+        || found(host, server, Way::Downstream) != Got::Arrived
     {
         return "no connection";
     }
     if client.send(Way::Upstream, b"hello") != Sent::Took(5) {
         return "can't send";
     }
-    if found(server, Way::Downstream) != Got::Bytes(5) {
+    if found(host, server, Way::Downstream) != Got::Bytes(5) {
         return "no bytes";
     }
-    second(server, client, address)
+    second(host, server, client, address)
 }
 
 /// Another connection is refused with a text, and the first goes on until it is closed.
 fn second<R: Net + rt::Clock + Drop>(
+    host: &R,
     server: &mut SocketPorts<R>,
     client: &mut SocketPorts<R>,
     address: Address,
@@ -92,33 +95,36 @@ fn second<R: Net + rt::Clock + Drop>(
     if client.connect(Way::Panel, address) != Opened::Done {
         return "can't connect again";
     }
-    if found(server, Way::Downstream) != Got::Second {
+    if found(host, server, Way::Downstream) != Got::Second {
         return "no second connection";
     }
     if server.refuse(Way::Downstream, b"no") != Sent::Took(2) {
         return "can't refuse";
     }
-    if found(client, Way::Panel) != Got::Arrived || found(client, Way::Panel) != Got::Bytes(2) {
+    if found(host, client, Way::Panel) != Got::Arrived
+        || found(host, client, Way::Panel) != Got::Bytes(2)
+    {
         return "no refusal";
     }
-    if found(client, Way::Panel) != Got::Closed {
+    if found(host, client, Way::Panel) != Got::Closed {
         return "the refused connection goes on";
     }
     client.close(Way::Upstream);
-    if found(server, Way::Downstream) != Got::Closed {
+    if found(host, server, Way::Downstream) != Got::Closed {
         return "no close";
     }
     "right"
 }
 
 /// What a way has, once it has something.
-fn found<R: Net + rt::Clock + Drop>(ports: &mut SocketPorts<R>, way: Way) -> Got {
+fn found<R: Net + rt::Clock + Drop>(host: &R, ports: &mut SocketPorts<R>, way: Way) -> Got {
     let mut room = [0u8; 64];
     for _ in 0..ASKS {
         let got = ports.poll(way, &mut room);
         if got != Got::NotYet {
             return got;
         }
+        thread::sleep(host, Duration::from_millis(1));
     }
     Got::NotYet
 }

@@ -1,3 +1,6 @@
+mod Solid
+mod Inner
+mod Accounts
 pub mod Nexts
 pub mod Frames
 pub mod Closing

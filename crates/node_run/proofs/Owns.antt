@@ -1,5 +1,5 @@
 -- What a machine owns follows from its log.
-use Rattle.std.proofs.Common.{◌≡◌, ◌∙◌, sym, subst, ap, refl, ℕ, ℤ, pos, Bool, true, false, List, [], ◌∷◌, ◌++◌, Option, None, Some, Result, Ok, Err, append-nil}
+use Rattle.std.proofs.Common.{◌≡◌, ◌∙◌, sym, subst, ap, refl, ℕ, ℤ, pos, Bool, true, false, List, [], ◌++◌, Option, None, Some, Result, Ok, Err, append-nil}
 use Rattle.line_base.specs.declared.states.Side.TheVariants.{Entry, Exit}
 use Rattle.board_record.specs.declared.sensed.Sensed.{Sensed}
 use Rattle.line_outside.specs.Given.{Given}
@@ -20,7 +20,7 @@ use Rattle.handover_in.specs.State as intakes
 use Rattle.node_core.proofs.Lasting.{owns_after}
 use Rattle.node_core.specs.May.{may_of, may_do}
 use Rattle.node_core.specs.Node.{NodeState, desk_of}
-use Rattle.node_core.specs.Own.{Own, own_of, own_after, own_act}
+use Rattle.node_core.specs.Own.{own_of, own_after}
 use Rattle.node_core.specs.Sides.{is_open}
 use Rattle.node_core.specs.Step.{Steps}
 use Rattle.node_core.specs.declared.act.Act.{Act}
@@ -36,7 +36,9 @@ use Rattle.node_run.specs.Next.{has_ended, moved_on}
 use Rattle.node_run.specs.Steps.{Takes, TakesStep, MeetsSecond}
 use Rattle.node_run.specs.After.{after_listen, after_send, after_panel, panel_arrived, panel_second, panel_bytes, panel_closed, broken, AfterUpstream, AfterDownstream, AfterPoll, AfterClose}
 use Rattle.node_run.specs.Lines.{cut_line, without_return, is_too_long, Tells, DoesInput, StepsAloud, AsksIf, AsksConnect, may_ask, DoesAsked, KeepsFront, Fronts, Ends, DoesCut}
-use Rattle.node_run.specs.Owning.{IsAnswer, refuses, denies, shows, TellsActs, no_lines, step_lines, answer_lines, OwnFollows}
+use Rattle.node_run.proofs.Accounts.{own_append, own_read}
+use Rattle.node_run.specs.Account.{AreProper}
+use Rattle.node_run.specs.Owning.{OwnIsRead, IsAnswer, refuses, denies, shows, TellsActs, no_lines, step_lines, answer_lines, OwnFollows}
 use Rattle.node_run.specs.Runs.{Moves, listens, connects, polls, sends, refuses as refuses_second, closes, skips, does_line, Runs, begins, goes_on}
 use Rattle.node_run.specs.Texts.{lines_of}
 use Rattle.node_run.specs.declared.way_state.Wire.{Wire}
@@ -46,7 +48,7 @@ use Rattle.node_run.specs.declared.way_state.Wire.TheVariants as wires
 pub data Part (number : ℕ) (s t : RunState) (log : List ℕ) : Type 0 where
   quiet : log ≡ [] → t.node ≡ s.node → Part number s t log
   answers : IsAnswer number log → t.node ≡ s.node → Part number s t log
-  steps : (turn : ℕ) → (acts : List Act) → log ≡ lines_of turn number acts → own_of t.node.lane.body ≡ own_after (own_of s.node.lane.body) acts → Part number s t log
+  steps : (turn : ℕ) → (acts : List Act) → AreProper acts → log ≡ lines_of turn number acts → own_of t.node.lane.body ≡ own_after (own_of s.node.lane.body) acts → Part number s t log
 
 steps_own : (s t : NodeState) (sensed : List Sensed) (input : Input) (moment : ℤ) (told : List Act) → may_of s input ≡ may_do → Steps s sensed input moment t told → own_of t.lane.body ≡ own_after (own_of s.lane.body) told
 steps_own s t sensed input moment told may made = owns_after s s.spent (desk_of s (pos 0)) (desk_of s moment) s.maker t.maker s.lane t.lane sensed input moment told refl may refl made.lane
@@ -56,7 +58,7 @@ step_part : (number : ℕ) (rules : Rules) (moment : ℤ) (sensed : List Sensed)
 step_part number rules moment sensed input from s t log same may named takes =
     let P : NodeState → Type 0 = λ n. Steps n sensed input moment takes.node takes.told in
     let own = steps_own s.node takes.node sensed input moment takes.told may (subst P same takes.steps) in
-    steps from.turn takes.told (takes.lines ∙ ap (λ n. lines_of from.turn n takes.told) named) (ap (λ (r : RunState). own_of r.node.lane.body) takes.after ∙ own)
+    steps from.turn takes.told takes.proper (takes.lines ∙ ap (λ n. lines_of from.turn n takes.told) named) (ap (λ (r : RunState). own_of r.node.lane.body) takes.after ∙ own)
 
 takes_part : (may : Result (Unit {0}) No) (rules : Rules) (moment : ℤ) (input : Input) (from s t : RunState) (log : List ℕ) → from.node ≡ s.node → may_of s.node input ≡ may → Takes may rules moment input from s t log → Part rules.number s t log
 takes_part (Ok done) rules moment input from s t log same may takes = step_part rules.number rules moment [] input from s t log same may refl takes
@@ -69,7 +71,7 @@ closed_part (Err why) rules moment input closed s t log same may takes = quiet t
 
 second_part : (may : Result (Unit {0}) No) (rules : Rules) (moment : ℤ) (input : Input) (s t : RunState) (log : List ℕ) → may_of s.node input ≡ may → MeetsSecond may rules moment input s t log → Part rules.number s t log
 second_part (Ok done) rules moment input s t log may meets =
-    steps s.turn meets.told meets.lines (ap (λ (r : RunState). own_of r.node.lane.body) meets.after ∙ steps_own s.node meets.node [] input moment meets.told may meets.steps)
+    steps s.turn meets.told meets.proper meets.lines (ap (λ (r : RunState). own_of r.node.lane.body) meets.after ∙ steps_own s.node meets.node [] input moment meets.told may meets.steps)
 second_part (Err why) rules moment input s t log may meets = quiet meets.1 (ap (λ (r : RunState). r.node) meets.0)
 
 still : (number : ℕ) (s u t : RunState) (log : List ℕ) → t ≡ u → log ≡ [] → u.node ≡ s.node → Part number s t log
@@ -168,7 +170,7 @@ aloud_part : (rules : Rules) (moment : ℤ) (sensed : List Sensed) (input : Inpu
 aloud_part rules moment sensed input s t log may aloud =
     let takes = aloud.takes in
     let own = steps_own s.node takes.node sensed input moment takes.told may takes.steps in
-    steps s.turn takes.told takes.lines (ap (λ (r : RunState). own_of r.node.lane.body) aloud.after ∙ ap (λ (r : RunState). own_of r.node.lane.body) takes.after ∙ own)
+    steps s.turn takes.told takes.proper takes.lines (ap (λ (r : RunState). own_of r.node.lane.body) aloud.after ∙ ap (λ (r : RunState). own_of r.node.lane.body) takes.after ∙ own)
 
 input_part : (may : Result (Unit {0}) No) (rules : Rules) (moment : ℤ) (sensed : List Sensed) (input : Input) (s t : RunState) (log : List ℕ) → may_of s.node input ≡ may → DoesInput may rules moment sensed input s t log → Part rules.number s t log
 input_part (Ok done) rules moment sensed input s t log may does = aloud_part rules moment sensed input s t log may does
@@ -203,7 +205,7 @@ asked_part (Ok (lines.Sense sensed)) rules moment s t log does = input_part (may
 moved_part : (number : ℕ) (from s t : RunState) (log : List ℕ) → from.node ≡ s.node → Part number from t log → Part number s t log
 moved_part number from s t log same (quiet none node) = quiet none (node ∙ same)
 moved_part number from s t log same (answers answer node) = answers answer (node ∙ same)
-moved_part number from s t log same (steps turn acts text own) = steps turn acts text (own ∙ ap (λ (n : NodeState). own_after (own_of n.lane.body) acts) same)
+moved_part number from s t log same (steps turn acts proper text own) = steps turn acts proper text (own ∙ ap (λ (n : NodeState). own_after (own_of n.lane.body) acts) same)
 
 keeps_part : (long : Bool) (front : List ℕ) (number : ℕ) (s t : RunState) (log : List ℕ) → KeepsFront long front s t log → Part number s t log
 keeps_part true front number s t log keeps = moved_part number (record s { line = []; drops = true }) s t log refl (tells_part number _ (record s { line = []; drops = true }) t log (refuses s.turn whys.LongLine) keeps)
@@ -233,21 +235,17 @@ move_part rules moment (closes {s} {t} {way} {log} next done) = close_part rules
 move_part rules moment (skips {s} next) = quiet refl refl
 move_part rules moment (does_line {s} {t} {log} next done) = cut_part (cut_line s.rest) rules moment s t log done
 
-own_append : (own : Own) (a b : List Act) → own_after own (a ++ b) ≡ own_after (own_after own a) b
-own_append own [] b = refl
-own_append own (act ∷ a) b = own_append (own_act own act) a b
-
 follows_on : (number : ℕ) (s t u : RunState) (log lines : List ℕ) → OwnFollows number s t log → Part number t u lines → OwnFollows number s u (log ++ lines)
 follows_on number s t u log lines follows (quiet none node) =
     let P : List ℕ → Type 0 = λ text. TellsActs number text follows.told in
     record { told = follows.told; tells = subst P (sym (ap (λ l. log ++ l) none ∙ append-nil log)) follows.tells; owns = ap (λ (n : NodeState). own_of n.lane.body) node ∙ follows.owns }
 follows_on number s t u log lines follows (answers answer node) =
     record { told = follows.told; tells = answer_lines follows.tells answer; owns = ap (λ (n : NodeState). own_of n.lane.body) node ∙ follows.owns }
-follows_on number s t u log lines follows (steps turn acts text own) =
+follows_on number s t u log lines follows (steps turn acts proper text own) =
     let P : List ℕ → Type 0 = λ l. TellsActs number (log ++ l) (follows.told ++ acts) in
     record {
       told = follows.told ++ acts;
-      tells = subst P (sym text) (step_lines turn acts follows.tells);
+      tells = subst P (sym text) (step_lines turn acts proper follows.tells);
       owns = own ∙ ap (λ o. own_after o acts) follows.owns ∙ sym (own_append (own_of s.node.lane.body) follows.told acts);
     }
 
@@ -257,3 +255,8 @@ owns_in rules moment (goes_on {s} {t} {u} {calls} {more} {log} {lines} run move)
 
 pub own_follows : (rules : Rules) (moment : ℤ) (s t : RunState) (calls : List Given) (log : List ℕ) → Runs rules moment s calls t log → OwnFollows rules.number s t log
 own_follows rules moment s t calls log run = owns_in rules moment run
+
+pub own_is_read : (rules : Rules) (moment : ℤ) (s t : RunState) (calls : List Given) (log : List ℕ) → Runs rules moment s calls t log → OwnIsRead s t log
+own_is_read rules moment s t calls log run =
+    let follows = owns_in rules moment run in
+    follows.owns ∙ sym (own_read rules.number (own_of s.node.lane.body) follows.tells)

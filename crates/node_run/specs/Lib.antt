@@ -1,5 +1,6 @@
 pub mod Status
 pub mod Texts
+pub mod Account
 pub mod State
 pub mod Next
 pub mod Steps

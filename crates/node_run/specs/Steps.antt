@@ -13,6 +13,7 @@ use Rattle.node_core.specs.declared.act.Act.TheVariants as acts
 use Rattle.node_core.specs.declared.input.Input.{Input}
 use Rattle.node_core.specs.declared.input.No.{No}
 use Rattle.node_run.specs.declared.rules.Rules.{Rules}
+use Rattle.node_run.specs.Account.{AreProper}
 use Rattle.node_run.specs.State.{WayValue, RunState}
 use Rattle.node_run.specs.Texts.{lines_of}
 use Rattle.node_run.specs.declared.way_state.Wire.{Wire}
@@ -50,6 +51,7 @@ pub record TakesStep (rules : Rules) (moment : ℤ) (sensed : List Sensed) (inpu
   pub node : NodeState
   pub told : List Act
   pub steps : Steps s.node sensed input moment node told
+  pub proper : AreProper told
   pub after : t ≡ stepped node told s
   pub lines : log ≡ lines_of s.turn rules.number told
 
@@ -77,6 +79,7 @@ pub record TakesSecond (rules : Rules) (moment : ℤ) (input : Input) (s t : Run
   pub node : NodeState
   pub told : List Act
   pub steps : Steps s.node [] input moment node told
+  pub proper : AreProper told
   pub after : t ≡ refusing node told s
   pub lines : log ≡ lines_of s.turn rules.number told
 
@@ -88,5 +91,6 @@ MeetsSecond (Err why) rules moment input s t log = (t ≡ s) × (log ≡ [])
 
 pub record HasStepped (rules : Rules) (moment : ℤ) (sensed : List Sensed) (input : Input) (told : List Act) (s t : RunState) (log : List ℕ) : Type 0 where
   pub steps : Steps s.node sensed input moment t.node told
+  pub proper : AreProper told
   pub after : t ≡ record s { node = t.node }
   pub lines : log ≡ lines_of s.turn rules.number told

@@ -5,7 +5,7 @@ ghost use Rattle.line_outside.specs.Given.{Given};
 ghost use Rattle.line_outside.specs.declared.way.Way.{Way};
 ghost use Rattle.node_run.specs.declared.rules.Rules.{Rules};
 ghost use Rattle.node_run.specs.Next.{next_of, goes_on, HasBoundedText};
-ghost use Rattle.node_run.specs.Owning.{OwnFollows};
+ghost use Rattle.node_run.specs.Owning.{OwnFollows, OwnIsRead};
 ghost use Rattle.node_run.specs.Runs.{Runs};
 ghost use Rattle.node_run.specs.State.{RunState, way_at};
 
@@ -18,4 +18,9 @@ pub fn too_much_text_closes_a_way()
 /// What a machine owns after a run follows from what it owned before and from the acts that the run's log tells, in their order.
 pub fn what_a_machine_owns_follows_from_its_log()
     ensures { (rules : Rules) (moment : ℤ) (s t : RunState) (calls : List Given) (log : List ℕ) → Runs rules moment s calls t log → OwnFollows rules.number s t log }
+{}
+
+/// What a machine owns after a run is read off the bytes of the run's log, from what it owned before: a log never tells two accounts.
+pub fn what_a_machine_owns_is_read_off_its_log()
+    ensures { (rules : Rules) (moment : ℤ) (s t : RunState) (calls : List Given) (log : List ℕ) → Runs rules moment s calls t log → OwnIsRead s t log }
 {}

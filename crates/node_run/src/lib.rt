@@ -10,6 +10,7 @@ pub mod laws;
 mod lines;
 mod moves;
 mod place;
+mod proper;
 mod rules;
 mod run;
 mod running;

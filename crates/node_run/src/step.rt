@@ -6,6 +6,7 @@ ghost use Rattle.node_core.specs.May.{may_of, may_do};
 ghost use Rattle.node_core.specs.declared.input.Input.TheVariants as inputs;
 ghost use Rattle.node_run.specs.Steps.{Takes, TakesStep, MeetsSecond, HasStepped, routed, refusing_with, message_for};
 
+use crate::proper::acts_are_proper;
 use crate::run::{Refusal, Run};
 use crate::texts::write_lines;
 use crate::way_state::Wire;
@@ -57,6 +58,7 @@ impl Run {
         ensures stepped { IfOk result (λ acts. HasStepped self.old.rules moment sensed.now input.entry acts self.old.state self.new.state self.new.told) }
     {
         let acts = self.node.step(sensed, input, moment)?;
+        acts_are_proper(acts.list());
         write_lines(self.turn, self.rules.number, acts.list(), &mut self.told)?;
         Ok(acts)
     }
