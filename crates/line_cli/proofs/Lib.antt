@@ -1,9 +1,11 @@
 pub mod LinesLemmas
 pub mod Steps
+pub mod Folding
 pub mod Going
 pub mod ReadFrames
 pub mod ReadSteps
 pub mod ReadOnce
 pub mod ReportOnce
+pub mod MadeOnce
 pub mod Checked
 pub mod FitScript

@@ -9,7 +9,7 @@ use Rattle.line_cli.specs.Script.{Refusal, script_of}
 use Rattle.line_cli.specs.Report.{IsReport, ending}
 
 -- the last line says nothing of the machines
-ending-like : (s : LineState) (nodes : List NodeState) (refusal : Option Refusal) → ending (like s nodes) refusal ≡ ending s refusal
+pub ending-like : (s : LineState) (nodes : List NodeState) (refusal : Option Refusal) → ending (like s nodes) refusal ≡ ending s refusal
 ending-like s nodes None = refl
 ending-like s nodes (Some refusal) = refl
 

@@ -10,6 +10,7 @@ use Rattle.line_step.specs.Runs.{Point, IsRun}
 use Rattle.line_step.specs.Lies.{has_lie}
 use Rattle.line_cli.specs.Stream.{Reads}
 use Rattle.line_cli.specs.Checking.{Checks}
+use Rattle.line_cli.specs.Making.{Makes, IsMakeStatus}
 use Rattle.line_cli.specs.declared.status.Status.{Status}
 use Rattle.line_cli.specs.declared.status.Status.TheVariants as statuses
 use Rattle.line_cli.specs.declared.status.InputWhy.TheVariants as inputs
@@ -87,12 +88,19 @@ pub record Refers (left_old left_new old new : Option (List ℕ)) (before now : 
   pub pushed : Pushed
   pub text : PushesAll old new before now usage_text pushed
 
--- WHAT THE PROGRAM DOES with its words: whether they are `run`, whether they are `read`, and whether they are `check`
-abbrev pub DoesAs : Bool → Bool → Bool → Option (List ℕ) → Option (List ℕ) → Option (List ℕ) → Option (List ℕ) → ℕ → ℕ → Status → Type 0
-DoesAs true reads checks left_old left_new old new before now status = Runs left_old left_new old new status
-DoesAs false true checks left_old left_new old new before now status = Reads left_old left_new old new status
-DoesAs false false true left_old left_new old new before now status = Checks left_old left_new old new status
-DoesAs false false false left_old left_new old new before now status = Refers left_old left_new old new before now status
+-- what `make` does: nothing is read
+pub record MakesAlone (number : ℕ) (left_old left_new old new : Option (List ℕ)) (status : Status) : Type 0 where
+  pub unread : left_new ≡ left_old
+  pub makes : Makes number old new status
+
+-- WHAT THE PROGRAM DOES with its words: whether they are `run`, whether they are `read`, whether they are `check`, and the
+-- number behind `make`
+abbrev pub DoesAs : Bool → Bool → Bool → Option ℕ → Option (List ℕ) → Option (List ℕ) → Option (List ℕ) → Option (List ℕ) → ℕ → ℕ → Status → Type 0
+DoesAs true reads checks made left_old left_new old new before now status = Runs left_old left_new old new status
+DoesAs false true checks made left_old left_new old new before now status = Reads left_old left_new old new status
+DoesAs false false true made left_old left_new old new before now status = Checks left_old left_new old new status
+DoesAs false false false (Some number) left_old left_new old new before now status = MakesAlone number left_old left_new old new status
+DoesAs false false false None left_old left_new old new before now status = Refers left_old left_new old new before now status
 
 -- whatever the source tells, what `run` may answer: a line of a script, numbered from 1, is refused for a
 -- reason of the script grammar, and a stream's size is none of its concern
@@ -130,12 +138,13 @@ IsCheckStatus statuses.Memory = Unit {0}
 IsCheckStatus statuses.Unvouched = ⊥
 IsCheckStatus (statuses.Refuted line why) = Unit {0}
 
--- WHAT THE PROGRAM MAY ANSWER to its words: `Usage` exactly where they are neither `run` nor `read` nor `check`
-abbrev pub FitsWords : Bool → Bool → Bool → Status → Type 0
-FitsWords true reads checks status = IsRunStatus status
-FitsWords false true checks status = IsReadStatus status
-FitsWords false false true status = IsCheckStatus status
-FitsWords false false false status = status ≡ statuses.Usage
+-- WHAT THE PROGRAM MAY ANSWER to its words: `Usage` exactly where they are neither `run` nor `read` nor `check` nor `make` and a number
+abbrev pub FitsWords : Bool → Bool → Bool → Option ℕ → Status → Type 0
+FitsWords true reads checks made status = IsRunStatus status
+FitsWords false true checks made status = IsReadStatus status
+FitsWords false false true made status = IsCheckStatus status
+FitsWords false false false (Some number) status = IsMakeStatus status
+FitsWords false false false None status = status ≡ statuses.Usage
 
 -- no count of faults falls, and a fault comes only where the count of that object rose
 pub record HasCauses (status : Status) (reads_before reads_now writes_before writes_now : ℕ) : Type 0 where

@@ -3,6 +3,7 @@ pub mod Script
 pub mod Report
 pub mod LineEnds
 pub mod Reader
+pub mod Making
 pub mod Command
 pub mod Checking
 pub mod Ending

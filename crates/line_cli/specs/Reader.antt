@@ -34,6 +34,12 @@ progress_of place = place.state.lines * 4099 + length place.pending
 abbrev pub entries : ℕ → List Happening → List ℕ
 entries number told = flat_map (λ happening. entry number happening) told
 
+-- what a line that was read does
+pub record DoesAsked (asked : ScriptLine) (old new : LineState) (before now : List ℕ) : Type 0 where
+  pub told : List Happening
+  pub steps : LineSteps (old.lines + 1) asked old new told
+  pub text : now ≡ before ++ entries (old.lines + 1) told
+
 pub record IsDone (old new : LineState) (line before now : List ℕ) : Type 0 where
   pub asked : ScriptLine
   pub meaning : meaning_at (old.lines + 1) line ≡ Ok asked

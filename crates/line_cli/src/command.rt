@@ -1,13 +1,17 @@
 ghost use Rattle.std.specs.Prelude.{◌≡◌};
 ghost use Rattle.line_step.specs.FloorIds.{IdsStay};
 ghost use Rattle.line_openings.specs.Announced.{OpensWhenAnnounced};
+ghost use Rattle.one_standing.specs.Blame.{NoFalseBlame};
+ghost use Rattle.one_standing.specs.Contents.{ContentsAreKept};
 ghost use Rattle.one_standing.specs.Facts.{CustodyFacts};
 ghost use Rattle.one_standing.specs.Replay.{LedgerFollows};
 ghost use Rattle.one_standing.specs.Standing.{OneStanding};
 ghost use Rattle.line_cli.specs.Command.{DoesAs, FitsWords, HasCauses, is_word, is_run, is_read, is_check, usage_text};
+ghost use Rattle.line_cli.specs.Making.{made_number};
 ghost use Rattle.line_cli.specs.Premises.{ScriptsAreFit};
 
 use crate::checking::check_merged;
+use crate::making::{made_number, write_made};
 use crate::reading::read_stream;
 use crate::running::run_script;
 use crate::status::Status;
@@ -26,16 +30,17 @@ const USAGE: &str = "usage: line run | line read | line check | line make <numbe
 /// of more than 1,073,741,824 bytes is `ScriptRefused` as `TooLarge`, with line 0, behind the lines of
 /// what stands in its first 1,073,741,824. With `check` it reads the merged log of a line's machines
 /// from `script` and writes to `report` that it is right, or the first reason against it at the first
-/// line where one holds, which is `Refuted`. Other words are answered by `Usage` and the usage text,
-/// and nothing is read.
+/// line where one holds, which is `Refuted`. With `make` and a number from 1 to 50,000, of at most 15 digits, it runs the
+/// script that is made from the number and writes the last line of its report to `report`, with the fold of the whole
+/// report behind it; nothing is read. Other words are answered by `Usage` and the usage text, and nothing is read.
 pub fn line_main<S: Source, K: Sink>(
     alloc: Global,
     words: &Words,
     script: &mut S,
     report: &mut K,
 ) -> Status
-    ensures does { DoesAs (is_run words.now) (is_read words.now) (is_check words.now) (S.left script.old) (S.left script.new) (K.contents report.old) (K.contents report.new) (K.faults report.old) (K.faults report.new) result }
-    ensures fits { FitsWords (is_run words.now) (is_read words.now) (is_check words.now) result }
+    ensures does { DoesAs (is_run words.now) (is_read words.now) (is_check words.now) (made_number words.now) (S.left script.old) (S.left script.new) (K.contents report.old) (K.contents report.new) (K.faults report.old) (K.faults report.new) result }
+    ensures fits { FitsWords (is_run words.now) (is_read words.now) (is_check words.now) (made_number words.now) result }
     ensures causes { HasCauses result (S.faults script.old) (S.faults script.new) (K.faults report.old) (K.faults report.new) }
     // unique ids on the floor, and ids that stay, over the run of every script
     ensures ids { IdsStay }
@@ -43,8 +48,12 @@ pub fn line_main<S: Source, K: Sink>(
     ensures standing { OneStanding }
     // where its board lies then, and whose half holds it
     ensures custody { CustodyFacts }
-    // and what the report tells of records is what becomes of them
+    // what the report tells of records is what becomes of them
     ensures ledger { LedgerFollows }
+    // a record that is kept changes only where its board is marked
+    ensures contents { ContentsAreKept }
+    // a breach is told only of a side to which a spoiled text flowed
+    ensures blame { NoFalseBlame }
     // which ask of a script what each script that is read has
     ensures fit { ScriptsAreFit }
     // a handover opens exactly when board and place are announced, over the run of every script
@@ -53,7 +62,23 @@ pub fn line_main<S: Source, K: Sink>(
     one_standing::laws::one_standing_after_each_line();
     one_standing::laws::the_custody_facts_hold_after_each_line();
     one_standing::laws::the_ledger_follows_the_report();
+    one_standing::laws::contents_are_kept_over_each_line();
+    one_standing::laws::a_breach_is_told_only_behind_a_spoiled_text();
     line_openings::laws::a_machine_opens_exactly_when_announced();
+    do_words(alloc, words, script, report)
+}
+
+/// Does what the words ask for.
+fn do_words<S: Source, K: Sink>(
+    alloc: Global,
+    words: &Words,
+    script: &mut S,
+    report: &mut K,
+) -> Status
+    ensures does { DoesAs (is_run words.now) (is_read words.now) (is_check words.now) (made_number words.now) (S.left script.old) (S.left script.new) (K.contents report.old) (K.contents report.new) (K.faults report.old) (K.faults report.new) result }
+    ensures fits { FitsWords (is_run words.now) (is_read words.now) (is_check words.now) (made_number words.now) result }
+    ensures causes { HasCauses result (S.faults script.old) (S.faults script.new) (K.faults report.old) (K.faults report.new) }
+{
     if is_word(words.list(), b"run") {
         return run_script(alloc, script, report);
     }
@@ -62,6 +87,9 @@ pub fn line_main<S: Source, K: Sink>(
     }
     if is_word(words.list(), b"check") {
         return check_merged(alloc, script, report);
+    }
+    if let Some(number) = made_number(words.list()) {
+        return write_made(alloc, number, report);
     }
     let _pushed = push_all(report, USAGE.as_bytes());
     Status::Usage

@@ -1,6 +1,7 @@
 //! The laws of what the program writes.
 
 ghost use Rattle.std.specs.Prelude.{◌≡◌, ℕ, List};
+ghost use Rattle.line_cli.specs.Making.{IsMakeText};
 ghost use Rattle.line_cli.specs.ReadText.{IsReadText};
 ghost use Rattle.line_cli.specs.Report.{IsReport};
 
@@ -16,6 +17,13 @@ pub fn read_once()
 /// A script has one report.
 pub fn one_report()
     ensures { (bytes one other : List ℕ) → IsReport bytes one → IsReport bytes other → one ≡ other }
+{
+    node_core::laws::one_meaning();
+}
+
+/// A number has one make text.
+pub fn one_make_text()
+    ensures { (number : ℕ) (one other : List ℕ) → IsMakeText number one → IsMakeText number other → one ≡ other }
 {
     node_core::laws::one_meaning();
 }

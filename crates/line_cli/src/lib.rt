@@ -4,6 +4,7 @@
 mod checking;
 mod command;
 mod laws;
+mod making;
 mod reading;
 mod running;
 mod script_reader;
@@ -12,5 +13,5 @@ mod status;
 mod stream_reader;
 
 pub use command::line_main;
-pub use laws::{one_report, read_once};
+pub use laws::{one_make_text, one_report, read_once};
 pub use status::{InputWhy, Status};

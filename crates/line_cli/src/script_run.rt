@@ -1,10 +1,11 @@
 ghost use Rattle.std.specs.Prelude.{◌≡◌, ◌<◌, ◌≤◌, ◌+◌, ◌++◌, IfErr, OnOk, false, is_some};
 ghost use Rattle.line_step.specs.State.{no_line};
-ghost use Rattle.line_cli.specs.Reader.{DoesLine, IsNumbered, RefusesAs, Sums, entries};
+ghost use Rattle.line_script.specs.Ranges.{IsWithin};
+ghost use Rattle.line_cli.specs.Reader.{DoesAsked, DoesLine, IsNumbered, RefusesAs, Sums, entries};
 
 use line_base::Memory;
 use line_engine::{Happening, Line, write_happening, write_summary};
-use line_script::{LineError, LineWhy, MOST_LINE_BYTES, read_line};
+use line_script::{LineError, LineWhy, MOST_LINE_BYTES, ScriptLine, read_line};
 use std::alloc::Global;
 use std::io::Write;
 use std::marker::Model;
@@ -73,15 +74,25 @@ impl ScriptRun {
             Err(LineError::Refused(why)) => return refuse(number, why, to),
             Err(LineError::Memory) => return Err(RunError::Memory),
         };
-        let told = match self.line.step(number, &asked) {
-            Ok(told) => told,
-            Err(_) => return Err(RunError::Memory),
-        };
-        self.done = number;
-        match write_told(number, told.list(), to) {
+        match self.do_asked(&asked, to) {
             Ok(()) => Ok(()),
             Err(_) => Err(RunError::Memory),
         }
+    }
+
+    /// Does a line that was read, as the next of the script, and appends the report's lines for what it did.
+    pub fn do_asked(&mut self, asked: &ScriptLine, to: &mut Vec<u8>) -> Result<(), Memory>
+        requires unspent { self.old.spent ≡ false }
+        requires few { self.old.lines < 1000000 }
+        requires within { IsWithin asked.now }
+        ensures does { OnOk result (DoesAsked asked.now self.old self.new to.old.items to.new.items) }
+        ensures unspent { OnOk result (self.new.spent ≡ false) }
+        ensures few { self.new.spent ≡ false → self.new.lines ≤ 1000000 }
+    {
+        let number = self.done + 1;
+        let told = self.line.step(number, asked)?;
+        self.done = number;
+        write_told(number, told.list(), to)
     }
 
     /// Refuses the next line as too long.

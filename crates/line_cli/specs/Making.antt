@@ -1,0 +1,82 @@
+-- What `make` does with a number.
+use Rattle.std.specs.Prelude.{◌≡◌, ℕ, ◌++◌, List, [], ◌∷◌, Option, None, Some, Result, Ok, Err, codes, length, if◌then◌else◌}
+use Rattle.std.specs.Fmt.{decimal}
+use Rattle.std.specs.Str.{bytes_eq}
+use Rattle.line_outside.specs.Sink.{Grows, GrowsInPart}
+use Rattle.line_script.specs.Words.{number_in}
+use Rattle.line_script.specs.declared.line.LineWhy.{LineWhy}
+use Rattle.line_script.specs.declared.line.ScriptLine.{ScriptLine}
+use Rattle.line_report.specs.Texts.{summary_text}
+use Rattle.line_step.specs.State.{LineState, no_line}
+use Rattle.line_step.specs.Runs.{Point, IsRun, state_behind, told_text}
+use Rattle.line_step.specs.Views.{summary_of}
+use Rattle.made_script.specs.Fold.{fold_from, fold_of}
+use Rattle.made_script.specs.Script.{made_script}
+use Rattle.line_cli.specs.Report.{report_text}
+use Rattle.line_cli.specs.declared.status.Status.{Status}
+use Rattle.line_cli.specs.declared.status.Status.TheVariants as statuses
+
+-- a number that can be read
+abbrev pub readable : Result ℕ LineWhy → Option ℕ
+readable (Ok number) = Some number
+readable (Err why) = None
+
+-- the number behind the word `make`: 1 to 50,000, spelled by 1 to 15 digits
+abbrev pub number_behind : List ℕ → List ℕ → Option ℕ
+number_behind word number = if bytes_eq word (codes "make") then readable (number_in 1 50000 number) else None
+
+-- where the words are these two
+abbrev pub made_number : List (List ℕ) → Option ℕ
+made_number [] = None
+made_number (word ∷ []) = None
+made_number (word ∷ number ∷ []) = number_behind word number
+made_number (word ∷ number ∷ other ∷ others) = None
+
+-- while the script runs: these lines were done, and what was folded and what waits is what they are told of
+pub record IsFolding (asked : List ScriptLine) (state : LineState) (folded : ℕ) (text : List ℕ) : Type 0 where
+  pub points : List Point
+  pub run : IsRun no_line asked points
+  pub after : state_behind no_line points ≡ state
+  pub counted : state.lines ≡ length asked
+  pub told : fold_from folded text ≡ fold_of (told_text 1 points)
+
+-- the last line of a report, and behind it in the same line the fold of the whole, of which the other lines have this one
+pub record IsLastLine (end : LineState) (fold : ℕ) (text : List ℕ) : Type 0 where
+  pub last : List ℕ
+  pub ends : summary_text (summary_of end) ≡ last ++ codes "\n"
+  pub written : text ≡ last ++ (codes " fold=" ++ decimal (fold_from fold (summary_text (summary_of end))) ++ codes "\n")
+
+-- THE MAKE TEXT of a number: the last line of the report of its made script, and behind it in the same line the fold of
+-- that whole report
+pub record IsMakeText (number : ℕ) (text : List ℕ) : Type 0 where
+  pub points : List Point
+  pub run : IsRun no_line (made_script number) points
+  pub last : List ℕ
+  pub ends : summary_text (summary_of (state_behind no_line points)) ≡ last ++ codes "\n"
+  pub written : text ≡ last ++ (codes " fold=" ++ decimal (fold_of (report_text points None)) ++ codes "\n")
+
+-- it was written
+pub record WritesMakeText (number : ℕ) (old new : Option (List ℕ)) : Type 0 where
+  pub text : List ℕ
+  pub is : IsMakeText number text
+  pub grows : Grows old new text
+
+-- a front of it was written
+pub record WritesMakeFront (number : ℕ) (old new : Option (List ℕ)) : Type 0 where
+  pub text : List ℕ
+  pub is : IsMakeText number text
+  pub grows : GrowsInPart old new text
+
+-- WHAT `make` DID: how the sink's contents grew. Where memory was wanting nothing was written
+abbrev pub Makes : ℕ → Option (List ℕ) → Option (List ℕ) → Status → Type 0
+Makes number old new statuses.Done = WritesMakeText number old new
+Makes number old new statuses.WriteFault = WritesMakeFront number old new
+Makes number old new statuses.Memory = new ≡ old
+Makes number old new _ = ⊥
+
+-- and what it may answer
+abbrev pub IsMakeStatus : Status → Type 0
+IsMakeStatus statuses.Done = Unit {0}
+IsMakeStatus statuses.WriteFault = Unit {0}
+IsMakeStatus statuses.Memory = Unit {0}
+IsMakeStatus _ = ⊥
