@@ -1,0 +1,13 @@
+pub mod Folds
+pub mod Halves
+pub mod Hearing
+pub mod Telling
+pub mod Stepping
+pub mod Floor
+pub mod View
+pub mod Said
+pub mod SettledRun
+pub mod Leaving
+pub mod Where
+pub mod LetGoRun
+pub mod Started

@@ -1,0 +1,652 @@
+-- A LINE, as each machine sees it: the machine is as it was and tells nothing, or it made one step from what it was before
+-- the line, of which the report tells all acts but the switching of drives.
+use Rattle.std.proofs.Common.{Bool, Err, List, None, Ok, Option, Result, Some, [], ap, append-nil, append_assoc, arith, eq-eqb, false, inl, inr, length, ne_eqb, refl, suc, subst, sym, take-append-drop, true, zero, ℕ, ◌&&◌, ◌++◌, ◌+◌, ◌-◌, ◌==◌, ◌∙◌, ◌∷◌, ◌≡◌, ◌≢◌, ◌≤◌, ◌⊎◌}
+use Rattle.std.specs.Prelude.{drop, if◌then◌else◌, slice_index_or, take}
+use Rattle.std.specs.List.{AllByRecursion, flat_map}
+use Rattle.std.proofs.lemmas.Bool.{ltb-true}
+use Rattle.std.proofs.lemmas.Bool.Decides.{eqb_tells}
+use Rattle.line_base.specs.declared.states.Side.{Side}
+use Rattle.line_base.specs.declared.states.Side.TheVariants.{Entry, Exit}
+use Rattle.board_record.specs.declared.record.Record.{Record}
+use Rattle.board_record.specs.declared.sensed.Sensed.{Sensed}
+use Rattle.board_record.specs.Maker.{Maker, next_id}
+use Rattle.board_record.specs.declared.maker.IdsUsedUp.{IdsUsedUp}
+use Rattle.hermes_horizontal.specs.Canonical.{canonical}
+use Rattle.hermes_horizontal.specs.declared.message.Horizontal.{Horizontal}
+use Rattle.hermes_horizontal.specs.declared.message.Message.{Message}
+use Rattle.line_link.specs.Flow.{Stream, coming, flowing, with_arrival}
+use Rattle.line_link.specs.Link.{after_connect, after_flow, answer_sent, connected_of, sent_of, spoil_sent}
+use Rattle.line_link.specs.declared.link.Connected.{Connected}
+use Rattle.line_link.specs.declared.link.Connected.TheVariants as connections
+use Rattle.line_link.specs.declared.link.Sent.{Sent}
+use Rattle.line_link.specs.declared.link.Sent.TheVariants as sent
+use Rattle.line_link.proofs.Coming.{coming_of_arrival}
+use Rattle.line_script.specs.declared.line.ScriptLine.{ScriptLine}
+use Rattle.line_script.specs.declared.line.ScriptLine.TheVariants as lines
+use Rattle.line_world.specs.FloorPlan.{FloorPlan, gap_at, machine_at}
+use Rattle.line_world.specs.Moves.{floor_move}
+use Rattle.line_world.specs.declared.moves.Move.{Move}
+use Rattle.line_world.specs.declared.moves.Move.TheVariants as moves
+use Rattle.line_world.specs.declared.moves.MoveNo.{MoveNo}
+use Rattle.node_core.specs.Desk.{Desk}
+use Rattle.node_core.specs.Done.{Done}
+use Rattle.node_core.specs.Event.{Event, event_of, with_new}
+use Rattle.node_core.specs.Event as events
+use Rattle.node_core.specs.Node.{NodeState, desk_of, new_node}
+use Rattle.node_core.specs.Own.{own_of}
+use Rattle.node_core.specs.Sides.{is_open}
+use Rattle.node_core.specs.Step.{machine_step}
+use Rattle.node_core.specs.Words.{AreWords}
+use Rattle.node_core.specs.declared.act.Act.{Act}
+use Rattle.node_core.specs.declared.act.Act.TheVariants as acts
+use Rattle.node_core.specs.declared.input.Input.{Input}
+use Rattle.node_core.specs.declared.input.Input.TheVariants as inputs
+use Rattle.node_core.specs.declared.word.Word.{Word}
+use Rattle.line_report.specs.declared.happening.Happening.{Happening}
+use Rattle.line_report.specs.declared.happening.Happening.TheVariants as happenings
+use Rattle.standings.specs.Told.{told_of}
+use Rattle.standings.specs.declared.told.Told.{Told as Standing}
+use Rattle.standings.specs.declared.told.Told.TheVariants as tolds
+use Rattle.line_step.specs.Acts.{act_did, acts_did, cut_told, is_answer, is_exit, sent_by}
+use Rattle.line_step.specs.FloorIds.{made_by, made_in}
+use Rattle.line_step.specs.Lines.{Becomes, Connects, Flows, LineDoes, LineSteps, Moves, Unless, arrived, connecting, cut_in, lied, met, move_told, moved, spoil_told, spoiled, unvouched_told}
+use Rattle.line_step.specs.Numbered.{Stand, no_node, node_at, stand_at}
+use Rattle.line_step.specs.Reasons.{May, has_link, is_empty, may_add, may_connect, may_cut, may_do, may_flow, may_lie, may_spoil}
+use Rattle.line_step.specs.Shown.{ascending, between_shown, ids_marked, kept_shown, shown, shown_from, standing_told, standings_told, taken_below}
+use Rattle.line_step.specs.State.{LineState, machine_in, marks_in, one_more, profile_of}
+use Rattle.line_step.specs.Steps.{MachineSteps, is_second, moment_of, read_by, unread_by}
+use Rattle.line_step.specs.World.{WorldParts, end_of, link_at, link_of}
+use Rattle.line_step.proofs.Changing.{link_changes, more_changes, step_changes}
+use Rattle.line_step.proofs.Numbers.{floor_stays, machine_set_own, machine_within, same_or_not}
+use Rattle.custody.specs.Bytes.{Flows as FlowsAs, Spoiled, texts_of}
+use Rattle.machine_custody.specs.Flight.{AreOldest, unheard}
+use Rattle.machine_custody.specs.Good.{Lies}
+use Rattle.machine_custody.specs.Scene.{Scene}
+use Rattle.one_standing.specs.Carried.{Carries, Trace, carries_over, carries_spoiled, carries_whole}
+use Rattle.one_standing.specs.Mirrors.{scene_at}
+use Rattle.one_standing.specs.Stands.{Stands}
+use Rattle.one_standing.proofs.Carrying.{SaysAlone}
+use Rattle.one_standing.proofs.Mirroring.{node_there}
+use Rattle.one_standing.proofs.MirroringFlow.{CanFlow, can_flow, link_there}
+use Rattle.line_history.proofs.Floor.{acts_lies, acts_lists, make_not, makes_not, none_unread, read_lies, read_lists}
+use Rattle.line_history.proofs.Stepping.{AreTheirs}
+
+-- ---- the acts of one machine among all that is told
+
+abbrev pub done_act : ℕ → Happening → List Act
+done_act machine (happenings.Done other act) = if other == machine then act ∷ [] else []
+done_act machine _ = []
+
+abbrev pub done_by : ℕ → List Happening → List Act
+done_by machine [] = []
+done_by machine (happening ∷ told) = done_act machine happening ++ done_by machine told
+
+pub done_append : (k : ℕ) (a b : List Happening) → done_by k (a ++ b) ≡ done_by k a ++ done_by k b
+done_append k [] b = refl
+done_append k (h ∷ a) b = ap (λ (x : List Act). done_act k h ++ x) (done_append k a b) ∙ sym (append_assoc (done_act k h) (done_by k a) (done_by k b))
+
+none_join : (k : ℕ) (a b : List Happening) → done_by k a ≡ [] → done_by k b ≡ [] → done_by k (a ++ b) ≡ []
+none_join k a b one two = done_append k a b ∙ ap (λ (x : List Act). x ++ done_by k b) one ∙ two
+
+-- the switching of a drive is not told
+abbrev pub told_of_act : Act → List Act
+told_of_act (acts.Drive side on) = []
+told_of_act act = act ∷ []
+
+abbrev pub undriven : List Act → List Act
+undriven [] = []
+undriven (act ∷ told) = told_of_act act ++ undriven told
+
+-- ---- the acts of a step
+
+same_number : (k : ℕ) → (k == k) ≡ true
+same_number k = eq-eqb k k refl
+
+own_first : (k : ℕ) (act : Act) (rest : List Happening) → done_by k rest ≡ [] → done_by k (happenings.Done k act ∷ rest) ≡ act ∷ []
+own_first k act rest none = rw (same_number k, none) refl
+
+cut_none : (k link : ℕ) (on : Sent) → done_by k (cut_told link on) ≡ []
+cut_none k link sent.Cuts = refl
+cut_none k link sent.Flows = refl
+cut_none k link sent.Vanishes = refl
+
+own_sent : (answers : Bool) (k : ℕ) (side : Side) (message : Message) (world : WorldParts) → done_by k (sent_by answers k side message world).told ≡ acts.Sends side message ∷ []
+own_sent true k side message world = own_first k (acts.Sends side message) (cut_told k (answer_sent (canonical message) (link_at k world))) (cut_none k k (answer_sent (canonical message) (link_at k world)))
+own_sent false k side message world = own_first k (acts.Sends side message) (cut_told (link_of k side) (sent_of (end_of side) (canonical message) (link_at (link_of k side) world))) (cut_none k (link_of k side) (sent_of (end_of side) (canonical message) (link_at (link_of k side) world)))
+
+own_act : (second : Bool) (k : ℕ) (act : Act) (world : WorldParts) → done_by k (act_did second k act world).told ≡ told_of_act act
+own_act second k (acts.Sends side message) world = own_sent (second && (is_exit side && is_answer message.body)) k side message world
+own_act second k (acts.Drive side on) world = refl
+own_act second k (acts.Reads side event) world = own_first k (acts.Reads side event) [] refl
+own_act second k (acts.Hears side message) world = own_first k (acts.Hears side message) [] refl
+own_act second k (acts.Breaches side text) world = own_first k (acts.Breaches side text) [] refl
+own_act second k (acts.Closes side) world = own_first k (acts.Closes side) [] refl
+own_act second k (acts.Notices side) world = own_first k (acts.Notices side) [] refl
+own_act second k acts.Connects world = own_first k acts.Connects [] refl
+own_act second k (acts.Deed deed) world = own_first k (acts.Deed deed) [] refl
+own_act second k (acts.Marks id quality) world = own_first k (acts.Marks id quality) [] refl
+own_act second k (acts.Inserts id) world = own_first k (acts.Inserts id) [] refl
+own_act second k (acts.Removes id) world = own_first k (acts.Removes id) [] refl
+own_act second k (acts.Replaces was now) world = own_first k (acts.Replaces was now) [] refl
+own_act second k (acts.Sets setting) world = own_first k (acts.Sets setting) [] refl
+
+own_acts : (second : Bool) (k : ℕ) (told : List Act) (world : WorldParts) → done_by k (acts_did second k told world).told ≡ undriven told
+own_acts second k [] world = refl
+own_acts second k (act ∷ others) world =
+    let one = act_did second k act world in
+    done_append k one.told (acts_did second k others one.world).told ∙ ap (λ (x : List Act). x ++ done_by k (acts_did second k others one.world).told) (own_act second k act world)
+    ∙ ap (λ (x : List Act). told_of_act act ++ x) (own_acts second k others one.world)
+
+-- ---- the acts of another machine
+
+other_number : (k machine : ℕ) → k ≢ machine → (machine == k) ≡ false
+other_number k machine apart = elim (eqb_tells machine k) [ inl same ↦ absurd (apart (sym same.1)) | inr differs ↦ differs.0 ]
+
+other_first : (k machine : ℕ) (act : Act) (rest : List Happening) → k ≢ machine → done_by k rest ≡ [] → done_by k (happenings.Done machine act ∷ rest) ≡ []
+other_first k machine act rest apart none = rw (other_number k machine apart) none
+
+other_sent : (answers : Bool) (k machine : ℕ) (side : Side) (message : Message) (world : WorldParts) → k ≢ machine → done_by k (sent_by answers machine side message world).told ≡ []
+other_sent true k machine side message world apart = other_first k machine (acts.Sends side message) (cut_told machine (answer_sent (canonical message) (link_at machine world))) apart (cut_none k machine (answer_sent (canonical message) (link_at machine world)))
+other_sent false k machine side message world apart = other_first k machine (acts.Sends side message) (cut_told (link_of machine side) (sent_of (end_of side) (canonical message) (link_at (link_of machine side) world))) apart (cut_none k (link_of machine side) (sent_of (end_of side) (canonical message) (link_at (link_of machine side) world)))
+
+other_act : (second : Bool) (k machine : ℕ) (act : Act) (world : WorldParts) → k ≢ machine → done_by k (act_did second machine act world).told ≡ []
+other_act second k machine (acts.Sends side message) world apart = other_sent (second && (is_exit side && is_answer message.body)) k machine side message world apart
+other_act second k machine (acts.Drive side on) world apart = refl
+other_act second k machine (acts.Reads side event) world apart = other_first k machine (acts.Reads side event) [] apart refl
+other_act second k machine (acts.Hears side message) world apart = other_first k machine (acts.Hears side message) [] apart refl
+other_act second k machine (acts.Breaches side text) world apart = other_first k machine (acts.Breaches side text) [] apart refl
+other_act second k machine (acts.Closes side) world apart = other_first k machine (acts.Closes side) [] apart refl
+other_act second k machine (acts.Notices side) world apart = other_first k machine (acts.Notices side) [] apart refl
+other_act second k machine acts.Connects world apart = other_first k machine acts.Connects [] apart refl
+other_act second k machine (acts.Deed deed) world apart = other_first k machine (acts.Deed deed) [] apart refl
+other_act second k machine (acts.Marks id quality) world apart = other_first k machine (acts.Marks id quality) [] apart refl
+other_act second k machine (acts.Inserts id) world apart = other_first k machine (acts.Inserts id) [] apart refl
+other_act second k machine (acts.Removes id) world apart = other_first k machine (acts.Removes id) [] apart refl
+other_act second k machine (acts.Replaces was now) world apart = other_first k machine (acts.Replaces was now) [] apart refl
+other_act second k machine (acts.Sets setting) world apart = other_first k machine (acts.Sets setting) [] apart refl
+
+pub other_acts : (second : Bool) (k machine : ℕ) (told : List Act) (world : WorldParts) → k ≢ machine → done_by k (acts_did second machine told world).told ≡ []
+other_acts second k machine [] world apart = refl
+other_acts second k machine (act ∷ others) world apart =
+    let one = act_did second machine act world in
+    none_join k one.told (acts_did second machine others one.world).told (other_act second k machine act world apart) (other_acts second k machine others one.world apart)
+
+-- ---- what is shown, and the standings
+
+kept_none : (k machine : ℕ) (boards : List Record) → done_by k (kept_shown machine boards) ≡ []
+kept_none k machine [] = refl
+kept_none k machine (board ∷ boards) = kept_none k machine boards
+
+two_none : (k : ℕ) (same : Bool) (gap below : ℕ) → done_by k (if same then [] else happenings.ShownBetween gap below ∷ []) ≡ []
+two_none k true gap below = refl
+two_none k false gap below = refl
+
+between_none : (k gap : ℕ) (above below : Option ℕ) → done_by k (between_shown gap above below) ≡ []
+between_none k gap None None = refl
+between_none k gap None (Some below) = refl
+between_none k gap (Some above) None = refl
+between_none k gap (Some above) (Some below) = two_none k (above == below) gap below
+
+shown_none : (k machine : ℕ) (nodes : List NodeState) → done_by k (shown_from machine nodes) ≡ []
+shown_none k machine [] = refl
+shown_none k machine (node ∷ nodes) =
+    let between = between_shown machine (own_of node.lane.body).held (taken_below nodes) in
+    none_join k (kept_shown machine node.lane.body.kept) (between ++ shown_from (machine + 1) nodes) (kept_none k machine node.lane.body.kept)
+    (none_join k between (shown_from (machine + 1) nodes) (between_none k machine (own_of node.lane.body).held (taken_below nodes)) (shown_none k (machine + 1) nodes))
+
+standing_none : (k id : ℕ) (told : Option Standing) → done_by k (standing_told id told) ≡ []
+standing_none k id None = refl
+standing_none k id (Some (tolds.With machine)) = refl
+standing_none k id (Some (tolds.Between gap)) = refl
+standing_none k id (Some tolds.Gone) = refl
+
+flat_none : (k : ℕ) (f : ℕ → List Happening) (ids : List ℕ) → ((id : ℕ) → done_by k (f id) ≡ []) → done_by k (flat_map f ids) ≡ []
+flat_none k f [] every = refl
+flat_none k f (id ∷ ids) every = none_join k (f id) (flat_map f ids) (every id) (flat_none k f ids every)
+
+standings_none : (k : ℕ) (before next : LineState) → done_by k (standings_told before next) ≡ []
+standings_none k before next =
+    flat_none k (λ id. standing_told id (told_of (marks_in before id) (marks_in next id))) (ascending (ids_marked before ++ ids_marked next)) (λ id. standing_none k id (told_of (marks_in before id) (marks_in next id)))
+
+unvouched_none : (k : ℕ) (unvouched : Option ℕ) → done_by k (unvouched_told unvouched) ≡ []
+unvouched_none k None = refl
+unvouched_none k (Some line) = refl
+
+-- ---- which words a machine hears
+
+-- a piece that arrives spells the oldest messages on its way
+oldest_of : {stands : Bool} {stream : Stream} {messages : List Horizontal} → SaysAlone → (words : List Word) (old piece new : List ℕ) (still : Bool) (later : Stream) → coming stream ≡ piece ++ coming later → is_empty (coming stream) ≡ false
+    → AreWords old piece new still words → Carries stands old stream messages → AreOldest words messages
+oldest_of alone words old piece new still later is some are (carries_whole said good flows) =
+    let all : FlowsAs old (piece ++ coming later) (texts_of said) = subst (λ (bytes : List ℕ). FlowsAs old bytes (texts_of said)) is flows in
+    (alone.oldest old piece (coming later) new still words said (alone.sayable said good) all are).oldest
+oldest_of {messages = messages} alone words old piece new still later is some are (carries_spoiled spoiled) =
+    let all : Spoiled old (piece ++ coming later) = subst (λ (bytes : List ℕ). Spoiled old bytes) is spoiled in
+    (alone.wrong old piece (coming later) new still words messages all are).oldest
+oldest_of {stream = stream} alone words old piece new still later is some are (carries_over off nothing) = absurd (let no_way : true ≡ false = sym (ap is_empty nothing) ∙ some in cc)
+
+arrives_whole : (n : ℕ) (stream : Stream) (piece : List ℕ) → piece ≡ take n (coming stream) → coming stream ≡ piece ++ coming (with_arrival n stream)
+arrives_whole n stream piece is = sym (take-append-drop n (coming stream)) ∙ ap (λ (front : List ℕ). front ++ drop n (coming stream)) (sym is) ∙ ap (λ (back : List ℕ). piece ++ back) (sym (coming_of_arrival n stream))
+
+before_one : (j : ℕ) → j + 1 - 1 ≡ j
+before_one j = omega arith
+
+same_some : {a b : NodeState} → ◌≡◌ {A = Option NodeState} (Some a) (Some b) → a ≡ b
+same_some is = cc
+
+flow_oldest : SaysAlone → (t : Trace) (number j : ℕ) (side : Side) (count : Option ℕ) (before after : LineState) (told : List Happening) → CanFlow (j + 1) side before → Stands t before
+    → (flows : Flows number (j + 1) side count before after told) → AreOldest flows.steps.steps.lane.words (unheard side (scene_at t before j))
+flow_oldest alone t number j Entry count before after told can st flows =
+    let steps = flows.steps in
+    let s : Stream = (link_at j before.world).flows.to_downstream in
+    let n : ℕ = flowing count s in
+    let within = (machine_within (j + 1) before steps.node steps.there).1 in
+    let behind : 1 ≤ j = omega (arith, ltb-true 1 (j + 1) can.beside) in
+    let there : has_link j before ≡ true = link_there j (length before.machines) behind within in
+    let node_is : node_at before (j + 1) ≡ steps.node = node_there (j + 1) before steps.node steps.there in
+    let some : is_empty (coming s) ≡ false = ap (λ (k : ℕ). is_empty (coming (link_at k before.world).flows.to_downstream)) (sym (before_one j)) ∙ can.comes in
+    let piece_is : flows.piece.now ≡ take n (coming s) = flows.bytes ∙ ap (λ (k : ℕ). take (flowing count (link_at k before.world).flows.to_downstream) (coming (link_at k before.world).flows.to_downstream)) (before_one j) in
+    let waits : Carries (link_at j before.world).stands steps.node.lane.entry_bytes s (t.down j) = subst (λ (m : NodeState). Carries (link_at j before.world).stands m.lane.entry_bytes s (t.down j)) node_is (st.carried j there).down in
+    oldest_of alone steps.steps.lane.words steps.node.lane.entry_bytes flows.piece.now steps.next.lane.entry_bytes (is_open Entry steps.next.lane.body) (with_arrival n s) (arrives_whole n s flows.piece.now piece_is) some steps.steps.lane.brings.0 waits
+flow_oldest alone t number j Exit count before after told can st flows =
+    let steps = flows.steps in
+    let s : Stream = (link_at (j + 1) before.world).flows.to_upstream in
+    let n : ℕ = flowing count s in
+    let within : j + 1 + 1 ≤ length before.machines = omega (arith, ltb-true (j + 1) (length before.machines) can.beside) in
+    let counted : 1 ≤ j + 1 = omega arith in
+    let there : has_link (j + 1) before ≡ true = link_there (j + 1) (length before.machines) counted within in
+    let node_is : node_at before (j + 1) ≡ steps.node = node_there (j + 1) before steps.node steps.there in
+    let waits : Carries (link_at (j + 1) before.world).stands steps.node.lane.exit_bytes s (t.up (j + 1)) = subst (λ (m : NodeState). Carries (link_at (j + 1) before.world).stands m.lane.exit_bytes s (t.up (j + 1))) node_is (st.carried (j + 1) there).up in
+    oldest_of alone steps.steps.lane.words steps.node.lane.exit_bytes flows.piece.now steps.next.lane.exit_bytes (is_open Exit steps.next.lane.body) (with_arrival n s) (arrives_whole n s flows.piece.now flows.bytes) can.comes steps.steps.lane.brings.0 waits
+
+-- an input that is no bytes brings no words
+abbrev pub IsNoBytes : Input → Type 0
+IsNoBytes (inputs.Bytes side piece) = ⊥
+IsNoBytes _ = Unit {0}
+
+new_theirs : (c : Scene) (found : Result ℕ IdsUsedUp) (event : ℕ → Event) → ((id : ℕ) → AreTheirs (event id) c) → AreTheirs (with_new found event) c
+new_theirs c (Ok id) event all = all id
+new_theirs c (Err why) event all = tt
+
+plain_theirs : (c : Scene) (maker : Maker) (input : Input) (words : List Word) → IsNoBytes input → AreTheirs (event_of maker input words) c
+plain_theirs c maker (inputs.Bytes side piece) words none = absurd none
+plain_theirs c maker (inputs.Insert barcode) words none = new_theirs c (next_id maker) (λ id. events.Insert id barcode) (λ id. tt)
+plain_theirs c maker (inputs.Replace old) words none = new_theirs c (next_id maker) (events.Replace old) (λ id. tt)
+plain_theirs c maker inputs.Nothing words none = tt
+plain_theirs c maker inputs.Connect words none = tt
+plain_theirs c maker inputs.Accepted words none = tt
+plain_theirs c maker inputs.Second words none = tt
+plain_theirs c maker (inputs.Notice side) words none = tt
+plain_theirs c maker inputs.Tick words none = tt
+plain_theirs c maker inputs.Shutdown words none = tt
+plain_theirs c maker (inputs.Fault side) words none = tt
+plain_theirs c maker (inputs.Will side on) words none = tt
+plain_theirs c maker (inputs.Remove id) words none = tt
+plain_theirs c maker (inputs.Mark id quality) words none = tt
+
+-- ---- the turn of a machine
+
+-- it made a step, from what it was before the line
+pub record Stepped (j : ℕ) (t : Trace) (before after : LineState) (told : List Happening) : Type 0 where
+  pub desk : Desk
+  pub event : Event
+  pub theirs : AreTheirs event (scene_at t before j)
+  pub body : (node_at after (j + 1)).lane.body ≡ (machine_step desk (unread_by (j + 1) before.world) event (node_at before (j + 1)).lane.body).body
+  pub acts : done_by (j + 1) told ≡ undriven (machine_step desk (unread_by (j + 1) before.world) event (node_at before (j + 1)).lane.body).acts
+  pub unread : (machine_at after.world.floor (j + 1)).unread ≡ []
+
+pub data Turn (j : ℕ) (t : Trace) (before after : LineState) (told : List Happening) : Type 0 where
+  is_still : (node_at after (j + 1)).lane.body ≡ (node_at before (j + 1)).lane.body → done_by (j + 1) told ≡ [] → Turn j t before after told
+  has_stepped : Stepped j t before after told → Turn j t before after told
+
+-- the machine's own step, from a state in which it is what it was before the line
+own_turn : (t : Trace) (number j : ℕ) (input : Input) (before start after : LineState) (told : List Happening) → (steps : MachineSteps number (j + 1) input start after told) → stand_at start (j + 1) ≡ stand_at before (j + 1)
+    → AreTheirs (event_of steps.node.maker input steps.steps.lane.words) (scene_at t before j) → Stepped j t before after told
+own_turn t number j input before start after told steps same theirs =
+    let node : NodeState = steps.node in
+    let desk : Desk = desk_of node (moment_of number) in
+    let lane = steps.steps.lane in
+    let event : Event = event_of node.maker input lane.words in
+    let node_is : node_at before (j + 1) ≡ node = sym (ap (λ (s : Stand). s.node) same) ∙ node_there (j + 1) start node steps.there in
+    let unread_is : unread_by (j + 1) before.world ≡ unread_by (j + 1) start.world = sym (ap (λ (s : Stand). s.place.unread) same) in
+    let next_is : node_at after (j + 1) ≡ steps.next = node_there (j + 1) after steps.next (ap (machine_in (j + 1)) steps.after_is ∙ machine_set_own (j + 1) start node steps.next steps.there) in
+    let D : List Sensed → NodeState → Done = λ us n. machine_step desk us event n.lane.body in
+    let did : D (unread_by (j + 1) start.world) node ≡ D (unread_by (j + 1) before.world) (node_at before (j + 1)) = rw (unread_is, node_is) refl in
+    record {
+      desk = desk;
+      event = event;
+      theirs = theirs;
+      body = ap (λ (n : NodeState). n.lane.body) next_is ∙ lane.body ∙ ap (λ (d : Done). d.body) did;
+      acts = ap (done_by (j + 1)) steps.told_is ∙ own_acts (is_second input) (j + 1) steps.acts (read_by (j + 1) start.world) ∙ ap undriven lane.told ∙ ap (λ (d : Done). undriven d.acts) did;
+      unread = ap (λ (s : LineState). (machine_at s.world.floor (j + 1)).unread) steps.after_is ∙ none_unread (is_second input) (j + 1) steps.acts start.world;
+    }
+
+-- another machine's step
+other_still : (t : Trace) (number j machine : ℕ) (input : Input) (before start after : LineState) (told : List Happening) → (steps : MachineSteps number machine input start after told) → j + 1 ≢ machine → stand_at start (j + 1) ≡ stand_at before (j + 1) → Turn j t before after told
+other_still t number j machine input before start after told steps apart same =
+    is_still (ap (λ (s : Stand). s.node.lane.body) ((step_changes number machine input start after told steps).machines (j + 1) apart ∙ same))
+    (ap (done_by (j + 1)) steps.told_is ∙ other_acts (is_second input) (j + 1) machine steps.acts (read_by machine start.world) apart)
+
+-- one step, of an input that is no bytes
+plain_turn : (t : Trace) (number j machine : ℕ) (input : Input) (before after : LineState) (told : List Happening) → (j + 1 ≡ machine) ⊎ (j + 1 ≢ machine) → IsNoBytes input → MachineSteps number machine input before after told → Turn j t before after told
+plain_turn t number j machine input before after told (inl is) none steps =
+    let own : MachineSteps number (j + 1) input before after told = subst (λ (m : ℕ). MachineSteps number m input before after told) (sym is) steps in
+    has_stepped (own_turn t number j input before before after told own refl (plain_theirs (scene_at t before j) own.node.maker input own.steps.lane.words none))
+plain_turn t number j machine input before after told (inr apart) none steps = other_still t number j machine input before before after told steps apart refl
+
+-- ---- each form of line
+
+still_turn : (j : ℕ) (t : Trace) (before next after : LineState) (what told : List Happening) → (node_at next (j + 1)).lane.body ≡ (node_at before (j + 1)).lane.body → done_by (j + 1) what ≡ [] → Becomes next what after told → Turn j t before after told
+still_turn j t before next after what told same none b = is_still (ap (λ (s : LineState). (node_at s (j + 1)).lane.body) b.after_is ∙ same) (ap (done_by (j + 1)) b.told_is ∙ none)
+
+unless_turn : (may : May) (j : ℕ) (t : Trace) (before after : LineState) (told : List Happening) (Does : Type 0) → Unless may before after told Does → (may ≡ may_do → Does → Turn j t before after told) → Turn j t before after told
+unless_turn (Ok _) j t before after told Does is does = does refl is
+unless_turn (Err reason) j t before after told Does is does = still_turn j t before before after (happenings.No reason ∷ []) told refl refl is
+
+given_turn : (may : May) (t : Trace) (number j machine : ℕ) (input : Input) (before after : LineState) (told : List Happening) → IsNoBytes input → Unless may before after told (MachineSteps number machine input before after told) → Turn j t before after told
+given_turn may t number j machine input before after told none does =
+    unless_turn may j t before after told (MachineSteps number machine input before after told) does (λ can steps. plain_turn t number j machine input before after told (same_or_not (j + 1) machine) none steps)
+
+same_machines : (j : ℕ) (s next : LineState) → next.machines ≡ s.machines → (node_at next (j + 1)).lane.body ≡ (node_at s (j + 1)).lane.body
+same_machines j s next is = ap (λ (n : NodeState). n.lane.body) (same_nodes (j + 1) s next is) where
+  same_nodes : (machine : ℕ) (s next : LineState) → next.machines ≡ s.machines → node_at next machine ≡ node_at s machine
+  same_nodes zero s next is = refl
+  same_nodes (suc place) s next is = ap (λ (nodes : List NodeState). slice_index_or nodes place no_node) is
+
+arrived_stand : (k machine : ℕ) (side : Side) (count : Option ℕ) (s : LineState) → stand_at (arrived machine side count s) k ≡ stand_at s k
+arrived_stand k machine side count s = (link_changes (link_of machine side) (after_flow (end_of side) count (link_at (link_of machine side) s.world)) s).machines k
+
+flow_turn : SaysAlone → (t : Trace) (number j machine : ℕ) (side : Side) (count : Option ℕ) (before after : LineState) (told : List Happening) → Stands t before → may_flow machine side before ≡ may_do → (j + 1 ≡ machine) ⊎ (j + 1 ≢ machine) → Flows number machine side count before after told
+    → Turn j t before after told
+flow_turn alone t number j machine side count before after told st may (inl is) flows =
+    let own : Flows number (j + 1) side count before after told = subst (λ (m : ℕ). Flows number m side count before after told) (sym is) flows in
+    let can : CanFlow (j + 1) side before = can_flow (j + 1) side before (subst (λ (m : ℕ). may_flow m side before ≡ may_do) (sym is) may) in
+    has_stepped (own_turn t number j (inputs.Bytes side own.piece) before (arrived (j + 1) side count before) after told own.steps (arrived_stand (j + 1) (j + 1) side count before) (flow_oldest alone t number j side count before after told can st own))
+flow_turn alone t number j machine side count before after told st may (inr apart) flows =
+    other_still t number j machine (inputs.Bytes side flows.piece) before (arrived machine side count before) after told flows.steps apart (arrived_stand (j + 1) machine side count before)
+
+-- a connection is made: both machines make a step
+
+behind_own : (t : Trace) (j : ℕ) (before between after : LineState) (a b : List Happening) → Stepped j t before between a → stand_at after (j + 1) ≡ stand_at between (j + 1) → done_by (j + 1) b ≡ [] → Stepped j t before after (a ++ b)
+behind_own t j before between after a b s same none = record {
+  desk = s.desk;
+  event = s.event;
+  theirs = s.theirs;
+  body = ap (λ (x : Stand). x.node.lane.body) same ∙ s.body;
+  acts = done_append (j + 1) a b ∙ ap (λ (x : List Act). done_by (j + 1) a ++ x) none ∙ append-nil (done_by (j + 1) a) ∙ s.acts;
+  unread = ap (λ (x : Stand). x.place.unread) same ∙ s.unread;
+}
+
+before_own : (t : Trace) (j : ℕ) (before after : LineState) (a b : List Happening) → done_by (j + 1) a ≡ [] → Stepped j t before after b → Stepped j t before after (a ++ b)
+before_own t j before after a b none s = record {
+  desk = s.desk;
+  event = s.event;
+  theirs = s.theirs;
+  body = s.body;
+  acts = done_append (j + 1) a b ∙ ap (λ (x : List Act). x ++ done_by (j + 1) b) none ∙ s.acts;
+  unread = s.unread;
+}
+
+connecting_stand : (k machine : ℕ) (s : LineState) → stand_at (connecting machine s) k ≡ stand_at s k
+connecting_stand k machine s = (link_changes (machine - 1) (after_connect (link_at (machine - 1) s.world)) s).machines k
+
+no_bytes : (on : Connected) → IsNoBytes (met on)
+no_bytes connections.Accepted = tt
+no_bytes connections.Second = tt
+
+apart_of : (j machine : ℕ) → 1 ≤ machine → j + 1 ≡ machine → j + 1 ≢ machine - 1
+apart_of j machine counted is same = absurd (omega (arith, counted, is, same))
+
+connects_by : (t : Trace) (number j machine : ℕ) (before after : LineState) (told : List Happening) → (j + 1 ≡ machine) ⊎ (j + 1 ≢ machine) → (j + 1 ≡ machine - 1) ⊎ (j + 1 ≢ machine - 1) → (steps : Connects number machine before after told)
+    → Turn j t before after (steps.earlier ++ steps.later)
+connects_by t number j machine before after told (inl is) second steps =
+    let start : LineState = connecting machine before in
+    let on = connected_of (link_at (machine - 1) before.world).upstream in
+    let counted : 1 ≤ machine = (machine_within machine start steps.first.node steps.first.there).0 in
+    let own : MachineSteps number (j + 1) inputs.Connect start steps.between steps.earlier = subst (λ (m : ℕ). MachineSteps number m inputs.Connect start steps.between steps.earlier) (sym is) steps.first in
+    let apart : j + 1 ≢ machine - 1 = apart_of j machine counted is in
+    has_stepped (behind_own t j before steps.between after steps.earlier steps.later
+    (own_turn t number j inputs.Connect before start steps.between steps.earlier own (connecting_stand (j + 1) machine before) (plain_theirs (scene_at t before j) own.node.maker inputs.Connect own.steps.lane.words tt))
+    ((step_changes number (machine - 1) (met on) steps.between after steps.later steps.second).machines (j + 1) apart)
+    (ap (done_by (j + 1)) steps.second.told_is ∙ other_acts (is_second (met on)) (j + 1) (machine - 1) steps.second.acts (read_by (machine - 1) steps.between.world) apart))
+connects_by t number j machine before after told (inr apart) (inl is) steps =
+    let start : LineState = connecting machine before in
+    let on = connected_of (link_at (machine - 1) before.world).upstream in
+    let own : MachineSteps number (j + 1) (met on) steps.between after steps.later = subst (λ (m : ℕ). MachineSteps number m (met on) steps.between after steps.later) (sym is) steps.second in
+    let same : stand_at steps.between (j + 1) ≡ stand_at before (j + 1) = (step_changes number machine inputs.Connect start steps.between steps.earlier steps.first).machines (j + 1) apart ∙ connecting_stand (j + 1) machine before in
+    has_stepped (before_own t j before after steps.earlier steps.later
+    (ap (done_by (j + 1)) steps.first.told_is ∙ other_acts false (j + 1) machine steps.first.acts (read_by machine start.world) apart)
+    (own_turn t number j (met on) before steps.between after steps.later own same (plain_theirs (scene_at t before j) own.node.maker (met on) own.steps.lane.words (no_bytes on))))
+connects_by t number j machine before after told (inr apart) (inr other) steps =
+    let start : LineState = connecting machine before in
+    let on = connected_of (link_at (machine - 1) before.world).upstream in
+    let one : stand_at steps.between (j + 1) ≡ stand_at before (j + 1) = (step_changes number machine inputs.Connect start steps.between steps.earlier steps.first).machines (j + 1) apart ∙ connecting_stand (j + 1) machine before in
+    let two : stand_at after (j + 1) ≡ stand_at steps.between (j + 1) = (step_changes number (machine - 1) (met on) steps.between after steps.later steps.second).machines (j + 1) other in
+    is_still (ap (λ (s : Stand). s.node.lane.body) (two ∙ one))
+    (none_join (j + 1) steps.earlier steps.later (ap (done_by (j + 1)) steps.first.told_is ∙ other_acts false (j + 1) machine steps.first.acts (read_by machine start.world) apart)
+    (ap (done_by (j + 1)) steps.second.told_is ∙ other_acts (is_second (met on)) (j + 1) (machine - 1) steps.second.acts (read_by (machine - 1) steps.between.world) other))
+
+connects_turn : (t : Trace) (number j machine : ℕ) (before after : LineState) (told : List Happening) → Connects number machine before after told → Turn j t before after told
+connects_turn t number j machine before after told steps =
+    subst (λ (x : List Happening). Turn j t before after x) (sym steps.told_is) (connects_by t number j machine before after told (same_or_not (j + 1) machine) (same_or_not (j + 1) (machine - 1)) steps)
+
+move_still : (j gap : ℕ) (step : Move) (s : LineState) (answer : Result FloorPlan MoveNo) → ((node_at (moved answer s) (j + 1)).lane.body ≡ (node_at s (j + 1)).lane.body) × (done_by (j + 1) (move_told gap step answer) ≡ [])
+move_still j gap step s (Ok floor) = (same_machines j s (moved (Ok floor) s) refl, refl)
+move_still j gap step s (Err why) = (refl, refl)
+
+moves_turn : (t : Trace) (j gap : ℕ) (step : Move) (before after : LineState) (told : List Happening) → Moves gap step before after told → Turn j t before after told
+moves_turn t j gap step before after told does =
+    let answer = floor_move gap step before.world.floor in
+    let both = move_still j gap step before answer in
+    still_turn j t before (moved answer before) after (move_told gap step answer) told both.0 both.1 does
+
+more_body : (capacity used : ℕ) (s : LineState) (k : ℕ) → (k ≡ length s.machines + 1) ⊎ (k ≢ length s.machines + 1) → (node_at (one_more capacity used s) k).lane.body ≡ (node_at s k).lane.body
+more_body capacity used s k (inr apart) = ap (λ (x : Stand). x.node.lane.body) ((more_changes capacity used s).machines k apart)
+more_body capacity used s k (inl is) =
+    let next : k ≡ suc (length s.machines) = omega (arith, is) in
+    subst (λ (m : ℕ). (node_at (one_more capacity used s) m).lane.body ≡ (node_at s m).lane.body) (sym next)
+    (ap (λ (n : NodeState). n.lane.body) (last_node s.machines (new_node (profile_of (length s.machines + 1) capacity used))) ∙ sym (ap (λ (n : NodeState). n.lane.body) (no_last s.machines))) where
+      last_node : (nodes : List NodeState) (new : NodeState) → slice_index_or (nodes ++ new ∷ []) (length nodes) no_node ≡ new
+      last_node [] new = refl
+      last_node (node ∷ nodes) new = last_node nodes new
+
+      no_last : (nodes : List NodeState) → slice_index_or nodes (length nodes) no_node ≡ no_node
+      no_last [] = refl
+      no_last (node ∷ nodes) = no_last nodes
+
+does_turn : SaysAlone → (t : Trace) (number : ℕ) (line : ScriptLine) (before after : LineState) (told : List Happening) → Stands t before → LineDoes number line before after told → (j : ℕ) → Turn j t before after told
+does_turn alone t number lines.Blank before after told st does j = still_turn j t before before after [] told refl refl does
+does_turn alone t number (lines.Machine capacity used) before after told st does j =
+    let what = happenings.Machine (length before.machines + 1) capacity ∷ [] in
+    unless_turn (may_add before) j t before after told (Becomes (one_more capacity used before) what after told) does (λ can b. still_turn j t before (one_more capacity used before) after what told (more_body capacity used before (j + 1) (same_or_not (j + 1) (length before.machines + 1))) refl b)
+does_turn alone t number (lines.Insert machine barcode) before after told st does j = given_turn _ t number j machine (inputs.Insert barcode) before after told tt does
+does_turn alone t number (lines.Remove machine id) before after told st does j = given_turn _ t number j machine (inputs.Remove id) before after told tt does
+does_turn alone t number (lines.Replace machine id) before after told st does j = given_turn _ t number j machine (inputs.Replace id) before after told tt does
+does_turn alone t number (lines.Mark machine id quality) before after told st does j = given_turn _ t number j machine (inputs.Mark id quality) before after told tt does
+does_turn alone t number (lines.Hold machine side) before after told st does j = given_turn _ t number j machine (inputs.Will side false) before after told tt does
+does_turn alone t number (lines.Go machine side) before after told st does j = given_turn _ t number j machine (inputs.Will side true) before after told tt does
+does_turn alone t number (lines.Connect machine) before after told st does j = unless_turn (may_connect machine before) j t before after told (Connects number machine before after told) does (λ can steps. connects_turn t number j machine before after told steps)
+does_turn alone t number (lines.Flow machine side count) before after told st does j =
+    unless_turn (may_flow machine side before) j t before after told (Flows number machine side count before after told) does (λ can flows. flow_turn alone t number j machine side count before after told st can (same_or_not (j + 1) machine) flows)
+does_turn alone t number (lines.Notice machine side) before after told st does j = given_turn _ t number j machine (inputs.Notice side) before after told tt does
+does_turn alone t number (lines.Cut gap) before after told st does j =
+    unless_turn (may_cut gap before) j t before after told (Becomes (cut_in gap before) (happenings.Cut gap ∷ []) after told) does (λ can b. still_turn j t before (cut_in gap before) after (happenings.Cut gap ∷ []) told (same_machines j before (cut_in gap before) refl) refl b)
+does_turn alone t number (lines.Spoil machine side) before after told st does j =
+    unless_turn (may_spoil machine side before) j t before after told (Becomes (spoiled machine side before) (spoil_told machine side before) after told) does
+    (λ can b. still_turn j t before (spoiled machine side before) after (spoil_told machine side before) told (same_machines j before (spoiled machine side before) refl) (cut_none (j + 1) (link_of machine side) (spoil_sent (end_of side) (link_at (link_of machine side) before.world))) b)
+does_turn alone t number (lines.Shutdown machine) before after told st does j = given_turn _ t number j machine inputs.Shutdown before after told tt does
+does_turn alone t number (lines.Tick machine) before after told st does j = given_turn _ t number j machine inputs.Tick before after told tt does
+does_turn alone t number (lines.Fault machine side) before after told st does j = given_turn _ t number j machine (inputs.Fault side) before after told tt does
+does_turn alone t number (lines.Sense machine) before after told st does j = given_turn _ t number j machine inputs.Nothing before after told tt does
+does_turn alone t number (lines.Begin gap) before after told st does j = moves_turn t j gap moves.Begin before after told does
+does_turn alone t number (lines.Left gap) before after told st does j = moves_turn t j gap moves.Left before after told does
+does_turn alone t number (lines.Enter gap) before after told st does j = moves_turn t j gap moves.Enter before after told does
+does_turn alone t number (lines.Back gap) before after told st does j = moves_turn t j gap moves.Back before after told does
+does_turn alone t number (lines.HandIn gap) before after told st does j = moves_turn t j gap moves.HandIn before after told does
+does_turn alone t number (lines.Take gap) before after told st does j = moves_turn t j gap moves.Take before after told does
+does_turn alone t number (lines.Lie machine sensed) before after told st does j =
+    let what = happenings.Lie machine sensed ∷ unvouched_told before.unvouched in
+    unless_turn (may_lie machine sensed.side before) j t before after told (Becomes (lied number machine sensed before) what after told) does
+    (λ can b. still_turn j t before (lied number machine sensed before) after what told (same_machines j before (lied number machine sensed before) refl) (unvouched_none (j + 1) before.unvouched) b)
+does_turn alone t number lines.Show before after told st does j = still_turn j t before before after (shown before) told refl (shown_none (j + 1) 1 before.machines) does
+
+-- ---- a line in which no machine makes a step, and one in which boards stay where they lie
+
+-- every machine is as it was, and tells nothing
+abbrev pub AllStill : LineState → LineState → List Happening → Type 0
+AllStill before after told = (j : ℕ) → ((node_at after (j + 1)).lane.body ≡ (node_at before (j + 1)).lane.body) × (done_by (j + 1) told ≡ [])
+
+-- what lies in the gaps stays, and no board comes to a list whose id isn't made in the line
+pub record Stays (before after : LineState) (told : List Happening) : Type 0 where
+  pub lies : (gap : ℕ) → (gap_at after.world.floor gap).lies ≡ (gap_at before.world.floor gap).lies
+  pub lists : (x machine : ℕ) → AllByRecursion (λ (id : ℕ). id ≢ x) (made_by told) → Lies x (machine_at after.world.floor machine).boards → Lies x (machine_at before.world.floor machine).boards
+
+made_append : (a b : List Happening) → made_by (a ++ b) ≡ made_by a ++ made_by b
+made_append [] b = refl
+made_append (h ∷ a) b = ap (λ (x : List ℕ). made_in h ++ x) (made_append a b) ∙ sym (append_assoc (made_in h) (made_by a) (made_by b))
+
+all_first : (P : ℕ → Type 0) (xs ys : List ℕ) → AllByRecursion P (xs ++ ys) → AllByRecursion P xs
+all_first P [] ys all = tt
+all_first P (x ∷ xs) ys all = (all.0, all_first P xs ys all.1)
+
+all_second : (P : ℕ → Type 0) (xs ys : List ℕ) → AllByRecursion P (xs ++ ys) → AllByRecursion P ys
+all_second P [] ys all = all
+all_second P (x ∷ xs) ys all = all_second P xs ys all.1
+
+made_both : (x : ℕ) (a b : List Happening) → AllByRecursion (λ (id : ℕ). id ≢ x) (made_by (a ++ b)) → AllByRecursion (λ (id : ℕ). id ≢ x) (made_by a) × AllByRecursion (λ (id : ℕ). id ≢ x) (made_by b)
+made_both x a b all =
+    let joined : AllByRecursion (λ (id : ℕ). id ≢ x) (made_by a ++ made_by b) = subst (λ (ids : List ℕ). AllByRecursion (λ (id : ℕ). id ≢ x) ids) (made_append a b) all in
+    (all_first (λ (id : ℕ). id ≢ x) (made_by a) (made_by b) joined, all_second (λ (id : ℕ). id ≢ x) (made_by a) (made_by b) joined)
+
+act_makes : (x : ℕ) (second : Bool) (machine : ℕ) (act : Act) (world : WorldParts) → AllByRecursion (λ (id : ℕ). id ≢ x) (made_by (act_did second machine act world).told) → makes_not x act ≡ true
+act_makes x second machine (acts.Inserts id) world all = rw (ne_eqb id x all.0) refl
+act_makes x second machine (acts.Replaces old new) world all = rw (ne_eqb new x all.0) refl
+act_makes x second machine _ world all = refl
+
+and_both : (a b : Bool) → a ≡ true → b ≡ true → (a && b) ≡ true
+and_both true b one two = two
+and_both false b one two = one
+
+acts_make : (x : ℕ) (second : Bool) (machine : ℕ) (told : List Act) (world : WorldParts) → AllByRecursion (λ (id : ℕ). id ≢ x) (made_by (acts_did second machine told world).told) → make_not x told ≡ true
+acts_make x second machine [] world all = refl
+acts_make x second machine (act ∷ told) world all =
+    let one = act_did second machine act world in
+    let both = made_both x one.told (acts_did second machine told one.world).told all in
+    and_both (makes_not x act) (make_not x told) (act_makes x second machine act world both.0) (acts_make x second machine told one.world both.1)
+
+step_stays : (number machine : ℕ) (input : Input) (before after : LineState) (told : List Happening) → MachineSteps number machine input before after told → Stays before after told
+step_stays number machine input before after told steps =
+    let read : WorldParts = read_by machine before.world in
+    let second : Bool = is_second input in
+    record {
+      lies = λ gap. ap (λ (s : LineState). (gap_at s.world.floor gap).lies) steps.after_is ∙ acts_lies second machine steps.acts read gap ∙ read_lies machine before.world gap;
+      lists = λ x other new lies.
+          read_lists x machine before.world other
+          (acts_lists x second machine steps.acts read other (acts_make x second machine steps.acts read (subst (λ (t : List Happening). AllByRecursion (λ (id : ℕ). id ≢ x) (made_by t)) steps.told_is new))
+          (subst (λ (s : LineState). Lies x (machine_at s.world.floor other).boards) steps.after_is lies));
+    }
+
+-- the floor is the same before
+from_start : (before start after : LineState) (told : List Happening) → start.world.floor ≡ before.world.floor → Stays start after told → Stays before after told
+from_start before start after told same s = record {
+  lies = λ gap. s.lies gap ∙ ap (λ (f : FloorPlan). (gap_at f gap).lies) same;
+  lists = λ x machine new lies. subst (λ (f : FloorPlan). Lies x (machine_at f machine).boards) same (s.lists x machine new lies);
+}
+
+stays_both : (before between after : LineState) (a b : List Happening) → Stays before between a → Stays between after b → Stays before after (a ++ b)
+stays_both before between after a b one two = record {
+  lies = λ gap. two.lies gap ∙ one.lies gap;
+  lists = λ x machine new lies. (let both = made_both x a b new in one.lists x machine both.0 (two.lists x machine both.1 lies));
+}
+
+abbrev pub Kind : LineState → LineState → List Happening → Type 0
+Kind before after told = AllStill before after told ⊎ Stays before after told
+
+becomes_kind : (before next after : LineState) (what told : List Happening) → AllStill before next what → Becomes next what after told → Kind before after told
+becomes_kind before next after what told all b =
+    inl (λ j. (ap (λ (s : LineState). (node_at s (j + 1)).lane.body) b.after_is ∙ (all j).0, ap (done_by (j + 1)) b.told_is ∙ (all j).1))
+
+unless_kind : (may : May) (before after : LineState) (told : List Happening) (Does : Type 0) → Unless may before after told Does → (Does → Kind before after told) → Kind before after told
+unless_kind (Ok _) before after told Does is does = does is
+unless_kind (Err reason) before after told Does is does = becomes_kind before before after (happenings.No reason ∷ []) told (λ j. (refl, refl)) is
+
+given_kind : (may : May) (number machine : ℕ) (input : Input) (before after : LineState) (told : List Happening) → Unless may before after told (MachineSteps number machine input before after told) → Kind before after told
+given_kind may number machine input before after told does = unless_kind may before after told (MachineSteps number machine input before after told) does (λ steps. inr (step_stays number machine input before after told steps))
+
+moves_kind : (gap : ℕ) (step : Move) (before after : LineState) (told : List Happening) → Moves gap step before after told → Kind before after told
+moves_kind gap step before after told does =
+    let answer = floor_move gap step before.world.floor in
+    becomes_kind before (moved answer before) after (move_told gap step answer) told (λ j. move_still j gap step before answer) does
+
+connects_kind : (number machine : ℕ) (before after : LineState) (told : List Happening) → Connects number machine before after told → Kind before after told
+connects_kind number machine before after told steps =
+    let start : LineState = connecting machine before in
+    let on = connected_of (link_at (machine - 1) before.world).upstream in
+    inr (subst (λ (x : List Happening). Stays before after x) (sym steps.told_is) (stays_both before steps.between after steps.earlier steps.later
+    (from_start before start steps.between steps.earlier (floor_stays (machine - 1) (after_connect (link_at (machine - 1) before.world)) before.world) (step_stays number machine inputs.Connect start steps.between steps.earlier steps.first))
+    (step_stays number (machine - 1) (met on) steps.between after steps.later steps.second)))
+
+flows_kind : (number machine : ℕ) (side : Side) (count : Option ℕ) (before after : LineState) (told : List Happening) → Flows number machine side count before after told → Kind before after told
+flows_kind number machine side count before after told flows =
+    inr (from_start before (arrived machine side count before) after told (floor_stays (link_of machine side) (after_flow (end_of side) count (link_at (link_of machine side) before.world)) before.world)
+    (step_stays number machine (inputs.Bytes side flows.piece) (arrived machine side count before) after told flows.steps))
+
+does_kind : (number : ℕ) (line : ScriptLine) (before after : LineState) (told : List Happening) → LineDoes number line before after told → Kind before after told
+does_kind number lines.Blank before after told does = becomes_kind before before after [] told (λ j. (refl, refl)) does
+does_kind number (lines.Machine capacity used) before after told does =
+    let what = happenings.Machine (length before.machines + 1) capacity ∷ [] in
+    unless_kind (may_add before) before after told (Becomes (one_more capacity used before) what after told) does
+    (becomes_kind before (one_more capacity used before) after what told (λ j. (more_body capacity used before (j + 1) (same_or_not (j + 1) (length before.machines + 1)), refl)))
+does_kind number (lines.Insert machine barcode) before after told does = given_kind _ number machine (inputs.Insert barcode) before after told does
+does_kind number (lines.Remove machine id) before after told does = given_kind _ number machine (inputs.Remove id) before after told does
+does_kind number (lines.Replace machine id) before after told does = given_kind _ number machine (inputs.Replace id) before after told does
+does_kind number (lines.Mark machine id quality) before after told does = given_kind _ number machine (inputs.Mark id quality) before after told does
+does_kind number (lines.Hold machine side) before after told does = given_kind _ number machine (inputs.Will side false) before after told does
+does_kind number (lines.Go machine side) before after told does = given_kind _ number machine (inputs.Will side true) before after told does
+does_kind number (lines.Connect machine) before after told does = unless_kind (may_connect machine before) before after told (Connects number machine before after told) does (connects_kind number machine before after told)
+does_kind number (lines.Flow machine side count) before after told does = unless_kind (may_flow machine side before) before after told (Flows number machine side count before after told) does (flows_kind number machine side count before after told)
+does_kind number (lines.Notice machine side) before after told does = given_kind _ number machine (inputs.Notice side) before after told does
+does_kind number (lines.Cut gap) before after told does =
+    unless_kind (may_cut gap before) before after told (Becomes (cut_in gap before) (happenings.Cut gap ∷ []) after told) does (becomes_kind before (cut_in gap before) after (happenings.Cut gap ∷ []) told (λ j. (same_machines j before (cut_in gap before) refl, refl)))
+does_kind number (lines.Spoil machine side) before after told does =
+    unless_kind (may_spoil machine side before) before after told (Becomes (spoiled machine side before) (spoil_told machine side before) after told) does
+    (becomes_kind before (spoiled machine side before) after (spoil_told machine side before) told (λ j. (same_machines j before (spoiled machine side before) refl, cut_none (j + 1) (link_of machine side) (spoil_sent (end_of side) (link_at (link_of machine side) before.world)))))
+does_kind number (lines.Shutdown machine) before after told does = given_kind _ number machine inputs.Shutdown before after told does
+does_kind number (lines.Tick machine) before after told does = given_kind _ number machine inputs.Tick before after told does
+does_kind number (lines.Fault machine side) before after told does = given_kind _ number machine (inputs.Fault side) before after told does
+does_kind number (lines.Sense machine) before after told does = given_kind _ number machine inputs.Nothing before after told does
+does_kind number (lines.Begin gap) before after told does = moves_kind gap moves.Begin before after told does
+does_kind number (lines.Left gap) before after told does = moves_kind gap moves.Left before after told does
+does_kind number (lines.Enter gap) before after told does = moves_kind gap moves.Enter before after told does
+does_kind number (lines.Back gap) before after told does = moves_kind gap moves.Back before after told does
+does_kind number (lines.HandIn gap) before after told does = moves_kind gap moves.HandIn before after told does
+does_kind number (lines.Take gap) before after told does = moves_kind gap moves.Take before after told does
+does_kind number (lines.Lie machine sensed) before after told does =
+    let what = happenings.Lie machine sensed ∷ unvouched_told before.unvouched in
+    unless_kind (may_lie machine sensed.side before) before after told (Becomes (lied number machine sensed before) what after told) does
+    (becomes_kind before (lied number machine sensed before) after what told (λ j. (same_machines j before (lied number machine sensed before) refl, unvouched_none (j + 1) before.unvouched)))
+does_kind number lines.Show before after told does = becomes_kind before before after (shown before) told (λ j. (refl, shown_none (j + 1) 1 before.machines)) does
+
+counted_kind : (before next : LineState) (done more : List Happening) (n : ℕ) → ((j : ℕ) → done_by (j + 1) more ≡ []) → Kind before next done → Kind before (record next { lines = n }) (done ++ more)
+counted_kind before next done more n none (inl all) = inl (λ j. (same_machines j next (record next { lines = n }) refl ∙ (all j).0, none_join (j + 1) done more (all j).1 (none j)))
+counted_kind before next done more n none (inr s) = inr (record { lies = s.lies; lists = λ x machine new lies. s.lists x machine (made_both x done more new).0 lies })
+
+pub line_kind : (number : ℕ) (line : ScriptLine) (before after : LineState) (told : List Happening) → LineSteps number line before after told → Kind before after told
+line_kind number line before after told steps =
+    let next : LineState = steps.next in
+    subst (λ (s : LineState). Kind before s told) (sym steps.after_is) (subst (λ (x : List Happening). Kind before (record next { lines = next.lines + 1 }) x) (sym steps.told_is)
+    (counted_kind before next steps.done (standings_told before next) (next.lines + 1) (λ j. standings_none (j + 1) before next) (does_kind number line before next steps.done steps.does)))
+
+counted_turn : {j : ℕ} {t : Trace} {before next : LineState} {done told : List Happening} (n : ℕ) → done_by (j + 1) told ≡ done_by (j + 1) done → (node_at (record next { lines = n }) (j + 1)).lane.body ≡ (node_at next (j + 1)).lane.body → Turn j t before next done → Turn j t before (record next { lines = n }) told
+counted_turn n acts body (is_still same none) = is_still (body ∙ same) (acts ∙ none)
+counted_turn n acts body (has_stepped s) = has_stepped (record { desk = s.desk; event = s.event; theirs = s.theirs; body = body ∙ s.body; acts = acts ∙ s.acts; unread = s.unread })
+
+-- EACH LINE, for each machine
+pub line_turn : SaysAlone → (t : Trace) (number : ℕ) (line : ScriptLine) (before after : LineState) (told : List Happening) → Stands t before → LineSteps number line before after told → (j : ℕ) → Turn j t before after told
+line_turn alone t number line before after told st steps j =
+    let next : LineState = steps.next in
+    let done : List Happening = steps.done in
+    let turn : Turn j t before next done = does_turn alone t number line before next done st steps.does j in
+    let acts : done_by (j + 1) told ≡ done_by (j + 1) done =
+    ap (done_by (j + 1)) steps.told_is ∙ done_append (j + 1) done (standings_told before next) ∙ ap (λ (x : List Act). done_by (j + 1) done ++ x) (standings_none (j + 1) before next) ∙ append-nil (done_by (j + 1) done) in
+    subst (λ (s : LineState). Turn j t before s told) (sym steps.after_is) (counted_turn (next.lines + 1) acts (same_machines j next (record next { lines = next.lines + 1 }) refl) turn)

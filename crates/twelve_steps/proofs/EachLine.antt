@@ -1,0 +1,309 @@
+-- Each form of line of an undisturbed stretch.
+use Rattle.std.proofs.Common.{Bool, List, None, Option, Result, Ok, Err, Some, [], ap, arith, false, length, ne_eqb, refl, subst, sym, true, ℕ, ◌&&◌, ◌+◌, ◌-◌, ◌∙◌, ◌∷◌, ◌≡◌, ◌≢◌, ◌≤◌, ◌⊎◌, ◌||◌, inl, inr}
+use Rattle.std.specs.Prelude.{nat_le, nat_lt}
+use Rattle.std.proofs.lemmas.Bool.{le-leb, lt-ltb}
+use Rattle.std.proofs.lemmas.List.{length-append}
+use Rattle.board_record.specs.declared.record.Record.{Record}
+use Rattle.line_base.specs.declared.states.Role.TheVariants.{Upstream}
+use Rattle.line_base.specs.declared.states.Side.{Side}
+use Rattle.line_base.specs.declared.states.Side.TheVariants.{Entry, Exit}
+use Rattle.line_link.specs.Link.{after_connect, after_flow, after_spoil, connected_of, cut}
+use Rattle.line_link.specs.declared.link.Connected.{Connected}
+use Rattle.line_link.specs.declared.link.Connected.TheVariants as connections
+use Rattle.line_script.specs.declared.line.ScriptLine.{ScriptLine}
+use Rattle.line_script.specs.declared.line.ScriptLine.TheVariants as lines
+use Rattle.line_world.specs.FloorPlan.{FloorPlan, IsWhole}
+use Rattle.line_world.specs.Moves.{floor_move}
+use Rattle.line_world.specs.declared.moves.Move.{Move}
+use Rattle.line_world.specs.declared.moves.Move.TheVariants as moves
+use Rattle.line_world.specs.declared.moves.MoveNo.{MoveNo}
+use Rattle.node_core.specs.Desk.{Desk}
+use Rattle.node_core.specs.Done.{behind}
+use Rattle.node_core.specs.Event.{event_did, event_of}
+use Rattle.node_core.specs.Halves.{ended}
+use Rattle.node_core.specs.Node.{NodeState, desk_of}
+use Rattle.node_core.specs.Connect.{notices, opens}
+use Rattle.node_core.specs.Sides.{is_open, session_at}
+use Rattle.node_core.specs.declared.act.Act.TheVariants as acts
+use Rattle.node_core.specs.declared.input.Input.{Input}
+use Rattle.node_core.specs.declared.input.Input.TheVariants as inputs
+use Rattle.node_core.specs.declared.lane.Body.{Body}
+use Rattle.node_core.proofs.Keeping.{ended_keeps, heard_keeps, if_keeps, keeps_behind, session_keeps}
+use Rattle.session_core.specs.Input.{opened, second}
+use Rattle.session_core.specs.Row.{session_row}
+use Rattle.line_base.specs.Text.{IsText}
+use Rattle.link_messages.specs.Fit.{AreFitRecords, IsFitBody, IsFitMaker}
+use Rattle.line_report.specs.declared.happening.Happening.{Happening}
+use Rattle.line_step.specs.Lines.{Becomes, Connects, Flows, LineDoes, connecting, cut_in, met, move_told, moved, spoiled}
+use Rattle.line_step.specs.Numbered.{node_at}
+use Rattle.line_step.specs.Reasons.{has_link, may_do, may_flow}
+use Rattle.line_step.specs.State.{LineState, one_more, with_world}
+use Rattle.line_step.specs.Steps.{MachineSteps, is_second, moment_of, read_by}
+use Rattle.line_step.specs.World.{WorldParts, end_of, link_at, link_of, with_floor, with_link}
+use Rattle.line_step.proofs.Changing.{more_changes}
+use Rattle.line_step.proofs.Counting.{step_counts}
+use Rattle.line_step.proofs.Numbers.{floor_stays, link_set_other, links_stay as links_counted, machine_within, same_or_not}
+use Rattle.one_standing.specs.Carried.{IsFitMachine}
+use Rattle.one_standing.proofs.Carrying.{SaysAlone}
+use Rattle.one_standing.proofs.LineRun.{Stood}
+use Rattle.one_standing.proofs.MirroringFlow.{can_flow}
+use Rattle.one_standing.proofs.RestLine.{node_there}
+use Rattle.twelve_steps.specs.Twelve.{tells_settled}
+use Rattle.twelve_steps.specs.Undisturbed.{IsElsewhere, IsUndisturbed, NamesElsewhere, blank, connects_above, elsewhere, flows_above, flows_below, flows_down, flows_up, is_of_link, notices_above, notices_below, senses, shows, spoils_above, spoils_below}
+use Rattle.twelve_steps.specs.Undisturbed.{begins, enters, leaves}
+use Rattle.twelve_steps.proofs.Beside.{Leaves, heard_leaves, leaves_behind, notices_leave, opens_leave, reaches, second_leaves}
+use Rattle.twelve_steps.proofs.Beyond.{Untouched, begins_forth, enters_forth, forth_untouched, leaves_forth, machine_beyond, move_beyond, stage_untouched, untouched_self, untouched_then}
+use Rattle.twelve_steps.proofs.Flowing.{above_flows, above_line, forth_less, goes_forth}
+use Rattle.twelve_steps.proofs.FlowingDown.{below_flows, below_line}
+use Rattle.twelve_steps.proofs.Going.{AreCounted, Forth, Stage, counted, next_node}
+use Rattle.twelve_steps.proofs.Lower.{Aside, aside_by}
+use Rattle.twelve_steps.proofs.Lines.{Goes, Had, becomes_goes, beyond_step, counts_of, elsewhere_flow, elsewhere_step, forth_later, goes_none, goes_one, later_told, link_untouched, or_right, other_link, outcome_later, refused, sense_by, settled_behind, told_below, unless_goes, acts_settle}
+use Rattle.twelve_steps.proofs.Turning.{HasSettled}
+use Rattle.node_core.specs.Places.{used}
+
+-- ---- bytes at this link
+
+flow_up : {k : ℕ} {id : Record} {left number : ℕ} {told : Bool} {s next : LineState} {done : List Happening} → Had k id left number told s next → may_flow k Exit s ≡ may_do → Flows number k Exit None s next done → Goes k id left told s (lines.Flow k Exit None) next done
+flow_up {k = k} {id = id} {left = left} {number = number} {told = told} {s = s} {next = next} {done = done} h may flows =
+    goes_one (lines.Flow k Exit None) (outcome_later (later_told k id.id told done)
+    (above_flows h.alone k id number left told s next done h.st (counts_of h.stood) h.stood.stands.ids.whole h.few (h.stood.stands.fit k) (h.next_stood.stands.fit k).body.kept (can_flow k Exit s may).comes flows))
+
+flow_down : {k : ℕ} {id : Record} {left number : ℕ} {told : Bool} {s next : LineState} {done : List Happening} → Had k id left number told s next → may_flow (k + 1) Entry s ≡ may_do → Flows number (k + 1) Entry None s next done → Goes k id left told s (lines.Flow (k + 1) Entry None) next done
+flow_down {k = k} {id = id} {left = left} {number = number} {told = told} {s = s} {next = next} {done = done} h may flows =
+    let st = h.st in
+    goes_one (lines.Flow (k + 1) Entry None)
+    (below_flows h.alone k id number left told (told || tells_settled k id.id done) s next done st (counts_of h.stood) h.stood.stands.ids.whole h.few (h.stood.stands.fit (k + 1)) (can_flow (k + 1) Entry s may).comes flows
+    (later_told k id.id told done) (told_below k told number (inputs.Bytes Entry flows.piece) st.b.id (st.same ∙ st.named) flows.steps))
+
+-- ---- what befalls the entry of the machine above
+
+above_goes : {k : ℕ} {id : Record} {left number : ℕ} {told : Bool} {s next : LineState} {done : List Happening} (line : ScriptLine) (input : Input) (w0 : WorldParts) → Had k id left number told s next → is_of_link k s line ≡ false → w0.floor ≡ s.world.floor → link_at k w0 ≡ link_at k s.world → is_second input ≡ false
+    → (steps : MachineSteps number k input (with_world w0 s) next done) → steps.next.lane.exit_bytes ≡ steps.node.lane.exit_bytes → ((body : Body) → Leaves Entry body (event_did (desk_of steps.node (moment_of number)) (event_of steps.node.maker input steps.steps.lane.words) body)) → Goes k id left told s line next done
+above_goes {k = k} {id = id} {left = left} {number = number} {told = told} {s = s} {next = next} {done = done} line input w0 h is floor link first steps bytes lets =
+    goes_none line is (forth_less 0 (omega arith) (forth_later (later_told k id.id told done)
+    (above_line h.alone k id number left told input s w0 next done h.st (counts_of h.stood) h.stood.stands.ids.whole floor first h.few (h.stood.stands.fit k) (h.next_stood.stands.fit k).body.kept steps bytes link (next_node number k input (with_world w0 s) next done steps) lets)))
+
+flow_above_of : (k : ℕ) (count : Option ℕ) (s : LineState) → is_of_link k s (lines.Flow k Entry count) ≡ false
+flow_above_of k None s =
+    let apart : k ≢ k + 1 = omega arith in
+    ne_eqb k (k + 1) apart
+flow_above_of k (Some count) s = refl
+
+flow_above : {k : ℕ} {id : Record} {left number : ℕ} {told : Bool} {s next : LineState} {done : List Happening} (count : Option ℕ) → Had k id left number told s next → Flows number k Entry count s next done → Goes k id left told s (lines.Flow k Entry count) next done
+flow_above {k = k} {s = s} count h flows =
+    let one = (counted k s h.st.linked).0 in
+    let parts = after_flow (end_of Entry) count (link_at (k - 1) s.world) in
+    let apart : k ≢ k - 1 = omega (arith, one) in
+    above_goes (lines.Flow k Entry count) (inputs.Bytes Entry flows.piece) (with_link (k - 1) parts s.world) h (flow_above_of k count s) (floor_stays (k - 1) parts s.world) (link_set_other (k - 1) k parts s.world apart) refl flows.steps flows.steps.steps.lane.brings.1
+    (λ body. heard_leaves (desk_of flows.steps.node (moment_of _)) Entry flows.steps.steps.lane.words body tt)
+
+notice_above : {k : ℕ} {id : Record} {left number : ℕ} {told : Bool} {s next : LineState} {done : List Happening} → Had k id left number told s next → MachineSteps number k (inputs.Notice Entry) s next done → Goes k id left told s (lines.Notice k Entry) next done
+notice_above {k = k} {s = s} h steps = above_goes (lines.Notice k Entry) (inputs.Notice Entry) s.world h refl refl refl refl steps steps.steps.lane.brings.1 (λ body. notices_leave (desk_of steps.node (moment_of _)) Entry body)
+
+-- ---- what befalls the exit of the machine below
+
+role_of : {s : LineState} (m : ℕ) (node : NodeState) → Stood s → node_at s m ≡ node → node.lane.body.exit.session.role ≡ Upstream
+role_of m node stood is = subst (λ (n : NodeState). n.lane.body.exit.session.role ≡ Upstream) is (stood.stands.sound m).exit
+
+below_goes : {k : ℕ} {id : Record} {left number : ℕ} {told : Bool} {s next : LineState} {done : List Happening} (line : ScriptLine) (input : Input) (w0 : WorldParts) → Had k id left number told s next → is_of_link k s line ≡ false → w0.floor ≡ s.world.floor → link_at k w0 ≡ link_at k s.world
+    → (steps : MachineSteps number (k + 1) input (with_world w0 s) next done) → steps.next.lane.entry_bytes ≡ steps.node.lane.entry_bytes → ((body : Body) → body.exit.session.role ≡ Upstream → Aside body (event_did (desk_of steps.node (moment_of number)) (event_of steps.node.maker input steps.steps.lane.words) body)) → Goes k id left told s line next done
+below_goes {k = k} {id = id} {left = left} {number = number} {told = told} {s = s} {next = next} {done = done} line input w0 h is floor link steps bytes aside =
+    let st = h.st in
+    goes_none line is (forth_less 0 (omega arith)
+    (below_line h.alone k id number left told (told || tells_settled k id.id done) input s w0 next done st (counts_of h.stood) h.stood.stands.ids.whole floor h.few (h.stood.stands.fit (k + 1)) steps (role_of (k + 1) steps.node h.stood (node_there (k + 1) (with_world w0 s) steps.node steps.there)) bytes link aside
+    (later_told k id.id told done) (told_below k told number input st.b.id (st.same ∙ st.named) steps)))
+
+flow_below_of : (k : ℕ) (count : Option ℕ) (s : LineState) → is_of_link k s (lines.Flow (k + 1) Exit count) ≡ false
+flow_below_of k None s =
+    let apart : k + 1 ≢ k = omega arith in
+    ne_eqb (k + 1) k apart
+flow_below_of k (Some count) s = refl
+
+flow_below : {k : ℕ} {id : Record} {left number : ℕ} {told : Bool} {s next : LineState} {done : List Happening} (count : Option ℕ) → Had k id left number told s next → Flows number (k + 1) Exit count s next done → Goes k id left told s (lines.Flow (k + 1) Exit count) next done
+flow_below {k = k} {s = s} count h flows =
+    let parts = after_flow (end_of Exit) count (link_at (k + 1) s.world) in
+    let apart : k ≢ k + 1 = omega arith in
+    below_goes (lines.Flow (k + 1) Exit count) (inputs.Bytes Exit flows.piece) (with_link (k + 1) parts s.world) h (flow_below_of k count s) (floor_stays (k + 1) parts s.world) (link_set_other (k + 1) k parts s.world apart) flows.steps flows.steps.steps.lane.brings.1
+    (λ body role. aside_by (heard_leaves (desk_of flows.steps.node (moment_of _)) Exit flows.steps.steps.lane.words body role) (heard_keeps (used body) (desk_of flows.steps.node (moment_of _)) Exit flows.steps.steps.lane.words body))
+
+notice_aside : (desk : Desk) (body : Body) → Aside body (notices desk Exit body)
+notice_aside desk body =
+    aside_by (notices_leave desk Exit body) (if_keeps (used body) (is_open Exit body) (behind (acts.Notices Exit ∷ []) (ended desk Exit body)) body (keeps_behind (used body) body (acts.Notices Exit ∷ []) (ended desk Exit body) (λ own. refl) (ended_keeps (used body) desk Exit body)))
+
+notice_below : {k : ℕ} {id : Record} {left number : ℕ} {told : Bool} {s next : LineState} {done : List Happening} → Had k id left number told s next → MachineSteps number (k + 1) (inputs.Notice Exit) s next done → Goes k id left told s (lines.Notice (k + 1) Exit) next done
+notice_below {k = k} {s = s} h steps = below_goes (lines.Notice (k + 1) Exit) (inputs.Notice Exit) s.world h refl refl refl steps steps.steps.lane.brings.0 (λ body role. notice_aside (desk_of steps.node (moment_of _)) body)
+
+-- ---- connections of the machine above with the one above it
+
+connect_above : {k : ℕ} {id : Record} {left number : ℕ} {told : Bool} {s next : LineState} {done : List Happening} → Had k id left number told s next → Connects number k s next done → Goes k id left told s (lines.Connect k) next done
+connect_above {k = k} {id = id} {left = left} {number = number} {told = told} {s = s} {next = next} {done = done} h c =
+    let one = (counted k s h.st.linked).0 in
+    let parts = after_connect (link_at (k - 1) s.world) in
+    let w0 : WorldParts = with_link (k - 1) parts s.world in
+    let apart : k ≢ k - 1 = omega (arith, one) in
+    let above : k - 1 ≢ k = omega (arith, one) in
+    let below : k - 1 ≢ k + 1 = omega arith in
+    let then : Untouched k c.between next = beyond_step k number (k - 1) _ c.between next c.later above below c.second in
+    let kept : AreFitRecords (node_at c.between k).lane.body.kept = subst (λ (n : NodeState). AreFitRecords n.lane.body.kept) then.above (h.next_stood.stands.fit k).body.kept in
+    let desk : Desk = desk_of c.first.node (moment_of number) in
+    let f = above_line h.alone k id number left told inputs.Connect s w0 c.between c.earlier h.st (counts_of h.stood) h.stood.stands.ids.whole (floor_stays (k - 1) parts s.world) refl h.few (h.stood.stands.fit k) kept c.first c.first.steps.lane.brings.1 (link_set_other (k - 1) k parts s.world apart)
+    (next_node number k inputs.Connect (with_world w0 s) c.between c.earlier c.first) (λ body. leaves_behind Entry body (acts.Connects ∷ []) (opens desk Entry body) refl (opens_leave desk Entry body tt)) in
+    goes_none (lines.Connect k) refl (forth_less 0 (omega arith) (record { now = f.now; fewer = f.fewer; stage = stage_untouched then (later_told k id.id told done) f.stage }))
+
+-- ---- moves
+
+by_answer : {k : ℕ} {id : Record} {left : ℕ} {told : Bool} {s next : LineState} {done : List Happening} (line : ScriptLine) (gap : ℕ) (step : Move) (answer : Result FloorPlan MoveNo) → Stage k id left told s → floor_move gap step s.world.floor ≡ answer → Becomes (moved answer s) (move_told gap step answer) next done
+    → ((plan : FloorPlan) → floor_move gap step s.world.floor ≡ Ok plan → Goes k id left told s line (with_world (with_floor plan s.world) s) done) → Goes k id left told s line next done
+by_answer {k = k} {id = id} {left = left} {told = told} {s = s} {done = done} line gap step (Ok plan) st is b goes = subst (λ (x : LineState). Goes k id left told s line x done) (sym b.after_is) (goes plan is)
+by_answer line gap step (Err why) st is b goes = refused line _ st b
+
+move_elsewhere : {k : ℕ} {id : Record} {left : ℕ} {told : Bool} {s next : LineState} {done : List Happening} (line : ScriptLine) (gap : ℕ) (step : Move) → Stage k id left told s → gap ≢ k → is_of_link k s line ≡ false → Becomes (moved (floor_move gap step s.world.floor) s) (move_told gap step (floor_move gap step s.world.floor)) next done → Goes k id left told s line next done
+move_elsewhere {k = k} {id = id} {told = told} {s = s} {done = done} line gap step st apart is b =
+    by_answer line gap step (floor_move gap step s.world.floor) st refl b (λ plan moves. goes_none line is (forth_untouched (move_beyond k gap step s plan apart moves) (later_told k id.id told done) st))
+
+-- ---- connections elsewhere
+
+data IsMeeting : Input → Type 0 where
+  meets_accepted : IsMeeting inputs.Accepted
+  meets_again : IsMeeting inputs.Second
+
+met_is : (c : Connected) → IsMeeting (met c)
+met_is connections.Accepted = meets_accepted
+met_is connections.Second = meets_again
+
+-- the machine below meets a connection at its exit
+below_meets : {k : ℕ} {id : Record} {left number : ℕ} {told told_now : Bool} {s next : LineState} {done : List Happening} (input : Input) → IsMeeting input → SaysAlone → Stage k id left told s → AreCounted s → IsWhole s.world.floor → number ≤ 1000000 → IsFitMachine s (k + 1) → (node_at s (k + 1)).lane.body.exit.session.role ≡ Upstream
+    → (steps : MachineSteps number (k + 1) input s next done) → (told ≡ true → told_now ≡ true) → ((n : ℕ) → HasSettled n (reaches Entry steps.acts) → tells_settled k n done ≡ true) → (tells_settled k id.id done ≡ true → told_now ≡ true) → Forth k id left 0 told_now next
+below_meets {k = k} {id = id} {left = left} {number = number} {told = told} {told_now = told_now} {s = s} {next = next} {done = done} _ meets_accepted alone st counts whole few fit role steps later settles says =
+    let desk : Desk = desk_of steps.node (moment_of number) in
+    let own = subst (λ (n : NodeState). n.lane.body.exit.session.role ≡ Upstream) (node_there (k + 1) s steps.node steps.there) role in
+    forth_less 0 (omega arith) (below_line alone k id number left told told_now inputs.Accepted s s.world next done st counts whole refl few fit steps own steps.steps.lane.brings.0 refl
+    (λ body r. aside_by (opens_leave desk Exit body r) (session_keeps (used body) desk Exit opened body (session_row (session_at Exit body) opened) refl)) later (λ h. says (subst (λ (n : ℕ). tells_settled k n done ≡ true) (st.same ∙ st.named) (settles st.b.id h))))
+below_meets {k = k} {id = id} {left = left} {number = number} {told = told} {told_now = told_now} {s = s} {next = next} {done = done} _ meets_again alone st counts whole few fit role steps later settles says =
+    let desk : Desk = desk_of steps.node (moment_of number) in
+    let own = subst (λ (n : NodeState). n.lane.body.exit.session.role ≡ Upstream) (node_there (k + 1) s steps.node steps.there) role in
+    forth_less 0 (omega arith) (below_line alone k id number left told told_now inputs.Second s s.world next done st counts whole refl few fit steps own steps.steps.lane.brings.0 refl
+    (λ body r. aside_by (second_leaves desk body r) (session_keeps (used body) desk Exit second body (session_row (session_at Exit body) second) refl)) later (λ h. says (subst (λ (n : ℕ). tells_settled k n done ≡ true) (st.same ∙ st.named) (settles st.b.id h))))
+
+fit_same : (s next : LineState) (m : ℕ) → node_at next m ≡ node_at s m → IsFitMachine s m → IsFitMachine next m
+fit_same s next m same fit = record {
+  body = subst (λ (n : NodeState). IsFitBody n.lane.body) (sym same) fit.body;
+  maker = subst (λ (n : NodeState). IsFitMaker n.maker) (sym same) fit.maker;
+  name = subst (λ (n : NodeState). IsText n.name) (sym same) fit.name;
+  lane = subst (λ (n : NodeState). n.number ≤ 999_999_999) (sym same) fit.lane;
+}
+
+connect_elsewhere : {k : ℕ} {id : Record} {left number : ℕ} {told : Bool} {s next : LineState} {done : List Happening} (m : ℕ) → Had k id left number told s next → IsElsewhere k m → Connects number m s next done → (m - 1 ≡ k + 1) ⊎ (m - 1 ≢ k + 1) → Goes k id left told s (lines.Connect m) next done
+connect_elsewhere {k = k} {id = id} {left = left} {number = number} {told = told} {s = s} {next = next} {done = done} m h e c which =
+    let one = (counted k s h.st.linked).0 in
+    let within = (machine_within m (connecting m s) c.first.node c.first.there).0 in
+    let below = e.not_below in
+    let above = e.not_above in
+    let apart : m - 1 ≢ k = omega (arith, one, below) in
+    let parts = after_connect (link_at (m - 1) s.world) in
+    let start : LineState = connecting m s in
+    let first : Untouched k s c.between = untouched_then (link_untouched k (m - 1) parts s apart) (beyond_step k number m inputs.Connect start c.between c.earlier above below c.first) in
+    elim which [
+      | inl is ↦
+          let same = step_counts number m inputs.Connect start c.between c.earlier c.first in
+          let counts = counts_of h.stood in
+          let floor_same : (with_link (m - 1) parts s.world).floor ≡ s.world.floor = floor_stays (m - 1) parts s.world in
+          let links_same : length start.world.links ≡ length s.world.links = links_counted (m - 1) parts s.world in
+          let machines = same.machines in
+          let counts_now : AreCounted c.between = record {
+            floor = same.world.floor ∙ (ap (λ (f : FloorPlan). length f.machines) floor_same ∙ (counts.floor ∙ sym machines));
+            links = same.world.links ∙ (links_same ∙ (counts.links ∙ ap (λ (n : ℕ). n - 1) (sym machines)));
+          } in
+          let whole : IsWhole c.between.world.floor =
+          same.world.gaps ∙ (ap (λ (f : FloorPlan). length f.gaps) floor_same ∙ (h.stood.stands.ids.whole ∙ ap (λ (n : ℕ). n - 1) (sym (same.world.floor ∙ ap (λ (f : FloorPlan). length f.machines) floor_same)))) in
+          let role = subst (λ (n : NodeState). n.lane.body.exit.session.role ≡ Upstream) (sym first.below) (h.stood.stands.sound (k + 1)).exit in
+          let st : Stage k id left told c.between = stage_untouched first (λ x. x) h.st in
+          let input : Input = met (connected_of (link_at (m - 1) s.world).upstream) in
+          let second_step : MachineSteps number (k + 1) input c.between next c.later = subst (λ (n : ℕ). MachineSteps number n input c.between next c.later) is c.second in
+          goes_none (lines.Connect m) refl
+          (below_meets input (met_is (connected_of (link_at (m - 1) s.world).upstream)) h.alone st counts_now whole h.few (fit_same s c.between (k + 1) first.below (h.stood.stands.fit (k + 1))) role second_step (later_told k id.id told done)
+          (λ n settles. ap (λ (hs : List Happening). tells_settled k n hs) second_step.told_is ∙ acts_settle (is_second input) k n second_step.acts (read_by (k + 1) c.between.world) settles)
+          (λ is_told. or_right told (tells_settled k id.id done) (ap (λ (hs : List Happening). tells_settled k id.id hs) c.told_is ∙ settled_behind k id.id c.earlier c.later is_told)))
+      | inr other ↦
+          goes_none (lines.Connect m) refl (forth_untouched (untouched_then first (beyond_step k number (m - 1) _ c.between next c.later apart other c.second)) (later_told k id.id told done) h.st)
+    ]
+
+-- ---- lines of elsewhere
+
+tests_true : (one two : Bool) → one ≡ true → two ≡ true → (one && two) ≡ true
+tests_true true true x y = refl
+tests_true true false x y = absurd (cc)
+tests_true false two x y = absurd (cc)
+
+more_untouched : (k capacity many : ℕ) (s : LineState) → has_link k s ≡ true → Untouched k s (one_more capacity many s)
+more_untouched k capacity many s linked =
+    let few = counted k s linked in
+    let one = few.0 in
+    let most = few.1 in
+    let now : LineState = one_more capacity many s in
+    let above : length s.machines + 1 ≢ k = omega (arith, most) in
+    let below : length s.machines + 1 ≢ k + 1 = omega (arith, most) in
+    let count : length now.machines ≡ length s.machines + 1 = length-append s.machines _ in
+    machine_beyond k (length s.machines + 1) s now above below (more_changes capacity many s)
+    (λ _. tests_true (nat_le 1 k) (nat_lt k (length now.machines)) (le-leb 1 k one) (lt-ltb k (length now.machines) (omega (arith, most, count))))
+
+cut_elsewhere : {k : ℕ} {id : Record} {left : ℕ} {told : Bool} {s next : LineState} {done what : List Happening} (gap : ℕ) → Stage k id left told s → gap ≢ k → Becomes (cut_in gap s) what next done → Goes k id left told s (lines.Cut gap) next done
+cut_elsewhere {k = k} {s = s} gap st apart b = becomes_goes (lines.Cut gap) st (link_untouched k gap (cut (link_at gap s.world)) s apart) refl b
+
+spoil_elsewhere : {k : ℕ} {id : Record} {left : ℕ} {told : Bool} {s next : LineState} {done what : List Happening} (m : ℕ) (side : Side) → Stage k id left told s → link_of m side ≢ k → Becomes (spoiled m side s) what next done → Goes k id left told s (lines.Spoil m side) next done
+spoil_elsewhere {k = k} {s = s} m side st apart b = becomes_goes (lines.Spoil m side) st (link_untouched k (link_of m side) (after_spoil (end_of side) (link_at (link_of m side) s.world)) s apart) refl b
+
+elsewhere_line : {k : ℕ} {id : Record} {left number : ℕ} {told : Bool} {s next : LineState} {done : List Happening} (line : ScriptLine) → NamesElsewhere k line → Had k id left number told s next → LineDoes number line s next done → Goes k id left told s line next done
+elsewhere_line {k = k} {s = s} (lines.Machine capacity many) e h is = unless_goes (lines.Machine capacity many) _ _ h.st is (λ may b. becomes_goes (lines.Machine capacity many) h.st (more_untouched k capacity many s h.st.linked) refl b)
+elsewhere_line {number = number} (lines.Insert m barcode) e h is = unless_goes (lines.Insert m barcode) _ _ h.st is (λ may steps. elsewhere_step (lines.Insert m barcode) number m (inputs.Insert barcode) h.st e refl steps)
+elsewhere_line {number = number} (lines.Remove m board) e h is = unless_goes (lines.Remove m board) _ _ h.st is (λ may steps. elsewhere_step (lines.Remove m board) number m (inputs.Remove board) h.st e refl steps)
+elsewhere_line {number = number} (lines.Replace m board) e h is = unless_goes (lines.Replace m board) _ _ h.st is (λ may steps. elsewhere_step (lines.Replace m board) number m (inputs.Replace board) h.st e refl steps)
+elsewhere_line {number = number} (lines.Mark m board quality) e h is = unless_goes (lines.Mark m board quality) _ _ h.st is (λ may steps. elsewhere_step (lines.Mark m board quality) number m (inputs.Mark board quality) h.st e refl steps)
+elsewhere_line {number = number} (lines.Hold m side) e h is = unless_goes (lines.Hold m side) _ _ h.st is (λ may steps. elsewhere_step (lines.Hold m side) number m (inputs.Will side false) h.st e refl steps)
+elsewhere_line {number = number} (lines.Go m side) e h is = unless_goes (lines.Go m side) _ _ h.st is (λ may steps. elsewhere_step (lines.Go m side) number m (inputs.Will side true) h.st e refl steps)
+elsewhere_line {k = k} {number = number} (lines.Connect m) e h is = unless_goes (lines.Connect m) _ _ h.st is (λ may c. connect_elsewhere m h e c (same_or_not (m - 1) (k + 1)))
+elsewhere_line {number = number} (lines.Flow m side count) e h is = unless_goes (lines.Flow m side count) _ _ h.st is (λ may flows. elsewhere_flow number m side count h.st e flows)
+elsewhere_line {number = number} (lines.Notice m side) e h is = unless_goes (lines.Notice m side) _ _ h.st is (λ may steps. elsewhere_step (lines.Notice m side) number m (inputs.Notice side) h.st e refl steps)
+elsewhere_line (lines.Cut gap) e h is = unless_goes (lines.Cut gap) _ _ h.st is (λ may b. cut_elsewhere gap h.st e b)
+elsewhere_line {k = k} {s = s} (lines.Spoil m side) e h is = unless_goes (lines.Spoil m side) _ _ h.st is (λ may b. spoil_elsewhere m side h.st (other_link k m side (counted k s h.st.linked).0 e) b)
+elsewhere_line {number = number} (lines.Shutdown m) e h is = unless_goes (lines.Shutdown m) _ _ h.st is (λ may steps. elsewhere_step (lines.Shutdown m) number m inputs.Shutdown h.st e refl steps)
+elsewhere_line {number = number} (lines.Tick m) e h is = unless_goes (lines.Tick m) _ _ h.st is (λ may steps. elsewhere_step (lines.Tick m) number m inputs.Tick h.st e refl steps)
+elsewhere_line {number = number} (lines.Fault m side) e h is = unless_goes (lines.Fault m side) _ _ h.st is (λ may steps. elsewhere_step (lines.Fault m side) number m (inputs.Fault side) h.st e refl steps)
+elsewhere_line {k = k} (lines.Begin gap) e h is = move_elsewhere (lines.Begin gap) gap moves.Begin h.st e (ne_eqb gap k e) is
+elsewhere_line {k = k} (lines.Left gap) e h is = move_elsewhere (lines.Left gap) gap moves.Left h.st e (ne_eqb gap k e) is
+elsewhere_line {k = k} (lines.Enter gap) e h is = move_elsewhere (lines.Enter gap) gap moves.Enter h.st e (ne_eqb gap k e) is
+elsewhere_line (lines.Back gap) e h is = move_elsewhere (lines.Back gap) gap moves.Back h.st e refl is
+elsewhere_line (lines.HandIn gap) e h is = move_elsewhere (lines.HandIn gap) gap moves.HandIn h.st e refl is
+elsewhere_line (lines.Take gap) e h is = move_elsewhere (lines.Take gap) gap moves.Take h.st e refl is
+elsewhere_line lines.Blank e h is = absurd e
+elsewhere_line (lines.Sense m) e h is = absurd e
+elsewhere_line (lines.Lie m sensed) e h is = absurd e
+elsewhere_line lines.Show e h is = absurd e
+
+-- ---- EACH UNDISTURBED LINE
+
+pub each_line : {k : ℕ} {id : Record} {left number : ℕ} {told : Bool} {s next : LineState} {done : List Happening} (line : ScriptLine) → IsUndisturbed k line → Had k id left number told s next → LineDoes number line s next done → Goes k id left told s line next done
+each_line {k = k} _ flows_up h is = unless_goes (lines.Flow k Exit None) _ _ h.st is (λ may flows. flow_up h may flows)
+each_line {k = k} _ flows_down h is = unless_goes (lines.Flow (k + 1) Entry None) _ _ h.st is (λ may flows. flow_down h may flows)
+each_line {k = k} {id = id} {told = told} {s = s} {done = done} _ begins h is =
+    by_answer (lines.Begin k) k moves.Begin (floor_move k moves.Begin s.world.floor) h.st refl is (λ plan moves_so. goes_one (lines.Begin k) (goes_forth (begins_forth plan h.st h.stood.stands.ids.whole (later_told k id.id told done) moves_so)))
+each_line {k = k} {id = id} {told = told} {s = s} {done = done} _ leaves h is =
+    by_answer (lines.Left k) k moves.Left (floor_move k moves.Left s.world.floor) h.st refl is (λ plan moves_so. goes_one (lines.Left k) (goes_forth (leaves_forth plan h.st h.stood.stands.ids.whole (later_told k id.id told done) moves_so)))
+each_line {k = k} {id = id} {told = told} {s = s} {done = done} _ enters h is =
+    by_answer (lines.Enter k) k moves.Enter (floor_move k moves.Enter s.world.floor) h.st refl is (λ plan moves_so. goes_one (lines.Enter k) (goes_forth (enters_forth plan h.st h.stood.stands.ids.whole (later_told k id.id told done) moves_so)))
+each_line {k = k} {number = number} _ (senses {machine = m}) h is = unless_goes (lines.Sense m) _ _ h.st is (λ may steps. sense_by number m h steps (same_or_not m k) (same_or_not m (k + 1)))
+each_line {k = k} {s = s} _ shows h is = becomes_goes lines.Show h.st (untouched_self k s) refl is
+each_line {k = k} {s = s} _ blank h is = becomes_goes lines.Blank h.st (untouched_self k s) refl is
+each_line line (elsewhere e) h is = elsewhere_line line e h is
+each_line {k = k} _ (flows_above {count = count}) h is = unless_goes (lines.Flow k Entry count) _ _ h.st is (λ may flows. flow_above count h flows)
+each_line {k = k} _ (flows_below {count = count}) h is = unless_goes (lines.Flow (k + 1) Exit count) _ _ h.st is (λ may flows. flow_below count h flows)
+each_line {k = k} _ notices_above h is = unless_goes (lines.Notice k Entry) _ _ h.st is (λ may steps. notice_above h steps)
+each_line {k = k} _ notices_below h is = unless_goes (lines.Notice (k + 1) Exit) _ _ h.st is (λ may steps. notice_below h steps)
+each_line {k = k} {s = s} _ spoils_above h is =
+    let one = (counted k s h.st.linked).0 in
+    let apart : k - 1 ≢ k = omega (arith, one) in
+    unless_goes (lines.Spoil k Entry) _ _ h.st is (λ may b. spoil_elsewhere k Entry h.st apart b)
+each_line {k = k} {s = s} _ spoils_below h is =
+    let apart : k + 1 ≢ k = omega arith in
+    unless_goes (lines.Spoil (k + 1) Exit) _ _ h.st is (λ may b. spoil_elsewhere (k + 1) Exit h.st apart b)
+each_line {k = k} _ connects_above h is = unless_goes (lines.Connect k) _ _ h.st is (λ may c. connect_above h c)

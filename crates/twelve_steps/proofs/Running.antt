@@ -1,0 +1,150 @@
+-- The stage along an undisturbed stretch.
+use Rattle.std.proofs.Common.{Bool, List, Some, [], ap, arith, false, length, refl, subst, sym, true, ℕ, ◌&&◌, ◌+◌, ◌∙◌, ◌∷◌, ◌≡◌, ◌≤◌, ◌||◌, if◌then◌else◌}
+use Rattle.std.specs.Prelude.{not}
+use Rattle.std.specs.List.{AllByRecursion}
+use Rattle.board_record.specs.declared.record.Record.{Record}
+use Rattle.handover_out.specs.State.{is_idle_phase}
+use Rattle.handover_in.specs.State.{board_of_phase}
+use Rattle.handover_in.specs.declared.phase.Phase.{Phase as In}
+use Rattle.line_script.specs.declared.line.ScriptLine.{ScriptLine}
+use Rattle.line_report.specs.declared.happening.Happening.{Happening}
+use Rattle.line_step.specs.Lies.{has_lie, tells_lie}
+use Rattle.line_step.specs.Lines.{LineSteps}
+use Rattle.line_step.specs.Numbered.{node_at}
+use Rattle.line_step.specs.Runs.{IsRun, Point}
+use Rattle.line_step.specs.Shown.{standings_told}
+use Rattle.line_step.specs.State.{LineState}
+use Rattle.line_step.proofs.Keeps.{lines_stay}
+use Rattle.one_standing.specs.Standing.{IsFitLine}
+use Rattle.one_standing.proofs.Carrying.{SaysAlone}
+use Rattle.one_standing.proofs.LineForms.{ConnectsBear}
+use Rattle.one_standing.proofs.LineRun.{Stood, line_stood}
+use Rattle.one_standing.proofs.RestMore.{counted_stands}
+use Rattle.twelve_steps.specs.Twelve.{CanGoOnToEnd, HoldsIt, HoldsItToEnd, Unless, has_ended, one_if, steps_to_end, tells_settled}
+use Rattle.twelve_steps.specs.Undisturbed.{AreUndisturbed, CanGoOn, IsUndisturbed, is_link_step, is_of_link, more, tells_no}
+use Rattle.twelve_steps.proofs.Beyond.{Untouched, stage_untouched}
+use Rattle.twelve_steps.proofs.EachLine.{each_line}
+use Rattle.twelve_steps.proofs.Flowing.{Outcome, comes_to_end, goes_forth, outcome_less}
+use Rattle.twelve_steps.proofs.Going.{Stage}
+use Rattle.twelve_steps.proofs.Lines.{Goes, Had, no_append, outcome_later, settled_append}
+use Rattle.twelve_steps.proofs.Lower.{Lower, asked, phase_of, readies, settled, stopped, takes}
+use Rattle.twelve_steps.proofs.Possible.{can_go_on}
+
+-- ---- a line, counted and with the standings that it changed
+
+-- the state before its lines are counted
+uncounted : (next : LineState) (n : ℕ) → next.lines ≤ 1000000 → Stood (record next { lines = n }) → Stood next
+uncounted next n few stood = record {
+  trace = stood.trace;
+  stands = counted_stands stood.trace (record next { lines = n }) next.lines few stood.stands;
+  waits = λ machine. stood.waits machine;
+}
+
+count_untouched : (k : ℕ) (next : LineState) (n : ℕ) → Untouched k next (record next { lines = n })
+count_untouched k next n = record { above = refl; below = refl; up_seen = refl; down_seen = refl; between = refl; linked = λ is. is }
+
+or_more : (told one two : Bool) → (one ≡ true → two ≡ true) → (told || one) ≡ true → (told || two) ≡ true
+or_more true one two passes is = refl
+or_more false one two passes is = passes is
+
+fewer_step : (of one two : Bool) → (one ≡ true → two ≡ true) → one_if (of && not two) ≤ one_if (of && not one)
+fewer_step false one two passes = omega arith
+fewer_step true false true passes = omega arith
+fewer_step true false false passes = omega arith
+fewer_step true true true passes = omega arith
+fewer_step true true false passes = absurd (let no : false ≡ true = passes refl in cc)
+
+counted_outcome : {k : ℕ} {id : Record} {left spare : ℕ} {told : Bool} (next : LineState) (n : ℕ) → Outcome k id left spare told next → Outcome k id left spare told (record next { lines = n })
+counted_outcome {k = k} next n (goes_forth f) = goes_forth (record { now = f.now; fewer = f.fewer; stage = stage_untouched (count_untouched k next n) (λ is. is) f.stage })
+counted_outcome next n (comes_to_end e) = comes_to_end (record { fewer = e.fewer; told_is = e.told_is; idle = e.idle })
+
+pub one_line : {k : ℕ} {id : Record} {left : ℕ} {told : Bool} {s after : LineState} {what : List Happening} → SaysAlone → (line : ScriptLine) → IsUndisturbed k line → s.lines + 1 ≤ 1000000 → Stage k id left told s → Stood s → Stood after → LineSteps (s.lines + 1) line s after what
+    → Outcome k id left (one_if (is_link_step k s line what)) (told || tells_settled k id.id what) after
+one_line {k = k} {id = id} {left = left} {told = told} {s = s} {after = after} {what = what} alone line calm few st stood after_stood steps =
+    let next : LineState = steps.next in
+    let lines_same : next.lines ≡ s.lines = lines_stay (s.lines + 1) line s next steps.done steps.does in
+    let counted : Stood (record next { lines = next.lines + 1 }) = subst (λ (x : LineState). Stood x) steps.after_is after_stood in
+    let h : Had k id left (s.lines + 1) told s next = record { alone = alone; few = few; st = st; stood = stood; next_stood = uncounted next (next.lines + 1) (omega (arith, lines_same, few)) counted } in
+    let goes : Goes k id left told s line next steps.done = each_line line calm h steps.does in
+    let first = outcome_later (or_more told (tells_settled k id.id steps.done) (tells_settled k id.id what) (λ is. ap (λ (hs : List Happening). tells_settled k id.id hs) steps.told_is ∙ settled_append k id.id steps.done (standings_told s next) is)) goes.out in
+    let less = outcome_less (one_if (is_link_step k s line what)) (fewer_step (is_of_link k s line) (tells_no steps.done) (tells_no what) (λ is. ap (λ (hs : List Happening). tells_no hs) steps.told_is ∙ no_append steps.done (standings_told s next) is)) first in
+    subst (λ (x : LineState). Outcome k id left (one_if (is_link_step k s line what)) (told || tells_settled k id.id what) x) (sym steps.after_is) (counted_outcome next (next.lines + 1) less)
+
+-- ---- the stretch
+
+pub or_first : (a b : Bool) → (a || b) ≡ false → a ≡ false
+or_first true b is = is
+or_first false b is = refl
+
+pub or_second : (a b : Bool) → (a || b) ≡ false → b ≡ false
+or_second true b is = absurd (cc)
+or_second false b is = is
+
+both_true : (a b : Bool) → a ≡ true → b ≡ true → (a && b) ≡ true
+both_true true true x y = refl
+both_true true false x y = absurd (cc)
+both_true false b x y = absurd (cc)
+
+-- the steps of one line, and of those behind it unless it was the last
+total : (over : Bool) (one rest now left : ℕ) → (over ≡ false → rest ≤ now) → now + one ≤ left → one + (if over then 0 else rest) ≤ left
+total true one rest now left later few = omega (arith, few)
+total false one rest now left later few =
+    let behind = later refl in
+    omega (arith, few, behind)
+
+all_of : (over : Bool) (Later : Type 0) → (over ≡ false → Later) → Unless over Later
+all_of true Later later = tt
+all_of false Later later = later refl
+
+-- what the intake holds is that board's record
+held_by : (r b : Record) (l : Lower) → board_of_phase (phase_of b l) ≡ Some r → r ≡ b
+held_by r b (takes begun heard) is = cc
+held_by r b stopped is = cc
+held_by r b readies is = absurd (cc)
+held_by r b asked is = absurd (cc)
+held_by r b (settled again) is = absurd (cc)
+
+holds_it : {k : ℕ} {id : Record} {left : ℕ} {told : Bool} {s : LineState} → Stage k id left told s → HoldsIt k id s
+holds_it st = λ r is. held_by r st.b st.l (sym (ap (λ (p : In). board_of_phase p) st.lower.phase) ∙ is) ∙ st.taken
+
+-- so many link steps at most, and one can be done until the end; and what the intake holds until then is that record
+pub record Ends (most k : ℕ) (id : Record) (told : Bool) (s : LineState) (lines : List ScriptLine) (points : List Point) : Type 0 where
+  pub few : steps_to_end k id.id told s lines points ≤ most
+  pub possible : CanGoOnToEnd k id.id told s points
+  pub holds : HoldsItToEnd k id told s points
+
+by_outcome : {k : ℕ} {id : Record} {left : ℕ} {told : Bool} {s : LineState} (line : ScriptLine) (lines : List ScriptLine) (point : Point) (points : List Point) → CanGoOn k s → HoldsIt k id s → Outcome k id left (one_if (is_link_step k s line point.told)) (told || tells_settled k id.id point.told) point.after
+    → ((now : ℕ) → Stage k id now (told || tells_settled k id.id point.told) point.after → Ends now k id (told || tells_settled k id.id point.told) point.after lines points) → Ends left k id told s (line ∷ lines) (point ∷ points)
+by_outcome {k = k} {id = id} {left = left} {told = told} {s = s} line lines point points can holds (goes_forth f) later =
+    let told_now = told || tells_settled k id.id point.told in
+    let over = has_ended k told_now point.after in
+    let rest = later f.now f.stage in
+    record {
+      few = total over (one_if (is_link_step k s line point.told)) (steps_to_end k id.id told_now point.after lines points) f.now left (λ _. rest.few) f.fewer;
+      possible = (can, all_of over (CanGoOnToEnd k id.id told_now point.after points) (λ _. rest.possible));
+      holds = (holds, all_of over (HoldsItToEnd k id told_now point.after points) (λ _. rest.holds));
+    }
+by_outcome {k = k} {id = id} {left = left} {told = told} {s = s} line lines point points can holds (comes_to_end e) later =
+    let told_now = told || tells_settled k id.id point.told in
+    let over : has_ended k told_now point.after ≡ true = both_true told_now (is_idle_phase (node_at point.after k).lane.body.outlet.phase) e.told_is e.idle in
+    let fewer = e.fewer in
+    record {
+      few = total (has_ended k told_now point.after) (one_if (is_link_step k s line point.told)) (steps_to_end k id.id told_now point.after lines points) 0 left (λ off. absurd (let no : true ≡ false = sym over ∙ off in cc)) (omega (arith, fewer));
+      possible = (can, all_of (has_ended k told_now point.after) (CanGoOnToEnd k id.id told_now point.after points) (λ off. absurd (let no : true ≡ false = sym over ∙ off in cc)));
+      holds = (holds, all_of (has_ended k told_now point.after) (HoldsItToEnd k id told_now point.after points) (λ off. absurd (let no : true ≡ false = sym over ∙ off in cc)));
+    }
+
+pub lines_after : (number : ℕ) (line : ScriptLine) (before after : LineState) (told : List Happening) → LineSteps number line before after told → after.lines ≡ before.lines + 1
+lines_after number line before after told steps = ap (λ (s : LineState). s.lines) steps.after_is ∙ ap (λ (n : ℕ). n + 1) (lines_stay number line before steps.next steps.done steps.does)
+
+pub run_ends : {k : ℕ} {id : Record} → SaysAlone → ConnectsBear → (lines : List ScriptLine) (points : List Point) (left : ℕ) (told : Bool) (s : LineState) → Stage k id left told s → Stood s → AllByRecursion IsFitLine lines → s.lines + length lines ≤ 1000000 → IsRun s lines points → AreUndisturbed k lines → has_lie points ≡ false → Ends left k id told s lines points
+run_ends alone connects [] [] left told s st stood fit few run calm honest = record { few = omega arith; possible = can_go_on st stood; holds = holds_it st }
+run_ends alone connects [] (point ∷ points) left told s st stood fit few run calm honest = absurd run
+run_ends alone connects (line ∷ lines) [] left told s st stood fit few run calm honest = absurd run
+run_ends {k = k} {id = id} alone connects (line ∷ lines) (point ∷ points) left told s st stood fit few run (more one others) honest =
+    let here : s.lines + 1 ≤ 1000000 = omega (arith, few) in
+    let first : tells_lie point.told ≡ false = or_first (tells_lie point.told) (has_lie points) honest in
+    let after : Stood point.after = line_stood alone connects (s.lines + 1) line s point.after point.told refl here fit.0 first stood run.0 in
+    let behind : point.after.lines + length lines ≤ 1000000 = omega (arith, few, lines_after (s.lines + 1) line s point.after point.told run.0) in
+    by_outcome line lines point points (can_go_on st stood) (holds_it st) (one_line alone line one here st stood after run.0)
+    (λ now stage. run_ends alone connects lines points now (told || tells_settled k id.id point.told) point.after stage after fit.1 behind run.1 others (or_second (tells_lie point.told) (has_lie points) honest))
