@@ -1,4 +1,5 @@
 pub mod Along
+pub mod Backwards
 pub mod Counted
 pub mod Followed
 pub mod Following

@@ -155,16 +155,11 @@ fn machine_of(mark: Mark) -> u32
     }
 }
 
-/// Whether the board is among kept ones.
+/// Whether the board is among kept ones. It is looked for from the back: there it is asked for when it has just come.
 fn keeps(boards: &[Record], id: BoardId) -> bool
     ensures { result ≡ has_id id (ids_of boards.now) }
 {
-    for board in boards {
-        if board.id == id {
-            return true;
-        }
-    }
-    false
+    boards.iter().rev().any(|board| board.id == id)
 }
 
 /// Whether a half that holds this record, or none, holds the board.

@@ -6,7 +6,7 @@ use crate::lines::do_text;
 use board_record::BoardId;
 use line_base::{Memory, Side};
 use line_engine::{Line, write_summary};
-use standings::Standing;
+use standings::{Mark, Standing};
 use std::alloc::Global;
 use std::io::{self, Write};
 
@@ -27,7 +27,7 @@ fn tell_script(alloc: Global, script: &str, line: &mut Line, to: &mut Vec<u8>) -
     write_summary(&line.summary(), to)
 }
 
-/// Does a line of the case: `? ID` asks where a board stands, `? M SIDE` how many bytes are on their way to a side, `@N one;
+/// Does a line of the case: `? ID` asks where a board stands and for its marks, `? M SIDE` how many bytes are on their way to a side, `@N one;
 /// other` does two script lines in turn N times and tells nothing, and any other is a script line.
 fn tell_text(alloc: Global, text: &str, line: &mut Line, to: &mut Vec<u8>) -> Result<(), Memory>
     requires { line.old.spent ≡ false }
@@ -47,7 +47,7 @@ fn answer(asked: &str, line: &Line, to: &mut Vec<u8>) -> Result<(), Memory>
 {
     match asked.split_once(' ') {
         Some((machine, side)) => tell_in_flight(machine, side, line, to),
-        None => tell_standing(asked, line, to),
+        None => tell_board(asked, line, to),
     }
 }
 
@@ -64,17 +64,39 @@ fn tell_in_flight(machine: &str, side: &str, line: &Line, to: &mut Vec<u8>) -> R
     written(write!(to, "? {count} bytes\n"))
 }
 
-/// Appends where a board stands.
-fn tell_standing(text: &str, line: &Line, to: &mut Vec<u8>) -> Result<(), Memory>
+/// Appends where a board stands, and its marks.
+fn tell_board(text: &str, line: &Line, to: &mut Vec<u8>) -> Result<(), Memory>
     requires { line.now.spent ≡ false }
 {
     match BoardId::read(text.as_bytes()) {
         Err(_) => written(write!(to, "? no id\n")),
-        Ok(id) => match line.standing(id) {
-            None => written(write!(to, "? nowhere\n")),
-            Some(Standing::With(machine)) => written(write!(to, "? with {machine}\n")),
-            Some(Standing::Between(gap)) => written(write!(to, "? between {gap}\n")),
-        },
+        Ok(id) => {
+            tell_standing(line.standing(id), to)?;
+            tell_marks(line.marks(id), to)
+        }
+    }
+}
+
+fn tell_standing(standing: Option<Standing>, to: &mut Vec<u8>) -> Result<(), Memory> {
+    match standing {
+        None => written(write!(to, "? nowhere")),
+        Some(Standing::With(machine)) => written(write!(to, "? with {machine}")),
+        Some(Standing::Between(gap)) => written(write!(to, "? between {gap}")),
+    }
+}
+
+fn tell_marks(marks: &[Mark], to: &mut Vec<u8>) -> Result<(), Memory> {
+    for mark in marks {
+        tell_mark(*mark, to)?;
+    }
+    written(write!(to, "\n"))
+}
+
+fn tell_mark(mark: Mark, to: &mut Vec<u8>) -> Result<(), Memory> {
+    match mark {
+        Mark::Kept(machine) => written(write!(to, ", kept {machine}")),
+        Mark::Outlet(machine) => written(write!(to, ", outlet {machine}")),
+        Mark::Intake(machine) => written(write!(to, ", intake {machine}")),
     }
 }
 
