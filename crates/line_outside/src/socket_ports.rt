@@ -11,18 +11,22 @@ use std::net::{Ipv4Addr, Net, SocketAddr, SocketAddrV4};
 use std::thread;
 use std::time::{Clock, Duration};
 
-/// How long the ports pause where a whole turn found nothing, in milliseconds.
+/// How long the ports pause where nothing comes any more, in milliseconds.
 const PAUSE: u64 = 1;
+
+/// How many turns in a row find nothing before they pause. A peer that answers at once is awaited without a pause.
+const QUIET_TURNS: u32 = 64;
 
 /// Ports over the host's sockets, which never block. They tell nothing of what was called and answered.
 ///
-/// A turn of polls begins at the way Panel. Where in a whole turn nothing came and nothing was sent they pause for about
-/// a millisecond, so that a machine at rest leaves the processor alone.
+/// A turn of polls begins at the way Panel. Where in 64 turns in a row nothing came and nothing was sent they pause for
+/// about a millisecond in each turn that follows, so that a machine at rest leaves the processor alone.
 #[derive(Drop)]
 pub struct SocketPorts<R: Net + Clock> {
     host: R,
     sockets: [Socket; 4],
-    is_busy: bool,
+    /// How many turns in a row found nothing, this one counted.
+    quiet_turns: u32,
     faults: u64,
 }
 
@@ -34,7 +38,7 @@ impl<R: Net + Clock> SocketPorts<R> {
         SocketPorts {
             host,
             sockets: [Socket::new(), Socket::new(), Socket::new(), Socket::new()],
-            is_busy: true,
+            quiet_turns: 0,
             faults: 0,
         }
     }
@@ -46,14 +50,15 @@ impl<R: Net + Clock> SocketPorts<R> {
         self.faults = self.faults.saturating_add(1);
     }
 
-    /// Begins a turn: pauses where nothing happened in the last one.
+    /// Begins a turn: pauses where nothing happened in the last ones.
     fn begin_turn(&mut self)
         ensures { self.new.faults ≡ self.old.faults }
     {
-        if !self.is_busy {
+        if self.quiet_turns < QUIET_TURNS {
+            self.quiet_turns += 1;
+        } else {
             thread::sleep(&self.host, Duration::from_millis(PAUSE));
         }
-        self.is_busy = false;
     }
 
     /// What became of a piece, with a fault counted where it failed.
@@ -62,7 +67,7 @@ impl<R: Net + Clock> SocketPorts<R> {
         ensures cause { HasSentCause self.old.faults self.new.faults result }
     {
         match sent {
-            Sent::Took(_) => self.is_busy = true,
+            Sent::Took(_) => self.quiet_turns = 0,
             Sent::Failed => self.fault(),
             Sent::NotYet | Sent::Closed => {}
         }
@@ -128,7 +133,7 @@ impl<R: Net + Clock> Ports for SocketPorts<R> {
         match got {
             Got::NotYet => {}
             Got::Failed => self.fault(),
-            _ => self.is_busy = true,
+            _ => self.quiet_turns = 0,
         }
         got
     }
