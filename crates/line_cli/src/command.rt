@@ -1,11 +1,15 @@
 ghost use Rattle.std.specs.Prelude.{◌≡◌};
 ghost use Rattle.line_step.specs.FloorIds.{IdsStay};
+ghost use Rattle.line_history.specs.LetGo.{WhatSettlesLeft};
+ghost use Rattle.line_history.specs.Settled.{BoardsSettleWhenSaid};
+ghost use Rattle.line_history.specs.Started.{WhatIsHeldStarted};
 ghost use Rattle.line_openings.specs.Announced.{OpensWhenAnnounced};
 ghost use Rattle.one_standing.specs.Blame.{NoFalseBlame};
 ghost use Rattle.one_standing.specs.Contents.{ContentsAreKept};
 ghost use Rattle.one_standing.specs.Facts.{CustodyFacts};
 ghost use Rattle.one_standing.specs.Replay.{LedgerFollows};
 ghost use Rattle.one_standing.specs.Standing.{OneStanding};
+ghost use Rattle.twelve_steps.specs.Twelve.{EndsWithinTwelveSteps};
 ghost use Rattle.line_cli.specs.Command.{DoesAs, FitsWords, HasCauses, is_word, is_run, is_read, is_check, usage_text};
 ghost use Rattle.line_cli.specs.Making.{made_number};
 ghost use Rattle.line_cli.specs.Premises.{ScriptsAreFit};
@@ -54,6 +58,14 @@ pub fn line_main<S: Source, K: Sink>(
     ensures contents { ContentsAreKept }
     // a breach is told only of a side to which a spoiled text flowed
     ensures blame { NoFalseBlame }
+    // a board settles only when it was said that its transport ended
+    ensures said { BoardsSettleWhenSaid }
+    // and its record is the one that was let go
+    ensures settles { WhatSettlesLeft }
+    // which was started last there
+    ensures started { WhatIsHeldStarted }
+    // an undisturbed handover ends within twelve link steps
+    ensures steps { EndsWithinTwelveSteps }
     // which ask of a script what each script that is read has
     ensures fit { ScriptsAreFit }
     // a handover opens exactly when board and place are announced, over the run of every script
@@ -64,6 +76,10 @@ pub fn line_main<S: Source, K: Sink>(
     one_standing::laws::the_ledger_follows_the_report();
     one_standing::laws::contents_are_kept_over_each_line();
     one_standing::laws::a_breach_is_told_only_behind_a_spoiled_text();
+    line_history::laws::boards_settle_when_it_is_said();
+    line_history::laws::what_settles_is_what_left();
+    line_history::laws::what_an_intake_holds_was_started_last();
+    twelve_steps::laws::an_undisturbed_handover_ends_within_twelve_link_steps();
     line_openings::laws::a_machine_opens_exactly_when_announced();
     do_words(alloc, words, script, report)
 }

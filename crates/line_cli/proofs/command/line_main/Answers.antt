@@ -25,3 +25,15 @@ returns-clause-opens g c = c.a_machine_opens_exactly_when_announced.ensures
 
 pub returns-clause-fit : goal.returns-clause-fit
 returns-clause-fit g c = scripts_are_fit
+
+pub returns-clause-said : goal.returns-clause-said
+returns-clause-said g c = c.boards_settle_when_it_is_said.ensures
+
+pub returns-clause-settles : goal.returns-clause-settles
+returns-clause-settles g c = c.what_settles_is_what_left.ensures
+
+pub returns-clause-started : goal.returns-clause-started
+returns-clause-started g c = c.what_an_intake_holds_was_started_last.ensures
+
+pub returns-clause-steps : goal.returns-clause-steps
+returns-clause-steps g c = c.an_undisturbed_handover_ends_within_twelve_link_steps.ensures
