@@ -1,0 +1,25 @@
+//! Whole scripts as cases: a ledger is kept from what each line tells, as a reader of the report would keep it, and compared with
+//! the standings of the line and with those that it tells.
+#![tactic(auto)]
+
+mod cases;
+mod deeds;
+mod ledger;
+mod replay;
+
+use crate::cases::tell_case;
+use std::io;
+use std::io::Write;
+
+fn main(rt: HostRuntime) -> io::Result<()> {
+    let cases = io::read_to_string(rt.alloc(), rt.reader())?;
+    let mut out = io::writer(&rt);
+    for case in cases.as_str().split("=== ").skip(1) {
+        let mut told = Vec::new(rt.alloc());
+        if tell_case(rt.alloc(), case, &mut told).is_err() {
+            return Err(io::Error::from(io::ErrorKind::OutOfMemory));
+        }
+        out.write_all(told.as_slice())?;
+    }
+    Ok(())
+}
