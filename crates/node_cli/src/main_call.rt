@@ -1,5 +1,6 @@
 ghost use Rattle.std.specs.Prelude.{◌≡◌};
 ghost use Rattle.node_cli.specs.Command.{DoesNode, FitsNode, HasCauses, is_one, status_of};
+ghost use Rattle.node_cli.specs.Logged.{LogTellsOwn, TextIsBounded};
 
 use crate::settings_file::{FileError, read_file};
 use line_base::Words;
@@ -21,6 +22,28 @@ pub fn node_main<S: Source, P: Ports, C: Clock, K: Sink>(
     log: &mut K,
 ) -> NodeStatus
     // over a file, ports, a clock and a log that tell: the calls, the log and the status are those of the run
+    ensures does { DoesNode (is_one words.now) (S.left file.old) (C.moment clock.old) (P.given ports.old) (P.given ports.new) (K.contents log.old) (K.contents log.new) result }
+    ensures fits { FitsNode (is_one words.now) result }
+    ensures causes { HasCauses result (S.faults file.old) (S.faults file.new) (P.faults ports.old) (P.faults ports.new) (K.faults log.old) (K.faults log.new) }
+    // what the machine owns is read off the bytes of the log, over the run of every node
+    ensures owns { LogTellsOwn }
+    // and a way on which too much text waits is closed
+    ensures bounded { TextIsBounded }
+{
+    node_run::laws::what_a_machine_owns_is_read_off_its_log();
+    node_run::laws::too_much_text_closes_a_way();
+    run_named(alloc, words, file, ports, clock, log)
+}
+
+/// Runs the machine whose settings stand in the file that the one word names.
+fn run_named<S: Source, P: Ports, C: Clock, K: Sink>(
+    alloc: Global,
+    words: &Words,
+    file: &mut S,
+    ports: &mut P,
+    clock: &mut C,
+    log: &mut K,
+) -> NodeStatus
     ensures does { DoesNode (is_one words.now) (S.left file.old) (C.moment clock.old) (P.given ports.old) (P.given ports.new) (K.contents log.old) (K.contents log.new) result }
     ensures fits { FitsNode (is_one words.now) result }
     ensures causes { HasCauses result (S.faults file.old) (S.faults file.new) (P.faults ports.old) (P.faults ports.new) (K.faults log.old) (K.faults log.new) }

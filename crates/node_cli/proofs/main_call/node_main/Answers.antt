@@ -1,14 +1,7 @@
-use Rattle.std.proofs.Common.{◌≡◌, true, arith}
-use Rattle.std.proofs.lemmas.Bool.Decides.{nat_tests}
-use Rattle.node_cli.specs.Command.{is_one}
-use Rattle.node_cli.proofs.Doing.{does_error}
-use Rattle.node_cli.proofs.Bounds.{read_bounded}
 use Rattle.node_cli.proofs.main_call.node_main.Goals as goal
 
-pub run_node-requires-clause-least : goal.run_node-requires-clause-least
-run_node-requires-clause-least g c = (read_bounded c.as_slice.result.now c.in-Ok-read_settings.settings c.in-Ok-read_settings.ensures).least
+pub returns-clause-owns : goal.returns-clause-owns
+returns-clause-owns g c = c.what_a_machine_owns_is_read_off_its_log.ensures
 
-pub returns-clause-does : goal.returns-clause-does
-returns-clause-does g c =
-    let one : is_one c.args.words.now ≡ true = rw (← c.list.ensures) (grind (arith, nat_tests)) in
-    rw c.status_of.ensures (does_error c.in-Err.error (is_one c.args.words.now) _ c.in-Ok.bytes.items _ _ _ _ one c.in-Ok.ensures.reads c.as_slice.ensures.value c.in-Err.ensures)
+pub returns-clause-bounded : goal.returns-clause-bounded
+returns-clause-bounded g c = c.too_much_text_closes_a_way.ensures
