@@ -39,7 +39,7 @@ fn traffic_of(word: &str) -> &'static str {
         "queries" => "<Hermes><QueryWorkOrderInfo QueryId='3' Barcode='PCB7'/></Hermes>",
         "places" => "<Hermes><QueryWorkOrderInfo QueryId='3' MagazineId='A' SlotId='1'/></Hermes>",
         "orders" =>
-            "<Hermes><SendWorkOrderInfo QueryId='3' WorkOrderId='W7' BatchId='b'/></Hermes>",
+            "<Hermes><SendWorkOrderInfo QueryId='3' WorkOrderId='O7' BatchId='b'/></Hermes>",
         "breaks" => "<Hermes><SendWorkOrderInfo QueryId='3' WorkOrderId='a&#10;b'/></Hermes>",
         _ => "",
     }
