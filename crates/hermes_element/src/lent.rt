@@ -8,6 +8,10 @@ use line_base::{Memory, Name, Text};
 use std::alloc::Global;
 use std::marker::Model;
 
+/// How many attributes an element has room for from its first one on. No message's row of the table asks for more, and
+/// to grow the list twice cost more than the room does.
+const ROOM_FOR_ATTRIBUTES: usize = 16;
+
 /// An element, lent by its bytes. `at` is the index of its `<`.
 #[derive(Drop)]
 #[cycle(lent)]
@@ -146,6 +150,9 @@ impl<'a> LentAttributes<'a> {
         ensures ok { OnOk result (self.new ≡ self.old ++ attribute.entry ∷ []) }
         ensures memory { OnErr result (self.new ≡ self.old) }
     {
+        if self.list.is_empty() && self.list.reserve(ROOM_FOR_ATTRIBUTES).is_err() {
+            return Err(Memory);
+        }
         match self.list.push(attribute) {
             Ok(()) => Ok(()),
             Err(_) => Err(Memory),
