@@ -6,14 +6,15 @@ use Rattle.line_base.specs.declared.states.SensorEvent.{SensorEvent}
 use Rattle.line_base.specs.declared.states.SensorEvent.TheVariants as events
 use Rattle.line_base.specs.declared.states.Side.{Side}
 use Rattle.line_base.specs.declared.states.Side.TheVariants as sides
-use Rattle.line_script.specs.Words.{words_of, is_text_byte, number_in, literal_of, identity_of, token_of, side_of, quality_of, event_of}
+use Rattle.smema_bridge.specs.declared.line.SegmentLine.{SegmentLine}
+use Rattle.line_script.specs.Words.{words_of, is_text_byte, number_in, literal_of, identity_of, token_of, side_of, quality_of, event_of, segment_line_of, switch_of}
 use Rattle.line_script.specs.declared.line.LineWhy.{LineWhy}
 use Rattle.line_script.specs.declared.line.LineWhy.TheVariants as whys
 use Rattle.line_script.specs.declared.line.ScriptLine.{ScriptLine}
 use Rattle.line_script.specs.declared.line.ScriptLine.TheVariants as lines
 
 -- the kinds of arguments: a number between two bounds, a board's id, one fixed word, a text word, a side of a machine, a
--- quality, a sensor event
+-- quality, a sensor event, a signal of a segment, on or off
 pub data Kind : Type 0 where
   number : ℕ → ℕ → Kind
   identity : Kind
@@ -22,6 +23,8 @@ pub data Kind : Type 0 where
   side_word : Kind
   quality_word : Kind
   event_word : Kind
+  segment_word : Kind
+  switch_word : Kind
 
 -- what an argument says
 pub data Value : Type 0 where
@@ -31,6 +34,8 @@ pub data Value : Type 0 where
   sided : Side → Value
   graded : Quality → Value
   seen : SensorEvent → Value
+  signalled : SegmentLine → Value
+  switched : Bool → Value
 
 -- a form of line: its first word, how many arguments it may have, their kinds, and the line that
 -- their values make, or why they make none
@@ -48,10 +53,17 @@ machine_number = number 1 64
 abbrev pub gap_number : Kind
 gap_number = number 1 63
 
+-- a machine with room for so many boards, that has made no id or so many
+abbrev pub made_room : (ℕ → ℕ → ScriptLine) → List Value → Result ScriptLine LineWhy
+made_room line (numeral capacity ∷ []) = Ok (line capacity 0)
+made_room line (numeral capacity ∷ spelled used ∷ numeral count ∷ []) = Ok (line capacity count)
+made_room line _ = Err whys.WrongCount
+
 abbrev pub made_machine : List Value → Result ScriptLine LineWhy
-made_machine (numeral capacity ∷ []) = Ok (lines.Machine capacity 0)
-made_machine (numeral capacity ∷ spelled used ∷ numeral count ∷ []) = Ok (lines.Machine capacity count)
-made_machine _ = Err whys.WrongCount
+made_machine = made_room lines.Machine
+
+abbrev pub made_bridge : List Value → Result ScriptLine LineWhy
+made_bridge = made_room lines.Bridge
 
 abbrev pub made_insert : List Value → Result ScriptLine LineWhy
 made_insert (numeral machine ∷ []) = Ok (lines.Insert machine None)
@@ -77,6 +89,10 @@ made_hold _ = Err whys.WrongCount
 abbrev pub made_go : List Value → Result ScriptLine LineWhy
 made_go (numeral machine ∷ sided side ∷ []) = Ok (lines.Go machine side)
 made_go _ = Err whys.WrongCount
+
+abbrev pub made_signal : List Value → Result ScriptLine LineWhy
+made_signal (numeral machine ∷ signalled line ∷ switched on ∷ []) = Ok (lines.Signal machine line on)
+made_signal _ = Err whys.WrongCount
 
 abbrev pub made_connect : List Value → Result ScriptLine LineWhy
 made_connect (numeral machine ∷ []) = Ok (lines.Connect machine)
@@ -131,6 +147,10 @@ abbrev pub made_lie : List Value → Result ScriptLine LineWhy
 made_lie (numeral machine ∷ sided side ∷ seen event ∷ []) = lie_of machine side event
 made_lie _ = Err whys.WrongCount
 
+abbrev pub made_unseen : List Value → Result ScriptLine LineWhy
+made_unseen (sided side ∷ numeral machine ∷ []) = Ok (lines.Unseen machine side)
+made_unseen _ = Err whys.WrongCount
+
 abbrev pub made_sense : List Value → Result ScriptLine LineWhy
 made_sense (numeral machine ∷ []) = Ok (lines.Sense machine)
 made_sense _ = Err whys.WrongCount
@@ -163,15 +183,34 @@ abbrev pub made_show : List Value → Result ScriptLine LineWhy
 made_show [] = Ok lines.Show
 made_show _ = Err whys.WrongCount
 
--- THE TABLE: `machine c [used u]`, `insert m [barcode]`, `remove m id`, `replace m id`,
--- `mark m id unknown|good|failed`, `hold m side`, `go m side`, `connect m`, `flow m side [n]`, `notice m side`, `cut k`,
--- `spoil m side`, `shutdown m`, `tick m`, `fault m side`, `lie m side event`, `sense m`, `begin k`, `left k`, `in k`,
--- `back k`, `hand-in k`, `take k`, `show`
+abbrev pub made_forecast : List Value → Result ScriptLine LineWhy
+made_forecast (numeral machine ∷ []) = Ok (lines.Forecast machine)
+made_forecast _ = Err whys.WrongCount
+
+abbrev pub made_query : List Value → Result ScriptLine LineWhy
+made_query (numeral machine ∷ spelled barcode ∷ []) = Ok (lines.Query machine barcode)
+made_query _ = Err whys.WrongCount
+
+-- how many boards a machine has room for, and how many ids it has made
+abbrev pub room_words : List Kind
+room_words = number 1 1024 ∷ literal (codes "used") ∷ number 0 281474976710655 ∷ []
+
+-- THE TABLE: `machine c [used u]`, `bridge c [used u]`, `insert m [barcode]`, `query m barcode`, `remove m id`,
+-- `replace m id`, `mark m id unknown|good|failed`, `hold m side`, `go m side`, `signal m ready|available|failed on|off`,
+-- `connect m`, `flow m side [n]`, `notice m side`, `cut k`, `spoil m side`, `forecast m`, `shutdown m`, `tick m`,
+-- `fault m side`, `lie m side event`, `unseen side m`, `sense m`, `begin k`, `left k`, `in k`, `back k`, `hand-in k`,
+-- `take k`, `show`
 abbrev pub machine_form : Form
-machine_form = record { word = codes "machine"; counts = 1 ∷ 3 ∷ []; arguments = number 1 1024 ∷ literal (codes "used") ∷ number 0 281474976710655 ∷ []; made = made_machine }
+machine_form = record { word = codes "machine"; counts = 1 ∷ 3 ∷ []; arguments = room_words; made = made_machine }
+
+abbrev pub bridge_form : Form
+bridge_form = record { word = codes "bridge"; counts = 1 ∷ 3 ∷ []; arguments = room_words; made = made_bridge }
 
 abbrev pub insert_form : Form
 insert_form = record { word = codes "insert"; counts = 1 ∷ 2 ∷ []; arguments = machine_number ∷ token ∷ []; made = made_insert }
+
+abbrev pub query_form : Form
+query_form = record { word = codes "query"; counts = 2 ∷ []; arguments = machine_number ∷ token ∷ []; made = made_query }
 
 abbrev pub remove_form : Form
 remove_form = record { word = codes "remove"; counts = 2 ∷ []; arguments = machine_number ∷ identity ∷ []; made = made_remove }
@@ -188,6 +227,14 @@ hold_form = record { word = codes "hold"; counts = 2 ∷ []; arguments = machine
 abbrev pub go_form : Form
 go_form = record { word = codes "go"; counts = 2 ∷ []; arguments = machine_number ∷ side_word ∷ []; made = made_go }
 
+abbrev pub signal_form : Form
+signal_form = record {
+  word = codes "signal";
+  counts = 3 ∷ [];
+  arguments = machine_number ∷ segment_word ∷ switch_word ∷ [];
+  made = made_signal;
+}
+
 abbrev pub connect_form : Form
 connect_form = record { word = codes "connect"; counts = 1 ∷ []; arguments = machine_number ∷ []; made = made_connect }
 
@@ -203,6 +250,9 @@ cut_form = record { word = codes "cut"; counts = 1 ∷ []; arguments = gap_numbe
 abbrev pub spoil_form : Form
 spoil_form = record { word = codes "spoil"; counts = 2 ∷ []; arguments = machine_number ∷ side_word ∷ []; made = made_spoil }
 
+abbrev pub forecast_form : Form
+forecast_form = record { word = codes "forecast"; counts = 1 ∷ []; arguments = machine_number ∷ []; made = made_forecast }
+
 abbrev pub shutdown_form : Form
 shutdown_form = record { word = codes "shutdown"; counts = 1 ∷ []; arguments = machine_number ∷ []; made = made_shutdown }
 
@@ -214,6 +264,9 @@ fault_form = record { word = codes "fault"; counts = 2 ∷ []; arguments = machi
 
 abbrev pub lie_form : Form
 lie_form = record { word = codes "lie"; counts = 3 ∷ []; arguments = machine_number ∷ side_word ∷ event_word ∷ []; made = made_lie }
+
+abbrev pub unseen_form : Form
+unseen_form = record { word = codes "unseen"; counts = 2 ∷ []; arguments = side_word ∷ machine_number ∷ []; made = made_unseen }
 
 abbrev pub sense_form : Form
 sense_form = record { word = codes "sense"; counts = 1 ∷ []; arguments = machine_number ∷ []; made = made_sense }
@@ -240,7 +293,7 @@ abbrev pub show_form : Form
 show_form = record { word = codes "show"; counts = 0 ∷ []; arguments = []; made = made_show }
 
 -- the rows of reports; with those of the floor before them; with those of what befalls a machine; with those of links;
--- with those of boards and willingness; and all rows
+-- with those of boards, willingness and signals; and all rows
 abbrev pub report_forms : List Form
 report_forms = show_form ∷ []
 
@@ -248,20 +301,20 @@ abbrev pub floor_forms : List Form
 floor_forms = sense_form ∷ begin_form ∷ left_form ∷ enter_form ∷ back_form ∷ hand_in_form ∷ take_form ∷ report_forms
 
 abbrev pub machine_forms : List Form
-machine_forms = shutdown_form ∷ tick_form ∷ fault_form ∷ lie_form ∷ floor_forms
+machine_forms = shutdown_form ∷ tick_form ∷ fault_form ∷ lie_form ∷ unseen_form ∷ floor_forms
 
 abbrev pub link_forms : List Form
-link_forms = connect_form ∷ flow_form ∷ notice_form ∷ cut_form ∷ spoil_form ∷ machine_forms
+link_forms = connect_form ∷ flow_form ∷ notice_form ∷ cut_form ∷ spoil_form ∷ forecast_form ∷ machine_forms
 
 abbrev pub board_forms : List Form
-board_forms = remove_form ∷ replace_form ∷ mark_form ∷ hold_form ∷ go_form ∷ link_forms
+board_forms = remove_form ∷ replace_form ∷ mark_form ∷ hold_form ∷ go_form ∷ signal_form ∷ link_forms
 
 abbrev pub forms : List Form
-forms = machine_form ∷ insert_form ∷ board_forms
+forms = machine_form ∷ bridge_form ∷ insert_form ∷ query_form ∷ board_forms
 
 -- the first words of the forms that aren't built yet
 abbrev pub later_words : List (List ℕ)
-later_words = codes "bridge" ∷ codes "signal" ∷ codes "unseen" ∷ codes "supervise" ∷ codes "ask" ∷ codes "answer" ∷ codes "forecast" ∷ codes "query" ∷ []
+later_words = codes "supervise" ∷ codes "ask" ∷ codes "answer" ∷ []
 
 abbrev pub is_later : List ℕ → Bool
 is_later first = list_any (bytes_eq first) later_words
@@ -283,6 +336,8 @@ value_as token word = mapped_ok spelled (token_of word)
 value_as side_word word = mapped_ok sided (side_of word)
 value_as quality_word word = mapped_ok graded (quality_of word)
 value_as event_word word = mapped_ok seen (event_of word)
+value_as segment_word word = mapped_ok signalled (segment_line_of word)
+value_as switch_word word = mapped_ok switched (switch_of word)
 
 -- what the words say, tested from the left
 abbrev pub values_as : List Kind → List (List ℕ) → Result (List Value) LineWhy

@@ -1,4 +1,4 @@
-use Rattle.std.specs.Prelude.{◌≡◌, ◌==◌, ◌||◌, ◌&&◌, ℕ, Bool, List, Result, Ok, Err, codes, filter, length, nat_le, nat_lt, if◌then◌else◌}
+use Rattle.std.specs.Prelude.{◌≡◌, ◌==◌, ◌||◌, ◌&&◌, ℕ, Bool, true, false, List, Result, Ok, Err, codes, filter, length, nat_le, nat_lt, if◌then◌else◌}
 use Rattle.std.specs.List.{list_all, slice_split}
 use Rattle.std.specs.Str.{bytes_eq}
 use Rattle.line_base.specs.Number.{is_digits, value_of}
@@ -10,6 +10,8 @@ use Rattle.line_base.specs.declared.states.Side.{Side}
 use Rattle.line_base.specs.declared.states.Side.TheVariants as sides
 use Rattle.board_record.specs.BoardId.{read_id}
 use Rattle.board_record.specs.declared.id.BadId.{BadId}
+use Rattle.smema_bridge.specs.declared.line.SegmentLine.{SegmentLine}
+use Rattle.smema_bridge.specs.declared.line.SegmentLine.TheVariants as signals
 use Rattle.line_script.specs.declared.line.LineWhy.{LineWhy}
 use Rattle.line_script.specs.declared.line.LineWhy.TheVariants as whys
 use Rattle.line_script.specs.declared.line.LineError.{LineError}
@@ -61,6 +63,19 @@ quality_of word = if bytes_eq word (codes "unknown") then Ok qualities.Unknown e
 -- the sensor event that a word names
 abbrev pub event_of : List ℕ → Result SensorEvent LineWhy
 event_of word = if bytes_eq word (codes "Begun") then Ok events.Begun else (if bytes_eq word (codes "Left") then Ok events.Left else (if bytes_eq word (codes "Full") then Ok events.Full else (if bytes_eq word (codes "Back") then Ok events.Back else (if bytes_eq word (codes "Taken") then Ok events.Taken else Err whys.BadWord))))
+
+-- the signal of a segment that a word names
+abbrev pub segment_line_of : List ℕ → Result SegmentLine LineWhy
+segment_line_of word =
+    if bytes_eq word (codes "ready") then Ok signals.Ready else
+    (if bytes_eq word (codes "available") then Ok signals.Available else
+    (if bytes_eq word (codes "failed") then Ok signals.Failed else Err whys.BadWord))
+
+-- whether a signal is switched on
+abbrev pub switch_of : List ℕ → Result Bool LineWhy
+switch_of word =
+    if bytes_eq word (codes "on") then Ok true else
+    (if bytes_eq word (codes "off") then Ok false else Err whys.BadWord)
 
 -- what reading answers, unless memory ran out
 abbrev pub Reads : {A : Type 0} → Result A LineWhy → Result A LineError → Type 0

@@ -1,12 +1,13 @@
 //! One reader for each form of line.
 
-ghost use Rattle.std.specs.Prelude.{◌≡◌, ◌≤◌, IfOk, [], ◌∷◌, map};
+ghost use Rattle.std.specs.Prelude.{◌≡◌, ◌≤◌, ℕ, IfOk, [], ◌∷◌, map};
 ghost use Rattle.line_script.specs.Ranges.{IsBetween, IsWithin};
 ghost use Rattle.line_script.specs.Words.{Reads};
-ghost use Rattle.line_script.specs.Grammar.{number, numeral, sided, side_word, machine_number, is_seen_at, lie_of, mapped_ok, arguments_as, line_as, line_among, forms, board_forms, link_forms, machine_forms, floor_forms, report_forms, is_later, machine_form, insert_form, remove_form, replace_form, mark_form, hold_form, go_form, connect_form, flow_form, notice_form, cut_form, spoil_form, shutdown_form, tick_form, fault_form, lie_form, sense_form, begin_form, left_form, enter_form, back_form, hand_in_form, take_form, show_form};
+ghost use Rattle.line_script.specs.Grammar.{number, numeral, sided, side_word, machine_number, room_words, made_room, is_seen_at, lie_of, mapped_ok, then_ok, arguments_as, line_as, machine_form, bridge_form, insert_form, query_form, remove_form, replace_form, mark_form, hold_form, go_form, signal_form, connect_form, flow_form, notice_form, cut_form, spoil_form, forecast_form, shutdown_form, tick_form, fault_form, lie_form, unseen_form, sense_form, begin_form, left_form, enter_form, back_form, hand_in_form, take_form, show_form};
+ghost use Rattle.line_script.specs.declared.line.ScriptLine.{ScriptLine as Line};
 
 use crate::line::{LineError, LineWhy, ScriptLine};
-use crate::words::{event, identity, literal, number, quality, side, token};
+use crate::words::{event, identity, literal, number, quality, segment_line, side, switch, token};
 use board_record::Sensed;
 use line_base::{SensorEvent, Side};
 use std::alloc::Global;
@@ -26,125 +27,8 @@ const MOST_FLOW: u64 = 65_536;
 /// The most ids that a machine may have made.
 const MOST_USED: u64 = 281_474_976_710_655;
 
-/// The line that a first word and its arguments ask for.
-pub fn line_of(alloc: Global, first: &[u8], words: &[&[u8]]) -> Result<ScriptLine, LineError>
-    ensures answer { Reads (line_among forms first.now (map (λ word. word.now) words.now)) result }
-    ensures within { IfOk result IsWithin }
-{
-    if first == &b"machine"[..] {
-        return refused(machine(words));
-    }
-    if first == &b"insert"[..] {
-        return insert(alloc, words);
-    }
-    refused(board_line(first, words))
-}
-
-fn board_line(first: &[u8], words: &[&[u8]]) -> Result<ScriptLine, LineWhy>
-    ensures answer { result ≡ line_among board_forms first.now (map (λ word. word.now) words.now) }
-    ensures within { IfOk result IsWithin }
-{
-    if first == &b"remove"[..] {
-        return remove(words);
-    }
-    if first == &b"replace"[..] {
-        return replace(words);
-    }
-    if first == &b"mark"[..] {
-        return mark(words);
-    }
-    if first == &b"hold"[..] {
-        return hold(words);
-    }
-    if first == &b"go"[..] {
-        return go(words);
-    }
-    link_line(first, words)
-}
-
-fn link_line(first: &[u8], words: &[&[u8]]) -> Result<ScriptLine, LineWhy>
-    ensures answer { result ≡ line_among link_forms first.now (map (λ word. word.now) words.now) }
-    ensures within { IfOk result IsWithin }
-{
-    if first == &b"connect"[..] {
-        return connect(words);
-    }
-    if first == &b"flow"[..] {
-        return flow(words);
-    }
-    if first == &b"notice"[..] {
-        return notice(words);
-    }
-    if first == &b"cut"[..] {
-        return cut(words);
-    }
-    if first == &b"spoil"[..] {
-        return spoil(words);
-    }
-    machine_line(first, words)
-}
-
-fn machine_line(first: &[u8], words: &[&[u8]]) -> Result<ScriptLine, LineWhy>
-    ensures answer { result ≡ line_among machine_forms first.now (map (λ word. word.now) words.now) }
-    ensures within { IfOk result IsWithin }
-{
-    if first == &b"shutdown"[..] {
-        return shutdown(words);
-    }
-    if first == &b"tick"[..] {
-        return tick(words);
-    }
-    if first == &b"fault"[..] {
-        return fault(words);
-    }
-    if first == &b"lie"[..] {
-        return lie(words);
-    }
-    floor_line(first, words)
-}
-
-fn floor_line(first: &[u8], words: &[&[u8]]) -> Result<ScriptLine, LineWhy>
-    ensures answer { result ≡ line_among floor_forms first.now (map (λ word. word.now) words.now) }
-    ensures within { IfOk result IsWithin }
-{
-    if first == &b"sense"[..] {
-        return sense(words);
-    }
-    if first == &b"begin"[..] {
-        return begin(words);
-    }
-    if first == &b"left"[..] {
-        return left(words);
-    }
-    if first == &b"in"[..] {
-        return enter(words);
-    }
-    if first == &b"back"[..] {
-        return back(words);
-    }
-    if first == &b"hand-in"[..] {
-        return hand_in(words);
-    }
-    if first == &b"take"[..] {
-        return take(words);
-    }
-    report_line(first, words)
-}
-
-fn report_line(first: &[u8], words: &[&[u8]]) -> Result<ScriptLine, LineWhy>
-    ensures answer { result ≡ line_among report_forms first.now (map (λ word. word.now) words.now) }
-    ensures within { IfOk result IsWithin }
-{
-    if first == &b"show"[..] {
-        return show(words);
-    }
-    if is_later(first) {
-        return Err(LineWhy::NotYet);
-    }
-    Err(LineWhy::UnknownWord)
-}
-
-fn refused(line: Result<ScriptLine, LineWhy>) -> Result<ScriptLine, LineError>
+/// The same answer, as one that memory may have no room for.
+pub fn refused(line: Result<ScriptLine, LineWhy>) -> Result<ScriptLine, LineError>
     ensures answer { Reads line result }
     ensures within { IfOk line IsWithin → IfOk result IsWithin }
 {
@@ -154,25 +38,20 @@ fn refused(line: Result<ScriptLine, LineWhy>) -> Result<ScriptLine, LineError>
     }
 }
 
-fn is_later(first: &[u8]) -> bool
-    ensures { result ≡ is_later first.now }
-{
-    first == &b"bridge"[..]
-        || first == &b"signal"[..]
-        || first == &b"unseen"[..]
-        || first == &b"supervise"[..]
-        || first == &b"ask"[..]
-        || first == &b"answer"[..]
-        || first == &b"forecast"[..]
-        || first == &b"query"[..]
+/// How many boards a machine has room for, and how many ids it has made.
+#[derive(Clone, Copy, Debug, PartialEq, Eq)]
+struct Room {
+    capacity: u32,
+    used: u64,
 }
 
-fn machine(words: &[&[u8]]) -> Result<ScriptLine, LineWhy>
-    ensures answer { result ≡ line_as machine_form (map (λ word. word.now) words.now) }
-    ensures within { IfOk result IsWithin }
+/// The room that `c [used u]` says.
+fn room_of(words: &[&[u8]]) -> Result<Room, LineWhy>
+    ensures answer { (line : ℕ → ℕ → Line) → mapped_ok (λ room. line room.capacity room.used) result ≡ then_ok (arguments_as (1 ∷ 3 ∷ []) room_words (map (λ word. word.now) words.now)) (made_room line) }
+    ensures within { IfOk result (λ room. IsBetween 1 1024 room.capacity × IsBetween 0 281474976710655 room.used) }
 {
     match words {
-        [capacity] => Ok(ScriptLine::Machine {
+        [capacity] => Ok(Room {
             capacity: number(capacity, 1, MOST_CAPACITY)? as u32,
             used: 0,
         }),
@@ -180,13 +59,35 @@ fn machine(words: &[&[u8]]) -> Result<ScriptLine, LineWhy>
             let capacity = number(capacity, 1, MOST_CAPACITY)? as u32;
             literal(word, b"used")?;
             let used = number(used, 0, MOST_USED)?;
-            Ok(ScriptLine::Machine { capacity, used })
+            Ok(Room { capacity, used })
         }
         _ => Err(LineWhy::WrongCount),
     }
 }
 
-fn insert(alloc: Global, words: &[&[u8]]) -> Result<ScriptLine, LineError>
+pub fn machine(words: &[&[u8]]) -> Result<ScriptLine, LineWhy>
+    ensures answer { result ≡ line_as machine_form (map (λ word. word.now) words.now) }
+    ensures within { IfOk result IsWithin }
+{
+    let room = room_of(words)?;
+    Ok(ScriptLine::Machine {
+        capacity: room.capacity,
+        used: room.used,
+    })
+}
+
+pub fn bridge(words: &[&[u8]]) -> Result<ScriptLine, LineWhy>
+    ensures answer { result ≡ line_as bridge_form (map (λ word. word.now) words.now) }
+    ensures within { IfOk result IsWithin }
+{
+    let room = room_of(words)?;
+    Ok(ScriptLine::Bridge {
+        capacity: room.capacity,
+        used: room.used,
+    })
+}
+
+pub fn insert(alloc: Global, words: &[&[u8]]) -> Result<ScriptLine, LineError>
     ensures answer { Reads (line_as insert_form (map (λ word. word.now) words.now)) result }
     ensures within { IfOk result IsWithin }
 {
@@ -225,7 +126,31 @@ fn insert_barcode(alloc: Global, machine: &[u8], barcode: &[u8]) -> Result<Scrip
     }
 }
 
-fn remove(words: &[&[u8]]) -> Result<ScriptLine, LineWhy>
+pub fn query(alloc: Global, words: &[&[u8]]) -> Result<ScriptLine, LineError>
+    ensures answer { Reads (line_as query_form (map (λ word. word.now) words.now)) result }
+    ensures within { IfOk result IsWithin }
+{
+    match words {
+        [machine, barcode] => query_barcode(alloc, machine, barcode),
+        _ => Err(LineError::Refused(LineWhy::WrongCount)),
+    }
+}
+
+fn query_barcode(alloc: Global, machine: &[u8], barcode: &[u8]) -> Result<ScriptLine, LineError>
+    ensures answer { Reads (line_as query_form (machine.now ∷ barcode.now ∷ [])) result }
+    ensures within { IfOk result IsWithin }
+{
+    let machine = match number(machine, 1, MOST_MACHINES) {
+        Ok(machine) => machine as u32,
+        Err(why) => return Err(LineError::Refused(why)),
+    };
+    match token(alloc, barcode) {
+        Ok(barcode) => Ok(ScriptLine::Query { machine, barcode }),
+        Err(error) => Err(error),
+    }
+}
+
+pub fn remove(words: &[&[u8]]) -> Result<ScriptLine, LineWhy>
     ensures answer { result ≡ line_as remove_form (map (λ word. word.now) words.now) }
     ensures within { IfOk result IsWithin }
 {
@@ -239,7 +164,7 @@ fn remove(words: &[&[u8]]) -> Result<ScriptLine, LineWhy>
     }
 }
 
-fn replace(words: &[&[u8]]) -> Result<ScriptLine, LineWhy>
+pub fn replace(words: &[&[u8]]) -> Result<ScriptLine, LineWhy>
     ensures answer { result ≡ line_as replace_form (map (λ word. word.now) words.now) }
     ensures within { IfOk result IsWithin }
 {
@@ -253,7 +178,7 @@ fn replace(words: &[&[u8]]) -> Result<ScriptLine, LineWhy>
     }
 }
 
-fn mark(words: &[&[u8]]) -> Result<ScriptLine, LineWhy>
+pub fn mark(words: &[&[u8]]) -> Result<ScriptLine, LineWhy>
     ensures answer { result ≡ line_as mark_form (map (λ word. word.now) words.now) }
     ensures within { IfOk result IsWithin }
 {
@@ -272,7 +197,7 @@ fn mark(words: &[&[u8]]) -> Result<ScriptLine, LineWhy>
     }
 }
 
-fn hold(words: &[&[u8]]) -> Result<ScriptLine, LineWhy>
+pub fn hold(words: &[&[u8]]) -> Result<ScriptLine, LineWhy>
     ensures answer { result ≡ line_as hold_form (map (λ word. word.now) words.now) }
     ensures within { IfOk result IsWithin }
 {
@@ -283,7 +208,7 @@ fn hold(words: &[&[u8]]) -> Result<ScriptLine, LineWhy>
     })
 }
 
-fn go(words: &[&[u8]]) -> Result<ScriptLine, LineWhy>
+pub fn go(words: &[&[u8]]) -> Result<ScriptLine, LineWhy>
     ensures answer { result ≡ line_as go_form (map (λ word. word.now) words.now) }
     ensures within { IfOk result IsWithin }
 {
@@ -294,7 +219,22 @@ fn go(words: &[&[u8]]) -> Result<ScriptLine, LineWhy>
     })
 }
 
-fn connect(words: &[&[u8]]) -> Result<ScriptLine, LineWhy>
+pub fn signal(words: &[&[u8]]) -> Result<ScriptLine, LineWhy>
+    ensures answer { result ≡ line_as signal_form (map (λ word. word.now) words.now) }
+    ensures within { IfOk result IsWithin }
+{
+    match words {
+        [machine, line, on] => {
+            let machine = number(machine, 1, MOST_MACHINES)? as u32;
+            let line = segment_line(line)?;
+            let on = switch(on)?;
+            Ok(ScriptLine::Signal { machine, line, on })
+        }
+        _ => Err(LineWhy::WrongCount),
+    }
+}
+
+pub fn connect(words: &[&[u8]]) -> Result<ScriptLine, LineWhy>
     ensures answer { result ≡ line_as connect_form (map (λ word. word.now) words.now) }
     ensures within { IfOk result IsWithin }
 {
@@ -302,7 +242,7 @@ fn connect(words: &[&[u8]]) -> Result<ScriptLine, LineWhy>
     Ok(ScriptLine::Connect { machine })
 }
 
-fn flow(words: &[&[u8]]) -> Result<ScriptLine, LineWhy>
+pub fn flow(words: &[&[u8]]) -> Result<ScriptLine, LineWhy>
     ensures answer { result ≡ line_as flow_form (map (λ word. word.now) words.now) }
     ensures within { IfOk result IsWithin }
 {
@@ -330,7 +270,7 @@ fn flow(words: &[&[u8]]) -> Result<ScriptLine, LineWhy>
     }
 }
 
-fn notice(words: &[&[u8]]) -> Result<ScriptLine, LineWhy>
+pub fn notice(words: &[&[u8]]) -> Result<ScriptLine, LineWhy>
     ensures answer { result ≡ line_as notice_form (map (λ word. word.now) words.now) }
     ensures within { IfOk result IsWithin }
 {
@@ -341,7 +281,7 @@ fn notice(words: &[&[u8]]) -> Result<ScriptLine, LineWhy>
     })
 }
 
-fn cut(words: &[&[u8]]) -> Result<ScriptLine, LineWhy>
+pub fn cut(words: &[&[u8]]) -> Result<ScriptLine, LineWhy>
     ensures answer { result ≡ line_as cut_form (map (λ word. word.now) words.now) }
     ensures within { IfOk result IsWithin }
 {
@@ -349,7 +289,7 @@ fn cut(words: &[&[u8]]) -> Result<ScriptLine, LineWhy>
     Ok(ScriptLine::Cut { gap })
 }
 
-fn spoil(words: &[&[u8]]) -> Result<ScriptLine, LineWhy>
+pub fn spoil(words: &[&[u8]]) -> Result<ScriptLine, LineWhy>
     ensures answer { result ≡ line_as spoil_form (map (λ word. word.now) words.now) }
     ensures within { IfOk result IsWithin }
 {
@@ -360,7 +300,15 @@ fn spoil(words: &[&[u8]]) -> Result<ScriptLine, LineWhy>
     })
 }
 
-fn shutdown(words: &[&[u8]]) -> Result<ScriptLine, LineWhy>
+pub fn forecast(words: &[&[u8]]) -> Result<ScriptLine, LineWhy>
+    ensures answer { result ≡ line_as forecast_form (map (λ word. word.now) words.now) }
+    ensures within { IfOk result IsWithin }
+{
+    let machine = only_number(words, MOST_MACHINES)?;
+    Ok(ScriptLine::Forecast { machine })
+}
+
+pub fn shutdown(words: &[&[u8]]) -> Result<ScriptLine, LineWhy>
     ensures answer { result ≡ line_as shutdown_form (map (λ word. word.now) words.now) }
     ensures within { IfOk result IsWithin }
 {
@@ -368,7 +316,7 @@ fn shutdown(words: &[&[u8]]) -> Result<ScriptLine, LineWhy>
     Ok(ScriptLine::Shutdown { machine })
 }
 
-fn tick(words: &[&[u8]]) -> Result<ScriptLine, LineWhy>
+pub fn tick(words: &[&[u8]]) -> Result<ScriptLine, LineWhy>
     ensures answer { result ≡ line_as tick_form (map (λ word. word.now) words.now) }
     ensures within { IfOk result IsWithin }
 {
@@ -376,7 +324,7 @@ fn tick(words: &[&[u8]]) -> Result<ScriptLine, LineWhy>
     Ok(ScriptLine::Tick { machine })
 }
 
-fn fault(words: &[&[u8]]) -> Result<ScriptLine, LineWhy>
+pub fn fault(words: &[&[u8]]) -> Result<ScriptLine, LineWhy>
     ensures answer { result ≡ line_as fault_form (map (λ word. word.now) words.now) }
     ensures within { IfOk result IsWithin }
 {
@@ -387,7 +335,7 @@ fn fault(words: &[&[u8]]) -> Result<ScriptLine, LineWhy>
     })
 }
 
-fn lie(words: &[&[u8]]) -> Result<ScriptLine, LineWhy>
+pub fn lie(words: &[&[u8]]) -> Result<ScriptLine, LineWhy>
     ensures answer { result ≡ line_as lie_form (map (λ word. word.now) words.now) }
     ensures within { IfOk result IsWithin }
 {
@@ -428,6 +376,21 @@ fn is_seen_at(side: Side, event: SensorEvent) -> bool
     }
 }
 
+/// The side comes before the machine: `unseen in 2`.
+pub fn unseen(words: &[&[u8]]) -> Result<ScriptLine, LineWhy>
+    ensures answer { result ≡ line_as unseen_form (map (λ word. word.now) words.now) }
+    ensures within { IfOk result IsWithin }
+{
+    match words {
+        [spelled_side, machine] => {
+            let side = side(spelled_side)?;
+            let machine = number(machine, 1, MOST_MACHINES)? as u32;
+            Ok(ScriptLine::Unseen { machine, side })
+        }
+        _ => Err(LineWhy::WrongCount),
+    }
+}
+
 /// A machine, and one of its sides.
 #[derive(Clone, Copy, Debug, PartialEq, Eq)]
 struct AtSide {
@@ -450,7 +413,7 @@ fn at_side(words: &[&[u8]]) -> Result<AtSide, LineWhy>
     }
 }
 
-fn sense(words: &[&[u8]]) -> Result<ScriptLine, LineWhy>
+pub fn sense(words: &[&[u8]]) -> Result<ScriptLine, LineWhy>
     ensures answer { result ≡ line_as sense_form (map (λ word. word.now) words.now) }
     ensures within { IfOk result IsWithin }
 {
@@ -458,7 +421,7 @@ fn sense(words: &[&[u8]]) -> Result<ScriptLine, LineWhy>
     Ok(ScriptLine::Sense { machine })
 }
 
-fn begin(words: &[&[u8]]) -> Result<ScriptLine, LineWhy>
+pub fn begin(words: &[&[u8]]) -> Result<ScriptLine, LineWhy>
     ensures answer { result ≡ line_as begin_form (map (λ word. word.now) words.now) }
     ensures within { IfOk result IsWithin }
 {
@@ -466,7 +429,7 @@ fn begin(words: &[&[u8]]) -> Result<ScriptLine, LineWhy>
     Ok(ScriptLine::Begin { gap })
 }
 
-fn left(words: &[&[u8]]) -> Result<ScriptLine, LineWhy>
+pub fn left(words: &[&[u8]]) -> Result<ScriptLine, LineWhy>
     ensures answer { result ≡ line_as left_form (map (λ word. word.now) words.now) }
     ensures within { IfOk result IsWithin }
 {
@@ -474,7 +437,7 @@ fn left(words: &[&[u8]]) -> Result<ScriptLine, LineWhy>
     Ok(ScriptLine::Left { gap })
 }
 
-fn enter(words: &[&[u8]]) -> Result<ScriptLine, LineWhy>
+pub fn enter(words: &[&[u8]]) -> Result<ScriptLine, LineWhy>
     ensures answer { result ≡ line_as enter_form (map (λ word. word.now) words.now) }
     ensures within { IfOk result IsWithin }
 {
@@ -482,7 +445,7 @@ fn enter(words: &[&[u8]]) -> Result<ScriptLine, LineWhy>
     Ok(ScriptLine::Enter { gap })
 }
 
-fn back(words: &[&[u8]]) -> Result<ScriptLine, LineWhy>
+pub fn back(words: &[&[u8]]) -> Result<ScriptLine, LineWhy>
     ensures answer { result ≡ line_as back_form (map (λ word. word.now) words.now) }
     ensures within { IfOk result IsWithin }
 {
@@ -490,7 +453,7 @@ fn back(words: &[&[u8]]) -> Result<ScriptLine, LineWhy>
     Ok(ScriptLine::Back { gap })
 }
 
-fn hand_in(words: &[&[u8]]) -> Result<ScriptLine, LineWhy>
+pub fn hand_in(words: &[&[u8]]) -> Result<ScriptLine, LineWhy>
     ensures answer { result ≡ line_as hand_in_form (map (λ word. word.now) words.now) }
     ensures within { IfOk result IsWithin }
 {
@@ -498,7 +461,7 @@ fn hand_in(words: &[&[u8]]) -> Result<ScriptLine, LineWhy>
     Ok(ScriptLine::HandIn { gap })
 }
 
-fn take(words: &[&[u8]]) -> Result<ScriptLine, LineWhy>
+pub fn take(words: &[&[u8]]) -> Result<ScriptLine, LineWhy>
     ensures answer { result ≡ line_as take_form (map (λ word. word.now) words.now) }
     ensures within { IfOk result IsWithin }
 {
@@ -518,7 +481,7 @@ fn only_number(words: &[&[u8]], most: u64) -> Result<u32, LineWhy>
     }
 }
 
-fn show(words: &[&[u8]]) -> Result<ScriptLine, LineWhy>
+pub fn show(words: &[&[u8]]) -> Result<ScriptLine, LineWhy>
     ensures answer { result ≡ line_as show_form (map (λ word. word.now) words.now) }
     ensures within { IfOk result IsWithin }
 {

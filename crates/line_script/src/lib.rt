@@ -1,6 +1,7 @@
 //! The lines of a script: what each asks for, and why a line is refused.
 #![tactic(auto)]
 
+mod find;
 mod forms;
 mod line;
 mod read;

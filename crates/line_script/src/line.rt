@@ -1,5 +1,6 @@
 use board_record::{BoardId, Sensed};
 use line_base::{Quality, Side, Text};
+use smema_bridge::SegmentLine;
 use std::fmt;
 use thiserror::Error;
 
@@ -11,6 +12,11 @@ pub enum ScriptLine {
     Blank,
     /// Another machine at the line's end, with room for so many boards, that has made `used` ids.
     Machine {
+        capacity: u32,
+        used: u64,
+    },
+    /// Another machine at the line's end, which is a bridge to a segment that speaks no Hermes.
+    Bridge {
         capacity: u32,
         used: u64,
     },
@@ -44,6 +50,12 @@ pub enum ScriptLine {
     Go {
         machine: u32,
         side: Side,
+    },
+    /// The segment of a bridge switches one of its signals.
+    Signal {
+        machine: u32,
+        line: SegmentLine,
+        on: bool,
     },
     /// A machine connects to its upstream neighbour.
     Connect {
@@ -87,6 +99,11 @@ pub enum ScriptLine {
         machine: u32,
         sensed: Sensed,
     },
+    /// A board comes in from a bridge's segment, or goes out into it, and no sensor sees it.
+    Unseen {
+        machine: u32,
+        side: Side,
+    },
     /// A machine reads what its sensors saw.
     Sense {
         machine: u32,
@@ -117,6 +134,15 @@ pub enum ScriptLine {
     },
     /// What every machine keeps, in the report.
     Show,
+    /// A machine tells its downstream neighbour which board will come.
+    Forecast {
+        machine: u32,
+    },
+    /// A machine asks its upstream neighbour for the board with this top barcode.
+    Query {
+        machine: u32,
+        barcode: Text,
+    },
 }
 
 /// Why a line is refused. The reasons are tested in this order, but the last four, of which the first

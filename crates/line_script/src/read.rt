@@ -3,7 +3,7 @@ ghost use Rattle.line_script.specs.Ranges.{IsWithin};
 ghost use Rattle.line_script.specs.Words.{Reads};
 ghost use Rattle.line_script.specs.Grammar.{read_of};
 
-use crate::forms::line_of;
+use crate::find::line_of;
 use crate::line::{LineError, LineWhy, ScriptLine};
 use crate::words::{is_text, words_of};
 use std::alloc::Global;

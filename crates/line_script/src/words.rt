@@ -3,11 +3,12 @@
 ghost use Rattle.std.specs.Prelude.{◌≡◌, IfOk, map};
 ghost use Rattle.std.specs.List.{list_all};
 ghost use Rattle.line_script.specs.Ranges.{IsBetween};
-ghost use Rattle.line_script.specs.Words.{is_blank, is_text_byte, number_in, words_of, ReadsToken, identity_of, literal_of, side_of, quality_of, event_of};
+ghost use Rattle.line_script.specs.Words.{is_blank, is_text_byte, number_in, words_of, ReadsToken, identity_of, literal_of, side_of, quality_of, event_of, segment_line_of, switch_of};
 
 use crate::line::{LineError, LineWhy};
 use board_record::BoardId;
 use line_base::{Quality, SensorEvent, Side, Text, TextError, digits_value, is_digits};
+use smema_bridge::SegmentLine;
 use std::alloc::{AllocError, Global};
 
 /// The most bytes of a text word.
@@ -124,6 +125,35 @@ pub fn event(word: &[u8]) -> Result<SensorEvent, LineWhy>
     }
     if word == &b"Taken"[..] {
         return Ok(SensorEvent::Taken);
+    }
+    Err(LineWhy::BadWord)
+}
+
+/// A signal of a segment: `ready`, `available` or `failed`. `BadWord` else.
+pub fn segment_line(word: &[u8]) -> Result<SegmentLine, LineWhy>
+    ensures { result ≡ segment_line_of word.now }
+{
+    if word == &b"ready"[..] {
+        return Ok(SegmentLine::Ready);
+    }
+    if word == &b"available"[..] {
+        return Ok(SegmentLine::Available);
+    }
+    if word == &b"failed"[..] {
+        return Ok(SegmentLine::Failed);
+    }
+    Err(LineWhy::BadWord)
+}
+
+/// Whether a signal is switched on: `on` or `off`. `BadWord` else.
+pub fn switch(word: &[u8]) -> Result<bool, LineWhy>
+    ensures { result ≡ switch_of word.now }
+{
+    if word == &b"on"[..] {
+        return Ok(true);
+    }
+    if word == &b"off"[..] {
+        return Ok(false);
     }
     Err(LineWhy::BadWord)
 }

@@ -6,6 +6,7 @@ mod spelled;
 use crate::spelled::spell;
 use line_base::{Quality, SensorEvent, Side};
 use line_script::{ScriptLine, read_line};
+use smema_bridge::SegmentLine;
 use std::alloc::Global;
 use std::io;
 use std::io::Write;
@@ -38,6 +39,7 @@ fn tell(line: &ScriptLine, to: &mut Vec<u8>) -> io::Result<()> {
     match line {
         ScriptLine::Blank => write!(to, "nothing"),
         ScriptLine::Machine { capacity, used } => write!(to, "machine {capacity} used {used}"),
+        ScriptLine::Bridge { capacity, used } => write!(to, "bridge {capacity} used {used}"),
         ScriptLine::Insert { machine, barcode } => {
             write!(to, "insert {machine}")?;
             match barcode {
@@ -80,6 +82,11 @@ fn tell_event(line: &ScriptLine, to: &mut Vec<u8>) -> io::Result<()> {
             let event = event_word(sensed.event);
             write!(to, " {event}")
         }
+        ScriptLine::Signal { machine, line, on } => {
+            let signal = signal_word(*line);
+            write!(to, "signal {machine} {signal} {on}")
+        }
+        ScriptLine::Unseen { machine, side } => tell_side("unseen", *machine, *side, to),
         _ => tell_link(line, to),
     }
 }
@@ -102,6 +109,11 @@ fn tell_link(line: &ScriptLine, to: &mut Vec<u8>) -> io::Result<()> {
         ScriptLine::Notice { machine, side } => tell_side("notice", *machine, *side, to),
         ScriptLine::Cut { gap } => write!(to, "cut {gap}"),
         ScriptLine::Spoil { machine, side } => tell_side("spoil", *machine, *side, to),
+        ScriptLine::Forecast { machine } => write!(to, "forecast {machine}"),
+        ScriptLine::Query { machine, barcode } => {
+            write!(to, "query {machine}")?;
+            tell_barcode(barcode.bytes(), to)
+        }
         _ => Ok(()),
     }
 }
@@ -133,6 +145,14 @@ fn event_word(event: SensorEvent) -> &'static str {
         SensorEvent::Full => "Full",
         SensorEvent::Back => "Back",
         SensorEvent::Taken => "Taken",
+    }
+}
+
+fn signal_word(line: SegmentLine) -> &'static str {
+    match line {
+        SegmentLine::Ready => "ready",
+        SegmentLine::Available => "available",
+        SegmentLine::Failed => "failed",
     }
 }
 

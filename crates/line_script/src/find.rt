@@ -1,0 +1,153 @@
+//! The reader of a line by its first word.
+
+ghost use Rattle.std.specs.Prelude.{◌≡◌, IfOk, map};
+ghost use Rattle.line_script.specs.Ranges.{IsWithin};
+ghost use Rattle.line_script.specs.Words.{Reads};
+ghost use Rattle.line_script.specs.Grammar.{line_among, forms, board_forms, link_forms, machine_forms, floor_forms, report_forms, is_later};
+
+use crate::forms::{
+    back, begin, bridge, connect, cut, enter, fault, flow, forecast, go, hand_in, hold, insert,
+    left, lie, machine, mark, notice, query, refused, remove, replace, sense, show, shutdown,
+    signal, spoil, take, tick, unseen,
+};
+use crate::line::{LineError, LineWhy, ScriptLine};
+use std::alloc::Global;
+
+/// The line that a first word and its arguments ask for.
+pub fn line_of(alloc: Global, first: &[u8], words: &[&[u8]]) -> Result<ScriptLine, LineError>
+    ensures answer { Reads (line_among forms first.now (map (λ word. word.now) words.now)) result }
+    ensures within { IfOk result IsWithin }
+{
+    if first == &b"machine"[..] {
+        return refused(machine(words));
+    }
+    if first == &b"bridge"[..] {
+        return refused(bridge(words));
+    }
+    if first == &b"insert"[..] {
+        return insert(alloc, words);
+    }
+    if first == &b"query"[..] {
+        return query(alloc, words);
+    }
+    refused(board_line(first, words))
+}
+
+fn board_line(first: &[u8], words: &[&[u8]]) -> Result<ScriptLine, LineWhy>
+    ensures answer { result ≡ line_among board_forms first.now (map (λ word. word.now) words.now) }
+    ensures within { IfOk result IsWithin }
+{
+    if first == &b"remove"[..] {
+        return remove(words);
+    }
+    if first == &b"replace"[..] {
+        return replace(words);
+    }
+    if first == &b"mark"[..] {
+        return mark(words);
+    }
+    if first == &b"hold"[..] {
+        return hold(words);
+    }
+    if first == &b"go"[..] {
+        return go(words);
+    }
+    if first == &b"signal"[..] {
+        return signal(words);
+    }
+    link_line(first, words)
+}
+
+fn link_line(first: &[u8], words: &[&[u8]]) -> Result<ScriptLine, LineWhy>
+    ensures answer { result ≡ line_among link_forms first.now (map (λ word. word.now) words.now) }
+    ensures within { IfOk result IsWithin }
+{
+    if first == &b"connect"[..] {
+        return connect(words);
+    }
+    if first == &b"flow"[..] {
+        return flow(words);
+    }
+    if first == &b"notice"[..] {
+        return notice(words);
+    }
+    if first == &b"cut"[..] {
+        return cut(words);
+    }
+    if first == &b"spoil"[..] {
+        return spoil(words);
+    }
+    if first == &b"forecast"[..] {
+        return forecast(words);
+    }
+    machine_line(first, words)
+}
+
+fn machine_line(first: &[u8], words: &[&[u8]]) -> Result<ScriptLine, LineWhy>
+    ensures answer { result ≡ line_among machine_forms first.now (map (λ word. word.now) words.now) }
+    ensures within { IfOk result IsWithin }
+{
+    if first == &b"shutdown"[..] {
+        return shutdown(words);
+    }
+    if first == &b"tick"[..] {
+        return tick(words);
+    }
+    if first == &b"fault"[..] {
+        return fault(words);
+    }
+    if first == &b"lie"[..] {
+        return lie(words);
+    }
+    if first == &b"unseen"[..] {
+        return unseen(words);
+    }
+    floor_line(first, words)
+}
+
+fn floor_line(first: &[u8], words: &[&[u8]]) -> Result<ScriptLine, LineWhy>
+    ensures answer { result ≡ line_among floor_forms first.now (map (λ word. word.now) words.now) }
+    ensures within { IfOk result IsWithin }
+{
+    if first == &b"sense"[..] {
+        return sense(words);
+    }
+    if first == &b"begin"[..] {
+        return begin(words);
+    }
+    if first == &b"left"[..] {
+        return left(words);
+    }
+    if first == &b"in"[..] {
+        return enter(words);
+    }
+    if first == &b"back"[..] {
+        return back(words);
+    }
+    if first == &b"hand-in"[..] {
+        return hand_in(words);
+    }
+    if first == &b"take"[..] {
+        return take(words);
+    }
+    report_line(first, words)
+}
+
+fn report_line(first: &[u8], words: &[&[u8]]) -> Result<ScriptLine, LineWhy>
+    ensures answer { result ≡ line_among report_forms first.now (map (λ word. word.now) words.now) }
+    ensures within { IfOk result IsWithin }
+{
+    if first == &b"show"[..] {
+        return show(words);
+    }
+    if is_later(first) {
+        return Err(LineWhy::NotYet);
+    }
+    Err(LineWhy::UnknownWord)
+}
+
+fn is_later(first: &[u8]) -> bool
+    ensures { result ≡ is_later first.now }
+{
+    first == &b"supervise"[..] || first == &b"ask"[..] || first == &b"answer"[..]
+}
