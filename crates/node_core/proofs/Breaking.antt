@@ -111,9 +111,12 @@ broken desk unread side front word others text body opened is =
     ∙ ap (λ (xs : List Act). record { body = told.body; acts = read.acts ++ xs }) (append_assoc before.acts b.acts told.acts)
     ∙ ap (λ (xs : List Act). record { body = told.body; acts = xs }) (sym (append_assoc read.acts before.acts (b.acts ++ told.acts)))
 
-pub breaks_off : (desk : Desk) (unread : List Sensed) (side : Side) (all : List Word) (before after : Body) (told : List Act)
-    → after ≡ (machine_step desk unread (Words side all) before).body → told ≡ (machine_step desk unread (Words side all) before).acts → BreaksOff desk unread side all before after told
-breaks_off desk unread side all before after now body said = record {
+pub breaks_off : (desk : Desk) (unread : List Sensed) (side : Side) (all : List Word) (before after : Body) (made own now : List Act)
+    → after ≡ (machine_step desk unread (Words side all) before).body → made ≡ (machine_step desk unread (Words side all) before).acts → now ≡ made ++ own → BreaksOff desk unread side all before after own now
+breaks_off desk unread side all before after made own now body said behind_them = record {
   body = λ front word others text same opened is. body ∙ ap (λ (ws : List Word). (machine_step desk unread (Words side ws) before).body) same ∙ ap (λ (d : Done). d.body) (broken desk unread side front word others text before opened is);
-  told = λ front word others text same opened is. said ∙ ap (λ (ws : List Word). (machine_step desk unread (Words side ws) before).acts) same ∙ ap (λ (d : Done). d.acts) (broken desk unread side front word others text before opened is);
+  told = λ front word others text same opened is.
+      behind_them
+      ∙ ap (λ (xs : List Act). xs ++ own)
+      (said ∙ ap (λ (ws : List Word). (machine_step desk unread (Words side ws) before).acts) same ∙ ap (λ (d : Done). d.acts) (broken desk unread side front word others text before opened is));
 }

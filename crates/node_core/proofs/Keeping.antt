@@ -56,9 +56,15 @@ pub record SameParts (before after : Body) : Type 0 where
   pub entry : after.entry.session.role ≡ before.entry.session.role
   pub exit : after.exit.session.role ≡ before.exit.session.role
 
+-- the machine is as willing as before
+pub record SameWills (before after : Body) : Type 0 where
+  pub entry : after.entry.willing ≡ before.entry.willing
+  pub exit : after.exit.willing ≡ before.exit.willing
+
 pub record Keeps (most : ℕ) (body : Body) (d : Done) : Type 0 where
   pub offers : OffersOf body → OffersOf d.body
   pub parts : SameParts body d.body
+  pub wills : SameWills body d.body
   pub places : used body ≤ most → used d.body ≤ most
   pub owns : own_after (own_of body) d.acts ≡ own_of d.body
 
@@ -67,32 +73,33 @@ own_append own [] b = refl
 own_append own (x ∷ xs) b = own_append (own_act own x) xs b
 
 pub keeps_still : (most : ℕ) (body : Body) → Keeps most body (stays body)
-keeps_still most body = record { offers = λ h. h; parts = record { entry = refl; exit = refl }; places = λ h. h; owns = refl }
+keeps_still most body = record { offers = λ h. h; parts = record { entry = refl; exit = refl }; wills = record { entry = refl; exit = refl }; places = λ h. h; owns = refl }
 
 -- acts that are no deeds
 abbrev pub IsSilent : List Act → Type 0
 IsSilent acts = (own : Own) → own_after own acts ≡ own
 
 pub keeps_told : (most : ℕ) (body : Body) (told : List Act) → IsSilent told → Keeps most body (done body told)
-keeps_told most body told silent = record { offers = λ h. h; parts = record { entry = refl; exit = refl }; places = λ h. h; owns = silent (own_of body) }
+keeps_told most body told silent = record { offers = λ h. h; parts = record { entry = refl; exit = refl }; wills = record { entry = refl; exit = refl }; places = λ h. h; owns = silent (own_of body) }
 
 -- acts first
 pub keeps_behind : (most : ℕ) (body : Body) (told : List Act) (d : Done) → IsSilent told → Keeps most body d → Keeps most body (behind told d)
-keeps_behind most body told d silent k = record { offers = k.offers; parts = k.parts; places = k.places; owns = own_append (own_of body) told d.acts ∙ ap (λ (own : Own). own_after own d.acts) (silent (own_of body)) ∙ k.owns }
+keeps_behind most body told d silent k = record { offers = k.offers; parts = k.parts; wills = k.wills; places = k.places; owns = own_append (own_of body) told d.acts ∙ ap (λ (own : Own). own_after own d.acts) (silent (own_of body)) ∙ k.owns }
 
 -- one after the other
 pub keeps_both : (most : ℕ) (body : Body) (first : Done) (next : Body → Done) → Keeps most body first → Keeps most first.body (next first.body) → Keeps most body (and_then first next)
 keeps_both most body first next a b = record {
   offers = λ h. b.offers (a.offers h);
   parts = record { entry = b.parts.entry ∙ a.parts.entry; exit = b.parts.exit ∙ a.parts.exit };
+  wills = record { entry = b.wills.entry ∙ a.wills.entry; exit = b.wills.exit ∙ a.wills.exit };
   places = λ h. b.places (a.places h);
   owns = own_append (own_of body) first.acts (next first.body).acts ∙ ap (λ (own : Own). own_after own (next first.body).acts) a.owns ∙ b.owns;
 }
 
 -- a session changes first
 pub keeps_session : (most : ℕ) (side : Side) (s : SessionEnd) (body : Body) (d : Done) → s.role ≡ (session_at side body).role → Keeps most (with_session side s body) d → Keeps most body d
-keeps_session most Entry s body d same k = record { offers = k.offers; parts = record { entry = k.parts.entry ∙ same; exit = k.parts.exit }; places = k.places; owns = k.owns }
-keeps_session most Exit s body d same k = record { offers = k.offers; parts = record { entry = k.parts.entry; exit = k.parts.exit ∙ same }; places = k.places; owns = k.owns }
+keeps_session most Entry s body d same k = record { offers = k.offers; parts = record { entry = k.parts.entry ∙ same; exit = k.parts.exit }; wills = record { entry = k.wills.entry; exit = k.wills.exit }; places = k.places; owns = k.owns }
+keeps_session most Exit s body d same k = record { offers = k.offers; parts = record { entry = k.parts.entry; exit = k.parts.exit ∙ same }; wills = record { entry = k.wills.entry; exit = k.wills.exit }; places = k.places; owns = k.owns }
 
 -- ---- the halves
 
@@ -106,6 +113,7 @@ outlet_keeps most desk body input (Some r) plain is =
     record {
       offers = λ h. row_offers h shape plain;
       parts = record { entry = refl; exit = refl };
+      wills = record { entry = refl; exit = refl };
       places = λ fits. fewer_out _ _ _ _ (place_for (in_held body.intake)) most (row_places body.kept shape plain) fits;
       owns = row_owns desk body.intake body.kept shape plain;
     }
@@ -120,6 +128,7 @@ intake_keeps most desk body input (Some r) plain is =
     record {
       offers = λ h. settled_offers body.outlet.phase body.outlet.offered body.kept r.act.keep h;
       parts = record { entry = refl; exit = refl };
+      wills = record { entry = refl; exit = refl };
       places = λ fits. fewer_in _ _ (place_for (held body.outlet)) _ _ most (in_row_places body.kept shape plain) fits;
       owns = in_row_owns desk body.outlet body.kept shape;
     }
@@ -184,6 +193,7 @@ start_took_keeps most desk body id opening (Some r) is =
     keeps_some (record {
       offers = λ h. start_offers (given_back r.act.back (behind_opening opening body.kept)) shape;
       parts = record { entry = refl; exit = refl };
+      wills = record { entry = refl; exit = refl };
       places = λ fits. fewer_out _ _ _ _ (place_for (in_held body.intake)) most (start_places opening body.kept shape) fits;
       owns = start_owns desk body.intake opening body.kept shape;
     })
@@ -193,7 +203,7 @@ exit_keeps most desk exits.Ready body = outlet_took_keeps most desk body Machine
 exit_keeps most desk exits.Unready body = outlet_took_keeps most desk body RevokeMachineReady (outlet_row body.outlet RevokeMachineReady) tt refl
 exit_keeps most desk (exits.Start id) body = start_took_keeps most desk body id (would_open body.outlet id) (outlet_row body.outlet (Start id (opening_board (would_open body.outlet id) body.kept))) refl
 exit_keeps most desk (exits.Stop state id) body = outlet_took_keeps most desk body (Stop state id) (outlet_row body.outlet (Stop state id)) tt refl
-exit_keeps most desk exits.Query body = keeps_some (keeps_told most body _ (λ own. refl))
+exit_keeps most desk (exits.Query top bottom) body = keeps_some (keeps_told most body _ (λ own. refl))
 exit_keeps most desk exits.Nothing body = keeps_some (keeps_still most body)
 
 intake_took_keeps : (most : ℕ) (desk : Desk) (body : Body) (input : InInput) (found : Option InRow) → IsNoStart input → intake_row body.intake input ≡ found → KeepsAny most body (intake_took desk body found)

@@ -7,6 +7,9 @@ use Rattle.line_base.specs.declared.states.Side.{Side}
 use Rattle.line_base.specs.declared.states.Side.TheVariants.{Entry, Exit}
 use Rattle.line_base.specs.declared.states.SensorEvent.{SensorEvent}
 use Rattle.line_base.specs.declared.states.Quality.{Quality}
+use Rattle.line_base.specs.declared.states.Quality.TheVariants as qualities
+use Rattle.smema_bridge.specs.declared.line.SegmentLine.{SegmentLine}
+use Rattle.smema_bridge.specs.declared.line.SegmentLine.TheVariants.{Ready, Available, Failed}
 use Rattle.board_record.specs.declared.record.Record.{Record}
 use Rattle.board_record.specs.Record.{plain_record}
 use Rattle.board_record.specs.declared.sensed.Sensed.{Sensed as Seen}
@@ -29,6 +32,7 @@ use Rattle.handover_in.proofs.Rows.{row_is as in_row_is}
 use Rattle.node_core.specs.Desk.{Desk}
 use Rattle.node_core.specs.declared.act.Act.{Act}
 use Rattle.node_core.specs.declared.act.Act.TheVariants as acts
+use Rattle.node_core.specs.declared.act.Setting.TheVariants as settings
 use Rattle.node_core.specs.declared.lane.Body.{Body}
 use Rattle.node_core.specs.declared.word.Word.{Word}
 use Rattle.node_core.specs.Done.{Done, done, stays, behind, and_then}
@@ -37,16 +41,18 @@ use Rattle.node_core.specs.Halves.{OffersFront, settled, outlet_row_did, intake_
 use Rattle.node_core.specs.Reads.{saw, reads, all_read}
 use Rattle.node_core.specs.Connect.{opens, notices, ticks, shuts_down}
 use Rattle.node_core.specs.Boards.{without, with_instead, with_mark, is_kept, if_kept, removes, replaces, marks, inserts, faults, wills}
+use Rattle.node_core.specs.Bridge.{with_level_will, failed_front, fails, sets_level}
+use Rattle.node_core.specs.Information.{forecasts, asks_for}
 use Rattle.node_core.specs.Places.{used, place_for, has_place}
 use Rattle.node_core.specs.Announces.{is_free, is_intake_free, is_front, revokes_now, revoke_by, revoke, unreadies_now, unready_by, unready, offers_now, offer_by, offer, readies_now, ready_by, ready, starts_now, start_by, start, announces}
 use Rattle.node_core.specs.Words.{word_did}
-use Rattle.node_core.specs.Event.{Event, Nothing, Connect, Accepted, Second, Words, Notice, Tick, Shutdown, Fault, Will, Insert, Remove, Replace, Mark, event_did}
+use Rattle.node_core.specs.Event.{Event, Nothing, Connect, Accepted, Second, Words, Notice, Tick, Shutdown, Fault, Will, Level, Insert, Remove, Replace, Mark, Forecast, Query, event_did}
 use Rattle.node_core.specs.Step.{machine_step}
 use Rattle.node_core.specs.Own.{Own, own_act, own_after, own_of, ids_of, without_id, with_id_instead}
 use Rattle.node_core.specs.Sound.{IsSound}
 use Rattle.node_core.proofs.Offers.{Offers, offers_none, offers_front, OffersOf, to_offers, from_offers, front_offers, settled_offers, nothing_offered}
 use Rattle.node_core.proofs.HalfRows.{offer_offers, offer_places, offer_owns, in_places, in_row_places, in_row_owns}
-use Rattle.node_core.proofs.Keeping.{Keeps, SameParts, keeps_still, keeps_behind, keeps_both, own_append, at_outlet_keeps, at_intake_keeps, ended_keeps, session_keeps, heard_keeps, word_keeps, if_keeps}
+use Rattle.node_core.proofs.Keeping.{Keeps, SameParts, SameWills, keeps_still, keeps_told, keeps_behind, keeps_both, own_append, at_outlet_keeps, at_intake_keeps, ended_keeps, session_keeps, heard_keeps, word_keeps, if_keeps}
 
 -- ---- what the loop over a piece needs
 
@@ -203,9 +209,34 @@ inserts_keeps most desk id barcode body fits = record {
   owns = ap (λ (ids : List ℕ). record (own_of body) { kept = ids }) (ids_behind body.kept (plain_record id desk.name barcode));
 }
 
-wills_keeps : (most : ℕ) (side : Side) (on : Bool) (body : Body) → Keeps most body (wills side on body)
-wills_keeps most Entry on body = record { offers = λ h. h; parts = record { entry = refl; exit = refl }; places = λ h. h; owns = refl }
-wills_keeps most Exit on body = record { offers = λ h. h; parts = record { entry = refl; exit = refl }; places = λ h. h; owns = refl }
+wills_keeps : (most : ℕ) (side : Side) (on : Bool) (body : Body) → KeepsLoosely most body (wills side on body)
+wills_keeps most Entry on body = record { offers = λ h. offer_idle body h; parts = record { entry = refl; exit = refl }; places = λ h. h; owns = refl }
+wills_keeps most Exit on body = record { offers = λ h. offer_idle body h; parts = record { entry = refl; exit = refl }; places = λ h. h; owns = refl }
+
+-- a level of a bridge's segment changes its will at most, and then the front board may be marked
+
+level_then : (most : ℕ) (line : SegmentLine) (on : Bool) (body : Body) (d : Done) → KeepsLoosely most (with_level_will line on body) d → KeepsLoosely most body (behind (acts.Sets (settings.Level line on) ∷ []) d)
+level_then most Ready on body d k = record { offers = k.offers; parts = record { entry = k.parts.entry; exit = k.parts.exit }; places = k.places; owns = k.owns }
+level_then most Available on body d k = record { offers = k.offers; parts = record { entry = k.parts.entry; exit = k.parts.exit }; places = k.places; owns = k.owns }
+level_then most Failed on body d k = record { offers = k.offers; parts = record { entry = k.parts.entry; exit = k.parts.exit }; places = k.places; owns = k.owns }
+
+fails_keeps : (most : ℕ) (board : Option ℕ) (body : Body) → KeepsLoosely most body (fails board body)
+fails_keeps most None body = loosely most body (stays body) (keeps_still most body)
+fails_keeps most (Some id) body = marks_keeps most id qualities.Failed body
+
+sets_level_keeps : (most : ℕ) (desk : Desk) (line : SegmentLine) (on : Bool) (body : Body) → KeepsLoosely most body (sets_level desk line on body)
+sets_level_keeps most desk line on body =
+    let one = with_level_will line on body in
+    level_then most line on body (fails (failed_front desk.bridge line on one) one) (fails_keeps most (failed_front desk.bridge line on one) one)
+
+-- what is told of boards beside their handovers
+
+forecasts_keep : (most : ℕ) (desk : Desk) (front : Option Record) (body : Body) → Keeps most body (done body (forecasts desk front))
+forecasts_keep most desk None body = keeps_still most body
+forecasts_keep most desk (Some board) body = keeps_told most body _ (λ own. refl)
+
+asks_keeps : (most : ℕ) (desk : Desk) (barcode : List ℕ) (body : Body) → Keeps most body (asks_for desk barcode body)
+asks_keeps most desk barcode body = keeps_told most body _ (λ own. refl)
 
 -- a board is put in only where there is a place
 abbrev pub HasPlaceFor : ℕ → Event → Body → Type 0
@@ -222,11 +253,49 @@ event_keeps most desk (Notice side) body fits = loosely most body _ (notices_kee
 event_keeps most desk Tick body fits = loosely most body _ (keeps_both most body (ticks desk Entry body) (ticks desk Exit) (ticks_keeps most desk Entry body) (ticks_keeps most desk Exit (ticks desk Entry body).body))
 event_keeps most desk Shutdown body fits = loosely most body _ (keeps_both most body (shuts_down desk Entry body) (shuts_down desk Exit) (shuts_down_keeps most desk Entry body) (shuts_down_keeps most desk Exit (shuts_down desk Entry body).body))
 event_keeps most desk (Fault side) body fits = loosely most body _ (faults_keeps most desk side body)
-event_keeps most desk (Will side on) body fits = loosely most body _ (wills_keeps most side on body)
+event_keeps most desk (Will side on) body fits = wills_keeps most side on body
+event_keeps most desk (Level line on) body fits = sets_level_keeps most desk line on body
 event_keeps most desk (Insert id barcode) body fits = inserts_keeps most desk id barcode body fits
 event_keeps most desk (Remove id) body fits = removes_keeps most id body
 event_keeps most desk (Replace old new) body fits = replaces_keeps most desk old new body
 event_keeps most desk (Mark id quality) body fits = marks_keeps most id quality body
+event_keeps most desk Forecast body fits = loosely most body _ (forecasts_keep most desk (slice_get body.kept 0) body)
+event_keeps most desk (Query barcode) body fits = loosely most body _ (asks_keeps most desk barcode body)
+
+-- ---- the will
+
+kept_wills : (test : Bool) (kept : List Record) (act : Act) (body : Body) → SameWills body (if_kept test (record body { kept = kept }) act body).body
+kept_wills true kept act body = record { entry = refl; exit = refl }
+kept_wills false kept act body = record { entry = refl; exit = refl }
+
+pub fails_wills : (board : Option ℕ) (body : Body) → SameWills body (fails board body).body
+fails_wills None body = record { entry = refl; exit = refl }
+fails_wills (Some id) body = kept_wills (is_kept id body.kept) (with_mark id qualities.Failed body.kept) (acts.Marks id qualities.Failed) body
+
+-- an event that is none of the will
+abbrev pub IsWilless : Event → Type 0
+IsWilless (Will side on) = ⊥
+IsWilless (Level line on) = ⊥
+IsWilless _ = Unit {0}
+
+pub event_wills : (desk : Desk) (event : Event) (body : Body) → IsWilless event → SameWills body (event_did desk event body).body
+event_wills desk Nothing body no_will = record { entry = refl; exit = refl }
+event_wills desk Connect body no_will = (keeps_behind 0 body (acts.Connects ∷ []) (opens desk Entry body) (λ own. refl) (opens_keeps 0 desk Entry body)).wills
+event_wills desk Accepted body no_will = (opens_keeps 0 desk Exit body).wills
+event_wills desk Second body no_will = (session_keeps 0 desk Exit second body (session_row (session_at Exit body) second) refl).wills
+event_wills desk (Words side words) body no_will = (heard_keeps 0 desk side words body).wills
+event_wills desk (Notice side) body no_will = (notices_keeps 0 desk side body).wills
+event_wills desk Tick body no_will = (keeps_both 0 body (ticks desk Entry body) (ticks desk Exit) (ticks_keeps 0 desk Entry body) (ticks_keeps 0 desk Exit (ticks desk Entry body).body)).wills
+event_wills desk Shutdown body no_will = (keeps_both 0 body (shuts_down desk Entry body) (shuts_down desk Exit) (shuts_down_keeps 0 desk Entry body) (shuts_down_keeps 0 desk Exit (shuts_down desk Entry body).body)).wills
+event_wills desk (Fault side) body no_will = (faults_keeps 0 desk side body).wills
+event_wills desk (Will side on) body no_will = absurd no_will
+event_wills desk (Level line on) body no_will = absurd no_will
+event_wills desk (Insert id barcode) body no_will = record { entry = refl; exit = refl }
+event_wills desk (Remove id) body no_will = kept_wills (is_kept id body.kept) (without id body.kept) (acts.Removes id) body
+event_wills desk (Replace old new) body no_will = kept_wills (is_kept old body.kept) (with_instead old (plain_record new desk.name None) body.kept) (acts.Replaces old new) body
+event_wills desk (Mark id quality) body no_will = kept_wills (is_kept id body.kept) (with_mark id quality body.kept) (acts.Marks id quality) body
+event_wills desk Forecast body no_will = record { entry = refl; exit = refl }
+event_wills desk (Query barcode) body no_will = record { entry = refl; exit = refl }
 
 -- ---- the announcements
 
@@ -289,6 +358,7 @@ offer_did_keeps most desk body front (Some r) first is =
     record {
       offers = λ h. offer_offers body.kept shape (front_offers body.kept front first);
       parts = record { entry = refl; exit = refl };
+      wills = record { entry = refl; exit = refl };
       places = λ fits. fewer_places _ _ _ _ (place_for (in_held body.intake)) most (offer_places body.kept shape) fits;
       owns = offer_owns desk body.intake body.kept shape;
     }
@@ -377,6 +447,7 @@ start_did_keeps most desk body (Some r) is room =
     record {
       offers = λ h. settled_offers body.outlet.phase body.outlet.offered body.kept r.act.keep h;
       parts = record { entry = refl; exit = refl };
+      wills = record { entry = refl; exit = refl };
       places = λ _. start_fits _ _ (place_for (held body.outlet)) _ _ most (start_row_places body.kept shape) room;
       owns = in_row_owns desk body.outlet body.kept shape;
     }
@@ -391,13 +462,14 @@ start_keeps most desk false body is room = keeps_still most body
 
 -- ---- all announcements
 
-record Announced (desk : Desk) (body : Body) (d : Done) : Type 0 where
-  offers : IsOfferIdle body → OffersOf d.body
-  parts : SameParts body d.body
-  places : used body ≤ desk.capacity → used d.body ≤ desk.capacity
-  owns : own_after (own_of body) d.acts ≡ own_of d.body
+pub record Announced (desk : Desk) (body : Body) (d : Done) : Type 0 where
+  pub offers : IsOfferIdle body → OffersOf d.body
+  pub parts : SameParts body d.body
+  pub wills : SameWills body d.body
+  pub places : used body ≤ desk.capacity → used d.body ≤ desk.capacity
+  pub owns : own_after (own_of body) d.acts ≡ own_of d.body
 
-announces_keeps : (desk : Desk) (body : Body) → Announced desk body (announces desk body)
+pub announces_keeps : (desk : Desk) (body : Body) → Announced desk body (announces desk body)
 announces_keeps desk body =
     let most = desk.capacity in
     let one = (revoke desk body).body in
@@ -414,6 +486,7 @@ announces_keeps desk body =
     record {
       offers = λ idle. second.offers (revoke_offers desk (revokes_now body) body idle refl);
       parts = all.parts;
+      wills = all.wills;
       places = all.places;
       owns = all.owns;
     }

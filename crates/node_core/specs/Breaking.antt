@@ -23,6 +23,7 @@ use Rattle.node_core.specs.Hears.{side_took}
 use Rattle.node_core.specs.Reads.{all_read}
 use Rattle.node_core.specs.Announces.{announces}
 use Rattle.node_core.specs.Words.{all_heard}
+use Rattle.node_core.specs.Signals.{signalled}
 use Rattle.node_core.specs.Node.{NodeState, desk_of}
 use Rattle.node_core.specs.Step.{Brings}
 
@@ -54,19 +55,25 @@ broken_step desk unread side front text body = and_then (and_then (all_read desk
 abbrev pub heard_before : Desk → List Sensed → Side → List Word → Body → Body
 heard_before desk unread side front body = (and_then (all_read desk unread body) (all_heard desk side front)).body
 
--- a step of bytes breaks off at its first word that is a breach, and the words behind it don't count
-pub record BreaksOff (desk : Desk) (unread : List Sensed) (side : Side) (all : List Word) (before after : Body) (acts : List Act) : Type 0 where
+-- a step of bytes breaks off at its first word that is a breach, and the words behind it don't count. A bridge's own
+-- signals follow as in any step
+pub record BreaksOff (desk : Desk) (unread : List Sensed) (side : Side) (all : List Word)
+    (before after : Body) (own acts : List Act) : Type 0 where
   pub body : (front : List Word) (word : Word) (others : List Word) (text : List ℕ) → all ≡ front ++ word ∷ others → is_open side (heard_before desk unread side front before) ≡ true
       → breach_of desk side word (heard_before desk unread side front before) ≡ Some text → after ≡ (broken_step desk unread side front text before).body
   pub told : (front : List Word) (word : Word) (others : List Word) (text : List ℕ) → all ≡ front ++ word ∷ others → is_open side (heard_before desk unread side front before) ≡ true
-      → breach_of desk side word (heard_before desk unread side front before) ≡ Some text → acts ≡ (broken_step desk unread side front text before).acts
+      → breach_of desk side word (heard_before desk unread side front before) ≡ Some text → acts ≡ (broken_step desk unread side front text before).acts ++ own
 
-abbrev pub BreaksOffAt : Desk → List Sensed → Input → List Word → Body → Body → List Act → Type 0
-BreaksOffAt desk unread (inputs.Bytes side piece) all before after acts = BreaksOff desk unread side all before after acts
-BreaksOffAt desk unread _ all before after acts = Unit {0}
+abbrev pub BreaksOffAt : Desk → List Sensed → Input → List Word → Body → Body → List Act → List Act
+    → Type 0
+BreaksOffAt desk unread (inputs.Bytes side piece) all before after own acts =
+    BreaksOff desk unread side all before after own acts
+BreaksOffAt desk unread _ all before after own acts = Unit {0}
 
 -- of the words that the input of a step brings
 pub record IsBrokenOff (s : NodeState) (unread : List Sensed) (input : Input) (moment : ℤ) (t : NodeState) (acts : List Act) : Type 0 where
   pub words : List Word
   pub brings : Brings input s.lane t.lane words
-  pub breaks : BreaksOffAt (desk_of s moment) unread input words s.lane.body t.lane.body acts
+  pub breaks :
+      BreaksOffAt (desk_of s moment) unread input words s.lane.body t.lane.body
+      (signalled s.bridge t.lane.body) acts

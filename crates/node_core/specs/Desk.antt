@@ -1,8 +1,11 @@
-use Rattle.std.specs.Prelude.{ℕ, ℤ, List}
+use Rattle.std.specs.Prelude.{ℕ, ℤ, List, Option}
+use Rattle.smema_bridge.specs.Levels.{BridgeLevels}
 
--- what a machine knows of itself in a step: its id text, the number of its lane, its capacity, and the moment
+-- what a machine knows of itself in a step: its id text, the number of its lane, its capacity, the moment, and, of a
+-- bridge, the levels before the step
 pub record Desk : Type 0 where
   pub name : List ℕ
   pub lane : ℕ
   pub capacity : ℕ
   pub moment : ℤ
+  pub bridge : Option BridgeLevels

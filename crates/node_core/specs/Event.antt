@@ -3,6 +3,7 @@ use Rattle.std.specs.Prelude.{ℕ, Bool, List, [], ◌∷◌, Option, Result, Ok
 use Rattle.line_base.specs.declared.states.Side.{Side}
 use Rattle.line_base.specs.declared.states.Side.TheVariants.{Entry, Exit}
 use Rattle.line_base.specs.declared.states.Quality.{Quality}
+use Rattle.smema_bridge.specs.declared.line.SegmentLine.{SegmentLine}
 use Rattle.board_record.specs.Maker.{Maker, next_id, after_next}
 use Rattle.board_record.specs.declared.maker.IdsUsedUp.{IdsUsedUp}
 use Rattle.node_core.specs.declared.act.Act.TheVariants as acts
@@ -14,6 +15,8 @@ use Rattle.node_core.specs.Desk.{Desk}
 use Rattle.node_core.specs.Done.{Done, stays, behind}
 use Rattle.node_core.specs.Connect.{opens, meets_second, notices, both_tick, both_shut_down}
 use Rattle.node_core.specs.Boards.{inserts, removes, replaces, marks, faults, wills}
+use Rattle.node_core.specs.Bridge.{sets_level}
+use Rattle.node_core.specs.Information.{forecasts_front, asks_for}
 use Rattle.node_core.specs.Words.{all_heard}
 
 pub data Event : Type 0 where
@@ -27,10 +30,13 @@ pub data Event : Type 0 where
   Shutdown : Event
   Fault : Side → Event
   Will : Side → Bool → Event
+  Level : SegmentLine → Bool → Event
   Insert : ℕ → Option (List ℕ) → Event
   Remove : ℕ → Event
   Replace : ℕ → ℕ → Event
   Mark : ℕ → Quality → Event
+  Forecast : Event
+  Query : List ℕ → Event
 
 -- with a new id, if there is one
 abbrev pub with_new : Result ℕ IdsUsedUp → (ℕ → Event) → Event
@@ -49,10 +55,13 @@ event_of maker inputs.Tick words = Tick
 event_of maker inputs.Shutdown words = Shutdown
 event_of maker (inputs.Fault side) words = Fault side
 event_of maker (inputs.Will side on) words = Will side on
+event_of maker (inputs.Level line on) words = Level line on
 event_of maker (inputs.Insert barcode) words = with_new (next_id maker) (λ id. Insert id barcode)
 event_of maker (inputs.Remove id) words = Remove id
 event_of maker (inputs.Replace id) words = with_new (next_id maker) (Replace id)
 event_of maker (inputs.Mark id quality) words = Mark id quality
+event_of maker inputs.Forecast words = Forecast
+event_of maker (inputs.Query barcode) words = Query barcode
 
 -- the id maker after an input
 abbrev pub maker_after : Input → Maker → Maker
@@ -72,7 +81,10 @@ event_did desk Tick body = both_tick desk body
 event_did desk Shutdown body = both_shut_down desk body
 event_did desk (Fault side) body = faults desk side body
 event_did desk (Will side on) body = wills side on body
+event_did desk (Level line on) body = sets_level desk line on body
 event_did desk (Insert id barcode) body = inserts desk id barcode body
 event_did desk (Remove id) body = removes id body
 event_did desk (Replace old new) body = replaces desk old new body
 event_did desk (Mark id quality) body = marks id quality body
+event_did desk Forecast body = forecasts_front desk body
+event_did desk (Query barcode) body = asks_for desk barcode body

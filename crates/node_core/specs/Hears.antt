@@ -2,7 +2,7 @@
 use Rattle.std.specs.Prelude.{ℕ, Bool, [], ◌∷◌, Option, Some, None, is_some}
 use Rattle.line_base.specs.declared.states.Side.{Side}
 use Rattle.line_base.specs.declared.states.Side.TheVariants.{Entry, Exit}
-use Rattle.hermes_horizontal.specs.Parts.{kind_of, no_info}
+use Rattle.hermes_horizontal.specs.Parts.{kind_of}
 use Rattle.hermes_horizontal.specs.declared.message.Message.{Message}
 use Rattle.hermes_horizontal.specs.declared.message.Horizontal.{Horizontal}
 use Rattle.hermes_horizontal.specs.declared.message.Horizontal.TheVariants as bodies
@@ -29,6 +29,7 @@ use Rattle.node_core.specs.declared.lane.Body.{Body}
 use Rattle.node_core.specs.Done.{Done, done, stays, behind}
 use Rattle.node_core.specs.Sides.{session_at, with_session}
 use Rattle.node_core.specs.Told.{sends}
+use Rattle.node_core.specs.Information.{answer_to}
 use Rattle.node_core.specs.Halves.{opening_board, behind_opening, outlet_did, intake_did}
 use Rattle.node_core.specs.Session.{actions_did, breaches}
 
@@ -59,7 +60,7 @@ exit_word (bodies.MachineReady _) = exits.Ready
 exit_word bodies.RevokeMachineReady = exits.Unready
 exit_word (bodies.StartTransport id) = exits.Start id
 exit_word (bodies.StopTransport state id) = exits.Stop state id
-exit_word (bodies.QueryBoardInfo _ _) = exits.Query
+exit_word (bodies.QueryBoardInfo top bottom) = exits.Query top bottom
 exit_word _ = exits.Nothing
 
 abbrev pub exit_took : Desk → ExitWord → Body → Option Done
@@ -67,7 +68,8 @@ exit_took desk exits.Ready body = at_exit desk out_input.MachineReady body
 exit_took desk exits.Unready body = at_exit desk out_input.RevokeMachineReady body
 exit_took desk (exits.Start id) body = start_took desk id (would_open body.outlet id) body
 exit_took desk (exits.Stop state id) body = at_exit desk (out_input.Stop state id) body
-exit_took desk exits.Query body = Some (done body (sends desk Exit (bodies.SendBoardInfo no_info)))
+exit_took desk (exits.Query top bottom) body =
+    Some (done body (sends desk Exit (bodies.SendBoardInfo (answer_to body.kept top bottom))))
 exit_took desk exits.Nothing body = Some (stays body)
 
 abbrev pub entry_word : Horizontal → EntryWord

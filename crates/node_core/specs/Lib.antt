@@ -2,6 +2,7 @@ pub mod Desk
 pub mod Done
 pub mod Sides
 pub mod Told
+pub mod Information
 pub mod Halves
 pub mod Session
 pub mod Hears
@@ -10,8 +11,11 @@ pub mod Connect
 pub mod Boards
 pub mod Places
 pub mod Announces
+pub mod Bridge
 pub mod Words
 pub mod Event
+pub mod Signals
+pub mod Forecasts
 pub mod Step
 pub mod Node
 pub mod Breaking

@@ -1,5 +1,5 @@
 -- Whether an input may be given now: the first reason against it, on the state before the step.
-use Rattle.std.specs.Prelude.{ℕ, pos, Bool, true, false, ◌&&◌, ◌^◌, ◌-◌, Result, Ok, Err, not, nat_le}
+use Rattle.std.specs.Prelude.{ℕ, pos, Bool, true, false, ◌&&◌, ◌^◌, ◌-◌, Option, Some, None, Result, Ok, Err, is_none, is_some, not, nat_le, slice_get}
 use Rattle.line_base.specs.declared.states.Side.{Side}
 use Rattle.line_base.specs.declared.states.Side.TheVariants.{Entry, Exit}
 use Rattle.handover_out.specs.declared.phase.OutPhase.{OutPhase}
@@ -8,12 +8,15 @@ use Rattle.handover_out.specs.State as out_state
 use Rattle.handover_in.specs.declared.phase.InPhase.{InPhase}
 use Rattle.handover_in.specs.declared.phase.InPhase.TheVariants as in_names
 use Rattle.handover_in.specs.State as in_state
+use Rattle.smema_bridge.specs.declared.line.SegmentLine.{SegmentLine}
+use Rattle.smema_bridge.specs.Levels.{BridgeLevels}
+use Rattle.smema_bridge.specs.Segment.{level_of}
 use Rattle.node_core.specs.declared.input.No.{No}
 use Rattle.node_core.specs.declared.input.No.TheVariants as no
 use Rattle.node_core.specs.declared.input.Input.{Input}
 use Rattle.node_core.specs.declared.input.Input.TheVariants as inputs
 use Rattle.node_core.specs.declared.lane.Body.{Body}
-use Rattle.node_core.specs.Sides.{end_at, is_open}
+use Rattle.node_core.specs.Sides.{end_at, session_at, is_open, is_standing}
 use Rattle.node_core.specs.Places.{has_place}
 use Rattle.node_core.specs.Announces.{is_intake_free}
 use Rattle.node_core.specs.Boards.{is_kept}
@@ -69,14 +72,32 @@ may_reach_any body = no_if (not (is_open Entry body) && not (is_open Exit body))
 abbrev pub may_fault : Side → Body → Result (Unit {0}) No
 may_fault side body = no_if (not (is_handing_over side body)) no.NoHandover may_do
 
-abbrev pub may_will : Side → Bool → Body → Result (Unit {0}) No
-may_will side on body = no_if (same_bool (end_at side body).willing on) no.Same may_do
+-- a bridge is willing by the levels of its segment alone
+abbrev pub may_will : Side → Bool → NodeState → Result (Unit {0}) No
+may_will side on s =
+    no_if (is_some s.bridge) no.Bridge
+    (no_if (same_bool (end_at side s.lane.body).willing on) no.Same may_do)
+
+abbrev pub may_level : SegmentLine → Bool → Option BridgeLevels → Result (Unit {0}) No
+may_level line on None = Err no.NotABridge
+may_level line on (Some levels) = no_if (same_bool (level_of line levels.segment) on) no.Same may_do
 
 abbrev pub may_remove : ℕ → Body → Result (Unit {0}) No
 may_remove id body = no_if (not (is_kept id body.kept)) no.NotKept may_do
 
 abbrev pub may_mark : ℕ → Body → Result (Unit {0}) No
 may_mark id body = no_if (not (is_kept id body.kept)) no.NotKept (no_if (out_state.is_id body.outlet.touched id) no.Offered may_do)
+
+abbrev pub may_forecast : Body → Result (Unit {0}) No
+may_forecast body =
+    no_if (not (is_standing Exit body)) no.NotStanding
+    (no_if (not (session_at Exit body).peer.forecast) no.NotSupported
+    (no_if (is_none (slice_get body.kept 0)) no.NothingKept may_do))
+
+abbrev pub may_query : Body → Result (Unit {0}) No
+may_query body =
+    no_if (not (is_standing Entry body)) no.NotStanding
+    (no_if (not (session_at Entry body).peer.query) no.NotSupported may_do)
 
 abbrev pub may_insert : NodeState → Result (Unit {0}) No
 may_insert s = no_if (not (is_intake_free s.lane.body)) no.IntakeOpen (no_if (not (has_place (desk_of s (pos 0)) s.lane.body)) no.Full (no_if (is_used_up s.maker.used) no.IdsUsedUp may_do))
@@ -94,8 +115,11 @@ may_of s (inputs.Notice side) = may_reach side s.lane.body
 may_of s inputs.Tick = may_reach_any s.lane.body
 may_of s inputs.Shutdown = may_reach_any s.lane.body
 may_of s (inputs.Fault side) = may_fault side s.lane.body
-may_of s (inputs.Will side on) = may_will side on s.lane.body
+may_of s (inputs.Will side on) = may_will side on s
+may_of s (inputs.Level line on) = may_level line on s.bridge
 may_of s (inputs.Insert barcode) = may_insert s
 may_of s (inputs.Remove id) = may_remove id s.lane.body
 may_of s (inputs.Replace id) = may_replace id s
 may_of s (inputs.Mark id quality) = may_mark id s.lane.body
+may_of s inputs.Forecast = may_forecast s.lane.body
+may_of s (inputs.Query barcode) = may_query s.lane.body

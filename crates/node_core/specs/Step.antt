@@ -17,9 +17,12 @@ use Rattle.node_core.specs.Reads.{all_read}
 use Rattle.node_core.specs.Announces.{announces}
 use Rattle.node_core.specs.Words.{AreWords, HearsPiece}
 use Rattle.node_core.specs.Event.{Event, event_of, event_did, maker_after}
+use Rattle.node_core.specs.Signals.{signalled, levels_after}
+use Rattle.node_core.specs.Forecasts.{forecasts_after}
 use Rattle.node_core.specs.Node.{NodeState, desk_of}
 
--- the unread events in order, the input, the announcements
+-- the unread events in order, the input, the announcements. A bridge's own signals come behind them, and don't change
+-- the body
 abbrev pub machine_step : Desk → List Sensed → Event → Body → Done
 machine_step desk unread event body = and_then (all_read desk unread body) (λ one. and_then (event_did desk event one) (announces desk))
 
@@ -48,9 +51,13 @@ pub record StepsLane (desk : Desk) (unread : List Sensed) (input : Input) (maker
   pub told : acts ≡ (machine_step desk unread (event_of maker input words) old.body).acts
   pub made : new_maker ≡ maker_after input maker
 
--- a machine makes a step
+-- a machine makes a step: what its lane tells, and behind that the own signals of a bridge
 pub record Steps (s : NodeState) (unread : List Sensed) (input : Input) (moment : ℤ) (t : NodeState) (acts : List Act) : Type 0 where
-  pub lane : StepsLane (desk_of s moment) unread input s.maker t.maker s.lane t.lane acts
+  pub made : List Act
+  pub lane : StepsLane (desk_of s moment) unread input s.maker t.maker s.lane t.lane made
+  pub told : acts ≡ made ++ signalled s.bridge t.lane.body
+  pub bridge : t.bridge ≡ levels_after input t.lane.body s.bridge
+  pub forecasts : t.forecasts ≡ forecasts_after s.forecasts acts
   pub name : t.name ≡ s.name
   pub number : t.number ≡ s.number
   pub capacity : t.capacity ≡ s.capacity

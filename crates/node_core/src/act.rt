@@ -3,6 +3,7 @@ ghost use Rattle.std.specs.Prelude.{◌≡◌, [], ◌∷◌, ◌++◌, OnOk};
 use board_record::BoardId;
 use hermes_horizontal::Message;
 use line_base::{Memory, Quality, SensorEvent, Side, Text};
+use smema_bridge::SegmentLine;
 use std::alloc::Global;
 use std::marker::Model;
 
@@ -27,6 +28,8 @@ pub enum Act {
     Deed(Deed),
     /// It switches the drive of this side on or off.
     Drive(Side, bool),
+    /// A bridge switches one of its own signals on or off.
+    Signals(Signal, bool),
     /// A kept record has this quality now.
     Marks(BoardId, Quality),
     /// A board was put in by hand.
@@ -60,11 +63,24 @@ pub enum Deed {
     Drops(BoardId),
 }
 
+/// A signal of a bridge's own, by which its segment knows what its two handovers do.
+#[derive(Clone, Copy, Debug, PartialEq, Eq)]
+pub enum Signal {
+    /// Board Available at the entry: a board is being taken.
+    EntryAvailable,
+    /// Failed Board Available at the entry: that board is a failed one.
+    EntryFailed,
+    /// Machine Ready at the exit: a board moves out.
+    ExitReady,
+}
+
 /// What a machine can be told.
 #[derive(Clone, Copy, Debug, PartialEq, Eq)]
 pub enum Setting {
     /// Whether it is willing to hand boards over at this side.
     Will(Side, bool),
+    /// The level of this signal of its segment.
+    Level(SegmentLine, bool),
 }
 
 /// The acts of a step, in their order. It is seen as their list.

@@ -12,8 +12,8 @@ use handover_out::{OutInput, OutPhase};
 use line_base::{Memory, Side};
 use session_core::SessionState;
 
-/// Whether the front record is that of the board that is offered.
-fn is_front(offered: Option<BoardId>, front: Option<&Record>) -> bool
+/// Whether the front record is that of this board.
+pub(crate) fn is_front(offered: Option<BoardId>, front: Option<&Record>) -> bool
     ensures { result ≡ is_front offered (option_map (λ board. board.now) front.entry) }
 {
     match front {
@@ -39,7 +39,7 @@ impl Body {
     }
 
     /// Whether the session of a side stands.
-    fn is_standing(&self, side: Side) -> bool
+    pub(crate) fn is_standing(&self, side: Side) -> bool
         ensures { result ≡ is_standing side self.now }
     {
         let state = match side {

@@ -1,4 +1,5 @@
 ghost use Rattle.std.specs.Prelude.{◌≡◌, ◌++◌, IfSome, OnOk, None, false};
+ghost use Rattle.node_core.specs.Sides.{end_at};
 ghost use Rattle.node_core.specs.Boards.{IsFirstAt, is_kept, inserts, removes, replaces, marks, faults, wills};
 
 use crate::act::{Act, Outputs, Setting};
@@ -108,6 +109,16 @@ impl Body {
         match side {
             Side::Entry => self.at_intake(desk, InInput::Fault, to),
             Side::Exit => self.at_outlet(desk, OutInput::Fault, to),
+        }
+    }
+
+    /// Whether the machine is willing to hand boards over at a side.
+    pub(crate) fn is_willing(&self, side: Side) -> bool
+        ensures { result ≡ (end_at side self.now).willing }
+    {
+        match side {
+            Side::Entry => self.entry.willing,
+            Side::Exit => self.exit.willing,
         }
     }
 

@@ -1,10 +1,12 @@
 ghost use Rattle.std.specs.Prelude.{◌≡◌};
 
 use line_base::{Moment, Text};
+use smema_bridge::Bridge;
 use std::alloc::Global;
 use std::marker::Model;
 
-/// What a machine knows of itself in a step: its id text, the number of its lane, its capacity, and the moment.
+/// What a machine knows of itself in a step: its id text, the number of its lane, its capacity, the moment, and, of a
+/// bridge, the levels of its signals.
 #[derive(Drop)]
 pub struct Desk {
     alloc: Global,
@@ -12,6 +14,7 @@ pub struct Desk {
     lane: u32,
     capacity: u32,
     moment: Moment,
+    bridge: Option<Bridge>,
 }
 
 impl Model for Desk {
@@ -19,12 +22,19 @@ impl Model for Desk {
 
     ghost Value = { Desk };
 
-    ghost view = { λ desk. record { name = desk.name; lane = desk.lane; capacity = desk.capacity; moment = desk.moment } };
+    ghost view = { λ desk. record { name = desk.name; lane = desk.lane; capacity = desk.capacity; moment = desk.moment; bridge = desk.bridge } };
 }
 
 impl Desk {
-    pub(crate) fn new(alloc: Global, name: Text, lane: u32, capacity: u32, moment: Moment) -> Desk
-        ensures { result ≡ record { name = name; lane = lane; capacity = capacity; moment = moment } }
+    pub(crate) fn new(
+        alloc: Global,
+        name: Text,
+        lane: u32,
+        capacity: u32,
+        moment: Moment,
+        bridge: Option<Bridge>,
+    ) -> Desk
+        ensures { result ≡ record { name = name; lane = lane; capacity = capacity; moment = moment; bridge = bridge } }
     {
         Desk {
             alloc,
@@ -32,6 +42,7 @@ impl Desk {
             lane,
             capacity,
             moment,
+            bridge,
         }
     }
 
@@ -67,5 +78,18 @@ impl Desk {
         ensures { self.new ≡ record self.old { moment = moment } }
     {
         self.moment = moment;
+    }
+
+    /// The levels of a bridge's signals.
+    pub(crate) fn bridge(&self) -> Option<Bridge>
+        ensures { result ≡ self.now.bridge }
+    {
+        self.bridge
+    }
+
+    pub(crate) fn set_bridge(&mut self, bridge: Option<Bridge>)
+        ensures { self.new ≡ record self.old { bridge = bridge } }
+    {
+        self.bridge = bridge;
     }
 }

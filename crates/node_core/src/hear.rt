@@ -13,13 +13,12 @@ ghost use Rattle.node_core.specs.Hears.{exit_word, entry_word, exit_took, entry_
 
 use crate::act::{Act, Outputs};
 use crate::desk::Desk;
-use crate::halves::send;
 use crate::lane::Body;
 use crate::word::{EntryWord, ExitWord};
 use board_record::BoardId;
 use handover_in::InInput;
 use handover_out::OutInput;
-use hermes_horizontal::{Horizontal, Kind, Message, no_info};
+use hermes_horizontal::{Horizontal, Kind, Message};
 use line_base::{Memory, Side, Text};
 use session_core::{Action, Actions, Breach};
 
@@ -31,7 +30,7 @@ fn exit_word(what: Horizontal) -> ExitWord
         Horizontal::RevokeMachineReady => ExitWord::Unready,
         Horizontal::StartTransport { id } => ExitWord::Start(id),
         Horizontal::StopTransport { state, id } => ExitWord::Stop(state, id),
-        Horizontal::QueryBoardInfo { .. } => ExitWord::Query,
+        Horizontal::QueryBoardInfo { top, bottom } => ExitWord::Query(top, bottom),
         _ => ExitWord::Nothing,
     }
 }
@@ -134,9 +133,9 @@ impl Body {
             ExitWord::Stop(state, id) => {
                 self.exit_meets(desk, OutInput::Stop { state, id }, message, to)
             }
-            ExitWord::Query => {
+            ExitWord::Query(top, bottom) => {
                 to.push(Act::Hears(Side::Exit, message))?;
-                send(desk, Side::Exit, Horizontal::SendBoardInfo(no_info()), to)
+                self.answer(desk, top, bottom, to)
             }
             ExitWord::Nothing => to.push(Act::Hears(Side::Exit, message)),
         }

@@ -1,5 +1,6 @@
 use board_record::BoardId;
 use line_base::{Quality, Side, Text};
+use smema_bridge::SegmentLine;
 use thiserror::Error;
 
 /// What is given to a machine in a step.
@@ -25,6 +26,8 @@ pub enum Input<'a> {
     Fault(Side),
     /// From now on the machine is willing to hand boards over at this side, or not.
     Will(Side, bool),
+    /// This signal of the segment of a bridge has this level now.
+    Level(SegmentLine, bool),
     /// A board is put in by hand, maybe with a barcode on its top side.
     Insert(Option<Text>),
     /// This board is taken out by hand.
@@ -33,6 +36,10 @@ pub enum Input<'a> {
     Replace(BoardId),
     /// This board is known to be good or failed.
     Mark(BoardId, Quality),
+    /// The downstream neighbour is told what board comes next.
+    Forecast,
+    /// The upstream neighbour is asked for the board with this barcode on its top side.
+    Query(Text),
 }
 
 /// Why an input may not be given.
@@ -68,4 +75,19 @@ pub enum No {
     /// No board is moving at that side.
     #[error("no handover")]
     NoHandover,
+    /// The machine is a bridge, so the levels of its segment say what it is willing to do.
+    #[error("bridge")]
+    Bridge,
+    /// The machine is no bridge, so it has no segment.
+    #[error("not a bridge")]
+    NotABridge,
+    /// The session of that side doesn't stand.
+    #[error("not standing")]
+    NotStanding,
+    /// The neighbour doesn't list the feature that takes such a message.
+    #[error("not supported")]
+    NotSupported,
+    /// The machine keeps no board.
+    #[error("nothing kept")]
+    NothingKept,
 }

@@ -1,5 +1,6 @@
 ghost use Rattle.std.specs.Prelude.{◌≡◌, not};
-ghost use Rattle.node_core.specs.May.{is_handing_over, is_used_up, may_of, may_connect, may_accept, may_reach, may_reach_any, may_fault, may_will, may_insert, may_remove, may_replace, may_mark};
+ghost use Rattle.smema_bridge.specs.Segment.{level_of};
+ghost use Rattle.node_core.specs.May.{is_handing_over, is_used_up, may_of, may_connect, may_accept, may_reach, may_reach_any, may_fault, may_will, may_level, may_insert, may_remove, may_replace, may_mark, may_forecast, may_query};
 
 use crate::input::{Input, No};
 use crate::lane::Body;
@@ -8,9 +9,35 @@ use board_record::BoardId;
 use handover_in::InPhase;
 use handover_out::OutPhase;
 use line_base::Side;
+use smema_bridge::{Bridge, SegmentLine};
 
 /// How many ids a machine can make.
 const MOST_IDS: u64 = 0xFFFF_FFFF_FFFF;
+
+/// The level of a signal of a bridge's segment.
+fn level_of(bridge: Bridge, line: SegmentLine) -> bool
+    ensures { result ≡ level_of line bridge.segment }
+{
+    match line {
+        SegmentLine::Ready => bridge.wants_in(),
+        SegmentLine::Available => bridge.wants_out(),
+        SegmentLine::Failed => bridge.failed(),
+    }
+}
+
+fn may_level(bridge: Option<Bridge>, line: SegmentLine, on: bool) -> Result<(), No>
+    ensures { result ≡ may_level line on bridge }
+{
+    match bridge {
+        Some(bridge) => {
+            if level_of(bridge, line) == on {
+                return Err(No::Same);
+            }
+            Ok(())
+        }
+        None => Err(No::NotABridge),
+    }
+}
 
 impl Body {
     /// Whether a board is moving at a side.
@@ -71,19 +98,6 @@ impl Body {
         Ok(())
     }
 
-    fn may_will(&self, side: Side, on: bool) -> Result<(), No>
-        ensures { result ≡ may_will side on self.now }
-    {
-        let willing = match side {
-            Side::Entry => self.entry.willing,
-            Side::Exit => self.exit.willing,
-        };
-        if willing == on {
-            return Err(No::Same);
-        }
-        Ok(())
-    }
-
     fn may_remove(&self, id: BoardId) -> Result<(), No>
         ensures { result ≡ may_remove id self.now }
     {
@@ -104,15 +118,43 @@ impl Body {
         }
         Ok(())
     }
+
+    fn may_forecast(&self) -> Result<(), No>
+        ensures { result ≡ may_forecast self.now }
+    {
+        if !self.is_standing(Side::Exit) {
+            return Err(No::NotStanding);
+        }
+        if !self.exit.session.peer().forecast {
+            return Err(No::NotSupported);
+        }
+        if self.kept.list().first().is_none() {
+            return Err(No::NothingKept);
+        }
+        Ok(())
+    }
+
+    fn may_query(&self) -> Result<(), No>
+        ensures { result ≡ may_query self.now }
+    {
+        if !self.is_standing(Side::Entry) {
+            return Err(No::NotStanding);
+        }
+        if !self.entry.session.peer().query {
+            return Err(No::NotSupported);
+        }
+        Ok(())
+    }
 }
 
 impl Node {
     /// Whether an input may be given now: the first reason against it, on the state before the step.
     ///
     /// `Connect`: `Connected`, `IntakeUnsettled`. `Accepted`: `Connected`. `Second`, `Bytes`, `Notice`, and `Tick` and
-    /// `Shutdown` of both sides: `NotConnected`. `Fault`: `NoHandover`. `Will`: `Same`. `Insert`: `IntakeOpen`,
-    /// `Full`, `IdsUsedUp`. `Remove`: `NotKept`. `Replace`: `NotKept`, `IdsUsedUp`. `Mark`: `NotKept`, `Offered`. It
-    /// takes no memory.
+    /// `Shutdown` of both sides: `NotConnected`. `Fault`: `NoHandover`. `Will`: `Bridge`, `Same`. `Level`:
+    /// `NotABridge`, `Same`. `Insert`: `IntakeOpen`, `Full`, `IdsUsedUp`. `Remove`: `NotKept`. `Replace`: `NotKept`,
+    /// `IdsUsedUp`. `Mark`: `NotKept`, `Offered`. `Forecast`: `NotStanding`, `NotSupported`, `NothingKept`. `Query`:
+    /// `NotStanding`, `NotSupported`. It takes no memory.
     pub fn may(&self, input: &Input<'_>) -> Result<(), No>
         ensures { result ≡ may_of self.now input.now }
     {
@@ -126,11 +168,14 @@ impl Node {
             Input::Tick => self.lane.body.may_reach_any(),
             Input::Shutdown => self.lane.body.may_reach_any(),
             Input::Fault(side) => self.lane.body.may_fault(*side),
-            Input::Will(side, on) => self.lane.body.may_will(*side, *on),
+            Input::Will(side, on) => self.may_will(*side, *on),
+            Input::Level(line, on) => may_level(self.desk.bridge(), *line, *on),
             Input::Insert(_) => self.may_insert(),
             Input::Remove(id) => self.lane.body.may_remove(*id),
             Input::Replace(id) => self.may_replace(*id),
             Input::Mark(id, _) => self.lane.body.may_mark(*id),
+            Input::Forecast => self.lane.body.may_forecast(),
+            Input::Query(_) => self.lane.body.may_query(),
         }
     }
 
@@ -138,6 +183,18 @@ impl Node {
         ensures { result ≡ not (is_used_up self.now.maker.used) }
     {
         self.maker.used() < MOST_IDS
+    }
+
+    fn may_will(&self, side: Side, on: bool) -> Result<(), No>
+        ensures { result ≡ may_will side on self.now }
+    {
+        if self.desk.bridge().is_some() {
+            return Err(No::Bridge);
+        }
+        if self.lane.body.is_willing(side) == on {
+            return Err(No::Same);
+        }
+        Ok(())
     }
 
     fn may_insert(&self) -> Result<(), No>

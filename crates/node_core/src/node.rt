@@ -1,6 +1,8 @@
-ghost use Rattle.std.specs.Prelude.{◌≡◌, ◌≤◌, ◌<◌, ◌^◌, true, false, Ok, IsErr, OnErr, IfOk};
+ghost use Rattle.std.specs.Prelude.{◌≡◌, ◌≤◌, ◌<◌, ◌^◌, true, false, Ok, IsErr, OnErr, IfOk, is_some, length};
+ghost use Rattle.forecast_query.specs.Forecasts.{most_forecasts};
+ghost use Rattle.node_core.specs.Bridge.{IsWilling};
 ghost use Rattle.node_core.specs.Sides.{session_at, is_open};
-ghost use Rattle.node_core.specs.Node.{NodeState, new_body, new_node};
+ghost use Rattle.node_core.specs.Node.{NodeState, first_body, new_node};
 ghost use Rattle.node_core.specs.May.{may_of, may_do};
 ghost use Rattle.node_core.specs.Places.{used};
 ghost use Rattle.node_core.specs.Hermes.{hermes_state};
@@ -9,15 +11,19 @@ ghost use Rattle.node_core.specs.Step.{Steps};
 ghost use Rattle.node_core.specs.Breaking.{IsBrokenOff};
 
 use crate::act::Outputs;
+use crate::bridge::{after_input, first_bridge, signal};
 use crate::desk::Desk;
+use crate::forecasts::note_forecasts;
 use crate::hermes::HermesState;
 use crate::input::Input;
 use crate::lane::{Body, End, Lane};
 use crate::profile::NodeProfile;
 use crate::shelf::Shelf;
 use board_record::{IdMaker, Record, Sensed};
+use forecast_query::Forecasts;
 use handover_in::Intake;
 use handover_out::Outlet;
+use hermes_horizontal::Info;
 use hermes_stream::Cutter;
 use line_base::{Memory, Moment, Role, Side};
 use session_core::Session;
@@ -26,31 +32,33 @@ use std::marker::Model;
 
 /// One machine of a board line.
 ///
-/// It is seen as what it knows of itself, its id maker and its lane. After `Memory` it is spent: what it has done by then
-/// is not told, and each later step answers `Memory`.
+/// It is seen as what it knows of itself, its id maker, its lane, the levels of a bridge, and the forecasts of the machine
+/// upstream. After `Memory` it is spent: what it has done by then is not told, and each later step answers `Memory`.
 #[derive(Drop)]
 pub struct Node {
     pub(crate) spent: bool,
     pub(crate) desk: Desk,
     pub(crate) maker: IdMaker,
     pub(crate) lane: Lane,
+    pub(crate) forecasts: Forecasts,
 }
 
 impl Model for Node {
     ghost use Rattle.std.specs.Prelude.{◌≡◌, false};
     ghost use Rattle.node_core.specs.Node.{NodeState};
     ghost use Rattle.node_core.specs.Sound.{IsSound};
+    ghost use Rattle.node_core.specs.Bridge.{IsWilling};
 
     ghost Value = { NodeState };
 
-    ghost view = { λ n. record { spent = n.spent; name = n.desk.name; number = n.desk.lane; capacity = n.desk.capacity; maker = n.maker; lane = n.lane } };
+    ghost view = { λ n. record { spent = n.spent; name = n.desk.name; number = n.desk.lane; capacity = n.desk.capacity; maker = n.maker; lane = n.lane; bridge = n.desk.bridge; forecasts = n.forecasts } };
 
-    ghost invariant = { λ n. n.spent ≡ false → IsSound n.desk.capacity n.lane.body };
+    ghost invariant = { λ n. n.spent ≡ false → IsSound n.desk.capacity n.lane.body × IsWilling n.desk.bridge n.lane.body };
 }
 
-/// A body that keeps nothing, has no connections, and is willing on both sides.
-fn new_body(alloc: Global) -> Body
-    ensures { result ≡ new_body }
+/// A body that keeps nothing and has no connections. A bridge's isn't willing on either side, another is on both.
+fn first_body(alloc: Global, is_bridge: bool) -> Body
+    ensures { result ≡ first_body is_bridge }
 {
     Body {
         kept: Shelf::new(alloc),
@@ -58,22 +66,22 @@ fn new_body(alloc: Global) -> Body
         intake: Intake::new(),
         entry: End {
             session: Session::new(Role::Downstream),
-            willing: true,
+            willing: !is_bridge,
         },
         exit: End {
             session: Session::new(Role::Upstream),
-            willing: true,
+            willing: !is_bridge,
         },
     }
 }
 
 impl Node {
-    /// A machine that keeps nothing, without connections, willing on both sides. It takes the memory of two cutters.
+    /// A machine that keeps nothing, without connections, willing on both sides; or a bridge, with all levels off and so
+    /// willing on none. It takes the memory of two cutters.
     pub fn new(alloc: Global, profile: NodeProfile) -> Result<Node, Memory>
         requires least { 1 ≤ profile.capacity }
         requires most { profile.capacity ≤ 1024 }
         requires used { profile.used < 2 ^ 48 }
-        requires plain { profile.bridge ≡ false }
         ensures { IfOk result (λ node. node ≡ new_node profile) }
     {
         let entry_bytes = Cutter::new(alloc)?;
@@ -84,21 +92,23 @@ impl Node {
             profile.lane,
             profile.capacity,
             Moment::of_millis(0),
+            first_bridge(profile.bridge),
         );
         Ok(Node {
             spent: false,
             desk,
             maker: IdMaker::new(profile.number, profile.used),
             lane: Lane {
-                body: new_body(alloc),
+                body: first_body(alloc, profile.bridge),
                 entry_bytes,
                 exit_bytes,
             },
+            forecasts: Forecasts::new(alloc),
         })
     }
 
     /// Makes a step at a moment: reads the unread sensor events in order, takes the input, and makes the announcements
-    /// that are due. It answers its acts in their order.
+    /// that are due; then a bridge sets its own signals. It answers its acts in their order.
     ///
     /// `Memory` where there is none for the acts, for records and texts; the machine is spent then.
     pub fn step(
@@ -115,6 +125,8 @@ impl Node {
         ensures step { IfOk result (Steps self.old sensed.now input.entry moment self.new) }
         // bytes that mean no message, and messages without a row, break the connection off and nothing else
         ensures wrong { IfOk result (IsBrokenOff self.old sensed.now input.entry moment self.new) }
+        // a bridge is willing by the levels of its segment
+        ensures willing { IfOk result (λ acts. IsWilling self.new.bridge self.new.lane.body) }
         // what it owns follows from its acts
         ensures own { IfOk result (λ acts. own_of self.new.lane.body ≡ own_after (own_of self.old.lane.body) acts) }
     {
@@ -123,9 +135,20 @@ impl Node {
         }
         self.spent = true;
         self.desk.set_moment(moment);
-        let acts = self.lane.step(&self.desk, &mut self.maker, sensed, input)?;
+        let told = after_input(self.desk.bridge(), &input);
+        let mut acts = self.lane.step(&self.desk, &mut self.maker, sensed, input)?;
+        let bridge = signal(told, &self.lane.body, &mut acts)?;
+        self.desk.set_bridge(bridge);
+        note_forecasts(self.desk.alloc(), acts.list(), &mut self.forecasts)?;
         self.spent = false;
         Ok(acts)
+    }
+
+    /// Whether it is a bridge: it has a segment.
+    pub fn is_bridge(&self) -> bool
+        ensures { result ≡ is_some self.now.bridge }
+    {
+        self.desk.bridge().is_some()
     }
 
     /// The records that are kept, the front first.
@@ -159,6 +182,14 @@ impl Node {
             Side::Entry => &self.lane.body.entry.session,
             Side::Exit => &self.lane.body.exit.session,
         }
+    }
+
+    /// The last forecasts of the upstream neighbour on its connection, the oldest first.
+    pub fn forecasts(&self) -> &[Info]
+        ensures kept { result.now ≡ self.now.forecasts }
+        ensures bounded { length self.now.forecasts ≤ most_forecasts }
+    {
+        self.forecasts.list()
     }
 
     /// How a side stands, in the standard's words.

@@ -114,10 +114,13 @@ impl Lane {
             Input::Shutdown => self.body.shut_down_both(desk, to),
             Input::Fault(side) => self.body.fault(desk, side, to),
             Input::Will(side, on) => self.body.will(side, on, to),
+            Input::Level(line, on) => self.body.set_level(desk, line, on, to),
             Input::Insert(barcode) => self.insert(desk, maker, barcode, to),
             Input::Remove(id) => self.body.remove(id, to),
             Input::Replace(id) => self.replace(desk, maker, id, to),
             Input::Mark(id, quality) => self.body.mark(id, quality, to),
+            Input::Forecast => self.body.forecast_front(desk, to),
+            Input::Query(barcode) => self.body.ask_for(desk, barcode, to),
         }
     }
 

@@ -29,8 +29,8 @@ pub enum ExitWord {
     Unready,
     Start(BoardId),
     Stop(Transfer, BoardId),
-    /// It asks for board information.
-    Query,
+    /// It asks for the board with these barcodes on its top and its bottom side.
+    Query(Option<Text>, Option<Text>),
     /// Nothing is done.
     Nothing,
 }

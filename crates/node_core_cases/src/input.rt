@@ -3,7 +3,7 @@
 use crate::ids::id_of;
 use crate::messages;
 use line_base::{Memory, Quality, Side, Text};
-use node_core::Input;
+use node_core::{Input, SegmentLine};
 use std::alloc::Global;
 use std::io;
 
@@ -40,6 +40,8 @@ fn plain_input<'a>(alloc: Global, word: &str) -> Result<Input<'a>, Memory> {
         "tick" => Ok(Input::Tick),
         "shutdown" => Ok(Input::Shutdown),
         "insert" => insertion(alloc),
+        "forecast" => Ok(Input::Forecast),
+        "ask" => question(alloc),
         _ => sided_input(word),
     }
 }
@@ -47,6 +49,11 @@ fn plain_input<'a>(alloc: Global, word: &str) -> Result<Input<'a>, Memory> {
 fn insertion<'a>(alloc: Global) -> Result<Input<'a>, Memory> {
     let barcode = Text::plain(alloc, b"PCB7")?;
     Ok(Input::Insert(Some(barcode)))
+}
+
+fn question<'a>(alloc: Global) -> Result<Input<'a>, Memory> {
+    let barcode = Text::plain(alloc, b"PCB7")?;
+    Ok(Input::Query(barcode))
 }
 
 fn sided_input<'a>(word: &str) -> Result<Input<'a>, Memory> {
@@ -59,8 +66,20 @@ fn sided_input<'a>(word: &str) -> Result<Input<'a>, Memory> {
         "hold.out" => Input::Will(Side::Exit, false),
         "go.in" => Input::Will(Side::Entry, true),
         "go.out" => Input::Will(Side::Exit, true),
-        _ => input_of_id(word),
+        _ => level_input(word),
     })
+}
+
+fn level_input<'a>(word: &str) -> Input<'a> {
+    match word {
+        "ready.on" => Input::Level(SegmentLine::Ready, true),
+        "ready.off" => Input::Level(SegmentLine::Ready, false),
+        "available.on" => Input::Level(SegmentLine::Available, true),
+        "available.off" => Input::Level(SegmentLine::Available, false),
+        "failed.on" => Input::Level(SegmentLine::Failed, true),
+        "failed.off" => Input::Level(SegmentLine::Failed, false),
+        _ => input_of_id(word),
+    }
 }
 
 fn input_of_id<'a>(word: &str) -> Input<'a> {

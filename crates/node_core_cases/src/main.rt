@@ -31,14 +31,14 @@ fn main(rt: HostRuntime) -> io::Result<()> {
 /// Appends a case with its answer, for two new machines.
 fn tell_case(alloc: Global, case: &str, to: &mut Vec<u8>) -> io::Result<()> {
     let used = used_before(case);
-    match machine(alloc, 1, b"M1", used) {
+    match machine(alloc, 1, b"M1", used, is_bridge(case)) {
         Ok(mut first) => with_first(alloc, &mut first, case, to),
         Err(Memory) => Err(io::Error::from(ErrorKind::OutOfMemory)),
     }
 }
 
 fn with_first(alloc: Global, first: &mut Node, case: &str, to: &mut Vec<u8>) -> io::Result<()> {
-    match machine(alloc, 2, b"M2", 0) {
+    match machine(alloc, 2, b"M2", 0, false) {
         Ok(mut second) => met::tell_after(alloc, first, &mut second, case, to),
         Err(Memory) => Err(io::Error::from(ErrorKind::OutOfMemory)),
     }
@@ -54,8 +54,13 @@ fn used_before(case: &str) -> u64
     }
 }
 
+/// Whether machine 1 is a bridge: where the case begins with `bridge`.
+fn is_bridge(case: &str) -> bool {
+    case.split_whitespace().next() == Some("bridge")
+}
+
 /// A machine with two places.
-fn machine(alloc: Global, number: u32, name: &[u8], used: u64) -> Result<Node, Memory>
+fn machine(alloc: Global, number: u32, name: &[u8], used: u64, bridge: bool) -> Result<Node, Memory>
     requires plain { is_plain_text name.now ≡ true }
     requires used { used < 2 ^ 48 }
 {
@@ -68,7 +73,7 @@ fn machine(alloc: Global, number: u32, name: &[u8], used: u64) -> Result<Node, M
             lane: 1,
             capacity: 2,
             used,
-            bridge: false,
+            bridge,
         },
     )
 }

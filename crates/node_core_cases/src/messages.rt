@@ -7,6 +7,21 @@ use std::io::Write;
 /// Appends the bytes of words with a `+` between them.
 pub fn spell_all(words: &str, to: &mut Vec<u8>) -> io::Result<()> {
     for word in words.split('+') {
+        spell_each(word, to)?;
+    }
+    Ok(())
+}
+
+/// A word is spelled once, and 32 times where it ends with `*32`.
+fn spell_each(word: &str, to: &mut Vec<u8>) -> io::Result<()> {
+    match word.split_once('*') {
+        Some((word, _)) => spell_often(word, to),
+        None => spell(word, to),
+    }
+}
+
+fn spell_often(word: &str, to: &mut Vec<u8>) -> io::Result<()> {
+    for _ in 0..32 {
         spell(word, to)?;
     }
     Ok(())
@@ -26,6 +41,10 @@ fn spell_about(what: &str, id: &str, to: &mut Vec<u8>) -> io::Result<()> {
         "offer" => write!(
             to,
             "<Hermes><BoardAvailable BoardId='{id}' BoardIdCreatedBy='P' FailedBoard='0' FlippedBoard='0'/></Hermes>"
+        ),
+        "failed" => write!(
+            to,
+            "<Hermes><BoardAvailable BoardId='{id}' BoardIdCreatedBy='P' FailedBoard='2' FlippedBoard='0'/></Hermes>"
         ),
         "start" => write!(to, "<Hermes><StartTransport BoardId='{id}'/></Hermes>"),
         "stop1" => write!(
@@ -68,6 +87,9 @@ fn spelling_of(word: &str) -> &'static str {
         "unwatched" => {
             "<Hermes><ServiceDescription MachineId='P' LaneId='1' Version='1.5'/></Hermes>"
         }
+        "supports" => {
+            "<Hermes><ServiceDescription MachineId='P' LaneId='1' Version='1.5'><SupportedFeatures><FeatureBoardForecast/><FeatureQueryBoardInfo/></SupportedFeatures></ServiceDescription></Hermes>"
+        }
         _ => traffic_of(word),
     }
 }
@@ -78,12 +100,23 @@ fn traffic_of(word: &str) -> &'static str {
         "ready" => "<Hermes><MachineReady FailedBoard='0'/></Hermes>",
         "unready" => "<Hermes><RevokeMachineReady/></Hermes>",
         "forecast" => "<Hermes><BoardForecast/></Hermes>",
-        "query" => "<Hermes><QueryBoardInfo TopBarcode='PCB7'/></Hermes>",
         "info" => "<Hermes><SendBoardInfo/></Hermes>",
         "two" => "<Hermes><Hello/><Hello/></Hermes>",
         "nul" => "<Hermes Timestamp=\"1\0970",
         "begin" => "<Hermes><Hel",
         "end" => "lo/></Hermes>",
+        _ => question_of(word),
+    }
+}
+
+fn question_of(word: &str) -> &'static str {
+    match word {
+        "query" => "<Hermes><QueryBoardInfo TopBarcode='PCB7'/></Hermes>",
+        "query-other" => "<Hermes><QueryBoardInfo TopBarcode='PCB8'/></Hermes>",
+        "query-bottom" => "<Hermes><QueryBoardInfo BottomBarcode='PCB7'/></Hermes>",
+        "query-nothing" => "<Hermes><QueryBoardInfo/></Hermes>",
+        "ahead" => "<Hermes><BoardForecast ProductTypeId='A'/></Hermes>",
+        "next" => "<Hermes><BoardForecast ProductTypeId='B'/></Hermes>",
         _ => "</Hermes>",
     }
 }

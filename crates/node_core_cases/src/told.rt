@@ -2,9 +2,9 @@
 
 use crate::ids;
 use board_record::BoardId;
-use hermes_horizontal::{Horizontal, Ping};
+use hermes_horizontal::{Horizontal, Info, Ping};
 use line_base::{Memory, Quality, Side, Text, Transfer};
-use node_core::{Act, Deed, Node, Outputs, Setting};
+use node_core::{Act, Deed, Node, Outputs, SegmentLine, Setting, Signal};
 use std::io;
 use std::io::Write;
 
@@ -55,6 +55,8 @@ fn tell(act: &Act, to: &mut Vec<u8>) -> io::Result<()> {
 fn tell_by_hand(act: &Act, to: &mut Vec<u8>) -> io::Result<()> {
     match act {
         Act::Connects => write!(to, "connects"),
+        Act::Signals(signal, on) => tell_signal(*signal, *on, to),
+        Act::Sets(Setting::Level(line, on)) => tell_level(*line, *on, to),
         Act::Inserts(id) => about("inserts", *id, to),
         Act::Removes(id) => about("removes", *id, to),
         Act::Replaces(old, new) => {
@@ -69,6 +71,30 @@ fn tell_by_hand(act: &Act, to: &mut Vec<u8>) -> io::Result<()> {
         }
         _ => Ok(()),
     }
+}
+
+fn tell_signal(signal: Signal, on: bool, to: &mut Vec<u8>) -> io::Result<()> {
+    let signal = match signal {
+        Signal::EntryAvailable => "entry-available",
+        Signal::EntryFailed => "entry-failed",
+        Signal::ExitReady => "exit-ready",
+    };
+    let level = level_of(on);
+    write!(to, "signals {signal} {level}")
+}
+
+fn tell_level(line: SegmentLine, on: bool, to: &mut Vec<u8>) -> io::Result<()> {
+    let line = match line {
+        SegmentLine::Ready => "ready",
+        SegmentLine::Available => "available",
+        SegmentLine::Failed => "failed",
+    };
+    let level = level_of(on);
+    write!(to, "level {line} {level}")
+}
+
+fn level_of(on: bool) -> &'static str {
+    if on { "on" } else { "off" }
 }
 
 fn quality_of(quality: Quality) -> &'static str {
@@ -151,9 +177,36 @@ fn tell_contents(body: &Horizontal, to: &mut Vec<u8>) -> io::Result<()> {
         Horizontal::StartTransport { id } => tell_id(*id, to),
         Horizontal::StopTransport { state, id } => tell_end(*state, *id, to),
         Horizontal::TransportFinished { state, id } => tell_end(*state, *id, to),
-        Horizontal::BoardForecast(_) => write!(to, " none"),
-        Horizontal::SendBoardInfo(_) => write!(to, " none"),
+        Horizontal::BoardForecast(info) => tell_info(info, to),
+        Horizontal::SendBoardInfo(info) => tell_info(info, to),
+        Horizontal::QueryBoardInfo { top, bottom } => {
+            tell_barcode("top", top, to)?;
+            tell_barcode("bottom", bottom, to)
+        }
         _ => Ok(()),
+    }
+}
+
+/// The id or `none`, and then the quality and the top barcode where they are told.
+fn tell_info(info: &Info, to: &mut Vec<u8>) -> io::Result<()> {
+    match info.id {
+        Some(id) => tell_id(id, to)?,
+        None => write!(to, " none")?,
+    }
+    if let Some(quality) = info.quality {
+        let quality = quality_of(quality);
+        write!(to, " {quality}")?;
+    }
+    tell_barcode("top", &info.top, to)
+}
+
+fn tell_barcode(side: &str, barcode: &Option<Text>, to: &mut Vec<u8>) -> io::Result<()> {
+    match barcode {
+        Some(barcode) => {
+            write!(to, " {side}")?;
+            tell_text(barcode, to)
+        }
+        None => Ok(()),
     }
 }
 
@@ -184,7 +237,7 @@ fn tell_end(state: Transfer, id: BoardId, to: &mut Vec<u8>) -> io::Result<()> {
     ids::tell(id, to)
 }
 
-/// Appends what a machine keeps, and how its sides stand.
+/// Appends what a machine keeps, how its sides stand, and what it was told ahead.
 pub fn stands(node: &Node, to: &mut Vec<u8>) -> io::Result<()> {
     write!(to, " || kept")?;
     for board in node.kept() {
@@ -197,5 +250,26 @@ pub fn stands(node: &Node, to: &mut Vec<u8>) -> io::Result<()> {
     }
     let entry = node.state(Side::Entry);
     let exit = node.state(Side::Exit);
-    write!(to, "; {entry:?}; {exit:?}")
+    write!(to, "; {entry:?}; {exit:?}")?;
+    tell_forecasts(node.forecasts(), to)
+}
+
+/// How many forecasts are kept, and the products of the first and the last.
+fn tell_forecasts(forecasts: &[Info], to: &mut Vec<u8>) -> io::Result<()> {
+    match (forecasts.first(), forecasts.last()) {
+        (Some(first), Some(last)) => {
+            let count = forecasts.len();
+            write!(to, "; ahead {count}")?;
+            tell_product(first, to)?;
+            tell_product(last, to)
+        }
+        _ => Ok(()),
+    }
+}
+
+fn tell_product(forecast: &Info, to: &mut Vec<u8>) -> io::Result<()> {
+    match &forecast.product {
+        Some(product) => tell_text(product, to),
+        None => write!(to, " none"),
+    }
 }
