@@ -14,12 +14,16 @@ use Rattle.hermes_horizontal.specs.declared.message.Horizontal.{Horizontal}
 use Rattle.hermes_horizontal.specs.declared.message.Horizontal.TheVariants as bodies
 use Rattle.hermes_horizontal.specs.declared.message.Ping.{Ping}
 use Rattle.hermes_horizontal.specs.declared.message.Ping.TheVariants as pings
+use Rattle.smema_bridge.specs.declared.line.SegmentLine.{SegmentLine}
+use Rattle.smema_bridge.specs.declared.line.SegmentLine.TheVariants as lines
 use Rattle.line_world.specs.Moves.{move_word, no_text as move_no_text}
 use Rattle.node_core.specs.declared.act.Act.{Act}
 use Rattle.node_core.specs.declared.act.Act.TheVariants as acts
 use Rattle.node_core.specs.declared.act.Deed.{Deed}
 use Rattle.node_core.specs.declared.act.Deed.TheVariants as deeds
 use Rattle.node_core.specs.declared.act.Setting.{Setting}
+use Rattle.node_core.specs.declared.act.Signal.{Signal}
+use Rattle.node_core.specs.declared.act.Signal.TheVariants as signals
 use Rattle.node_core.specs.declared.act.Setting.TheVariants as settings
 use Rattle.node_core.specs.declared.input.No.{No}
 use Rattle.node_core.specs.declared.input.No.TheVariants as nos
@@ -42,6 +46,11 @@ no_text nos.Connected = codes "connected"
 no_text nos.IntakeUnsettled = codes "intake unsettled"
 no_text nos.NotConnected = codes "not connected"
 no_text nos.NoHandover = codes "no handover"
+no_text nos.Bridge = codes "bridge"
+no_text nos.NotABridge = codes "not a bridge"
+no_text nos.NotStanding = codes "not standing"
+no_text nos.NotSupported = codes "not supported"
+no_text nos.NothingKept = codes "nothing kept"
 
 abbrev pub reason_text : Reason → List ℕ
 reason_text (reasons.Node why) = no_text why
@@ -53,7 +62,6 @@ reason_text reasons.NoNeighbour = codes "no neighbour"
 reason_text reasons.NothingInFlight = codes "nothing in flight"
 reason_text reasons.NothingToRead = codes "nothing to read"
 reason_text reasons.Standing = codes "standing"
-reason_text reasons.NotStanding = codes "not standing"
 reason_text reasons.TextInFlight = codes "text in flight"
 
 -- ---- words
@@ -139,8 +147,28 @@ abbrev pub will_word : Bool → List ℕ
 will_word true = codes "go"
 will_word false = codes "hold"
 
+abbrev pub switch_word : Bool → List ℕ
+switch_word true = codes "on"
+switch_word false = codes "off"
+
+-- a signal of a bridge's segment, and one of the bridge's own
+abbrev pub line_word : SegmentLine → List ℕ
+line_word lines.Ready = codes "ready"
+line_word lines.Available = codes "available"
+line_word lines.Failed = codes "failed"
+
+abbrev pub signal_word : Signal → List ℕ
+signal_word signals.EntryAvailable = codes "entry-available"
+signal_word signals.EntryFailed = codes "entry-failed"
+signal_word signals.ExitReady = codes "exit-ready"
+
+-- a word, a machine's number, a signal, and whether it is on
+abbrev pub switched : List ℕ → ℕ → List ℕ → Bool → List ℕ
+switched word machine signal on = numbered word machine ++ codes " " ++ signal ++ codes " " ++ switch_word on
+
 abbrev pub setting_text : ℕ → Setting → List ℕ
 setting_text machine (settings.Will side on) = at_side (will_word on) machine side
+setting_text machine (settings.Level line on) = switched (codes "level") machine (line_word line) on
 
 -- a drive has no text: no happening is one
 abbrev pub act_text : ℕ → Act → List ℕ
@@ -153,6 +181,7 @@ act_text machine (acts.Notices side) = at_side (codes "notices") machine side
 act_text machine acts.Connects = numbered (codes "connects") machine
 act_text machine (acts.Deed deed) = deed_text machine deed
 act_text machine (acts.Drive side on) = []
+act_text machine (acts.Signals signal on) = switched (codes "signals") machine (signal_word signal) on
 act_text machine (acts.Marks id quality) = of_board (codes "mark") machine id ++ codes " " ++ quality_text quality
 act_text machine (acts.Inserts id) = of_board (codes "insert") machine id
 act_text machine (acts.Removes id) = of_board (codes "remove") machine id
@@ -167,11 +196,13 @@ between_text gap = decimal gap ++ codes "-" ++ decimal (gap + 1)
 
 abbrev pub happening_text : Happening → List ℕ
 happening_text (happenings.Machine number capacity) = numbered (numbered (codes "machine") number) capacity
+happening_text (happenings.Bridge number capacity) = numbered (numbered (codes "bridge") number) capacity
 happening_text (happenings.Done machine act) = act_text machine act
 happening_text (happenings.Cut gap) = numbered (codes "cut") gap
 happening_text (happenings.Spoils machine side) = at_side (codes "spoils") machine side
 happening_text (happenings.Moved gap step) = numbered (codes "move") gap ++ codes " " ++ move_word step
 happening_text (happenings.Lie machine sensed) = at_side (codes "lie") machine sensed.side ++ codes " " ++ event_text sensed.event
+happening_text (happenings.Unseen machine side) = codes "unseen " ++ side_text side ++ codes " " ++ decimal machine
 happening_text happenings.Unvouched = codes "unvouched"
 happening_text (happenings.No reason) = codes "no: " ++ reason_text reason
 happening_text (happenings.Shown machine id quality) = of_board (codes "show") machine id ++ codes " " ++ quality_text quality

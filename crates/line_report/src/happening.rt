@@ -1,5 +1,5 @@
 ghost use Rattle.std.specs.Prelude.{◌≡◌};
-ghost use Rattle.line_report.specs.Texts.{no_text as no_words};
+ghost use Rattle.line_report.specs.Texts.{no_text as no_words, reason_text};
 
 use board_record::{BoardId, Sensed};
 use line_base::{Quality, Side};
@@ -29,8 +29,6 @@ pub enum Reason {
     NothingToRead,
     /// The link at that side stands.
     Standing,
-    /// The link at that side doesn't stand.
-    NotStanding,
     /// Bytes are on their way to that side.
     TextInFlight,
 }
@@ -40,6 +38,11 @@ pub enum Reason {
 pub enum Happening {
     /// A machine was added at the line's end.
     Machine {
+        number: u32,
+        capacity: u32,
+    },
+    /// A bridge was added at the line's end.
+    Bridge {
         number: u32,
         capacity: u32,
     },
@@ -66,6 +69,11 @@ pub enum Happening {
     Lie {
         machine: u32,
         sensed: Sensed,
+    },
+    /// A board came out of a bridge's segment, or went into it, and no sensor saw it.
+    Unseen {
+        machine: u32,
+        side: Side,
     },
     /// From now on nobody vouches for the standings.
     Unvouched,
@@ -98,26 +106,33 @@ pub enum Happening {
     },
 }
 
+impl Reason {
+    /// The reason in words.
+    pub fn text(self) -> &'static str
+        ensures { result.now ≡ reason_text self }
+    {
+        match self {
+            Reason::Node(no) => no_text(no),
+            Reason::Move(no) => no.text(),
+            Reason::NoSuchMachine => "no such machine",
+            Reason::LineFull => "line full",
+            Reason::NotHere => "not here",
+            Reason::NoNeighbour => "no neighbour",
+            Reason::NothingInFlight => "nothing in flight",
+            Reason::NothingToRead => "nothing to read",
+            Reason::Standing => "standing",
+            Reason::TextInFlight => "text in flight",
+        }
+    }
+}
+
 impl fmt::Display for Reason {
     ghost use Rattle.std.specs.Prelude.{Some};
-    ghost use Rattle.line_report.specs.Texts.{reason_text};
 
     ghost output = { λ reason. Some (reason_text reason) };
 
     fn fmt<W: fmt::Write>(&self, f: &mut fmt::Formatter<W>) -> fmt::Result {
-        match self {
-            Reason::Node(no) => f.write_str(no_text(*no)),
-            Reason::Move(no) => f.write_str(no.text()),
-            Reason::NoSuchMachine => f.write_str("no such machine"),
-            Reason::LineFull => f.write_str("line full"),
-            Reason::NotHere => f.write_str("not here"),
-            Reason::NoNeighbour => f.write_str("no neighbour"),
-            Reason::NothingInFlight => f.write_str("nothing in flight"),
-            Reason::NothingToRead => f.write_str("nothing to read"),
-            Reason::Standing => f.write_str("standing"),
-            Reason::NotStanding => f.write_str("not standing"),
-            Reason::TextInFlight => f.write_str("text in flight"),
-        }
+        f.write_str(self.text())
     }
 }
 
@@ -135,5 +150,10 @@ fn no_text(no: No) -> &'static str
         No::IntakeUnsettled => "intake unsettled",
         No::NotConnected => "not connected",
         No::NoHandover => "no handover",
+        No::Bridge => "bridge",
+        No::NotABridge => "not a bridge",
+        No::NotStanding => "not standing",
+        No::NotSupported => "not supported",
+        No::NothingKept => "nothing kept",
     }
 }

@@ -1,9 +1,9 @@
-ghost use Rattle.std.specs.Prelude.{◌≡◌, ◌++◌, OnOk};
+ghost use Rattle.std.specs.Prelude.{◌≡◌, ◌++◌, OnOk, codes, decimal};
+ghost use Rattle.hermes_element.specs.Standing.{StillStands};
 ghost use Rattle.line_report.specs.Texts.{summary_text, unvouched_text};
 
-use crate::bytes::{append, written};
+use crate::bytes::{append, append_digits};
 use line_base::Memory;
-use std::io::Write;
 
 /// The numbers of a report's last line.
 #[derive(Clone, Copy, Debug, PartialEq, Eq)]
@@ -20,30 +20,42 @@ pub struct Summary {
     pub unvouched: Option<u64>,
 }
 
-/// Appends the last line of the report. `Memory` where there is no room for it; nothing is promised of the text then.
+/// Appends the last line of the report. `Memory` where there is no room for it: what stood in the text still stands then,
+/// and maybe a part of the line behind it.
 pub fn write_summary(summary: &Summary, to: &mut Vec<u8>) -> Result<(), Memory>
-    ensures { OnOk result (to.new.items ≡ to.old.items ++ summary_text summary.now) }
+    ensures kept { StillStands to.old.items to.new.items }
+    ensures written { OnOk result (to.new.items ≡ to.old.items ++ summary_text summary.now) }
 {
-    let Summary {
-        lines,
-        boards,
-        opened,
-        settled,
-        unvouched,
-    } = *summary;
-    written(write!(
-        to,
-        "end lines={lines} boards={boards} opened={opened} settled={settled}"
-    ))?;
-    write_unvouched(unvouched, to)?;
+    write_counts(summary, to)?;
+    write_unvouched(summary.unvouched, to)?;
     append(b"\n", to)
 }
 
+fn write_counts(summary: &Summary, to: &mut Vec<u8>) -> Result<(), Memory>
+    ensures kept { StillStands to.old.items to.new.items }
+    ensures written { OnOk result (to.new.items ≡ to.old.items ++ (codes "end lines=" ++ decimal summary.now.lines ++ codes " boards=" ++ decimal summary.now.boards ++ codes " opened=" ++ decimal summary.now.opened ++ codes " settled=" ++ decimal summary.now.settled)) }
+{
+    write_count("end lines=", summary.lines, to)?;
+    write_count(" boards=", summary.boards, to)?;
+    write_count(" opened=", summary.opened, to)?;
+    write_count(" settled=", summary.settled, to)
+}
+
 fn write_unvouched(unvouched: Option<u64>, to: &mut Vec<u8>) -> Result<(), Memory>
-    ensures { OnOk result (to.new.items ≡ to.old.items ++ unvouched_text unvouched) }
+    ensures kept { StillStands to.old.items to.new.items }
+    ensures written { OnOk result (to.new.items ≡ to.old.items ++ unvouched_text unvouched) }
 {
     match unvouched {
         None => Ok(()),
-        Some(line) => written(write!(to, " unvouched={line}")),
+        Some(line) => write_count(" unvouched=", line, to),
     }
+}
+
+/// What is counted, and its number.
+fn write_count(what: &str, number: u64, to: &mut Vec<u8>) -> Result<(), Memory>
+    ensures kept { StillStands to.old.items to.new.items }
+    ensures written { OnOk result (to.new.items ≡ to.old.items ++ (what.now ++ decimal number)) }
+{
+    append(what.as_bytes(), to)?;
+    append_digits(number, to)
 }

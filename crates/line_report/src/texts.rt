@@ -1,101 +1,154 @@
-//! The report's text of what happened.
+//! The report's text of what happened. Where memory is wanting, a front of a text may stand there, behind what stood there
+//! before.
 
 ghost use Rattle.std.specs.Prelude.{◌≡◌, ◌++◌, OnOk, codes};
+ghost use Rattle.hermes_element.specs.Standing.{StillStands};
 ghost use Rattle.line_report.specs.declared.happening.Happening.TheVariants as happenings;
-ghost use Rattle.line_report.specs.Texts.{act_text, at_side, deed_text, entry, happening_text, mark_of, of_board, what_text};
+ghost use Rattle.line_report.specs.Texts.{act_text, at_side, between_text, deed_text, entry, happening_text, mark_of, numbered, of_board, setting_text, switched, what_text};
 
-use crate::bytes::{append, append_in_line, written};
+use crate::bytes::{append, append_digits, append_id, append_in_line, append_number, append_word};
 use crate::happening::Happening;
-use crate::words::{event_word, ping_mark, quality_word, side_word, transfer_mark, will_word};
+use crate::words::{
+    event_word, line_word, ping_mark, quality_word, side_word, signal_word, switch_word,
+    transfer_mark, will_word,
+};
 use board_record::BoardId;
 use hermes_horizontal::Horizontal;
 use line_base::{Memory, Side};
 use node_core::{Act, Deed, Setting};
-use std::io::Write;
 
 /// Appends one line of the report: the number of the script line, what happened, and the line's end. `Memory` where there
-/// is no room for it; nothing is promised of the text then.
+/// is no room for it: what stood in the text still stands then, and maybe a part of the line behind it.
 pub fn write_happening(number: u64, what: &Happening, to: &mut Vec<u8>) -> Result<(), Memory>
-    ensures { OnOk result (to.new.items ≡ to.old.items ++ entry number what.now) }
+    ensures kept { StillStands to.old.items to.new.items }
+    ensures written { OnOk result (to.new.items ≡ to.old.items ++ entry number what.now) }
 {
-    written(write!(to, "{number} "))?;
+    append_digits(number, to)?;
+    append(b" ", to)?;
     write_what(what, to)?;
     append(b"\n", to)
 }
 
 fn write_what(what: &Happening, to: &mut Vec<u8>) -> Result<(), Memory>
-    ensures { OnOk result (to.new.items ≡ to.old.items ++ happening_text what.now) }
+    ensures kept { StillStands to.old.items to.new.items }
+    ensures written { OnOk result (to.new.items ≡ to.old.items ++ happening_text what.now) }
 {
     match what {
-        Happening::Machine { number, capacity } => {
-            written(write!(to, "machine {number} {capacity}"))
-        }
+        Happening::Machine { number, capacity } => write_added("machine", *number, *capacity, to),
+        Happening::Bridge { number, capacity } => write_added("bridge", *number, *capacity, to),
         Happening::Done { machine, act } => write_act(*machine, act, to),
-        Happening::Cut { gap } => written(write!(to, "cut {gap}")),
+        Happening::Cut { gap } => write_numbered("cut", *gap, to),
         Happening::Spoils { machine, side } => write_side("spoils", *machine, *side, to),
-        Happening::Moved { gap, step } => written(write!(to, "move {gap} {step}")),
+        Happening::Moved { gap, step } => {
+            write_numbered("move", *gap, to)?;
+            append_word(step.word(), to)
+        }
         Happening::Lie { machine, sensed } => {
             write_side("lie", *machine, sensed.side, to)?;
-            write_word(event_word(sensed.event), to)
+            append_word(event_word(sensed.event), to)
         }
+        Happening::Unseen { machine, side } => write_unseen(*machine, *side, to),
         Happening::Unvouched => append(b"unvouched", to),
-        Happening::No(reason) => written(write!(to, "no: {reason}")),
+        Happening::No(reason) => {
+            append(b"no: ", to)?;
+            append(reason.text().as_bytes(), to)
+        }
         Happening::Shown {
             machine,
             id,
             quality,
         } => {
             write_board("show", *machine, *id, to)?;
-            write_word(quality_word(*quality), to)
+            append_word(quality_word(*quality), to)
         }
         Happening::ShownBetween { gap, id } => write_between(*gap, *id, to),
         Happening::With { machine, id } => write_board("with", *machine, *id, to),
         Happening::Between { gap, id } => write_board("between", *gap, *id, to),
-        Happening::Gone { id } => written(write!(to, "gone {id}")),
+        Happening::Gone { id } => {
+            append(b"gone", to)?;
+            append_id(*id, to)
+        }
     }
 }
 
-fn write_between(gap: u32, id: BoardId, to: &mut Vec<u8>) -> Result<(), Memory>
-    ensures { OnOk result (to.new.items ≡ to.old.items ++ happening_text (happenings.ShownBetween gap id)) }
+/// A machine or a bridge that was added, and for how many boards it has room.
+fn write_added(word: &str, number: u32, capacity: u32, to: &mut Vec<u8>) -> Result<(), Memory>
+    ensures kept { StillStands to.old.items to.new.items }
+    ensures written { OnOk result (to.new.items ≡ to.old.items ++ numbered (numbered word.now number) capacity) }
 {
-    let next = u64::from(gap) + 1;
-    written(write!(to, "show {gap}-{next} {id}"))
+    write_numbered(word, number, to)?;
+    append_number(u64::from(capacity), to)
 }
 
-/// A space and a word.
-fn write_word(word: &str, to: &mut Vec<u8>) -> Result<(), Memory>
-    ensures { OnOk result (to.new.items ≡ to.old.items ++ (codes " " ++ word.now)) }
+/// The side comes before the machine: `unseen in 2`.
+fn write_unseen(machine: u32, side: Side, to: &mut Vec<u8>) -> Result<(), Memory>
+    ensures kept { StillStands to.old.items to.new.items }
+    ensures written { OnOk result (to.new.items ≡ to.old.items ++ happening_text (happenings.Unseen machine side)) }
 {
-    append(b" ", to)?;
-    append(word.as_bytes(), to)
+    append(b"unseen", to)?;
+    append_word(side_word(side), to)?;
+    append_number(u64::from(machine), to)
+}
+
+/// The board that is between two machines.
+fn write_between(gap: u32, id: BoardId, to: &mut Vec<u8>) -> Result<(), Memory>
+    ensures kept { StillStands to.old.items to.new.items }
+    ensures written { OnOk result (to.new.items ≡ to.old.items ++ happening_text (happenings.ShownBetween gap id)) }
+{
+    append(b"show ", to)?;
+    write_gap(gap, to)?;
+    append_id(id, to)
+}
+
+/// The gap between two neighbours, by their numbers.
+fn write_gap(gap: u32, to: &mut Vec<u8>) -> Result<(), Memory>
+    ensures kept { StillStands to.old.items to.new.items }
+    ensures written { OnOk result (to.new.items ≡ to.old.items ++ between_text gap) }
+{
+    append_digits(u64::from(gap), to)?;
+    append(b"-", to)?;
+    append_digits(u64::from(gap) + 1, to)
+}
+
+/// A word and a number.
+fn write_numbered(word: &str, number: u32, to: &mut Vec<u8>) -> Result<(), Memory>
+    ensures kept { StillStands to.old.items to.new.items }
+    ensures written { OnOk result (to.new.items ≡ to.old.items ++ numbered word.now number) }
+{
+    append(word.as_bytes(), to)?;
+    append_number(u64::from(number), to)
 }
 
 /// A word, a machine's number and a side.
 fn write_side(word: &str, machine: u32, side: Side, to: &mut Vec<u8>) -> Result<(), Memory>
-    ensures { OnOk result (to.new.items ≡ to.old.items ++ at_side word.now machine side) }
+    ensures kept { StillStands to.old.items to.new.items }
+    ensures written { OnOk result (to.new.items ≡ to.old.items ++ at_side word.now machine side) }
 {
-    let side = side_word(side);
-    written(write!(to, "{word} {machine} {side}"))
+    write_numbered(word, machine, to)?;
+    append_word(side_word(side), to)
 }
 
 /// A word, a number and a board's id.
 fn write_board(word: &str, number: u32, id: BoardId, to: &mut Vec<u8>) -> Result<(), Memory>
-    ensures { OnOk result (to.new.items ≡ to.old.items ++ of_board word.now number id) }
+    ensures kept { StillStands to.old.items to.new.items }
+    ensures written { OnOk result (to.new.items ≡ to.old.items ++ of_board word.now number id) }
 {
-    written(write!(to, "{word} {number} {id}"))
+    write_numbered(word, number, to)?;
+    append_id(id, to)
 }
 
 /// Appends what a report tells of one act of a machine, and nothing for a drive.
 ///
-/// `machine` is the machine's number in the line; a node tells itself by its own. `Memory` where there is no room for it;
-/// nothing is promised of the text then.
+/// `machine` is the machine's number in the line; a node tells itself by its own. `Memory` where there is no room for it:
+/// what stood in the text still stands then, and maybe a part of the act's text behind it.
 pub fn write_act(machine: u32, act: &Act, to: &mut Vec<u8>) -> Result<(), Memory>
-    ensures { OnOk result (to.new.items ≡ to.old.items ++ act_text machine act.now) }
+    ensures kept { StillStands to.old.items to.new.items }
+    ensures written { OnOk result (to.new.items ≡ to.old.items ++ act_text machine act.now) }
 {
     match act {
         Act::Reads(side, event) => {
             write_side("reads", machine, *side, to)?;
-            write_word(event_word(*event), to)
+            append_word(event_word(*event), to)
         }
         Act::Hears(side, message) => {
             write_side("hears", machine, *side, to)?;
@@ -112,22 +165,55 @@ pub fn write_act(machine: u32, act: &Act, to: &mut Vec<u8>) -> Result<(), Memory
         }
         Act::Closes(side) => write_side("closes", machine, *side, to),
         Act::Notices(side) => write_side("notices", machine, *side, to),
-        Act::Connects => written(write!(to, "connects {machine}")),
+        Act::Connects => write_numbered("connects", machine, to),
         Act::Deed(deed) => write_deed(machine, *deed, to),
         Act::Drive(_, _) => Ok(()),
+        Act::Signals(signal, on) => {
+            write_switched("signals", machine, signal_word(*signal), *on, to)
+        }
         Act::Marks(id, quality) => {
             write_board("mark", machine, *id, to)?;
-            write_word(quality_word(*quality), to)
+            append_word(quality_word(*quality), to)
         }
         Act::Inserts(id) => write_board("insert", machine, *id, to),
         Act::Removes(id) => write_board("remove", machine, *id, to),
-        Act::Replaces(old, new) => written(write!(to, "replace {machine} {old} {new}")),
-        Act::Sets(Setting::Will(side, on)) => write_side(will_word(*on), machine, *side, to),
+        Act::Replaces(old, new) => {
+            write_board("replace", machine, *old, to)?;
+            append_id(*new, to)
+        }
+        Act::Sets(setting) => write_setting(machine, *setting, to),
     }
 }
 
+fn write_setting(machine: u32, setting: Setting, to: &mut Vec<u8>) -> Result<(), Memory>
+    ensures kept { StillStands to.old.items to.new.items }
+    ensures written { OnOk result (to.new.items ≡ to.old.items ++ setting_text machine setting) }
+{
+    match setting {
+        Setting::Will(side, on) => write_side(will_word(on), machine, side, to),
+        Setting::Level(line, on) => write_switched("level", machine, line_word(line), on, to),
+    }
+}
+
+/// A word, a machine's number, a signal, and whether it is on.
+fn write_switched(
+    word: &str,
+    machine: u32,
+    signal: &str,
+    on: bool,
+    to: &mut Vec<u8>,
+) -> Result<(), Memory>
+    ensures kept { StillStands to.old.items to.new.items }
+    ensures written { OnOk result (to.new.items ≡ to.old.items ++ switched word.now machine signal.now on) }
+{
+    write_numbered(word, machine, to)?;
+    append_word(signal, to)?;
+    append_word(switch_word(on), to)
+}
+
 fn write_deed(machine: u32, deed: Deed, to: &mut Vec<u8>) -> Result<(), Memory>
-    ensures { OnOk result (to.new.items ≡ to.old.items ++ deed_text machine deed) }
+    ensures kept { StillStands to.old.items to.new.items }
+    ensures written { OnOk result (to.new.items ≡ to.old.items ++ deed_text machine deed) }
 {
     let before = machine.saturating_sub(1);
     match deed {
@@ -144,7 +230,8 @@ fn write_deed(machine: u32, deed: Deed, to: &mut Vec<u8>) -> Result<(), Memory>
 
 /// A space, a message's name, and what tells it from others of its name.
 fn write_message(body: &Horizontal, to: &mut Vec<u8>) -> Result<(), Memory>
-    ensures { OnOk result (to.new.items ≡ to.old.items ++ (codes " " ++ what_text body.now)) }
+    ensures kept { StillStands to.old.items to.new.items }
+    ensures written { OnOk result (to.new.items ≡ to.old.items ++ (codes " " ++ what_text body.now)) }
 {
     append(b" ", to)?;
     append(body.name(), to)?;
@@ -152,21 +239,19 @@ fn write_message(body: &Horizontal, to: &mut Vec<u8>) -> Result<(), Memory>
 }
 
 fn write_mark(body: &Horizontal, to: &mut Vec<u8>) -> Result<(), Memory>
-    ensures { OnOk result (to.new.items ≡ to.old.items ++ mark_of body.now) }
+    ensures kept { StillStands to.old.items to.new.items }
+    ensures written { OnOk result (to.new.items ≡ to.old.items ++ mark_of body.now) }
 {
     match body {
         Horizontal::CheckAlive { ping, .. } => append(ping_mark(*ping).as_bytes(), to),
-        Horizontal::Notification { code, .. } => {
-            let number = code.number;
-            written(write!(to, " {number}"))
-        }
+        Horizontal::Notification { code, .. } => append_number(u64::from(code.number), to),
         Horizontal::StopTransport { state, .. } => append(transfer_mark(*state).as_bytes(), to),
         Horizontal::TransportFinished { state, .. } => {
             append(transfer_mark(*state).as_bytes(), to)
         }
         Horizontal::SendBoardInfo(info) => match info.id {
             None => append(b" none", to),
-            Some(id) => written(write!(to, " {id}")),
+            Some(id) => append_id(id, to),
         },
         _ => Ok(()),
     }

@@ -1,10 +1,12 @@
 //! The words of the report.
 
 ghost use Rattle.std.specs.Prelude.{◌≡◌};
-ghost use Rattle.line_report.specs.Texts.{event_text, ping_text, quality_text, side_text, transfer_text, will_word};
+ghost use Rattle.line_report.specs.Texts.{event_text, ping_text, line_word, quality_text, side_text, signal_word, switch_word, transfer_text, will_word};
 
 use hermes_horizontal::Ping;
 use line_base::{Quality, SensorEvent, Side, Transfer};
+use node_core::Signal;
+use smema_bridge::SegmentLine;
 
 /// The word for a side of a machine: `in` for its entry, `out` for its exit.
 pub fn side_word(side: Side) -> &'static str
@@ -45,6 +47,35 @@ pub fn will_word(on: bool) -> &'static str
     ensures { result.now ≡ will_word on }
 {
     if on { "go" } else { "hold" }
+}
+
+/// The word for a signal that is on or off.
+pub fn switch_word(on: bool) -> &'static str
+    ensures { result.now ≡ switch_word on }
+{
+    if on { "on" } else { "off" }
+}
+
+/// The word for a signal of a bridge's segment.
+pub fn line_word(line: SegmentLine) -> &'static str
+    ensures { result.now ≡ line_word line }
+{
+    match line {
+        SegmentLine::Ready => "ready",
+        SegmentLine::Available => "available",
+        SegmentLine::Failed => "failed",
+    }
+}
+
+/// The word for a signal of a bridge's own.
+pub fn signal_word(signal: Signal) -> &'static str
+    ensures { result.now ≡ signal_word signal }
+{
+    match signal {
+        Signal::EntryAvailable => "entry-available",
+        Signal::EntryFailed => "entry-failed",
+        Signal::ExitReady => "exit-ready",
+    }
 }
 
 /// The type of a CheckAlive, with a space before it.

@@ -1,6 +1,6 @@
 //! The acts of the cases: the word of one, and behind it the words of its values. A message is given by its spelling.
 
-use crate::values::{event_of, id_of, parted, quality_of, side_of};
+use crate::values::{event_of, id_of, line_of, parted, quality_of, side_of, signal_of};
 use hermes_horizontal::{Message, MessageError, read_horizontal};
 use line_base::{Memory, Side, Text};
 use node_core::{Act, Deed, Setting};
@@ -14,6 +14,8 @@ pub fn act_of(alloc: Global, words: &str) -> Result<Act, Memory> {
         "Sends" => Ok(Act::Sends(side_of(first), message_of(alloc, second)?)),
         "Breaches" => Ok(Act::Breaches(side_of(first), text_of(alloc, second)?)),
         "Connects" => Ok(Act::Connects),
+        "Level" => Ok(Act::Sets(Setting::Level(line_of(first), second == "on"))),
+        "Signals" => Ok(Act::Signals(signal_of(first), second == "on")),
         _ => Ok(sided_of(what, first, second)),
     }
 }

@@ -35,6 +35,10 @@ fn numbered_of(what: &str, about: &str) -> Happening {
             number,
             capacity: number_of(rest),
         },
+        "Bridge" => Happening::Bridge {
+            number,
+            capacity: number_of(rest),
+        },
         "Cut" => Happening::Cut { gap: number },
         "Spoils" => Happening::Spoils {
             machine: number,
@@ -45,6 +49,10 @@ fn numbered_of(what: &str, about: &str) -> Happening {
             step: move_of(rest),
         },
         "Lie" => lie_of(number, rest),
+        "Unseen" => Happening::Unseen {
+            machine: number,
+            side: side_of(rest),
+        },
         _ => board_of(what, number, rest),
     }
 }

@@ -13,7 +13,6 @@ pub fn reason_of(word: &str) -> Reason {
         "NothingInFlight" => Reason::NothingInFlight,
         "NothingToRead" => Reason::NothingToRead,
         "Standing" => Reason::Standing,
-        "NotStanding" => Reason::NotStanding,
         "TextInFlight" => Reason::TextInFlight,
         _ => own_reason_of(word),
     }
@@ -39,6 +38,11 @@ fn no_of(word: &str) -> Option<No> {
         "IntakeUnsettled" => No::IntakeUnsettled,
         "NotConnected" => No::NotConnected,
         "NoHandover" => No::NoHandover,
+        "Bridge" => No::Bridge,
+        "NotABridge" => No::NotABridge,
+        "NotStanding" => No::NotStanding,
+        "NotSupported" => No::NotSupported,
+        "NothingKept" => No::NothingKept,
         _ => return None,
     })
 }

@@ -2,6 +2,8 @@
 
 use board_record::BoardId;
 use line_base::{Quality, SensorEvent, Side};
+use node_core::Signal;
+use smema_bridge::SegmentLine;
 
 /// A word, and what follows it.
 pub fn parted(words: &str) -> (&str, &str) {
@@ -49,5 +51,21 @@ pub fn quality_of(word: &str) -> Quality {
         "Good" => Quality::Good,
         "Failed" => Quality::Failed,
         _ => Quality::Unknown,
+    }
+}
+
+pub fn line_of(word: &str) -> SegmentLine {
+    match word {
+        "Ready" => SegmentLine::Ready,
+        "Available" => SegmentLine::Available,
+        _ => SegmentLine::Failed,
+    }
+}
+
+pub fn signal_of(word: &str) -> Signal {
+    match word {
+        "EntryAvailable" => Signal::EntryAvailable,
+        "EntryFailed" => Signal::EntryFailed,
+        _ => Signal::ExitReady,
     }
 }
