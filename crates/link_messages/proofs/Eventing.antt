@@ -5,7 +5,7 @@ use Rattle.std.proofs.lemmas.Bool.Decides.{nat_tests}
 use Rattle.board_record.specs.Maker.{Maker, after_next, made_id, next_id}
 use Rattle.board_record.specs.declared.maker.IdsUsedUp.{IdsUsedUp}
 use Rattle.node_core.specs.Event.{Insert, Replace, event_of, maker_after, with_new}
-use Rattle.node_core.specs.Node.{new_body}
+use Rattle.node_core.specs.Node.{first_body, new_body}
 use Rattle.node_core.specs.declared.input.Input.{Input}
 use Rattle.node_core.specs.declared.input.Input.TheVariants as inputs
 use Rattle.node_core.specs.declared.word.Word.{Word}
@@ -44,6 +44,7 @@ pub event_of_fits : (maker : Maker) (input : Input) (words : List Word) → IsFi
 event_of_fits maker (inputs.Bytes side piece) words m i heard = heard
 event_of_fits maker (inputs.Insert barcode) words m i heard = insert_fits (next_id maker) barcode (new_fits maker m) i
 event_of_fits maker (inputs.Replace id) words m i heard = replace_fits (next_id maker) id (new_fits maker m)
+event_of_fits maker (inputs.Query barcode) words m i heard = i
 event_of_fits maker _ words m i heard = tt
 
 after_at : (test : Bool) (maker : Maker) → nat_le (2 ^ 48 - 1) maker.used ≡ test → IsFitMaker maker → IsFitMaker (after_next maker)
@@ -59,3 +60,6 @@ maker_stays_fit _ maker m = m
 
 pub new_body_fits : IsFitBody new_body
 new_body_fits = record { kept = none_kept; outlet = tt; intake = tt; offer = tt }
+
+pub first_body_fits : (is_bridge : Bool) → IsFitBody (first_body is_bridge)
+first_body_fits is_bridge = record { kept = none_kept; outlet = tt; intake = tt; offer = tt }

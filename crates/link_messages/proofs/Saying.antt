@@ -3,32 +3,44 @@ use Rattle.std.proofs.Common.{Bool, List, None, Option, Some, [], false, refl, t
 use Rattle.std.specs.Prelude.{slice_get}
 use Rattle.line_base.specs.Text.{IsText}
 use Rattle.line_base.specs.declared.states.Quality.{Quality}
+use Rattle.line_base.specs.declared.states.Quality.TheVariants as qualities
 use Rattle.line_base.specs.declared.states.SensorEvent.{SensorEvent}
 use Rattle.line_base.specs.declared.states.Side.{Side}
 use Rattle.line_base.specs.declared.states.Side.TheVariants.{Entry, Exit}
 use Rattle.board_record.specs.Record.{plain_record}
 use Rattle.board_record.specs.declared.record.Record.{Record}
 use Rattle.board_record.specs.declared.sensed.Sensed.{Sensed}
+use Rattle.hermes_horizontal.specs.declared.message.Horizontal.TheVariants as bodies
+use Rattle.smema_bridge.specs.Levels.{BridgeLevels}
+use Rattle.smema_bridge.specs.Signals.{bridge_edges, signals_of}
+use Rattle.smema_bridge.specs.declared.edges.BridgeEdges.{BridgeEdges}
+use Rattle.smema_bridge.specs.declared.line.SegmentLine.{SegmentLine}
+use Rattle.smema_bridge.specs.declared.line.SegmentLine.TheVariants.{Available, Failed, Ready}
 use Rattle.session_core.specs.Input.{opened, second, shutdown, tick}
 use Rattle.session_core.specs.Row.{session_row}
 use Rattle.handover_out.specs.declared.input.OutInput.TheVariants as out_input
 use Rattle.handover_in.specs.declared.input.InInput.TheVariants as in_input
 use Rattle.node_core.specs.Announces.{announces, offer, offer_by, offers_now, readies_now, ready, ready_by, revoke, revoke_by, revokes_now, start, start_by, starts_now, unreadies_now, unready, unready_by}
 use Rattle.node_core.specs.Boards.{faults, if_kept, inserts, is_kept, marks, removes, replaces, wills, with_instead, with_kept, with_mark, without}
+use Rattle.node_core.specs.Bridge.{failed_front, fails, sets_level, tells_level}
 use Rattle.node_core.specs.Connect.{both_shut_down, both_tick, meets_second, notices, opens, shuts_down, ticks}
 use Rattle.node_core.specs.Desk.{Desk}
 use Rattle.node_core.specs.Done.{and_then, behind, done}
-use Rattle.node_core.specs.Event.{Accepted, Connect, Event, Fault, Insert, Mark, Nothing, Notice, Remove, Replace, Second, Shutdown, Tick, Will, Words, event_did}
+use Rattle.node_core.specs.Event.{Accepted, Connect, Event, Fault, Forecast, Insert, Level, Mark, Nothing, Notice, Query, Remove, Replace, Second, Shutdown, Tick, Will, Words, event_did}
 use Rattle.node_core.specs.Halves.{ended}
 use Rattle.node_core.specs.Reads.{all_read, reads, saw}
 use Rattle.node_core.specs.Sides.{is_open, session_at}
+use Rattle.node_core.specs.Signals.{moves_out, quality_taken, signal_told, signalled}
 use Rattle.node_core.specs.Step.{machine_step}
 use Rattle.node_core.specs.declared.act.Act.{Act}
 use Rattle.node_core.specs.declared.act.Act.TheVariants as acts
+use Rattle.node_core.specs.declared.act.Signal.{Signal}
+use Rattle.node_core.specs.declared.act.Signal.TheVariants as signals
 use Rattle.node_core.specs.declared.lane.Body.{Body}
-use Rattle.link_messages.specs.Fit.{AreFitRecords, Fits, IsFitAct, IsFitBody, IsFitDesk, IsFitEvent, IsFitId, IsFitRecord, IsTextIf, more_kept, more_said, none_kept, none_said}
+use Rattle.link_messages.specs.Fit.{AreFitActs, AreFitRecords, Fits, IsFitAct, IsFitBody, IsFitDesk, IsFitEvent, IsFitId, IsFitRecord, IsTextIf, more_kept, more_said, none_kept, none_said}
 use Rattle.link_messages.proofs.SayingHalves.{at_intake_fits, at_outlet_fits, behind_fits, ended_fits, fits_behind, fits_both, fits_still, fits_told}
 use Rattle.link_messages.proofs.SayingSessions.{session_fits}
+use Rattle.link_messages.proofs.SayingWhat.{both_said, forecasts_fit, front_fits, question_fits, sent}
 use Rattle.link_messages.proofs.SayingWords.{if_fits, words_fit}
 
 -- ---- sensor events
@@ -139,6 +151,22 @@ wills_fit : (side : Side) (on : Bool) (body : Body) → IsFitBody body → Fits 
 wills_fit Entry on body b = record { body = record { kept = b.kept; outlet = b.outlet; intake = b.intake; offer = b.offer }; acts = more_said tt none_said }
 wills_fit Exit on body b = record { body = record { kept = b.kept; outlet = b.outlet; intake = b.intake; offer = b.offer }; acts = more_said tt none_said }
 
+levels_fit : (line : SegmentLine) (on : Bool) (body : Body) → IsFitBody body → Fits (tells_level line on body)
+levels_fit Ready on body b = record { body = record { kept = b.kept; outlet = b.outlet; intake = b.intake; offer = b.offer }; acts = more_said tt none_said }
+levels_fit Available on body b = record { body = record { kept = b.kept; outlet = b.outlet; intake = b.intake; offer = b.offer }; acts = more_said tt none_said }
+levels_fit Failed on body b = record { body = b; acts = more_said tt none_said }
+
+fails_fit : (found : Option ℕ) (body : Body) → IsFitBody body → Fits (fails found body)
+fails_fit None body b = fits_still body b
+fails_fit (Some id) body b = marks_fit id qualities.Failed body b
+
+sets_level_fits : (desk : Desk) (line : SegmentLine) (on : Bool) (body : Body) → IsFitBody body → Fits (sets_level desk line on body)
+sets_level_fits desk line on body b =
+    let one : Body = (tells_level line on body).body in
+    let told : Fits (tells_level line on body) = levels_fit line on body b in
+    fits_both (tells_level line on body) (λ (x : Body). fails (failed_front desk.bridge line on x) x) told
+    (fails_fit (failed_front desk.bridge line on one) one told.body)
+
 -- ---- an event
 
 pub event_fits : (desk : Desk) (event : Event) (body : Body) → IsFitEvent event → IsFitDesk desk → IsFitBody body → Fits (event_did desk event body)
@@ -156,6 +184,9 @@ event_fits desk (Insert id barcode) body given d b = inserts_fit desk id barcode
 event_fits desk (Remove id) body given d b = removes_fit id body b
 event_fits desk (Replace old new) body given d b = replaces_fit desk old new body given d b
 event_fits desk (Mark id quality) body given d b = marks_fit id quality body b
+event_fits desk (Level line on) body given d b = sets_level_fits desk line on body b
+event_fits desk Forecast body given d b = fits_told body _ b (forecasts_fit desk (slice_get body.kept 0) d (front_fits body.kept b.kept))
+event_fits desk (Query barcode) body given d b = fits_told body _ b (sent desk Entry (bodies.QueryBoardInfo (Some barcode) None) d (question_fits barcode given))
 
 -- ---- announcements
 
@@ -206,3 +237,15 @@ step_fits desk unread event body d given b =
     let three : Fits (announces desk (event_did desk event at_one).body) = announces_fit desk (event_did desk event at_one).body d two.body in
     fits_both (all_read desk unread body) (λ (x : Body). and_then (event_did desk event x) (announces desk)) one
     (fits_both (event_did desk event at_one) (announces desk) two three)
+
+-- a bridge's own signals are no messages
+told_fits : (signal : Signal) (edge : Option Bool) → AreFitActs (signal_told signal edge)
+told_fits signal None = none_said
+told_fits signal (Some on) = more_said tt none_said
+
+pub signals_fit : (bridge : Option BridgeLevels) (body : Body) → AreFitActs (signalled bridge body)
+signals_fit None body = none_said
+signals_fit (Some before) body =
+    let edges : BridgeEdges = bridge_edges before.own (signals_of (quality_taken body.intake.phase) (moves_out body)) in
+    both_said (told_fits signals.EntryAvailable edges.available)
+    (both_said (told_fits signals.EntryFailed edges.failed) (told_fits signals.ExitReady edges.ready))

@@ -1,5 +1,5 @@
 -- What is sent is fit: each message that a machine says, and what rows have it tell.
-use Rattle.std.proofs.Common.{Bool, List, None, Option, Some, [], arith, codes, decimal, refl, ℕ, ◌++◌, ◌<◌, ◌^◌, ◌∷◌, ◌≡◌, ◌≤◌}
+use Rattle.std.proofs.Common.{Bool, List, None, Option, Some, [], arith, codes, decimal, refl, suc, zero, ℕ, ◌++◌, ◌<◌, ◌^◌, ◌∷◌, ◌≡◌, ◌≤◌}
 use Rattle.std.specs.Prelude.{slice_get}
 use Rattle.std.specs.List.{AllByRecursion}
 use Rattle.line_base.specs.Name.{IsName}
@@ -29,7 +29,10 @@ use Rattle.handover_in.specs.declared.act.InAct.{InAct}
 use Rattle.handover_in.specs.declared.act.InDeed.{InDeed}
 use Rattle.handover_in.specs.declared.act.InSend.{InSend}
 use Rattle.handover_in.specs.declared.act.InSend.TheVariants as in_send
+use Rattle.forecast_query.specs.Find.{first_match}
+use Rattle.forecast_query.specs.Info.{forecast_of, info_of}
 use Rattle.node_core.specs.Desk.{Desk}
+use Rattle.node_core.specs.Information.{answer_to, board_at, forecasts, info_if}
 use Rattle.node_core.specs.Told.{drives, in_does, in_says, in_sends, in_told, notification, offers, out_does, out_sends, out_told, sends, service_of, tells}
 use Rattle.node_core.specs.declared.act.Act.{Act}
 use Rattle.link_messages.specs.Fit.{AreFitActs, AreFitRecords, IsFitDesk, IsFitIf, IsFitRecord, IsTextIf, more_kept, more_said, none_kept, none_said}
@@ -79,6 +82,40 @@ available_fits board fit = record { name = refl; values = fit.values; numbers = 
 pub no_info_fits : IsFitSaid (bodies.SendBoardInfo no_info)
 no_info_fits = record { name = refl; values = (tt, (tt, (tt, (tt, (tt, (tt, (tt, (tt, (tt, (tt, (tt, (tt, (tt, (tt, (tt, (tt, tt)))))))))))))))); numbers = tt; named = refl; short = tt }
 
+pub told_of_fits : (board : Record) → IsFitRecord board → IsFitSaid (bodies.SendBoardInfo (info_of board))
+told_of_fits board fit = record { name = refl; values = fit.values; numbers = tt; named = refl; short = tt }
+
+pub forecast_fits : (board : Record) → IsFitRecord board → IsFitSaid (bodies.BoardForecast (forecast_of board))
+forecast_fits board fit =
+    let words = fit.values.1.1.1.1 in
+    record {
+      name = refl;
+      values = (tt, (tt, (tt, (tt, (words.0, (words.1.0, (words.1.1.0, (tt, (tt, (tt, (tt, (tt, (tt, (tt, (tt, (tt, tt))))))))))))))));
+      numbers = tt;
+      named = refl;
+      short = tt;
+    }
+
+pub question_fits : (barcode : List ℕ) → IsText barcode → IsFitSaid (bodies.QueryBoardInfo (Some barcode) None)
+question_fits barcode is = record { name = refl; values = (is, (tt, tt)); numbers = tt; named = refl; short = tt }
+
+info_if_fits : (front : Option Record) → IsFitIf front → IsFitSaid (bodies.SendBoardInfo (info_if front))
+info_if_fits None fit = no_info_fits
+info_if_fits (Some board) fit = told_of_fits board fit
+
+place_fits : (kept : List Record) (place : ℕ) → AreFitRecords kept → IsFitIf (slice_get kept place)
+place_fits [] place none_kept = tt
+place_fits (board ∷ boards) zero (more_kept one others) = one
+place_fits (board ∷ boards) (suc place) (more_kept one others) = place_fits boards place others
+
+at_fits : (kept : List Record) (found : Option ℕ) → AreFitRecords kept → IsFitIf (board_at kept found)
+at_fits kept None k = tt
+at_fits kept (Some place) k = place_fits kept place k
+
+-- the answer to a question: what is told of a kept board, or of none
+pub answer_fits : (kept : List Record) (top bottom : Option (List ℕ)) → AreFitRecords kept → IsFitSaid (bodies.SendBoardInfo (answer_to kept top bottom))
+answer_fits kept top bottom k = info_if_fits (board_at kept (first_match kept top bottom)) (at_fits kept (first_match kept top bottom) k)
+
 pub unexpected_is_text : (kind : Kind) → IsText (unexpected kind)
 unexpected_is_text kinds.CheckAlive = plain_is_text _ refl
 unexpected_is_text kinds.ServiceDescription = plain_is_text _ refl
@@ -116,6 +153,10 @@ drives_fit side (Some on) = more_said tt none_said
 pub front_fits : (kept : List Record) → AreFitRecords kept → IsFitIf (slice_get kept 0)
 front_fits [] none_kept = tt
 front_fits (board ∷ boards) (more_kept one others) = one
+
+pub forecasts_fit : (desk : Desk) (front : Option Record) → IsFitDesk desk → IsFitIf front → AreFitActs (forecasts desk front)
+forecasts_fit desk None d fit = none_said
+forecasts_fit desk (Some board) d fit = sent desk Exit (bodies.BoardForecast (forecast_of board)) d (forecast_fits board fit)
 
 offers_fit : (desk : Desk) (front : Option Record) → IsFitDesk desk → IsFitIf front → AreFitActs (offers desk front)
 offers_fit desk None d fit = none_said

@@ -4,7 +4,7 @@ use Rattle.std.specs.Prelude.{is_some}
 use Rattle.std.proofs.lemmas.Bool.{false≢true}
 use Rattle.line_base.specs.declared.states.Side.{Side}
 use Rattle.line_base.specs.declared.states.Side.TheVariants.{Entry, Exit}
-use Rattle.hermes_horizontal.specs.Parts.{kind_of, no_info}
+use Rattle.hermes_horizontal.specs.Parts.{kind_of}
 use Rattle.hermes_horizontal.specs.declared.message.Horizontal.{Horizontal}
 use Rattle.hermes_horizontal.specs.declared.message.Horizontal.TheVariants as bodies
 use Rattle.hermes_horizontal.specs.declared.message.Message.{Message}
@@ -25,6 +25,7 @@ use Rattle.node_core.specs.Desk.{Desk}
 use Rattle.node_core.specs.Done.{Done, and_then, behind}
 use Rattle.node_core.specs.Halves.{intake_row_did, outlet_row_did}
 use Rattle.node_core.specs.Hears.{entry_took, entry_word, exit_took, exit_word, hears, passed, rowed, side_took, taken}
+use Rattle.node_core.specs.Information.{answer_to}
 use Rattle.node_core.specs.Session.{actions_did, breaches}
 use Rattle.node_core.specs.Sides.{is_open, session_at, with_session}
 use Rattle.node_core.specs.Words.{all_heard, word_did}
@@ -39,7 +40,7 @@ use Rattle.node_core.specs.declared.word.Word.TheVariants.{Says, Wrong}
 use Rattle.link_messages.specs.Fit.{AreFitWords, Fits, IsFitBody, IsFitDesk, IsFitHeard, IsFitId, IsFitRecord, more_heard, more_said, none_said, wrong_heard}
 use Rattle.link_messages.proofs.SayingHalves.{FitsAny, fits_behind, fits_both, fits_some, fits_still, fits_told, intake_took_fits, outlet_took_fits, start_took_fits, with_session_fits}
 use Rattle.link_messages.proofs.SayingSessions.{AreFitActions, IsFitActionIf, actions_fit, breaches_fit, row_actions}
-use Rattle.link_messages.proofs.SayingWhat.{no_info_fits, sent, unexpected_is_text}
+use Rattle.link_messages.proofs.SayingWhat.{answer_fits, sent, unexpected_is_text}
 
 -- ---- the halves
 
@@ -56,7 +57,8 @@ exit_fits desk exits.Ready body given d b = outlet_took_fits desk body out_input
 exit_fits desk exits.Unready body given d b = outlet_took_fits desk body out_input.RevokeMachineReady (outlet_row body.outlet out_input.RevokeMachineReady) tt refl d b
 exit_fits desk (exits.Start id) body given d b = start_took_fits desk body id (would_open body.outlet id) given d b
 exit_fits desk (exits.Stop state id) body given d b = outlet_took_fits desk body (out_input.Stop state id) (outlet_row body.outlet (out_input.Stop state id)) tt refl d b
-exit_fits desk exits.Query body given d b = fits_some (fits_told body _ b (sent desk Exit (bodies.SendBoardInfo no_info) d no_info_fits))
+exit_fits desk (exits.Query top bottom) body given d b =
+    fits_some (fits_told body _ b (sent desk Exit (bodies.SendBoardInfo (answer_to body.kept top bottom)) d (answer_fits body.kept top bottom b.kept)))
 exit_fits desk exits.Nothing body given d b = fits_some (fits_still body b)
 
 abbrev IsFitEntryWord : EntryWord → Type 0

@@ -106,16 +106,18 @@ pub data AreFitWords : List Word → Type 0 where
   more_heard : {message : Message} {others : List Word} → IsFitHeard message.body → AreFitWords others → AreFitWords (words.Says message ∷ others)
   wrong_heard : {text : List ℕ} {others : List Word} → IsText text → AreFitWords (words.Wrong text ∷ others)
 
--- an event: its words, the ids that it makes, and the barcode
+-- an event: its words, the ids that it makes, the barcode of a new board and the one that is asked for
 abbrev pub IsFitEvent : Event → Type 0
 IsFitEvent (events.Words side heard) = AreFitWords heard
 IsFitEvent (events.Insert id barcode) = IsFitId id × IsTextIf barcode
 IsFitEvent (events.Replace old new) = IsFitId new
+IsFitEvent (events.Query barcode) = IsText barcode
 IsFitEvent _ = Unit {0}
 
--- an input: the barcode of a board that is put in
+-- an input: the barcode of a board that is put in, and the one that is asked for
 abbrev pub IsFitInput : Input → Type 0
 IsFitInput (inputs.Insert barcode) = IsTextIf barcode
+IsFitInput (inputs.Query barcode) = IsText barcode
 IsFitInput _ = Unit {0}
 
 -- the number of a machine has 32 bits

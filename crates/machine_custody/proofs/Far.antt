@@ -26,6 +26,7 @@ met_outlet (acts.Marks id quality) c = refl
 met_outlet (acts.Inserts id) c = refl
 met_outlet (acts.Removes id) c = refl
 met_outlet (acts.Replaces old new) c = refl
+met_outlet (acts.Signals signal on) c = refl
 met_outlet (acts.Sets setting) c = refl
 
 pub all_outlet : (done : List Act) (c : Scene) → (all_met done c).above.outlet ≡ c.above.outlet
@@ -53,6 +54,7 @@ met_intake (acts.Marks id quality) c = refl
 met_intake (acts.Inserts id) c = refl
 met_intake (acts.Removes id) c = refl
 met_intake (acts.Replaces old new) c = refl
+met_intake (acts.Signals signal on) c = refl
 met_intake (acts.Sets setting) c = refl
 
 pub all_intake : (done : List Act) (c : Scene) → (all_met done c).below.intake ≡ c.below.intake
@@ -80,6 +82,7 @@ met_gap_above (acts.Marks id quality) c = refl
 met_gap_above (acts.Inserts id) c = refl
 met_gap_above (acts.Removes id) c = refl
 met_gap_above (acts.Replaces old new) c = refl
+met_gap_above (acts.Signals signal on) c = refl
 met_gap_above (acts.Sets setting) c = refl
 
 pub all_gap_above : (done : List Act) (c : Scene) → (all_met done c).above.gap.lies ≡ c.above.gap.lies
@@ -107,6 +110,7 @@ met_gap_below (acts.Marks id quality) c = refl
 met_gap_below (acts.Inserts id) c = refl
 met_gap_below (acts.Removes id) c = refl
 met_gap_below (acts.Replaces old new) c = refl
+met_gap_below (acts.Signals signal on) c = refl
 met_gap_below (acts.Sets setting) c = refl
 
 pub all_gap_below : (done : List Act) (c : Scene) → (all_met done c).below.gap.lies ≡ c.below.gap.lies
@@ -134,6 +138,7 @@ met_far_above (acts.Marks id quality) c = refl
 met_far_above (acts.Inserts id) c = refl
 met_far_above (acts.Removes id) c = refl
 met_far_above (acts.Replaces old new) c = refl
+met_far_above (acts.Signals signal on) c = refl
 met_far_above (acts.Sets setting) c = refl
 
 pub all_far_above : (done : List Act) (c : Scene) → (all_met done c).above.far ≡ c.above.far
@@ -161,6 +166,7 @@ met_far_below (acts.Marks id quality) c = refl
 met_far_below (acts.Inserts id) c = refl
 met_far_below (acts.Removes id) c = refl
 met_far_below (acts.Replaces old new) c = refl
+met_far_below (acts.Signals signal on) c = refl
 met_far_below (acts.Sets setting) c = refl
 
 pub all_far_below : (done : List Act) (c : Scene) → (all_met done c).below.far ≡ c.below.far
@@ -188,6 +194,7 @@ met_exit_above (acts.Marks id quality) c = refl
 met_exit_above (acts.Inserts id) c = refl
 met_exit_above (acts.Removes id) c = refl
 met_exit_above (acts.Replaces old new) c = refl
+met_exit_above (acts.Signals signal on) c = refl
 met_exit_above (acts.Sets setting) c = refl
 
 pub all_exit_above : (done : List Act) (c : Scene) → (all_met done c).above.exit ≡ c.above.exit
@@ -215,6 +222,7 @@ met_entry_below (acts.Marks id quality) c = refl
 met_entry_below (acts.Inserts id) c = refl
 met_entry_below (acts.Removes id) c = refl
 met_entry_below (acts.Replaces old new) c = refl
+met_entry_below (acts.Signals signal on) c = refl
 met_entry_below (acts.Sets setting) c = refl
 
 pub all_entry_below : (done : List Act) (c : Scene) → (all_met done c).below.entry ≡ c.below.entry

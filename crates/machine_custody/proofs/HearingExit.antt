@@ -3,7 +3,7 @@ use Rattle.std.proofs.Common.{Bool, List, None, Option, Some, [], false, is_some
 use Rattle.line_base.specs.declared.states.Role.TheVariants.{Downstream, Upstream}
 use Rattle.line_base.specs.declared.states.Side.TheVariants.{Exit}
 use Rattle.board_record.specs.declared.record.Record.{Record}
-use Rattle.hermes_horizontal.specs.Parts.{kind_of, no_info}
+use Rattle.hermes_horizontal.specs.Parts.{kind_of}
 use Rattle.hermes_horizontal.specs.declared.message.Horizontal.{Horizontal}
 use Rattle.hermes_horizontal.specs.declared.message.Horizontal.TheVariants as message
 use Rattle.hermes_horizontal.specs.declared.message.Message.{Message}
@@ -32,6 +32,7 @@ use Rattle.node_core.specs.Desk.{Desk}
 use Rattle.node_core.specs.Done.{Done, behind}
 use Rattle.node_core.specs.Halves.{behind_opening, given_back, half_closed, opening_board, outlet_did}
 use Rattle.node_core.specs.Hears.{hears, outlet_took, passed, rowed, taken}
+use Rattle.node_core.specs.Information.{answer_to}
 use Rattle.node_core.specs.Session.{actions_did}
 use Rattle.node_core.specs.Sides.{with_session}
 use Rattle.node_core.specs.Told.{tells}
@@ -257,7 +258,7 @@ exit_takes {ga = ga} {gb = gb} body c desk stamp rest _ _ _ _ (passes_start {k =
     start_rowed _ c desk stamp id rest (opening_board open_it body.kept) (behind_opening open_it body.kept) (front_brought open_it body.kept) now
     (hears_start gb l id (opening_board open_it body.kept) body.kept rest now.below_pair looks front (λ x kept. now.here x (kept_lies kept now.boards)) now.below_contents).1
 exit_takes body c desk stamp rest _ _ _ _ (passes_query {k = k} {n = n} {f = f} {top = top} {bottom = bottom}) test offers g =
-    exit_aside _ c (message.QueryBoardInfo top bottom) rest (message.SendBoardInfo no_info ∷ []) refl refl (same_exit body _ (end_of Upstream Standing k n f) (end_of Upstream Standing 0 n f) refl refl g)
+    exit_aside _ c (message.QueryBoardInfo top bottom) rest (message.SendBoardInfo (answer_to body.kept top bottom) ∷ []) refl refl (same_exit body _ (end_of Upstream Standing k n f) (end_of Upstream Standing 0 n f) refl refl g)
 exit_takes body c desk stamp rest _ _ _ _ passes_available test offers g = let wrong : Downstream ≡ Upstream = g.exit_role in cc
 exit_takes body c desk stamp rest _ _ _ _ passes_revoked test offers g = let wrong : Downstream ≡ Upstream = g.exit_role in cc
 exit_takes body c desk stamp rest _ _ _ _ passes_finished test offers g = let wrong : Downstream ≡ Upstream = g.exit_role in cc

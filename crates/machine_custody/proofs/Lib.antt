@@ -13,6 +13,7 @@ pub mod Clock
 pub mod Listening
 pub mod HearingAll
 pub mod Handing
+pub mod Beside
 pub mod BehindReading
 pub mod Elsewhere
 pub mod Step

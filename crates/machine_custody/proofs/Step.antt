@@ -12,7 +12,7 @@ use Rattle.node_core.specs.Announces.{announces}
 use Rattle.node_core.specs.Boards.{inserts, is_kept, marks, removes, replaces}
 use Rattle.node_core.specs.Desk.{Desk}
 use Rattle.node_core.specs.Done.{Done, and_then}
-use Rattle.node_core.specs.Event.{Event, Fault, Insert, Mark, Nothing, Notice, Remove, Replace, Shutdown, Tick, Will, Words, event_did}
+use Rattle.node_core.specs.Event.{Event, Fault, Forecast, Insert, Level, Mark, Nothing, Notice, Query, Remove, Replace, Shutdown, Tick, Will, Words, event_did}
 use Rattle.node_core.specs.Halves.{OffersFront}
 use Rattle.node_core.specs.Reads.{all_read}
 use Rattle.node_core.specs.Step.{machine_step}
@@ -22,10 +22,11 @@ use Rattle.node_core.proofs.Offers.{OffersOf, to_offers}
 use Rattle.custody.specs.Pair.{Ghost}
 use Rattle.machine_custody.specs.Scene.{Scene, all_met}
 use Rattle.machine_custody.specs.Good.{Afar, Goes, GoesBy, Good, Lies, ListsAbove, ListsBelow}
-use Rattle.machine_custody.specs.Flight.{IsPlain, plain_fault, plain_notice, plain_nothing, plain_shutdown, plain_tick, plain_will, plain_words, unheard}
+use Rattle.machine_custody.specs.Flight.{IsPlain, plain_fault, plain_forecast, plain_level, plain_notice, plain_nothing, plain_query, plain_shutdown, plain_tick, plain_will, plain_words, unheard}
 use Rattle.machine_custody.specs.ByHand.{AreHere, Grows, body_read, scene_read}
 use Rattle.machine_custody.specs.Unique.{IsFrontOnce, IsApart}
 use Rattle.machine_custody.proofs.Announcing.{announces_go}
+use Rattle.machine_custody.proofs.Beside.{asks_go, forecasts_go, levels_go}
 use Rattle.machine_custody.proofs.BehindReading.{read_idle, read_leaves, read_lists, read_untouched}
 use Rattle.machine_custody.proofs.Handing.{inserts_good, marks_good, removes_good, replaces_good}
 use Rattle.machine_custody.proofs.Clock.{both_shut_down_go, both_tick_go, notices_go, wills_go}
@@ -66,6 +67,9 @@ plain_goes desk unread _ body c plain_tick offers g = step_by desk unread Tick b
 plain_goes desk unread _ body c plain_shutdown offers g = step_by desk unread Shutdown body c (both_shut_down_go (body_read desk unread body) (scene_read desk unread body c) desk (all_read_good desk unread body c g))
 plain_goes desk unread _ body c (plain_fault {side = side}) offers g = step_by desk unread (Fault side) body c (faults_go desk side (all_read_good desk unread body c g))
 plain_goes desk unread _ body c (plain_will {side = side} {on = on}) offers g = step_by desk unread (Will side on) body c (wills_go side on (all_read_good desk unread body c g))
+plain_goes desk unread _ body c (plain_level {line = line} {on = on}) offers g = step_by desk unread (Level line on) body c (levels_go desk line on (all_read_good desk unread body c g))
+plain_goes desk unread _ body c plain_forecast offers g = step_by desk unread Forecast body c (forecasts_go desk (all_read_good desk unread body c g))
+plain_goes desk unread _ body c (plain_query {barcode = barcode}) offers g = step_by desk unread (Query barcode) body c (asks_go desk barcode (all_read_good desk unread body c g))
 
 -- the same, from what holds of a machine between its steps
 pub plain_keeps : {afar : Afar} {above : List Record} {ga gb : Ghost} (desk : Desk) (unread : List Sensed) (event : Event) (body : Machine) (c : Scene) → IsPlain event c → OffersFront body

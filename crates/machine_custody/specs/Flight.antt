@@ -4,7 +4,8 @@ use Rattle.line_base.specs.declared.states.Side.{Side}
 use Rattle.line_base.specs.declared.states.Side.TheVariants.{Entry, Exit}
 use Rattle.hermes_horizontal.specs.declared.message.Horizontal.{Horizontal}
 use Rattle.hermes_horizontal.specs.declared.message.Message.{Message}
-use Rattle.node_core.specs.Event.{Event, Fault, Nothing, Notice, Shutdown, Tick, Will, Words}
+use Rattle.smema_bridge.specs.declared.line.SegmentLine.{SegmentLine}
+use Rattle.node_core.specs.Event.{Event, Fault, Forecast, Level, Nothing, Notice, Query, Shutdown, Tick, Will, Words}
 use Rattle.node_core.specs.declared.word.Word.{Word}
 use Rattle.node_core.specs.declared.word.Word.TheVariants as words
 use Rattle.machine_custody.specs.Scene.{Scene}
@@ -31,3 +32,6 @@ pub data IsPlain : Event → Scene → Type 0 where
   plain_shutdown : {c : Scene} → IsPlain Shutdown c
   plain_fault : {side : Side} {c : Scene} → IsPlain (Fault side) c
   plain_will : {side : Side} {on : Bool} {c : Scene} → IsPlain (Will side on) c
+  plain_level : {line : SegmentLine} {on : Bool} {c : Scene} → IsPlain (Level line on) c
+  plain_forecast : {c : Scene} → IsPlain Forecast c
+  plain_query : {barcode : List ℕ} {c : Scene} → IsPlain (Query barcode) c
