@@ -1,5 +1,5 @@
 -- What a line of the script changes of standings: those of the ids that its acts name, and no others.
-use Rattle.std.proofs.Common.{◌≡◌, ◌∙◌, ◌+◌, ◌-◌, ◌++◌, ◌==◌, ℕ, zero, suc, Bool, true, false, List, [], ◌∷◌, Option, Some, None, Result, Ok, Err, refl, sym, ap, subst, eq-eqb}
+use Rattle.std.proofs.Common.{◌≡◌, ◌∙◌, ◌+◌, ◌-◌, ◌++◌, ◌==◌, ℕ, zero, suc, Bool, true, false, List, [], ◌∷◌, Option, Some, None, Result, Ok, Err, refl, sym, ap, subst, eq-eqb, append-nil}
 use Rattle.std.specs.Prelude.{ℤ, map, slice_get, slice_set}
 use Rattle.std.specs.List.{flat_map}
 use Rattle.std.proofs.lemmas.Grind.{flat_map-append}
@@ -24,7 +24,9 @@ use Rattle.node_core.specs.declared.lane.Body.{Body}
 use Rattle.node_core.specs.Event.{event_of}
 use Rattle.node_core.specs.Node.{NodeState, desk_of}
 use Rattle.node_core.specs.Own.{own_of}
-use Rattle.node_core.specs.Step.{Steps, machine_step}
+use Rattle.node_core.specs.Step.{Steps}
+use Rattle.node_core.specs.Signals.{signalled}
+use Rattle.smema_bridge.specs.Levels.{BridgeLevels}
 use Rattle.standings.specs.Marks.{Owned, has_id, is_held, mark_if, marks_at, marks_from, marks_of}
 use Rattle.standings.specs.Standing.{standing_of}
 use Rattle.standings.specs.Told.{is_same_standing, told_of}
@@ -39,7 +41,8 @@ use Rattle.line_step.specs.Steps.{MachineSteps, StepsTwice, is_second, moment_of
 use Rattle.line_step.specs.Reasons.{May, may_add}
 use Rattle.line_step.specs.Shown.{ascending, ids_marked, ids_owned, one_id, standing_told, standings_told}
 use Rattle.line_step.specs.Named.{ids_named, ids_of_act, ids_of_happening}
-use Rattle.line_step.specs.Lines.{Becomes, Connects, Flows, LineDoes, Moves, Unless, arrived, connecting, cut_in, lied, moved, spoiled}
+use Rattle.line_step.specs.Lines.{Becomes, Connects, Flows, LineDoes, Moves, Unless, arrived, connecting, cut_in, lied, moved, spoiled, unseen}
+use Rattle.node_core.proofs.Signalling.{signals_pass}
 use Rattle.line_step.proofs.Ascending.{ascending_same}
 use Rattle.line_step.proofs.Unnamed.{SameAt, apart_ids, apart_is, or_false, step_spares}
 use Rattle.line_report.specs.declared.happening.Happening.{Happening}
@@ -96,12 +99,20 @@ marks_more number id (first ∷ nodes) fresh is = ap (λ (ms : List Mark). marks
 abbrev pub Stays : ℕ → LineState → LineState → List Happening → Type 0
 Stays id before after told = has_id id (ids_named told) ≡ false → marks_in before id ≡ marks_in after id
 
+-- a bridge's own signals name no board
+signals_name_none : (made : List Act) (bridge : Option BridgeLevels) (body : Body) → flat_map ids_of_act (made ++ signalled bridge body) ≡ flat_map ids_of_act made
+signals_name_none made bridge body =
+    signals_pass (flat_map ids_of_act)
+    (λ front signal on. flat_map-append ids_of_act front (acts.Signals signal on ∷ []) ∙ append-nil (flat_map ids_of_act front))
+    made bridge body
+
 steps_same : (id : ℕ) (node next : NodeState) (unread : List Sensed) (input : Input) (moment : ℤ) (told : List Act) → Steps node unread input moment next told → has_id id (flat_map ids_of_act told) ≡ false → SameAt id (own_of node.lane.body) (own_of next.lane.body)
 steps_same id node next unread input moment told steps none =
-    let did = machine_step (desk_of node moment) unread (event_of node.maker input steps.lane.words) node.lane.body in
+    let unnamed : has_id id (flat_map ids_of_act steps.made) ≡ false =
+    ap (has_id id) (sym (signals_name_none steps.made node.bridge next.lane.body) ∙ ap (flat_map ids_of_act) (sym steps.told)) ∙ none in
     subst (λ (b : Body). SameAt id (own_of node.lane.body) (own_of b)) (sym steps.lane.body)
     ((step_spares id (desk_of node moment) unread (event_of node.maker input steps.lane.words) node.lane.body).same
-    (subst (λ (did_acts : List Act). has_id id (flat_map ids_of_act did_acts) ≡ false) steps.lane.told none))
+    (subst (λ (did_acts : List Act). has_id id (flat_map ids_of_act did_acts) ≡ false) steps.lane.told unnamed))
 
 set_marks : (id machine : ℕ) (before : LineState) (node next : NodeState) → machine_in machine before ≡ Some node → SameAt id (own_of node.lane.body) (own_of next.lane.body)
     → marks_of (map owned_by (slice_set before.machines (machine - 1) next)) id ≡ marks_in before id
@@ -148,13 +159,16 @@ flows_stays id number machine side count before after told f = machine_stays id 
 pub line_stays : (id number : ℕ) (line : ScriptLine) (before after : LineState) (told : List Happening) → LineDoes number line before after told → Stays id before after told
 line_stays id number lines.Blank before after told d = becomes_stays id before before after _ told refl d
 line_stays id number (lines.Machine capacity used) before after told d =
-    unless_stays id (may_add before) before after told _ (becomes_stays id before (one_more capacity used before) after _ told (sym (marks_more 1 id before.machines _ refl))) d
+    unless_stays id (may_add before) before after told _ (becomes_stays id before (one_more false capacity used before) after _ told (sym (marks_more 1 id before.machines _ refl))) d
+line_stays id number (lines.Bridge capacity used) before after told d =
+    unless_stays id (may_add before) before after told _ (becomes_stays id before (one_more true capacity used before) after _ told (sym (marks_more 1 id before.machines _ refl))) d
 line_stays id number (lines.Insert machine barcode) before after told d = unless_stays id _ before after told _ (machine_stays id number machine _ before after told) d
 line_stays id number (lines.Remove machine _) before after told d = unless_stays id _ before after told _ (machine_stays id number machine _ before after told) d
 line_stays id number (lines.Replace machine _) before after told d = unless_stays id _ before after told _ (machine_stays id number machine _ before after told) d
 line_stays id number (lines.Mark machine _ quality) before after told d = unless_stays id _ before after told _ (machine_stays id number machine _ before after told) d
 line_stays id number (lines.Hold machine side) before after told d = unless_stays id _ before after told _ (machine_stays id number machine _ before after told) d
 line_stays id number (lines.Go machine side) before after told d = unless_stays id _ before after told _ (machine_stays id number machine _ before after told) d
+line_stays id number (lines.Signal machine line on) before after told d = unless_stays id _ before after told _ (machine_stays id number machine _ before after told) d
 line_stays id number (lines.Connect machine) before after told d = unless_stays id _ before after told _ (connects_stays id number machine before after told) d
 line_stays id number (lines.Flow machine side count) before after told d = unless_stays id _ before after told _ (flows_stays id number machine side count before after told) d
 line_stays id number (lines.Notice machine side) before after told d = unless_stays id _ before after told _ (machine_stays id number machine _ before after told) d
@@ -171,7 +185,10 @@ line_stays id number (lines.Back gap) before after told d = moves_stays id gap m
 line_stays id number (lines.HandIn gap) before after told d = moves_stays id gap moves.HandIn before after told d
 line_stays id number (lines.Take gap) before after told d = moves_stays id gap moves.Take before after told d
 line_stays id number (lines.Lie machine sensed) before after told d = unless_stays id _ before after told _ (becomes_stays id before (lied number machine sensed before) after _ told refl) d
+line_stays id number (lines.Unseen machine side) before after told d = unless_stays id _ before after told _ (becomes_stays id before (unseen number machine side before) after _ told refl) d
 line_stays id number lines.Show before after told d = becomes_stays id before before after _ told refl d
+line_stays id number (lines.Forecast machine) before after told d = unless_stays id _ before after told _ (machine_stays id number machine _ before after told) d
+line_stays id number (lines.Query machine barcode) before after told d = unless_stays id _ before after told _ (machine_stays id number machine _ before after told) d
 
 -- ---- standings
 

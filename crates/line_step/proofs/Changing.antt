@@ -1,6 +1,6 @@
 -- What a step, a link event and a move change of a line, by numbers, and what relations of neighbours ask then.
-use Rattle.std.proofs.Common.{◌≡◌, ◌≢◌, ◌⊎◌, ◌∙◌, inl, inr, ℕ, zero, suc, ◌+◌, ◌-◌, ◌≤◌, ◌&&◌, ◌++◌, Bool, true, false, List, [], ◌∷◌, Result, Ok, Err, length, refl, sym, ap, subst, arith}
-use Rattle.std.specs.Prelude.{cond, nat_lt, slice_index_or, slice_set}
+use Rattle.std.proofs.Common.{◌≡◌, ◌≢◌, ◌⊎◌, ◌∙◌, inl, inr, ℕ, zero, suc, ◌+◌, ◌-◌, ◌≤◌, ◌&&◌, ◌++◌, Bool, true, false, List, [], ◌∷◌, Result, Ok, Err, length, refl, sym, ap, subst, arith, None}
+use Rattle.std.specs.Prelude.{cond, nat_lt, slice_index_or, slice_set, drop}
 use Rattle.std.proofs.lemmas.List.{get_or-set_other}
 use Rattle.std.proofs.lemmas.Bool.{ltb-true}
 use Rattle.line_base.specs.declared.states.Side.{Side}
@@ -26,7 +26,7 @@ use Rattle.line_step.specs.World.{WorldParts, end_of, link_at, link_of, with_flo
 use Rattle.line_step.specs.State.{LineState, one_more, profile_of, with_machine, with_world}
 use Rattle.line_step.specs.Acts.{act_did, acts_did, answers, changes, counted, sent_by}
 use Rattle.line_step.specs.Steps.{MachineSteps, is_second, read_by}
-use Rattle.line_step.specs.Lines.{lied, moved}
+use Rattle.line_step.specs.Lines.{lied, moved, unseen}
 use Rattle.line_step.specs.Numbered.{Changes, ChangesAround, ChangesBetween, ChangesGap, ChangesLink, ChangesMachine, Each, EachBody, between_at, no_node, node_at, stand_at}
 use Rattle.line_step.proofs.Numbers.{at_number, floor_stays, link_set_other, machine_within, none_or_one, number_at, number_more, same_or_not}
 use Rattle.line_step.proofs.Floors.{gap_other, gaps_stay, place_other, places_stay}
@@ -289,6 +289,19 @@ lied_changes number machine sensed s =
     let same = but_place machine (record (machine_at s.world.floor machine) { unread = (machine_at s.world.floor machine).unread ++ sensed ∷ [] }) s.world in
     record { machines = λ k apart. stand_same s now k refl (same.places k apart); links = λ k here above. between_same s now k refl (same.gaps k here above) }
 
+-- a board that comes or goes unseen changes what lies in its machine's list
+pub unseen_changes : (number machine : ℕ) (side : Side) (s : LineState) → ChangesMachine machine s (unseen number machine side s)
+unseen_changes number machine Entry s =
+    let now = unseen number machine Entry s in
+    let boards = (machine_at s.world.floor machine).boards ++ record { id = None } ∷ [] in
+    let same = but_place machine (record (machine_at s.world.floor machine) { boards = boards }) s.world in
+    record { machines = λ k apart. stand_same s now k refl (same.places k apart); links = λ k here above. between_same s now k refl (same.gaps k here above) }
+unseen_changes number machine Exit s =
+    let now = unseen number machine Exit s in
+    let boards = drop 1 (machine_at s.world.floor machine).boards in
+    let same = but_place machine (record (machine_at s.world.floor machine) { boards = boards }) s.world in
+    record { machines = λ k apart. stand_same s now k refl (same.places k apart); links = λ k here above. between_same s now k refl (same.gaps k here above) }
+
 -- one machine more is all that changes
 more_node : (nodes : List NodeState) (new : NodeState) (place : ℕ) → place ≢ length nodes → slice_index_or (nodes ++ new ∷ []) place no_node ≡ slice_index_or nodes place no_node
 more_node [] new zero apart = absurd (apart refl)
@@ -298,20 +311,20 @@ more_node (n ∷ nodes) new (suc place) apart =
     let fewer : place ≢ length nodes = omega arith in
     more_node nodes new place fewer
 
-more_node_at : (capacity used : ℕ) (s : LineState) (k : ℕ) → k ≢ length s.machines + 1 → node_at (one_more capacity used s) k ≡ node_at s k
-more_node_at capacity used s zero apart = refl
-more_node_at capacity used s (suc place) apart =
+more_node_at : (is_bridge : Bool) (capacity used : ℕ) (s : LineState) (k : ℕ) → k ≢ length s.machines + 1 → node_at (one_more is_bridge capacity used s) k ≡ node_at s k
+more_node_at is_bridge capacity used s zero apart = refl
+more_node_at is_bridge capacity used s (suc place) apart =
     let places : place ≢ length s.machines = omega arith in
-    more_node s.machines (new_node (profile_of (length s.machines + 1) capacity used)) place places
+    more_node s.machines (new_node (profile_of is_bridge (length s.machines + 1) capacity used)) place places
 
 more_gaps : (machines : List AtMachine) (gaps : List AtGap) (gap : ℕ) → at_number (gaps_before machines gaps) gap free_gap ≡ at_number gaps gap free_gap
 more_gaps [] gaps gap = refl
 more_gaps (m ∷ machines) gaps gap = number_more gaps gap free_gap
 
-pub more_changes : (capacity used : ℕ) (s : LineState) → ChangesMachine (length s.machines + 1) s (one_more capacity used s)
-more_changes capacity used s =
-    let now = one_more capacity used s in
+pub more_changes : (is_bridge : Bool) (capacity used : ℕ) (s : LineState) → ChangesMachine (length s.machines + 1) s (one_more is_bridge capacity used s)
+more_changes is_bridge capacity used s =
+    let now = one_more is_bridge capacity used s in
     record {
-      machines = λ k apart. stand_same s now k (more_node_at capacity used s k apart) (number_more s.world.floor.machines k empty_machine);
-      links = λ k here above. between_same s now k (more_at capacity used s k) (more_gaps s.world.floor.machines s.world.floor.gaps k);
+      machines = λ k apart. stand_same s now k (more_node_at is_bridge capacity used s k apart) (number_more s.world.floor.machines k empty_machine);
+      links = λ k here above. between_same s now k (more_at is_bridge capacity used s k) (more_gaps s.world.floor.machines s.world.floor.gaps k);
     }

@@ -1,6 +1,6 @@
 -- Unique ids, and ids that stay: what each line of the script does to the ids of the boards on the floor.
-use Rattle.std.proofs.Common.{◌≡◌, ◌≢◌, ◌+◌, ◌-◌, ◌<◌, ◌≤◌, ◌++◌, ℕ, zero, suc, Bool, true, false, List, [], ◌∷◌, Option, Some, None, Result, Ok, Err, length, filter, refl, sym, ap, subst, ◌∙◌, append-nil, arith, eqb-true, length-append}
-use Rattle.std.specs.Prelude.{◌==◌, if◌then◌else◌, nat_le, not, slice_get, slice_set}
+use Rattle.std.proofs.Common.{◌≡◌, ◌≢◌, ◌+◌, ◌-◌, ◌<◌, ◌≤◌, ◌++◌, ℕ, zero, suc, Bool, true, false, List, [], ◌∷◌, Option, Some, None, Result, Ok, Err, length, filter, refl, sym, ap, subst, ◌∙◌, append-nil, arith, eqb-true, length-append, append_assoc}
+use Rattle.std.specs.Prelude.{◌==◌, if◌then◌else◌, nat_le, not, slice_get, slice_set, drop, is_none}
 use Rattle.std.specs.List.{AllByRecursion, flat_map}
 use Rattle.std.proofs.lemmas.Bool.{leb-false}
 use Rattle.std.proofs.lemmas.List.{length-set}
@@ -19,7 +19,9 @@ use Rattle.line_world.specs.declared.gap.AtGap.{AtGap}
 use Rattle.line_world.specs.declared.moves.Move.{Move}
 use Rattle.line_world.specs.declared.moves.Move.TheVariants as moves
 use Rattle.line_world.specs.declared.moves.MoveNo.{MoveNo}
-use Rattle.line_world.specs.FloorPlan.{AtMachine, FloorPlan, IsWhole, empty_machine, has_id, machine_at, one_machine_more, place_of, with_new_id, without_board}
+use Rattle.line_world.specs.declared.moves.MoveNo.TheVariants as nos
+use Rattle.node_core.specs.declared.input.No.TheVariants as node_nos
+use Rattle.line_world.specs.FloorPlan.{AtMachine, FloorPlan, IsWhole, empty_machine, has_id, machine_at, one_machine_more, place_of, with_new_id, without_board, with_machine as floor_machine}
 use Rattle.line_world.specs.Moves.{floor_move}
 use Rattle.line_world.specs.Boards.{ChangesId, LosesBoard, boards_along, boards_on}
 use Rattle.line_world.specs.Ids.{HasFreshId, IdsDiffer}
@@ -55,15 +57,16 @@ use Rattle.line_step.specs.World.{WorldParts, end_of, link_at, link_of}
 use Rattle.line_step.specs.State.{LineState, machine_in, marks_in, no_line, one_more, profile_of, with_machine, with_world}
 use Rattle.line_step.specs.Acts.{act_did, acts_did, changes, cut_told, lays, takes_off}
 use Rattle.line_step.specs.Steps.{MachineSteps, is_second, moment_of, read_by, unread_by}
-use Rattle.line_step.specs.Reasons.{May, behind_own, if_there, is_here, may_add, may_connect, may_cut, may_do, may_flow, may_give, may_lie, may_remove, may_replace, may_spoil, no_if}
+use Rattle.line_step.specs.Reasons.{May, behind_own, if_there, is_here, may_add, may_connect, may_cut, may_do, may_flow, may_give, may_lie, may_remove, may_replace, may_spoil, may_unseen, is_bare, no_if}
 use Rattle.line_step.specs.Shown.{ascending, between_shown, ids_marked, kept_shown, shown, shown_from, standing_told, standings_told, taken_below}
-use Rattle.line_step.specs.Lines.{Becomes, Connects, Flows, LineDoes, LineSteps, Unless, arrived, connecting, cut_in, lied, met, move_told, moved, spoil_told, spoiled, unvouched_told}
+use Rattle.line_step.specs.Lines.{Becomes, Connects, Flows, LineDoes, LineSteps, Unless, arrived, connecting, cut_in, lied, met, move_told, moved, spoil_told, spoiled, unseen, unseen_on, unvouched_told}
 use Rattle.line_step.specs.Runs.{Point, IsRun}
 use Rattle.node_core.specs.Own.{own_of}
+use Rattle.node_core.specs.Signals.{signalled}
 use Rattle.line_step.specs.FloorIds.{AllChange, ChangesBoards, IdsStay, IsFresh, IsNoneOf, KeepsIds, boards_of, handled_by, made_by}
-use Rattle.line_step.proofs.Hands.{AreQuiet, announces-quiet, both_shut-quiet, both_tick-quiet, faults-quiet, heard-quiet, marks-quiet, notices-quiet, opens-quiet, quiet-join, read-quiet, second-quiet}
+use Rattle.line_step.proofs.Hands.{AreQuiet, announces-quiet, both_shut-quiet, both_tick-quiet, faults-quiet, heard-quiet, marks-quiet, notices-quiet, opens-quiet, quiet-join, read-quiet, second-quiet, signals-quiet, levels-quiet, forecasts-quiet}
 use Rattle.line_step.proofs.Makers.{AreNumbered, IsOld, numbered-at, numbered-last, numbered-set, old-apart, old-last, old-new, old-set}
-use Rattle.line_step.proofs.OnFloor.{Handles, IsPlain, IsStill, LiesThere, SameBoards, acts-still, all-join, as_many_gaps, changes-changes, cut-still, handled-join, handles, lays-gains, lies-there_by, link-floor, made-join, quiet-acts, read-list, same-list, still-join, still-none, takes_off-loses}
+use Rattle.line_step.proofs.OnFloor.{Handles, IsPlain, IsStill, LiesThere, SameBoards, acts-still, all-join, as_many_gaps, changes-changes, cut-still, handled-join, handles, lays-gains, lies-there_by, link-floor, made-join, quiet-acts, read-list, same-list, still-join, still-none, takes_off-loses, board-gains, front-loses}
 
 -- ---- lists
 
@@ -186,11 +189,11 @@ boards-more (m ∷ ms) gaps whole = along_more (m ∷ ms) gaps (omega (arith, wh
 one-still : (told : Happening) → ((boards : List Board) → ChangesBoards told boards boards) → made_by (told ∷ []) ≡ [] → handled_by (told ∷ []) ≡ [] → IsStill (told ∷ [])
 one-still told change made handled = record { change = λ boards. (boards, change boards, refl); made = made; handled = handled }
 
-more-goes : (capacity used : ℕ) (s : LineState) (told : List Happening) → Holds s → IsStill told → Goes s (one_more capacity used s) told
-more-goes capacity used s told h still =
-    let node = new_node (profile_of (length s.machines + 1) capacity used) in
+more-goes : (is_bridge : Bool) (capacity used : ℕ) (s : LineState) (told : List Happening) → Holds s → IsStill told → Goes s (one_more is_bridge capacity used s) told
+more-goes is_bridge capacity used s told h still =
+    let node = new_node (profile_of is_bridge (length s.machines + 1) capacity used) in
     let floor = s.world.floor in
-    still-goes s (one_more capacity used s) told h
+    still-goes s (one_more is_bridge capacity used s) told h
     (record { own = λ own. numbered-last 1 s.machines node own (record { machine = omega arith }); olds = λ id old. old-last 1 s.machines node id old })
     (simp length-append (ap (λ n. n + 1) h.many))
     (gaps-more floor.machines floor.gaps h.whole)
@@ -277,10 +280,13 @@ maker-grown inputs.Tick maker = record { machine = refl; used = omega arith }
 maker-grown inputs.Shutdown maker = record { machine = refl; used = omega arith }
 maker-grown (inputs.Fault side) maker = record { machine = refl; used = omega arith }
 maker-grown (inputs.Will side on) maker = record { machine = refl; used = omega arith }
+maker-grown (inputs.Level line on) maker = record { machine = refl; used = omega arith }
 maker-grown (inputs.Insert barcode) maker = grown_by (nat_le 281474976710655 maker.used) maker refl
 maker-grown (inputs.Remove id) maker = record { machine = refl; used = omega arith }
 maker-grown (inputs.Replace id) maker = grown_by (nat_le 281474976710655 maker.used) maker refl
 maker-grown (inputs.Mark id quality) maker = record { machine = refl; used = omega arith }
+maker-grown inputs.Forecast maker = record { machine = refl; used = omega arith }
+maker-grown (inputs.Query barcode) maker = record { machine = refl; used = omega arith }
 
 step-follows : (s : LineState) (machine : ℕ) (node next : NodeState) (at : IsAt s machine node) → AreNumbered 1 s.machines → IsGrown node.maker next.maker → Follows s.machines (slice_set s.machines (machine - 1) next)
 step-follows s machine node next at own grown =
@@ -291,7 +297,8 @@ step-follows s machine node next at own grown =
       olds = λ id old. old-set 1 s.machines at.place node next id at.found grown.used old;
     })
 
--- the acts of a step: those of the events that are read, those of the input, and those of the announcements
+-- the acts of a step: those of the events that are read, those of the input, and those of the announcements and of a
+-- bridge's own signals
 record Parts (told hand : List Act) : Type 0 where
   front : List Act
   back : List Act
@@ -312,12 +319,16 @@ parts-of number machine input before after told steps =
     let unread = unread_by machine before.world in
     let read = all_read desk unread steps.node.lane.body in
     let done = event_did desk (event_of steps.node.maker input steps.steps.lane.words) read.body in
+    let said = (announces desk done.body).acts in
+    let own = signalled steps.node.bridge steps.next.lane.body in
     record {
       front = read.acts;
-      back = (announces desk done.body).acts;
-      is = steps.steps.lane.told;
+      back = said ++ own;
+      is =
+          steps.steps.told ∙ ap (λ (made : List Act). made ++ own) steps.steps.lane.told
+          ∙ append_assoc read.acts (done.acts ++ said) own ∙ ap (λ (told : List Act). read.acts ++ told) (append_assoc done.acts said own);
       first = read-quiet desk unread steps.node.lane.body;
-      last = announces-quiet desk done.body;
+      last = quiet-join said own (announces-quiet desk done.body) (signals-quiet steps.node.bridge steps.next.lane.body);
     }
 
 -- the floor before the acts is that of the line with the events read
@@ -392,10 +403,13 @@ event-quiet desk maker inputs.Tick words body handless = both_tick-quiet desk bo
 event-quiet desk maker inputs.Shutdown words body handless = both_shut-quiet desk body
 event-quiet desk maker (inputs.Fault side) words body handless = faults-quiet desk side body
 event-quiet desk maker (inputs.Will side on) words body handless = (tt, tt)
+event-quiet desk maker (inputs.Level line on) words body handless = levels-quiet desk line on body
 event-quiet desk maker (inputs.Insert barcode) words body handless = absurd handless
 event-quiet desk maker (inputs.Remove id) words body handless = absurd handless
 event-quiet desk maker (inputs.Replace id) words body handless = absurd handless
 event-quiet desk maker (inputs.Mark id quality) words body handless = marks-quiet (is_kept id body.kept) _ body (acts.Marks id quality) tt
+event-quiet desk maker inputs.Forecast words body handless = forecasts-quiet desk (slice_get body.kept 0)
+event-quiet desk maker (inputs.Query barcode) words body handless = (tt, tt)
 
 handless-goes : (number machine : ℕ) (input : Input) (before after : LineState) (told : List Happening) → IsHandless input → Holds before → MachineSteps number machine input before after told → Goes before after told
 handless-goes number machine input before after told handless h steps =
@@ -735,6 +749,77 @@ lie-goes number machine sensed s h =
     still-goes s (lied number machine sensed s) (happenings.Lie machine sensed ∷ unvouched_told s.unvouched) h (follows-same s.machines s.machines refl) (many ∙ h.many) (ap length gaps ∙ h.whole ∙ ap (λ n. n - 1) (sym many)) (boards_unread plan machine unread)
     (still-join (happenings.Lie machine sensed ∷ []) (unvouched_told s.unvouched) (one-still (happenings.Lie machine sensed) (λ boards. refl) refl refl) (unvouched-still s.unvouched))
 
+-- a board that may come or go unseen: its machine is there, and the board that is to go lies there
+record MayUnseen (machine : ℕ) (side : Side) (s : LineState) : Type 0 where
+  node : NodeState
+  there : machine_in machine s ≡ Some node
+  lies : is_bare machine side s.world ≡ false
+
+lies-behind : (plain bare : Bool) (done : Unit {0}) → no_if plain (reasons.Node node_nos.NotABridge) (no_if bare (reasons.Move nos.NothingThere) may_do) ≡ Ok done → bare ≡ false
+lies-behind true bare done is = cc
+lies-behind false true done is = cc
+lies-behind false false done is = refl
+
+unseen-if : (found : Option NodeState) (machine : ℕ) (side : Side) (s : LineState) (done : Unit {0}) → machine_in machine s ≡ found
+    → if_there found (λ node. no_if (is_none node.bridge) (reasons.Node node_nos.NotABridge) (no_if (is_bare machine side s.world) (reasons.Move nos.NothingThere) may_do)) ≡ Ok done
+    → MayUnseen machine side s
+unseen-if None machine side s done there is = cc
+unseen-if (Some node) machine side s done there is =
+    record { node = node; there = there; lies = lies-behind (is_none node.bridge) (is_bare machine side s.world) done is }
+
+front-there : (found : Option Board) → is_none found ≡ false → (board : Board) × (found ≡ Some board)
+front-there None is = cc
+front-there (Some board) is = (board, refl)
+
+-- what is told of such a board, where it does change the boards so
+unseen-told-goes : (number machine : ℕ) (side : Side) (s : LineState) (now : AtMachine) → Holds s
+    → unseen_on machine side s.world.floor ≡ floor_machine s.world.floor machine now
+    → ChangesBoards (happenings.Unseen machine side) (boards_of s) (boards_of (unseen number machine side s))
+    → AllByRecursion (IsOldBoard s.machines) (boards_of (unseen number machine side s)) → IdsDiffer (unseen number machine side s).world.floor
+    → Goes s (unseen number machine side s) (happenings.Unseen machine side ∷ unvouched_told s.unvouched)
+unseen-told-goes number machine side s now h is change old differ =
+    let plan = s.world.floor in
+    let t = unseen number machine side s in
+    let many = ap (λ (p : FloorPlan). length p.machines) is ∙ as_many_machines plan machine now in
+    let gaps = ap (λ (p : FloorPlan). length p.gaps) is ∙ ap length (as_many_gaps plan machine now) in
+    let still = unvouched-still s.unvouched in
+    record {
+      holds = record { own = h.own; many = many ∙ h.many; whole = gaps ∙ h.whole ∙ ap (λ n. n - 1) (sym many); old = old; differ = differ };
+      change = (boards_of t, change, still.change (boards_of t));
+      fresh = each-along (λ id. (other : ℕ) → IsOld 1 s.machines other → other ≢ id) [] (made_by (unvouched_told s.unvouched)) still.made tt;
+      handled = each-along (IsOld 1 s.machines) [] (handled_by (unvouched_told s.unvouched)) still.handled tt;
+      olds = λ id is_old. is_old;
+    }
+
+unseen-goes : (number machine : ℕ) (side : Side) (s : LineState) → Holds s → MayUnseen machine side s
+    → Goes s (unseen number machine side s) (happenings.Unseen machine side ∷ unvouched_told s.unvouched)
+unseen-goes number machine Entry s h may =
+    let plan = s.world.floor in
+    let at = at-of s machine may.node may.there in
+    let board : Board = record { id = None } in
+    let boards = (machine_at plan machine).boards ++ board ∷ [] in
+    let reaches : Reaches s plan = record { many = h.many; whole = h.whole; boards = refl } in
+    let gain = board-gains plan machine board (omega (arith, at.is)) (at-within s machine may.node plan at reaches) in
+    unseen-told-goes number machine Entry s (record (machine_at plan machine) { boards = boards }) h refl gain
+    (each-gained (IsOldBoard s.machines) (boards_of s) (boards_of (unseen number machine Entry s)) board gain (λ id has. absurd (cc)) h.old)
+    (gains_differ plan (unseen number machine Entry s).world.floor board gain (λ id has. absurd (cc)) h.differ)
+unseen-goes number machine Exit s h may =
+    let plan = s.world.floor in
+    let at = at-of s machine may.node may.there in
+    let front = front-there (slice_get (machine_at plan machine).boards 0) may.lies in
+    let reaches : Reaches s plan = record { many = h.many; whole = h.whole; boards = refl } in
+    let loss = front-loses plan machine front.0 (omega (arith, at.is)) (at-within s machine may.node plan at reaches) front.1 in
+    unseen-told-goes number machine Exit s (record (machine_at plan machine) { boards = drop 1 (machine_at plan machine).boards }) h refl (front.0, loss)
+    (each-lost (IsOldBoard s.machines) (boards_of s) (boards_of (unseen number machine Exit s)) front.0 loss h.old)
+    (loses_differ plan (unseen number machine Exit s).world.floor front.0 loss h.differ)
+
+seen-goes : (may : May) (number machine : ℕ) (side : Side) (s after : LineState) (told : List Happening) → may_unseen machine side s ≡ may → Holds s
+    → Unless may s after told (Becomes (unseen number machine side s) (happenings.Unseen machine side ∷ unvouched_told s.unvouched) after told) → Goes s after told
+seen-goes (Ok done) number machine side s after told is h does =
+    becomes-goes s (unseen number machine side s) after (happenings.Unseen machine side ∷ unvouched_told s.unvouched) told
+    (unseen-goes number machine side s h (unseen-if (machine_in machine s) machine side s done refl is)) does
+seen-goes (Err reason) number machine side s after told is h does = refused-goes reason s after told h does
+
 -- ---- what is shown, and the standings
 
 kept-still : (machine : ℕ) (boards : List Record) → IsStill (kept_shown machine boards)
@@ -781,13 +866,17 @@ does-goes : (number : ℕ) (line : ScriptLine) (s after : LineState) (told : Lis
 does-goes number lines.Blank s after told h does = becomes-goes s s after [] told (stays-goes s s [] h refl refl still-none) does
 does-goes number (lines.Machine capacity used) s after told h does =
     let what = happenings.Machine (length s.machines + 1) capacity ∷ [] in
-    unless-goes (may_add s) s after told (Becomes (one_more capacity used s) what after told) h (becomes-goes s (one_more capacity used s) after what told (more-goes capacity used s what h (one-still (happenings.Machine (length s.machines + 1) capacity) (λ boards. refl) refl refl))) does
+    unless-goes (may_add s) s after told (Becomes (one_more false capacity used s) what after told) h (becomes-goes s (one_more false capacity used s) after what told (more-goes false capacity used s what h (one-still (happenings.Machine (length s.machines + 1) capacity) (λ boards. refl) refl refl))) does
+does-goes number (lines.Bridge capacity used) s after told h does =
+    let what = happenings.Bridge (length s.machines + 1) capacity ∷ [] in
+    unless-goes (may_add s) s after told (Becomes (one_more true capacity used s) what after told) h (becomes-goes s (one_more true capacity used s) after what told (more-goes true capacity used s what h (one-still (happenings.Bridge (length s.machines + 1) capacity) (λ boards. refl) refl refl))) does
 does-goes number (lines.Insert machine barcode) s after told h does = inserted-goes (may_give machine (inputs.Insert barcode) s) number machine barcode s after told h does
 does-goes number (lines.Remove machine id) s after told h does = removed-goes (may_remove machine id s) number machine id s after told refl h does
 does-goes number (lines.Replace machine id) s after told h does = replaced-goes (may_replace machine id s) number machine id s after told refl h does
 does-goes number (lines.Mark machine id quality) s after told h does = given-goes _ number machine (inputs.Mark id quality) s after told tt h does
 does-goes number (lines.Hold machine side) s after told h does = given-goes _ number machine (inputs.Will side false) s after told tt h does
 does-goes number (lines.Go machine side) s after told h does = given-goes _ number machine (inputs.Will side true) s after told tt h does
+does-goes number (lines.Signal machine line on) s after told h does = given-goes _ number machine (inputs.Level line on) s after told tt h does
 does-goes number (lines.Connect machine) s after told h does = unless-goes (may_connect machine s) s after told (Connects number machine s after told) h (connects-goes number machine s after told h) does
 does-goes number (lines.Flow machine side count) s after told h does = unless-goes (may_flow machine side s) s after told (Flows number machine side count s after told) h (flows-goes number machine side count s after told h) does
 does-goes number (lines.Notice machine side) s after told h does = given-goes _ number machine (inputs.Notice side) s after told tt h does
@@ -808,6 +897,7 @@ does-goes number (lines.Fault machine side) s after told h does = given-goes _ n
 does-goes number (lines.Lie machine sensed) s after told h does =
     let what = happenings.Lie machine sensed ∷ unvouched_told s.unvouched in
     unless-goes (may_lie machine sensed.side s) s after told (Becomes (lied number machine sensed s) what after told) h (becomes-goes s (lied number machine sensed s) after what told (lie-goes number machine sensed s h)) does
+does-goes number (lines.Unseen machine side) s after told h does = seen-goes (may_unseen machine side s) number machine side s after told refl h does
 does-goes number (lines.Sense machine) s after told h does = given-goes _ number machine inputs.Nothing s after told tt h does
 does-goes number (lines.Begin gap) s after told h does = becomes-goes s _ after _ told (move-goes gap moves.Begin s (floor_move gap moves.Begin s.world.floor) refl h) does
 does-goes number (lines.Left gap) s after told h does = becomes-goes s _ after _ told (move-goes gap moves.Left s (floor_move gap moves.Left s.world.floor) refl h) does
@@ -816,6 +906,8 @@ does-goes number (lines.Back gap) s after told h does = becomes-goes s _ after _
 does-goes number (lines.HandIn gap) s after told h does = becomes-goes s _ after _ told (move-goes gap moves.HandIn s (floor_move gap moves.HandIn s.world.floor) refl h) does
 does-goes number (lines.Take gap) s after told h does = becomes-goes s _ after _ told (move-goes gap moves.Take s (floor_move gap moves.Take s.world.floor) refl h) does
 does-goes number lines.Show s after told h does = becomes-goes s s after (shown s) told (stays-goes s s (shown s) h refl refl (shown-still 1 s.machines)) does
+does-goes number (lines.Forecast machine) s after told h does = given-goes _ number machine inputs.Forecast s after told tt h does
+does-goes number (lines.Query machine barcode) s after told h does = given-goes _ number machine (inputs.Query barcode) s after told tt h does
 
 -- EACH LINE STEP
 pub steps-goes : (number : ℕ) (line : ScriptLine) (s after : LineState) (told : List Happening) → Holds s → LineSteps number line s after told → Goes s after told

@@ -39,6 +39,7 @@ use Rattle.node_core.specs.declared.word.ExitWord.{ExitWord}
 use Rattle.node_core.specs.declared.word.ExitWord.TheVariants as exits
 use Rattle.node_core.specs.declared.word.EntryWord.{EntryWord}
 use Rattle.node_core.specs.declared.word.EntryWord.TheVariants as entries
+use Rattle.line_base.specs.declared.states.Quality.TheVariants as qualities
 use Rattle.node_core.specs.Desk.{Desk}
 use Rattle.node_core.specs.Done.{Done, and_then}
 use Rattle.node_core.specs.Told.{out_does, out_sends, out_says, out_told, in_does, in_sends, in_told, drives, offers}
@@ -48,9 +49,15 @@ use Rattle.node_core.specs.Session.{action_did, maybe_did, actions_did, session_
 use Rattle.node_core.specs.Hears.{rowed, taken, passed, exit_took, entry_took, outlet_took, intake_took, exit_word, entry_word}
 use Rattle.node_core.specs.Words.{word_did, all_heard}
 use Rattle.node_core.specs.Connect.{if_open, notices, opens, meets_second, ticks, shuts_down}
-use Rattle.node_core.specs.Boards.{if_kept, faults}
+use Rattle.node_core.specs.Boards.{if_kept, faults, is_kept}
 use Rattle.node_core.specs.Reads.{saw, reads, all_read}
 use Rattle.node_core.specs.Announces.{revokes_now, revoke_by, revoke, unreadies_now, unready_by, unready, offers_now, offer_by, offer, readies_now, ready_by, ready, starts_now, start_by, start, announces}
+use Rattle.node_core.specs.Bridge.{failed_front, fails, sets_level, tells_level}
+use Rattle.node_core.specs.Information.{forecasts}
+use Rattle.node_core.specs.Signals.{signalled}
+use Rattle.smema_bridge.specs.Levels.{BridgeLevels}
+use Rattle.smema_bridge.specs.declared.line.SegmentLine.{SegmentLine}
+use Rattle.node_core.proofs.Signalling.{signals_all}
 
 abbrev pub IsQuiet : Act → Type 0
 IsQuiet (acts.Inserts id) = ⊥
@@ -179,7 +186,7 @@ exit-quiet desk (exits.Start id) body =
     let opening = would_open body.outlet id in
     outlet_took-quiet desk (record body { kept = behind_opening opening body.kept }) (outlet_row body.outlet (out_input.Start id (opening_board opening body.kept)))
 exit-quiet desk (exits.Stop state id) body = outlet_took-quiet desk body (outlet_row body.outlet (out_input.Stop state id))
-exit-quiet desk exits.Query body = (tt, tt)
+exit-quiet desk (exits.Query top bottom) body = (tt, tt)
 exit-quiet desk exits.Nothing body = tt
 
 entry-quiet : (desk : Desk) (word : EntryWord) (body : Body) → IsAnyQuiet (entry_took desk word body)
@@ -251,6 +258,24 @@ faults-quiet desk Exit body = at_outlet-quiet desk out_input.Fault body
 pub marks-quiet : (kept : Bool) (after body : Body) (act : Act) → IsQuiet act → AreQuiet (if_kept kept after act body).acts
 marks-quiet true after body act quiet = (quiet, tt)
 marks-quiet false after body act quiet = tt
+
+-- ---- a bridge, and what is told of boards
+
+fails-quiet : (front : Option ℕ) (body : Body) → AreQuiet (fails front body).acts
+fails-quiet None body = tt
+fails-quiet (Some id) body = marks-quiet (is_kept id body.kept) _ body (acts.Marks id qualities.Failed) tt
+
+pub levels-quiet : (desk : Desk) (line : SegmentLine) (on : Bool) (body : Body) → AreQuiet (sets_level desk line on body).acts
+levels-quiet desk line on body =
+    let told = tells_level line on body in
+    both-quiet told (λ one. fails (failed_front desk.bridge line on one) one) (tt, tt) (fails-quiet (failed_front desk.bridge line on told.body) told.body)
+
+pub forecasts-quiet : (desk : Desk) (board : Option Record) → AreQuiet (forecasts desk board)
+forecasts-quiet desk None = tt
+forecasts-quiet desk (Some board) = (tt, tt)
+
+pub signals-quiet : (bridge : Option BridgeLevels) (body : Body) → AreQuiet (signalled bridge body)
+signals-quiet bridge body = signals_all AreQuiet tt (λ signal on. (tt, tt)) quiet-join bridge body
 
 -- ---- the events that are read, and the announcements
 

@@ -24,7 +24,7 @@ use Rattle.node_core.specs.Sides.{is_open}
 use Rattle.line_step.specs.World.{WorldParts, end_of, link_at, link_of, links_more, with_link}
 use Rattle.line_step.specs.State.{LineState, machine_in, most_machines, no_line, one_more, profile_of, with_world}
 use Rattle.line_step.specs.Steps.{MachineSteps}
-use Rattle.line_step.specs.Lines.{Becomes, Connects, Flows, LineDoes, LineSteps, Moves, Unless, arrived, connecting, cut_in, lied, met, moved, spoiled}
+use Rattle.line_step.specs.Lines.{Becomes, Connects, Flows, LineDoes, LineSteps, Moves, Unless, arrived, connecting, cut_in, lied, met, moved, spoiled, unseen}
 use Rattle.line_step.specs.Reasons.{May, may_add, may_connect, may_do, no_if}
 use Rattle.line_step.specs.Opened.{opened_by}
 use Rattle.line_step.specs.Together.{IsLineTogether, is_linked}
@@ -160,6 +160,16 @@ lied_keeps number machine sensed s = record {
   joined = λ together machine. record { sides = λ side node is. together.joined machine side node is };
 }
 
+unseen_keeps : (number machine : ℕ) (side : Side) (s : LineState) → Keeps s (unseen number machine side s)
+unseen_keeps number machine Entry s = record {
+  counts = record { machines = refl; world = place_same_world machine _ s.world; lines = refl };
+  joined = λ together machine. record { sides = λ side node is. together.joined machine side node is };
+}
+unseen_keeps number machine Exit s = record {
+  counts = record { machines = refl; world = place_same_world machine _ s.world; lines = refl };
+  joined = λ together machine. record { sides = λ side node is. together.joined machine side node is };
+}
+
 -- ---- one machine more
 
 get_more : (nodes : List NodeState) (new node : NodeState) (place : ℕ) → slice_get (nodes ++ new ∷ []) place ≡ Some node → (slice_get nodes place ≡ Some node) ⊎ ((place ≡ length nodes) × (new ≡ node))
@@ -177,11 +187,11 @@ more_links : (count : ℕ) (links : List LinkParts) (link : ℕ) → at_number (
 more_links zero links link = refl
 more_links (suc k) links link = number_more links link no_link
 
-pub more_at : (capacity used : ℕ) (s : LineState) (link : ℕ) → link_at link (one_more capacity used s).world ≡ link_at link s.world
-more_at capacity used s link = more_links (length s.machines) s.world.links link
+pub more_at : (is_bridge : Bool) (capacity used : ℕ) (s : LineState) (link : ℕ) → link_at link (one_more is_bridge capacity used s).world ≡ link_at link s.world
+more_at is_bridge capacity used s link = more_links (length s.machines) s.world.links link
 
-more_ends : (capacity used : ℕ) (s : LineState) (machine : ℕ) (side : Side) → is_linked machine side (one_more capacity used s).world ≡ is_linked machine side s.world
-more_ends capacity used s machine side = ap (λ (l : LinkParts). is_some (number_of (end_of side) l)) (more_at capacity used s (link_of machine side))
+more_ends : (is_bridge : Bool) (capacity used : ℕ) (s : LineState) (machine : ℕ) (side : Side) → is_linked machine side (one_more is_bridge capacity used s).world ≡ is_linked machine side s.world
+more_ends is_bridge capacity used s machine side = ap (λ (l : LinkParts). is_some (number_of (end_of side) l)) (more_at is_bridge capacity used s (link_of machine side))
 
 -- the new machine has no connections, and its links have none
 new_closed : (profile : NodeProfile) (side : Side) → is_open side (new_node profile).lane.body ≡ false
@@ -203,14 +213,14 @@ last_ends s together machine is Exit =
     let links = together.links in
     none_at machine s.world (inr (omega arith)) Upstream
 
-more_joined : (capacity used : ℕ) (s : LineState) → IsLineTogether s → (machine : ℕ) (side : Side) (node : NodeState) → machine_in machine (one_more capacity used s) ≡ Some node → is_linked machine side (one_more capacity used s).world ≡ is_open side node.lane.body
-more_joined capacity used s together zero side node is = absurd (cc)
-more_joined capacity used s together (suc place) side node is =
-    let new = new_node (profile_of (length s.machines + 1) capacity used) in
-    more_ends capacity used s (suc place) side ∙
+more_joined : (is_bridge : Bool) (capacity used : ℕ) (s : LineState) → IsLineTogether s → (machine : ℕ) (side : Side) (node : NodeState) → machine_in machine (one_more is_bridge capacity used s) ≡ Some node → is_linked machine side (one_more is_bridge capacity used s).world ≡ is_open side node.lane.body
+more_joined is_bridge capacity used s together zero side node is = absurd (cc)
+more_joined is_bridge capacity used s together (suc place) side node is =
+    let new = new_node (profile_of is_bridge (length s.machines + 1) capacity used) in
+    more_ends is_bridge capacity used s (suc place) side ∙
     elim (get_more s.machines new node place is) [
       | inl was ↦ together.joined (suc place) side node was
-      | inr last ↦ last_ends s together (suc place) (omega (arith, last.0)) side ∙ sym (new_closed (profile_of (length s.machines + 1) capacity used) side) ∙ ap (λ (n : NodeState). is_open side n.lane.body) last.1
+      | inr last ↦ last_ends s together (suc place) (omega (arith, last.0)) side ∙ sym (new_closed (profile_of is_bridge (length s.machines + 1) capacity used) side) ∙ ap (λ (n : NodeState). is_open side n.lane.body) last.1
     ]
 
 -- each machine but the first comes with a gap before it
@@ -225,10 +235,10 @@ not_full : (test : Bool) (reason : Reason) → no_if test reason may_do ≡ may_
 not_full true reason is = absurd (cc)
 not_full false reason is = refl
 
-more_together : (capacity used : ℕ) (s : LineState) → may_add s ≡ may_do → IsLineTogether s → IsLineTogether (one_more capacity used s)
-more_together capacity used s may together =
+more_together : (is_bridge : Bool) (capacity used : ℕ) (s : LineState) → may_add s ≡ may_do → IsLineTogether s → IsLineTogether (one_more is_bridge capacity used s)
+more_together is_bridge capacity used s may together =
     let room = not_full (nat_le most_machines (length s.machines)) reasons.LineFull may in
-    let machines = length-append s.machines (new_node (profile_of (length s.machines + 1) capacity used) ∷ []) in
+    let machines = length-append s.machines (new_node (profile_of is_bridge (length s.machines + 1) capacity used) ∷ []) in
     let places = length-append s.world.floor.machines (empty_machine ∷ []) in
     let floor = together.floor in
     let short = together.short in
@@ -237,7 +247,7 @@ more_together capacity used s may together =
       short = short;
       floor = omega (arith, machines, places);
       links = links_counted (length s.machines) s.world.links together.links ∙ ap (λ n. n - 1) (sym machines);
-      joined = more_joined capacity used s together;
+      joined = more_joined is_bridge capacity used s together;
     }
 
 -- ---- a line of the script
@@ -267,13 +277,15 @@ moves gap step before after told is = made before (moved (floor_move gap step be
 
 line_does : (number : ℕ) (line : ScriptLine) (before next : LineState) (told : List Happening) → LineDoes number line before next told → Does before next
 line_does number lines.Blank before next told is = made before before next [] told is (does before before (keeps_still before))
-line_does number (lines.Machine capacity used) before next told is = unless (may_add before) before next told _ is (λ may done. made before (one_more capacity used before) next _ told done (record { lines = refl; whole = more_whole before.world.floor; together = more_together capacity used before may }))
+line_does number (lines.Machine capacity used) before next told is = unless (may_add before) before next told _ is (λ may done. made before (one_more false capacity used before) next _ told done (record { lines = refl; whole = more_whole before.world.floor; together = more_together false capacity used before may }))
+line_does number (lines.Bridge capacity used) before next told is = unless (may_add before) before next told _ is (λ may done. made before (one_more true capacity used before) next _ told done (record { lines = refl; whole = more_whole before.world.floor; together = more_together true capacity used before may }))
 line_does number (lines.Insert machine barcode) before next told is = unless _ before next told _ is (λ may done. steps number machine (inputs.Insert barcode) before next told (λ side opened. refl) done)
 line_does number (lines.Remove machine id) before next told is = unless _ before next told _ is (λ may done. steps number machine (inputs.Remove id) before next told (λ side opened. refl) done)
 line_does number (lines.Replace machine id) before next told is = unless _ before next told _ is (λ may done. steps number machine (inputs.Replace id) before next told (λ side opened. refl) done)
 line_does number (lines.Mark machine id quality) before next told is = unless _ before next told _ is (λ may done. steps number machine (inputs.Mark id quality) before next told (λ side opened. refl) done)
 line_does number (lines.Hold machine side) before next told is = unless _ before next told _ is (λ may done. steps number machine (inputs.Will side false) before next told (λ at opened. refl) done)
 line_does number (lines.Go machine side) before next told is = unless _ before next told _ is (λ may done. steps number machine (inputs.Will side true) before next told (λ at opened. refl) done)
+line_does number (lines.Signal machine line on) before next told is = unless _ before next told _ is (λ may done. steps number machine (inputs.Level line on) before next told (λ at opened. refl) done)
 line_does number (lines.Connect machine) before next told is = unless (may_connect machine before) before next told _ is (λ may done. does before next (connects_keep number machine before next told may done))
 line_does number (lines.Flow machine side count) before next told is = unless _ before next told _ is (λ may done. does before next (flows_keep number machine side count before next told done))
 line_does number (lines.Notice machine side) before next told is = unless _ before next told _ is (λ may done. steps number machine (inputs.Notice side) before next told (λ at opened. refl) done)
@@ -293,7 +305,10 @@ line_does number (lines.Back gap) before next told is = moves gap move.Back befo
 line_does number (lines.HandIn gap) before next told is = moves gap move.HandIn before next told is
 line_does number (lines.Take gap) before next told is = moves gap move.Take before next told is
 line_does number (lines.Lie machine sensed) before next told is = unless _ before next told _ is (λ may done. made before (lied number machine sensed before) next _ told done (does before _ (lied_keeps number machine sensed before)))
+line_does number (lines.Unseen machine side) before next told is = unless _ before next told _ is (λ may done. made before (unseen number machine side before) next _ told done (does before _ (unseen_keeps number machine side before)))
 line_does number lines.Show before next told is = made before before next _ told is (does before before (keeps_still before))
+line_does number (lines.Forecast machine) before next told is = unless _ before next told _ is (λ may done. steps number machine inputs.Forecast before next told (λ at opened. refl) done)
+line_does number (lines.Query machine barcode) before next told is = unless _ before next told _ is (λ may done. steps number machine (inputs.Query barcode) before next told (λ at opened. refl) done)
 
 pub lines_stay : (number : ℕ) (line : ScriptLine) (before next : LineState) (told : List Happening) → LineDoes number line before next told → next.lines ≡ before.lines
 lines_stay number line before next told is = (line_does number line before next told is).lines

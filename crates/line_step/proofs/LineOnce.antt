@@ -1,6 +1,6 @@
 -- A line of a script does one thing, and so does a run.
 use Rattle.std.proofs.Common.{◌≡◌, ◌+◌, ◌-◌, ◌++◌, ℕ, zero, suc, Bool, true, false, List, [], ◌∷◌, Option, Some, None, Result, Ok, Err, length, map, refl, sym, ap, subst, ◌∙◌}
-use Rattle.std.specs.Prelude.{pos, slice_get, slice_set, not}
+use Rattle.std.specs.Prelude.{pos, slice_get, slice_set, not, is_none, is_some}
 use Rattle.std.specs.List.{flat_map}
 use Rattle.line_base.specs.declared.states.Side.{Side}
 use Rattle.line_base.specs.declared.states.Side.TheVariants.{Entry, Exit}
@@ -15,6 +15,7 @@ use Rattle.line_world.specs.Moves.{floor_move}
 use Rattle.line_world.specs.declared.moves.Move.{Move}
 use Rattle.line_world.specs.declared.moves.Move.TheVariants as moves
 use Rattle.line_world.specs.declared.moves.MoveNo.{MoveNo}
+use Rattle.line_world.specs.declared.moves.MoveNo.TheVariants as move_no
 use Rattle.node_core.specs.declared.act.Act.{Act}
 use Rattle.node_core.specs.declared.input.Input.{Input}
 use Rattle.node_core.specs.declared.input.Input.TheVariants as inputs
@@ -28,6 +29,8 @@ use Rattle.node_core.specs.May as node
 use Rattle.node_core.specs.Node.{NodeState, desk_of, new_node}
 use Rattle.node_core.specs.Own.{own_of}
 use Rattle.node_core.specs.Places.{has_place}
+use Rattle.node_core.specs.Sides.{end_at}
+use Rattle.smema_bridge.specs.Levels.{BridgeLevels}
 use Rattle.standings.specs.Marks.{Owned, marks_of}
 use Rattle.standings.specs.Told.{told_of}
 use Rattle.line_report.specs.declared.happening.Happening.{Happening}
@@ -39,9 +42,9 @@ use Rattle.line_step.specs.State.{LineState, machine_in, one_more, owned, owned_
 use Rattle.line_step.specs.Acts.{acts_did}
 use Rattle.line_step.specs.Steps.{MachineSteps, is_second, moment_of, read_by, unread_by}
 use Rattle.line_step.specs.Together.{is_linked}
-use Rattle.line_step.specs.Reasons.{May, behind_own, has_neighbour, if_there, is_dry_at, is_here, link_stands, may_add, may_connect, may_cut, may_do, may_flow, may_give, may_lie, may_notice, may_remove, may_replace, may_sense, may_spoil, no_if}
+use Rattle.line_step.specs.Reasons.{May, behind_own, has_neighbour, if_there, is_dry_at, is_here, link_stands, may_add, may_connect, may_cut, may_do, may_flow, may_give, may_lie, may_notice, may_remove, may_replace, may_sense, may_spoil, may_unseen, is_bare, no_if}
 use Rattle.line_step.specs.Shown.{ascending, between_shown, ids_owned, kept_shown, shown, shown_from, standing_told, standings_told, taken_below}
-use Rattle.line_step.specs.Lines.{Becomes, Connects, Flows, LineDoes, LineSteps, Moves, Unless, arrived, connecting, cut_in, lied, met, move_told, moved, spoiled}
+use Rattle.line_step.specs.Lines.{Becomes, Connects, Flows, LineDoes, LineSteps, Moves, Unless, arrived, connecting, cut_in, lied, met, move_told, moved, spoiled, unseen}
 use Rattle.line_step.specs.Runs.{Point, IsRun, state_behind, told_text}
 use Rattle.line_step.proofs.Once.{AreAlike, IsDry, OneMeaning, StepsOnce, desk-same, steps-bytes, steps-dry}
 
@@ -66,7 +69,7 @@ pub record DoesOnce (s t : LineState) (told other : List Happening) : Type 0 whe
   pub same : other ≡ told
 
 alike-self : (a : NodeState) → AreAlike a a
-alike-self a = record { spent = refl; name = refl; number = refl; capacity = refl; maker = refl; body = refl; entry = λ opened. refl; exit = λ opened. refl }
+alike-self a = record { spent = refl; name = refl; number = refl; capacity = refl; maker = refl; bridge = refl; forecasts = refl; body = refl; entry = λ opened. refl; exit = λ opened. refl }
 
 length-alike : (xs ys : List NodeState) → AreAllAlike xs ys → length ys ≡ length xs
 length-alike [] [] all = refl
@@ -158,11 +161,16 @@ may-alike (inputs.Notice side) a b alike = ap (node.may_reach side) alike.body
 may-alike inputs.Tick a b alike = ap node.may_reach_any alike.body
 may-alike inputs.Shutdown a b alike = ap node.may_reach_any alike.body
 may-alike (inputs.Fault side) a b alike = ap (node.may_fault side) alike.body
-may-alike (inputs.Will side on) a b alike = ap (node.may_will side on) alike.body
+may-alike (inputs.Will side on) a b alike =
+    let f : Option BridgeLevels → Body → Result (Unit {0}) No = λ bridge body. node.no_if (is_some bridge) no.Bridge (node.no_if (node.same_bool (end_at side body).willing on) no.Same node.may_do) in
+    ap (λ bridge. f bridge b.lane.body) alike.bridge ∙ ap (f a.bridge) alike.body
+may-alike (inputs.Level line on) a b alike = ap (node.may_level line on) alike.bridge
 may-alike (inputs.Insert barcode) a b alike = may-insert a b alike
 may-alike (inputs.Remove id) a b alike = ap (node.may_remove id) alike.body
 may-alike (inputs.Replace id) a b alike = may-replace id a b alike
 may-alike (inputs.Mark id quality) a b alike = ap (node.may_mark id) alike.body
+may-alike inputs.Forecast a b alike = ap node.may_forecast alike.body
+may-alike (inputs.Query barcode) a b alike = ap node.may_query alike.body
 
 there-alike : (x y : Option NodeState) (f g : NodeState → May) → FoundAlike x y → ((a b : NodeState) → AreAlike a b → g b ≡ f a) → if_there y g ≡ if_there x f
 there-alike None None f g found same = refl
@@ -216,7 +224,7 @@ notice-alike machine side s nodes all =
 spoil-alike : (machine : ℕ) (side : Side) (s : LineState) (nodes : List NodeState) → AreAllAlike s.machines nodes → may_spoil machine side (like s nodes) ≡ may_spoil machine side s
 spoil-alike machine side s nodes all =
     there-alike (machine_in machine s) (machine_in machine (like s nodes)) _ _ (found-alike machine s nodes all)
-    (λ a b alike. ap (λ has. no_if (not has) reasons.NoNeighbour (no_if (not (is_linked machine side s.world)) (reasons.Node no.NotConnected) (no_if (not (link_stands machine side s.world)) reasons.NotStanding may_do))) (neighbour-alike machine side s nodes all))
+    (λ a b alike. ap (λ has. no_if (not has) reasons.NoNeighbour (no_if (not (is_linked machine side s.world)) (reasons.Node no.NotConnected) (no_if (not (link_stands machine side s.world)) (reasons.Node no.NotStanding) may_do))) (neighbour-alike machine side s nodes all))
 
 sense-alike : (machine : ℕ) (s : LineState) (nodes : List NodeState) → AreAllAlike s.machines nodes → may_sense machine (like s nodes) ≡ may_sense machine s
 sense-alike machine s nodes all = there-alike (machine_in machine s) (machine_in machine (like s nodes)) _ _ (found-alike machine s nodes all) (λ a b alike. refl)
@@ -225,6 +233,11 @@ lie-alike : (machine : ℕ) (side : Side) (s : LineState) (nodes : List NodeStat
 lie-alike machine side s nodes all =
     there-alike (machine_in machine s) (machine_in machine (like s nodes)) _ _ (found-alike machine s nodes all)
     (λ a b alike. ap (λ has. no_if (not has) reasons.NoNeighbour may_do) (neighbour-alike machine side s nodes all))
+
+unseen-alike : (machine : ℕ) (side : Side) (s : LineState) (nodes : List NodeState) → AreAllAlike s.machines nodes → may_unseen machine side (like s nodes) ≡ may_unseen machine side s
+unseen-alike machine side s nodes all =
+    let f : Option BridgeLevels → May = λ bridge. no_if (is_none bridge) (reasons.Node no.NotABridge) (no_if (is_bare machine side s.world) (reasons.Move move_no.NothingThere) may_do) in
+    there-alike (machine_in machine s) (machine_in machine (like s nodes)) _ _ (found-alike machine s nodes all) (λ a b alike. ap f alike.bridge)
 
 -- ---- what a line does
 
@@ -309,12 +322,12 @@ moves-once gap step s after nodes after' told other all one two =
     let answer = floor_move gap step s.world.floor in
     becomes-once (moved answer s) (moved answer (like s nodes)) after after' (move_told gap step answer) (move_told gap step answer) told other (moved-alike answer s nodes all) refl one two
 
-more-alike : (capacity used : ℕ) (s : LineState) (nodes : List NodeState) → AreAllAlike s.machines nodes → LinesAlike (one_more capacity used s) (one_more capacity used (like s nodes))
-more-alike capacity used s nodes all =
+more-alike : (is_bridge : Bool) (capacity used : ℕ) (s : LineState) (nodes : List NodeState) → AreAllAlike s.machines nodes → LinesAlike (one_more is_bridge capacity used s) (one_more is_bridge capacity used (like s nodes))
+more-alike is_bridge capacity used s nodes all =
     let many = length-alike s.machines nodes all in
-    let made : ℕ → NodeState = λ n. new_node (profile_of (n + 1) capacity used) in
+    let made : ℕ → NodeState = λ n. new_node (profile_of is_bridge (n + 1) capacity used) in
     let P : NodeState → Type 0 = λ b. AreAllAlike (s.machines ++ made (length s.machines) ∷ []) (nodes ++ b ∷ []) in
-    let f : ℕ → LineState = λ n. record (one_more capacity used (like s nodes)) { world = record (one_more capacity used s).world { links = links_more n s.world.links } } in
+    let f : ℕ → LineState = λ n. record (one_more is_bridge capacity used (like s nodes)) { world = record (one_more is_bridge capacity used s).world { links = links_more n s.world.links } } in
     record {
       machines = subst P (sym (ap made many)) (push-alike s.machines nodes (made (length s.machines)) (made (length s.machines)) all (alike-self (made (length s.machines))));
       same = ap f many;
@@ -324,14 +337,19 @@ does-once : OneMeaning → (number : ℕ) (line : ScriptLine) (s after : LineSta
 does-once law number lines.Blank s after nodes after' told other all one two = becomes-once s (like s nodes) after after' [] [] told other (stays-alike s nodes all) refl one two
 does-once law number (lines.Machine capacity used) s after nodes after' told other all one two =
     let what : ℕ → List Happening = λ n. happenings.Machine (n + 1) capacity ∷ [] in
-    unless-once (may_add s) (may_add (like s nodes)) s after nodes after' told other (Becomes (one_more capacity used s) (what (length s.machines)) after told) (Becomes (one_more capacity used (like s nodes)) (what (length nodes)) after' other) all (add-alike s nodes all)
-    (becomes-once (one_more capacity used s) (one_more capacity used (like s nodes)) after after' (what (length s.machines)) (what (length nodes)) told other (more-alike capacity used s nodes all) (ap what (length-alike s.machines nodes all))) one two
+    unless-once (may_add s) (may_add (like s nodes)) s after nodes after' told other (Becomes (one_more false capacity used s) (what (length s.machines)) after told) (Becomes (one_more false capacity used (like s nodes)) (what (length nodes)) after' other) all (add-alike s nodes all)
+    (becomes-once (one_more false capacity used s) (one_more false capacity used (like s nodes)) after after' (what (length s.machines)) (what (length nodes)) told other (more-alike false capacity used s nodes all) (ap what (length-alike s.machines nodes all))) one two
+does-once law number (lines.Bridge capacity used) s after nodes after' told other all one two =
+    let what : ℕ → List Happening = λ n. happenings.Bridge (n + 1) capacity ∷ [] in
+    unless-once (may_add s) (may_add (like s nodes)) s after nodes after' told other (Becomes (one_more true capacity used s) (what (length s.machines)) after told) (Becomes (one_more true capacity used (like s nodes)) (what (length nodes)) after' other) all (add-alike s nodes all)
+    (becomes-once (one_more true capacity used s) (one_more true capacity used (like s nodes)) after after' (what (length s.machines)) (what (length nodes)) told other (more-alike true capacity used s nodes all) (ap what (length-alike s.machines nodes all))) one two
 does-once law number (lines.Insert machine barcode) s after nodes after' told other all one two = given-once number machine (inputs.Insert barcode) s after nodes after' told other _ _ tt all (give-alike machine (inputs.Insert barcode) s nodes all) one two
 does-once law number (lines.Remove machine id) s after nodes after' told other all one two = given-once number machine (inputs.Remove id) s after nodes after' told other _ _ tt all (remove-alike machine id s nodes all) one two
 does-once law number (lines.Replace machine id) s after nodes after' told other all one two = given-once number machine (inputs.Replace id) s after nodes after' told other _ _ tt all (replace-alike machine id s nodes all) one two
 does-once law number (lines.Mark machine id quality) s after nodes after' told other all one two = given-once number machine (inputs.Mark id quality) s after nodes after' told other _ _ tt all (give-alike machine (inputs.Mark id quality) s nodes all) one two
 does-once law number (lines.Hold machine side) s after nodes after' told other all one two = given-once number machine (inputs.Will side false) s after nodes after' told other _ _ tt all (give-alike machine (inputs.Will side false) s nodes all) one two
 does-once law number (lines.Go machine side) s after nodes after' told other all one two = given-once number machine (inputs.Will side true) s after nodes after' told other _ _ tt all (give-alike machine (inputs.Will side true) s nodes all) one two
+does-once law number (lines.Signal machine line on) s after nodes after' told other all one two = given-once number machine (inputs.Level line on) s after nodes after' told other _ _ tt all (give-alike machine (inputs.Level line on) s nodes all) one two
 does-once law number (lines.Connect machine) s after nodes after' told other all one two =
     unless-once (may_connect machine s) (may_connect machine (like s nodes)) s after nodes after' told other (Connects number machine s after told) (Connects number machine (like s nodes) after' other) all (connect-alike machine s nodes all) (connects-once number machine s after nodes after' told other all) one two
 does-once law number (lines.Flow machine side count) s after nodes after' told other all one two =
@@ -349,6 +367,12 @@ does-once law number (lines.Fault machine side) s after nodes after' told other 
 does-once law number (lines.Lie machine sensed) s after nodes after' told other all one two =
     unless-once (may_lie machine sensed.side s) (may_lie machine sensed.side (like s nodes)) s after nodes after' told other _ _ all (lie-alike machine sensed.side s nodes all)
     (becomes-once (lied number machine sensed s) (lied number machine sensed (like s nodes)) after after' _ _ told other (record { machines = all; same = refl }) refl) one two
+does-once law number (lines.Unseen machine Entry) s after nodes after' told other all one two =
+    unless-once (may_unseen machine Entry s) (may_unseen machine Entry (like s nodes)) s after nodes after' told other _ _ all (unseen-alike machine Entry s nodes all)
+    (becomes-once (unseen number machine Entry s) (unseen number machine Entry (like s nodes)) after after' _ _ told other (record { machines = all; same = refl }) refl) one two
+does-once law number (lines.Unseen machine Exit) s after nodes after' told other all one two =
+    unless-once (may_unseen machine Exit s) (may_unseen machine Exit (like s nodes)) s after nodes after' told other _ _ all (unseen-alike machine Exit s nodes all)
+    (becomes-once (unseen number machine Exit s) (unseen number machine Exit (like s nodes)) after after' _ _ told other (record { machines = all; same = refl }) refl) one two
 does-once law number (lines.Sense machine) s after nodes after' told other all one two = given-once number machine inputs.Nothing s after nodes after' told other _ _ tt all (sense-alike machine s nodes all) one two
 does-once law number (lines.Begin gap) s after nodes after' told other all one two = moves-once gap moves.Begin s after nodes after' told other all one two
 does-once law number (lines.Left gap) s after nodes after' told other all one two = moves-once gap moves.Left s after nodes after' told other all one two
@@ -357,6 +381,8 @@ does-once law number (lines.Back gap) s after nodes after' told other all one tw
 does-once law number (lines.HandIn gap) s after nodes after' told other all one two = moves-once gap moves.HandIn s after nodes after' told other all one two
 does-once law number (lines.Take gap) s after nodes after' told other all one two = moves-once gap moves.Take s after nodes after' told other all one two
 does-once law number lines.Show s after nodes after' told other all one two = becomes-once s (like s nodes) after after' (shown s) (shown (like s nodes)) told other (stays-alike s nodes all) (shown-alike 1 s.machines nodes all) one two
+does-once law number (lines.Forecast machine) s after nodes after' told other all one two = given-once number machine inputs.Forecast s after nodes after' told other _ _ tt all (give-alike machine inputs.Forecast s nodes all) one two
+does-once law number (lines.Query machine barcode) s after nodes after' told other all one two = given-once number machine (inputs.Query barcode) s after nodes after' told other _ _ tt all (give-alike machine (inputs.Query barcode) s nodes all) one two
 
 -- the standings
 standings-once : (before before' next next' : LineState) → owned before' ≡ owned before → owned next' ≡ owned next → standings_told before' next' ≡ standings_told before next

@@ -1,6 +1,6 @@
 -- What the acts of a step do to the boards on the floor.
 use Rattle.std.proofs.Common.{◌≡◌, ◌-◌, ◌<◌, ◌≤◌, ◌++◌, ℕ, Bool, true, false, List, [], ◌∷◌, Option, Some, None, get_or, length, refl, sym, ap, subst, ◌∙◌, append_assoc, append-nil, arith}
-use Rattle.std.specs.Prelude.{is_some, nat_lt, slice_index_or, slice_set, if◌then◌else◌}
+use Rattle.std.specs.Prelude.{is_some, nat_lt, slice_index_or, slice_set, if◌then◌else◌, drop, slice_get}
 use Rattle.std.proofs.lemmas.List.{get_or_default, get_or-set_same, length-set}
 use Rattle.std.proofs.lemmas.List.Quantifiers.{position-Some}
 use Rattle.line_base.specs.declared.states.Side.{Side}
@@ -100,6 +100,7 @@ quiet-act second machine (acts.Inserts id) world quiet = absurd quiet
 quiet-act second machine (acts.Removes id) world quiet = absurd quiet
 quiet-act second machine (acts.Replaces was now) world quiet = absurd quiet
 quiet-act second machine (acts.Sets setting) world quiet = same-still world.floor world.floor refl
+quiet-act second machine (acts.Signals signal on) world quiet = same-still world.floor world.floor refl
 
 pub quiet-acts : (second : Bool) (machine : ℕ) (told : List Act) (world : WorldParts) → AreQuiet told → SameBoards world.floor (acts_did second machine told world).world.floor
 quiet-acts second machine [] world quiet = same-still world.floor world.floor refl
@@ -159,6 +160,7 @@ act-still machine (acts.Deed deed) quiet = record { change = λ boards. (boards,
 act-still machine (acts.Drive side on) quiet = record { change = λ boards. (boards, refl, refl); made = refl; handled = refl }
 act-still machine (acts.Marks id quality) quiet = record { change = λ boards. (boards, refl, refl); made = refl; handled = refl }
 act-still machine (acts.Sets setting) quiet = record { change = λ boards. (boards, refl, refl); made = refl; handled = refl }
+act-still machine (acts.Signals signal on) quiet = record { change = λ boards. (boards, refl, refl); made = refl; handled = refl }
 
 sent-still : (answers : Bool) (machine : ℕ) (side : Side) (message : Message) (world : WorldParts) → IsStill (sent_by answers machine side message world).told
 sent-still true machine side message world =
@@ -183,6 +185,7 @@ told-still second machine acts.Connects world quiet = act-still machine acts.Con
 told-still second machine (acts.Deed deed) world quiet = act-still machine (acts.Deed deed) tt
 told-still second machine (acts.Marks id quality) world quiet = act-still machine (acts.Marks id quality) tt
 told-still second machine (acts.Sets setting) world quiet = act-still machine (acts.Sets setting) tt
+told-still second machine (acts.Signals signal on) world quiet = act-still machine (acts.Signals signal on) tt
 
 pub acts-still : (second : Bool) (machine : ℕ) (told : List Act) (world : WorldParts) → AreQuiet told → IsStill (acts_did second machine told world).told
 acts-still second machine [] world quiet = still-none
@@ -261,16 +264,40 @@ here-is machines place within = get_or_default machines place empty_machine (get
 with-there : (plan : FloorPlan) (machine : ℕ) (boards : List Board) → 1 ≤ machine → with_boards plan machine boards ≡ record plan { machines = slice_set plan.machines (machine - 1) (record (get_or plan.machines (machine - 1) empty_machine) { boards = boards }) }
 with-there plan machine boards counted = rw (counted_test machine counted) refl
 
-pub lays-gains : (plan : FloorPlan) (machine id : ℕ) → 1 ≤ machine → machine ≤ length plan.machines → LosesBoard (boards_on (lays machine id plan)) (boards_on plan) (record { id = Some id })
-lays-gains plan machine id counted within =
+-- a board comes to lie at the back of a list
+pub board-gains : (plan : FloorPlan) (machine : ℕ) (board : Board) → 1 ≤ machine → machine ≤ length plan.machines
+    → LosesBoard (boards_on (with_boards plan machine ((machine_at plan machine).boards ++ board ∷ []))) (boards_on plan) board
+board-gains plan machine board counted within =
     let place = machine - 1 in
     let here = get_or plan.machines place empty_machine in
-    let board : Board = record { id = Some id } in
     let boards = (machine_at plan machine).boards ++ board ∷ [] in
     let listed : boards ≡ here.boards ++ board ∷ [] = ap (λ (m : AtMachine). m.boards ++ board ∷ []) (at-there plan machine counted) in
     let gain : LosesBoard boards here.boards board = rw listed (record { front = here.boards; back = []; before = refl; after = sym (append-nil here.boards) }) in
     let there : place < length plan.machines = omega arith in
     rw (with-there plan machine boards counted) (along_gains plan.machines plan.gaps place (record here { boards = boards }) here board there (here-is plan.machines place there) gain)
+
+pub lays-gains : (plan : FloorPlan) (machine id : ℕ) → 1 ≤ machine → machine ≤ length plan.machines → LosesBoard (boards_on (lays machine id plan)) (boards_on plan) (record { id = Some id })
+lays-gains plan machine id counted within = board-gains plan machine (record { id = Some id }) counted within
+
+-- the front board of a list goes
+front-lost : (boards : List Board) (board : Board) → slice_get boards 0 ≡ Some board → LosesBoard boards (drop 1 boards) board
+front-lost [] board found = cc
+front-lost (first ∷ boards) board found =
+    let same : first ≡ board = cc in
+    record { front = []; back = boards; before = ap (λ (b : Board). b ∷ boards) same; after = refl }
+
+pub front-loses : (plan : FloorPlan) (machine : ℕ) (board : Board) → 1 ≤ machine → machine ≤ length plan.machines → slice_get (machine_at plan machine).boards 0 ≡ Some board
+    → LosesBoard (boards_on plan) (boards_on (with_boards plan machine (drop 1 (machine_at plan machine).boards))) board
+front-loses plan machine board counted within found =
+    let place = machine - 1 in
+    let here = get_or plan.machines place empty_machine in
+    let listed = ap (λ (m : AtMachine). m.boards) (at-there plan machine counted) in
+    let boards = drop 1 (machine_at plan machine).boards in
+    let gone : boards ≡ drop 1 here.boards = ap (drop 1) listed in
+    let front : slice_get here.boards 0 ≡ Some board = ap (λ (bs : List Board). slice_get bs 0) (sym listed) ∙ found in
+    let lost : LosesBoard here.boards boards board = rw gone (front-lost here.boards board front) in
+    let there : place < length plan.machines = omega arith in
+    rw (with-there plan machine boards counted) (along_loses plan.machines plan.gaps place (record here { boards = boards }) here board there (here-is plan.machines place there) lost)
 
 -- the board that lies in a machine's list
 pub record LiesThere (id : ℕ) (boards : List Board) : Type 0 where

@@ -22,6 +22,9 @@ use Rattle.node_core.specs.Announces.{announces}
 use Rattle.node_core.specs.Node.{NodeState, desk_of}
 use Rattle.node_core.specs.Step.{Brings, Steps, machine_step, entry_after, exit_after}
 use Rattle.node_core.specs.Words.{AreAll, AreFirst, Means, all_heard, all_more, all_none, first_more, first_none, first_too_long, word_did, too_long}
+use Rattle.node_core.specs.Signals.{signalled, levels_after}
+use Rattle.node_core.specs.Forecasts.{forecasts_after}
+use Rattle.smema_bridge.specs.Levels.{BridgeLevels}
 use Rattle.hermes_stream.specs.Frames.{frames_of}
 use Rattle.line_step.specs.Opened.{open_after, open_act, closed_at, opened_by}
 use Rattle.line_step.proofs.Opening.{steps_open}
@@ -119,6 +122,8 @@ pub record AreAlike (a b : NodeState) : Type 0 where
   pub number : b.number ≡ a.number
   pub capacity : b.capacity ≡ a.capacity
   pub maker : b.maker ≡ a.maker
+  pub bridge : b.bridge ≡ a.bridge
+  pub forecasts : b.forecasts ≡ a.forecasts
   pub body : b.lane.body ≡ a.lane.body
   pub entry : is_open Entry a.lane.body ≡ true → b.lane.entry_bytes ≡ a.lane.entry_bytes
   pub exit : is_open Exit a.lane.body ≡ true → b.lane.exit_bytes ≡ a.lane.exit_bytes
@@ -145,6 +150,7 @@ closed-act side (acts.Inserts id) = refl
 closed-act side (acts.Removes id) = refl
 closed-act side (acts.Replaces was now) = refl
 closed-act side (acts.Sets setting) = refl
+closed-act side (acts.Signals signal on) = refl
 
 closed-stays : (side : Side) (told : List Act) → open_after side false told ≡ false
 closed-stays side [] = refl
@@ -166,7 +172,7 @@ pub record StepsOnce (a b : NodeState) (told other : List Act) : Type 0 where
   pub same : other ≡ told
 
 pub desk-same : (a b : NodeState) (moment : ℤ) → AreAlike a b → desk_of b moment ≡ desk_of a moment
-desk-same a b moment alike = rw (alike.name, alike.number, alike.capacity) refl
+desk-same a b moment alike = rw (alike.name, alike.number, alike.capacity, alike.bridge) refl
 
 -- an input that is no bytes
 abbrev pub IsDry : Input → Type 0
@@ -184,10 +190,13 @@ event-dry maker inputs.Tick one other dry = refl
 event-dry maker inputs.Shutdown one other dry = refl
 event-dry maker (inputs.Fault side) one other dry = refl
 event-dry maker (inputs.Will side on) one other dry = refl
+event-dry maker (inputs.Level line on) one other dry = refl
 event-dry maker (inputs.Insert barcode) one other dry = refl
 event-dry maker (inputs.Remove id) one other dry = refl
 event-dry maker (inputs.Replace id) one other dry = refl
 event-dry maker (inputs.Mark id quality) one other dry = refl
+event-dry maker inputs.Forecast one other dry = refl
+event-dry maker (inputs.Query barcode) one other dry = refl
 
 brings-dry : (input : Input) (old new : Lane) (words : List Word) → IsDry input → Brings input old new words → (new.entry_bytes ≡ entry_after input old.entry_bytes) × (new.exit_bytes ≡ exit_after input old.exit_bytes)
 brings-dry inputs.Nothing old new words dry brings = brings
@@ -200,10 +209,13 @@ brings-dry inputs.Tick old new words dry brings = brings
 brings-dry inputs.Shutdown old new words dry brings = brings
 brings-dry (inputs.Fault side) old new words dry brings = brings
 brings-dry (inputs.Will side on) old new words dry brings = brings
+brings-dry (inputs.Level line on) old new words dry brings = brings
 brings-dry (inputs.Insert barcode) old new words dry brings = brings
 brings-dry (inputs.Remove id) old new words dry brings = brings
 brings-dry (inputs.Replace id) old new words dry brings = brings
 brings-dry (inputs.Mark id quality) old new words dry brings = brings
+brings-dry inputs.Forecast old new words dry brings = brings
+brings-dry (inputs.Query barcode) old new words dry brings = brings
 
 entry-same : (input : Input) (was : Bool) (x y : List ℕ) → (opened_by input Entry was ≡ was → y ≡ x) → entry_after input y ≡ entry_after input x
 entry-same inputs.Nothing was x y kept = kept refl
@@ -216,10 +228,13 @@ entry-same inputs.Tick was x y kept = kept refl
 entry-same inputs.Shutdown was x y kept = kept refl
 entry-same (inputs.Fault side) was x y kept = kept refl
 entry-same (inputs.Will side on) was x y kept = kept refl
+entry-same (inputs.Level line on) was x y kept = kept refl
 entry-same (inputs.Insert barcode) was x y kept = kept refl
 entry-same (inputs.Remove id) was x y kept = kept refl
 entry-same (inputs.Replace id) was x y kept = kept refl
 entry-same (inputs.Mark id quality) was x y kept = kept refl
+entry-same inputs.Forecast was x y kept = kept refl
+entry-same (inputs.Query barcode) was x y kept = kept refl
 
 exit-same : (input : Input) (was : Bool) (x y : List ℕ) → (opened_by input Exit was ≡ was → y ≡ x) → exit_after input y ≡ exit_after input x
 exit-same inputs.Nothing was x y kept = kept refl
@@ -232,10 +247,42 @@ exit-same inputs.Tick was x y kept = kept refl
 exit-same inputs.Shutdown was x y kept = kept refl
 exit-same (inputs.Fault side) was x y kept = kept refl
 exit-same (inputs.Will side on) was x y kept = kept refl
+exit-same (inputs.Level line on) was x y kept = kept refl
 exit-same (inputs.Insert barcode) was x y kept = kept refl
 exit-same (inputs.Remove id) was x y kept = kept refl
 exit-same (inputs.Replace id) was x y kept = kept refl
 exit-same (inputs.Mark id quality) was x y kept = kept refl
+exit-same inputs.Forecast was x y kept = kept refl
+exit-same (inputs.Query barcode) was x y kept = kept refl
+
+-- what a step leaves behind its lane, where the lanes end alike
+record EndsOnce (a' b' : NodeState) (told other : List Act) : Type 0 where
+  same : other ≡ told
+  bridge : b'.bridge ≡ a'.bridge
+  forecasts : b'.forecasts ≡ a'.forecasts
+
+ends-once : (a b a' b' : NodeState) (unread : List Sensed) (input input' : Input) (moment : ℤ) (told other : List Act) → AreAlike a b
+    → ((body : Body) (bridge : Option BridgeLevels) → levels_after input' body bridge ≡ levels_after input body bridge)
+    → (one : Steps a unread input moment a' told) (two : Steps b unread input' moment b' other)
+    → two.made ≡ one.made → b'.lane.body ≡ a'.lane.body → EndsOnce a' b' told other
+ends-once a b a' b' unread input input' moment told other alike levels one two made body =
+    let tells : List Act → Option BridgeLevels → Body → List Act = λ acts bridge at. acts ++ signalled bridge at in
+    let same : other ≡ told =
+    two.told ∙ ap (λ acts. tells acts b.bridge b'.lane.body) made ∙ ap (λ bridge. tells one.made bridge b'.lane.body) alike.bridge
+    ∙ ap (tells one.made a.bridge) body ∙ sym one.told in
+    record {
+      same = same;
+      bridge =
+          two.bridge ∙ levels b'.lane.body b.bridge ∙ ap (λ (at : Body). levels_after input at b.bridge) body
+          ∙ ap (levels_after input a'.lane.body) alike.bridge ∙ sym one.bridge;
+      forecasts = two.forecasts ∙ ap (λ kept. forecasts_after kept other) alike.forecasts ∙ ap (forecasts_after a.forecasts) same ∙ sym one.forecasts;
+    }
+
+-- bytes are no level
+bytes-levels : (side : Side) (piece other : Bor (List ℕ)) (body : Body) (bridge : Option BridgeLevels)
+    → levels_after (inputs.Bytes side other) body bridge ≡ levels_after (inputs.Bytes side piece) body bridge
+bytes-levels side piece other body None = refl
+bytes-levels side piece other body (Some before) = refl
 
 pub steps-dry : (a b a' b' : NodeState) (unread : List Sensed) (input : Input) (moment : ℤ) (told other : List Act) → AreAlike a b → IsDry input → Steps a unread input moment a' told → Steps b unread input moment b' other → a'.spent ≡ a.spent → b'.spent ≡ b.spent → StepsOnce a' b' told other
 steps-dry a b a' b' unread input moment told other alike dry one two fine good =
@@ -247,6 +294,9 @@ steps-dry a b a' b' unread input moment told other alike dry one two fine good =
     ∙ ap (machine_step (desk_of a moment) unread (event_of a.maker input one.lane.words)) alike.body in
     let mine = brings-dry input a.lane a'.lane one.lane.words dry one.lane.brings in
     let yours = brings-dry input b.lane b'.lane two.lane.words dry two.lane.brings in
+    let body : b'.lane.body ≡ a'.lane.body = two.lane.body ∙ ap (λ (d : Done). d.body) same ∙ sym one.lane.body in
+    let made : two.made ≡ one.made = two.lane.told ∙ ap (λ (d : Done). d.acts) same ∙ sym one.lane.told in
+    let ends = ends-once a b a' b' unread input input moment told other alike (λ at bridge. refl) one two made body in
     record {
       alike = record {
         spent = good ∙ alike.spent ∙ sym fine;
@@ -254,11 +304,13 @@ steps-dry a b a' b' unread input moment told other alike dry one two fine good =
         number = two.number ∙ alike.number ∙ sym one.number;
         capacity = two.capacity ∙ alike.capacity ∙ sym one.capacity;
         maker = two.lane.made ∙ ap (maker_after input) alike.maker ∙ sym one.lane.made;
-        body = two.lane.body ∙ ap (λ (d : Done). d.body) same ∙ sym one.lane.body;
+        bridge = ends.bridge;
+        forecasts = ends.forecasts;
+        body = body;
         entry = λ opened. yours.0 ∙ entry-same input (is_open Entry a.lane.body) a.lane.entry_bytes b.lane.entry_bytes (λ stays_so. alike.entry (was-open a a' unread input moment told Entry one stays_so opened)) ∙ sym mine.0;
         exit = λ opened. yours.1 ∙ exit-same input (is_open Exit a.lane.body) a.lane.exit_bytes b.lane.exit_bytes (λ stays_so. alike.exit (was-open a a' unread input moment told Exit one stays_so opened)) ∙ sym mine.1;
       };
-      same = two.lane.told ∙ ap (λ (d : Done). d.acts) same ∙ sym one.lane.told;
+      same = ends.same;
     }
 
 -- bytes
@@ -321,9 +373,11 @@ pub steps-bytes : OneMeaning → (side : Side) (a b a' b' : NodeState) (unread :
 steps-bytes law Entry a b a' b' unread piece other_piece moment told other alike same one two fine good =
     let mine = one.lane.brings in
     let yours = two.lane.brings in
-    let heard = hears-once law Entry a b a' b' unread moment told other one.lane.words two.lane.words (a.lane.entry_bytes ++ piece.now) (b.lane.entry_bytes ++ other_piece.now) a'.lane.entry_bytes b'.lane.entry_bytes alike
+    let heard = hears-once law Entry a b a' b' unread moment one.made two.made one.lane.words two.lane.words (a.lane.entry_bytes ++ piece.now) (b.lane.entry_bytes ++ other_piece.now) a'.lane.entry_bytes b'.lane.entry_bytes alike
     (λ opened. ap (λ old. old ++ other_piece.now) (alike.entry opened) ∙ ap (λ p. a.lane.entry_bytes ++ p) same)
     mine.0.first yours.0.first mine.0.all yours.0.all one.lane.body one.lane.told two.lane.body two.lane.told in
+    let ends = ends-once a b a' b' unread (inputs.Bytes Entry piece) (inputs.Bytes Entry other_piece) moment told other alike
+    (bytes-levels Entry piece other_piece) one two heard.same heard.body in
     record {
       alike = record {
         spent = good ∙ alike.spent ∙ sym fine;
@@ -331,18 +385,22 @@ steps-bytes law Entry a b a' b' unread piece other_piece moment told other alike
         number = two.number ∙ alike.number ∙ sym one.number;
         capacity = two.capacity ∙ alike.capacity ∙ sym one.capacity;
         maker = two.lane.made ∙ alike.maker ∙ sym one.lane.made;
+        bridge = ends.bridge;
+        forecasts = ends.forecasts;
         body = heard.body;
         entry = heard.bytes;
         exit = λ opened. yours.1 ∙ alike.exit (was-open a a' unread (inputs.Bytes Entry piece) moment told Exit one refl opened) ∙ sym mine.1;
       };
-      same = heard.same;
+      same = ends.same;
     }
 steps-bytes law Exit a b a' b' unread piece other_piece moment told other alike same one two fine good =
     let mine = one.lane.brings in
     let yours = two.lane.brings in
-    let heard = hears-once law Exit a b a' b' unread moment told other one.lane.words two.lane.words (a.lane.exit_bytes ++ piece.now) (b.lane.exit_bytes ++ other_piece.now) a'.lane.exit_bytes b'.lane.exit_bytes alike
+    let heard = hears-once law Exit a b a' b' unread moment one.made two.made one.lane.words two.lane.words (a.lane.exit_bytes ++ piece.now) (b.lane.exit_bytes ++ other_piece.now) a'.lane.exit_bytes b'.lane.exit_bytes alike
     (λ opened. ap (λ old. old ++ other_piece.now) (alike.exit opened) ∙ ap (λ p. a.lane.exit_bytes ++ p) same)
     mine.0.first yours.0.first mine.0.all yours.0.all one.lane.body one.lane.told two.lane.body two.lane.told in
+    let ends = ends-once a b a' b' unread (inputs.Bytes Exit piece) (inputs.Bytes Exit other_piece) moment told other alike
+    (bytes-levels Exit piece other_piece) one two heard.same heard.body in
     record {
       alike = record {
         spent = good ∙ alike.spent ∙ sym fine;
@@ -350,9 +408,11 @@ steps-bytes law Exit a b a' b' unread piece other_piece moment told other alike 
         number = two.number ∙ alike.number ∙ sym one.number;
         capacity = two.capacity ∙ alike.capacity ∙ sym one.capacity;
         maker = two.lane.made ∙ alike.maker ∙ sym one.lane.made;
+        bridge = ends.bridge;
+        forecasts = ends.forecasts;
         body = heard.body;
         entry = λ opened. yours.1 ∙ alike.entry (was-open a a' unread (inputs.Bytes Exit piece) moment told Entry one refl opened) ∙ sym mine.1;
         exit = heard.bytes;
       };
-      same = heard.same;
+      same = ends.same;
     }

@@ -53,11 +53,13 @@ use Rattle.node_core.specs.Connect.{if_open, opens, meets_second, notices, ticks
 use Rattle.node_core.specs.Boards.{is_kept, without, with_instead, with_mark, faults, wills}
 use Rattle.node_core.specs.Reads.{all_read}
 use Rattle.node_core.specs.Announces.{announces}
-use Rattle.node_core.specs.Event.{Event, Nothing, Connect, Accepted, Second, Words, Notice, Tick, Shutdown, Fault, Will, Insert, Remove, Replace, Mark, event_of, event_did, with_new}
+use Rattle.node_core.specs.Event.{Event, Nothing, Connect, Accepted, Second, Words, Notice, Tick, Shutdown, Fault, Will, Level, Insert, Remove, Replace, Mark, Forecast, Query, event_of, event_did, with_new}
 use Rattle.node_core.specs.Node.{NodeState, desk_of}
 use Rattle.node_core.specs.Step.{Steps, machine_step}
+use Rattle.node_core.specs.Bridge.{sets_level}
+use Rattle.node_core.specs.Information.{forecasts_front, asks_for}
 use Rattle.line_step.specs.Opened.{closed_at, open_after, opened_by}
-use Rattle.line_step.proofs.Quiet.{IsQuiet, Leaves, open_append, leaves_still, leaves_told, half_closed_leaves, at_intake_leaves, outlet_leaves, intake_leaves, all_read_leaves, announces_leave, kept_leaves, if_kept_leaves, faults_leave, wills_leave}
+use Rattle.line_step.proofs.Quiet.{IsQuiet, Leaves, open_append, open_signalled, leaves_still, leaves_told, half_closed_leaves, at_intake_leaves, outlet_leaves, intake_leaves, all_read_leaves, announces_leave, kept_leaves, if_kept_leaves, faults_leave, wills_leave, levels_leave, forecasts_leave, asks_leave}
 
 -- ---- what follows its acts
 
@@ -228,7 +230,7 @@ exit_leaves at desk exits.Ready body = outlet_took_leaves at desk body (outlet_r
 exit_leaves at desk exits.Unready body = outlet_took_leaves at desk body (outlet_row body.outlet out_input.RevokeMachineReady)
 exit_leaves at desk (exits.Start id) body = start_took_leaves at desk body (would_open body.outlet id) (outlet_row body.outlet (out_input.Start id (opening_board (would_open body.outlet id) body.kept)))
 exit_leaves at desk (exits.Stop state id) body = outlet_took_leaves at desk body (outlet_row body.outlet (out_input.Stop state id))
-exit_leaves at desk exits.Query body = leaves_some (leaves_told at body _ (λ o. refl))
+exit_leaves at desk (exits.Query top bottom) body = leaves_some (leaves_told at body _ (λ o. refl))
 exit_leaves at desk exits.Nothing body = leaves_some (leaves_still at body)
 
 intake_took_leaves : (at : Side) (desk : Desk) (body : Body) (found : Option InRow) → LeavesAny at body (intake_took desk body found)
@@ -377,10 +379,13 @@ event_meets at desk Tick body = met at Tick body (both_tick desk body) (λ o. re
 event_meets at desk Shutdown body = met at Shutdown body (both_shut_down desk body) (λ o. refl) (follows_both at body (shuts_down desk Entry body) (shuts_down desk Exit) (shuts_down_follow at desk Entry body) (shuts_down_follow at desk Exit (shuts_down desk Entry body).body))
 event_meets at desk (Fault side) body = met at (Fault side) body (faults desk side body) (λ o. refl) (left at body (faults desk side body) (faults_leave at desk side body))
 event_meets at desk (Will side on) body = met at (Will side on) body (wills side on body) (λ o. refl) (left at body (wills side on body) (wills_leave at side on body))
+event_meets at desk (Level line on) body = met at (Level line on) body (sets_level desk line on body) (λ o. refl) (left at body (sets_level desk line on body) (levels_leave at desk line on body))
 event_meets at desk (Insert id barcode) body = met at (Insert id barcode) body _ (λ o. refl) (left at body _ (kept_leaves at body (body.kept ++ plain_record id desk.name barcode ∷ []) (acts.Inserts id ∷ []) (λ o. refl)))
 event_meets at desk (Remove id) body = met at (Remove id) body _ (λ o. refl) (left at body _ (if_kept_leaves at (is_kept id body.kept) body (without id body.kept) (acts.Removes id) (λ o. refl)))
 event_meets at desk (Replace old new) body = met at (Replace old new) body _ (λ o. refl) (left at body _ (if_kept_leaves at (is_kept old body.kept) body (with_instead old (plain_record new desk.name None) body.kept) (acts.Replaces old new) (λ o. refl)))
 event_meets at desk (Mark id quality) body = met at (Mark id quality) body _ (λ o. refl) (left at body _ (if_kept_leaves at (is_kept id body.kept) body (with_mark id quality body.kept) (acts.Marks id quality) (λ o. refl)))
+event_meets at desk Forecast body = met at Forecast body (forecasts_front desk body) (λ o. refl) (left at body (forecasts_front desk body) (forecasts_leave at desk body))
+event_meets at desk (Query barcode) body = met at (Query barcode) body (asks_for desk barcode body) (λ o. refl) (left at body (asks_for desk barcode body) (asks_leave at desk barcode body))
 
 -- ---- a step
 
@@ -417,6 +422,9 @@ pub steps_open : (s : NodeState) (unread : List Seen) (input : Input) (moment : 
 steps_open s unread input moment t told side steps =
     let event = event_of s.maker input steps.lane.words in
     let did = machine_step (desk_of s moment) unread event s.lane.body in
+    let behind_it : List Act → Bool = λ list. open_after side (opened_by input side (is_open side s.lane.body)) list in
     ap (is_open side) steps.lane.body ∙ (step_meets side (desk_of s moment) unread event s.lane.body).by_acts
     ∙ ap (λ (o : Bool). open_after side o did.acts) (event_opens s.maker input steps.lane.words side (is_open side s.lane.body))
-    ∙ ap (λ (told : List Act). open_after side (opened_by input side (is_open side s.lane.body)) told) (sym steps.lane.told)
+    ∙ ap behind_it (sym steps.lane.told)
+    ∙ sym (open_signalled side (opened_by input side (is_open side s.lane.body)) steps.made s.bridge t.lane.body)
+    ∙ ap behind_it (sym steps.told)

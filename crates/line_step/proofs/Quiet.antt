@@ -1,8 +1,9 @@
 -- What leaves the connections of a machine as they are: what its halves do, what it reads, announces and does by hand.
-use Rattle.std.proofs.Common.{◌≡◌, ◌∙◌, ◌++◌, Bool, true, false, List, [], ◌∷◌, Option, Some, None, refl, ap}
+use Rattle.std.proofs.Common.{◌≡◌, ◌∙◌, ◌++◌, Bool, true, false, List, [], ◌∷◌, Option, Some, None, refl, ap, ℕ}
 use Rattle.std.specs.Prelude.{slice_get}
 use Rattle.line_base.specs.declared.states.Side.{Side}
 use Rattle.line_base.specs.declared.states.Side.TheVariants.{Entry, Exit}
+use Rattle.line_base.specs.declared.states.Quality.TheVariants as qualities
 use Rattle.line_base.specs.declared.states.SensorEvent.{SensorEvent}
 use Rattle.board_record.specs.declared.record.Record.{Record}
 use Rattle.board_record.specs.declared.sensed.Sensed.{Sensed as Seen}
@@ -26,8 +27,15 @@ use Rattle.node_core.specs.Told.{out_does, in_does, out_sends, in_sends, out_tol
 use Rattle.node_core.specs.Sides.{is_open}
 use Rattle.node_core.specs.Halves.{at_outlet, at_intake, outlet_row_did, intake_row_did, half_closed}
 use Rattle.node_core.specs.Reads.{saw, reads, all_read}
-use Rattle.node_core.specs.Boards.{with_kept, if_kept, faults, wills}
+use Rattle.node_core.specs.Boards.{with_kept, if_kept, faults, wills, is_kept, with_mark}
 use Rattle.node_core.specs.Announces.{revoke_by, revokes_now, revoke, unready_by, unreadies_now, unready, offer_by, offers_now, offer, ready_by, readies_now, ready, start_by, starts_now, start, announces}
+use Rattle.node_core.specs.Bridge.{failed_front, fails, sets_level, tells_level}
+use Rattle.node_core.specs.Information.{forecasts, forecasts_front, asks_for}
+use Rattle.node_core.specs.Signals.{signalled}
+use Rattle.smema_bridge.specs.declared.line.SegmentLine.{SegmentLine}
+use Rattle.smema_bridge.specs.declared.line.SegmentLine.TheVariants.{Ready, Available, Failed}
+use Rattle.smema_bridge.specs.Levels.{BridgeLevels}
+use Rattle.node_core.proofs.Signalling.{signals_all}
 use Rattle.line_step.specs.Opened.{open_act, open_after}
 
 pub open_append : (at : Side) (opened : Bool) (a b : List Act) → open_after at opened (a ++ b) ≡ open_after at (open_after at opened a) b
@@ -150,6 +158,48 @@ wills_leave Entry Entry on body = record { same = refl; quiet = λ opened. refl 
 wills_leave Entry Exit on body = record { same = refl; quiet = λ opened. refl }
 wills_leave Exit Entry on body = record { same = refl; quiet = λ opened. refl }
 wills_leave Exit Exit on body = record { same = refl; quiet = λ opened. refl }
+
+-- ---- a bridge, and what is told of boards
+
+quiet_signals : (at : Side) (bridge : Option BridgeLevels) (body : Body) → IsQuiet at (signalled bridge body)
+quiet_signals at bridge body = signals_all (IsQuiet at) (λ opened. refl) (λ signal on opened. refl) (quiet_both at) bridge body
+
+-- behind the acts of a step a bridge's own signals end no connection
+pub open_signalled : (at : Side) (opened : Bool) (made : List Act) (bridge : Option BridgeLevels) (body : Body)
+    → open_after at opened (made ++ signalled bridge body) ≡ open_after at opened made
+open_signalled at opened made bridge body =
+    open_append at opened made (signalled bridge body) ∙ quiet_signals at bridge body (open_after at opened made)
+
+tells_level_leaves : (at : Side) (line : SegmentLine) (on : Bool) (body : Body) → Leaves at body (tells_level line on body)
+tells_level_leaves Entry Ready on body = record { same = refl; quiet = λ opened. refl }
+tells_level_leaves Entry Available on body = record { same = refl; quiet = λ opened. refl }
+tells_level_leaves Entry Failed on body = record { same = refl; quiet = λ opened. refl }
+tells_level_leaves Exit Ready on body = record { same = refl; quiet = λ opened. refl }
+tells_level_leaves Exit Available on body = record { same = refl; quiet = λ opened. refl }
+tells_level_leaves Exit Failed on body = record { same = refl; quiet = λ opened. refl }
+
+fails_leaves : (at : Side) (front : Option ℕ) (body : Body) → Leaves at body (fails front body)
+fails_leaves at None body = leaves_still at body
+fails_leaves at (Some id) body =
+    if_kept_leaves at (is_kept id body.kept) body (with_mark id qualities.Failed body.kept)
+    (acts.Marks id qualities.Failed) (λ opened. refl)
+
+pub levels_leave : (at : Side) (desk : Desk) (line : SegmentLine) (on : Bool) (body : Body) → Leaves at body (sets_level desk line on body)
+levels_leave at desk line on body =
+    let told = tells_level line on body in
+    leaves_both at body told (λ one. fails (failed_front desk.bridge line on one) one) (tells_level_leaves at line on body)
+    (fails_leaves at (failed_front desk.bridge line on told.body) told.body)
+
+quiet_forecasts : (at : Side) (desk : Desk) (board : Option Record) → IsQuiet at (forecasts desk board)
+quiet_forecasts at desk None opened = refl
+quiet_forecasts at desk (Some board) opened = refl
+
+pub forecasts_leave : (at : Side) (desk : Desk) (body : Body) → Leaves at body (forecasts_front desk body)
+forecasts_leave at desk body =
+    leaves_told at body (forecasts desk (slice_get body.kept 0)) (quiet_forecasts at desk (slice_get body.kept 0))
+
+pub asks_leave : (at : Side) (desk : Desk) (barcode : List ℕ) (body : Body) → Leaves at body (asks_for desk barcode body)
+asks_leave at desk barcode body = record { same = refl; quiet = λ opened. refl }
 
 -- ---- the announcements
 

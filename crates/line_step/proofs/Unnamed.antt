@@ -12,6 +12,7 @@ use Rattle.line_base.specs.declared.states.Side.TheVariants.{Entry, Exit}
 use Rattle.line_base.specs.declared.states.SensorEvent.{SensorEvent}
 use Rattle.line_base.specs.declared.states.Severity.TheVariants.{Fatal}
 use Rattle.line_base.specs.declared.states.Quality.{Quality}
+use Rattle.line_base.specs.declared.states.Quality.TheVariants as qualities
 use Rattle.board_record.specs.declared.record.Record.{Record}
 use Rattle.board_record.specs.declared.sensed.Sensed.{Sensed as Seen}
 use Rattle.board_record.specs.Record.{plain_record}
@@ -57,9 +58,12 @@ use Rattle.node_core.specs.Reads.{saw, reads, all_read}
 use Rattle.node_core.specs.Connect.{if_open, opens, notices, ticks, shuts_down}
 use Rattle.node_core.specs.Boards.{without, with_instead, with_mark, is_kept, if_kept, removes, replaces, marks, inserts, faults, wills}
 use Rattle.node_core.specs.Announces.{revokes_now, revoke_by, revoke, unreadies_now, unready_by, unready, offers_now, offer_by, offer, readies_now, ready_by, ready, starts_now, start_by, start, announces}
-use Rattle.node_core.specs.Event.{Event, Nothing, Connect, Accepted, Second, Words, Notice, Tick, Shutdown, Fault, Will, Insert, Remove, Replace, Mark, event_did}
+use Rattle.node_core.specs.Event.{Event, Nothing, Connect, Accepted, Second, Words, Notice, Tick, Shutdown, Fault, Will, Level, Insert, Remove, Replace, Mark, Forecast, Query, event_did}
 use Rattle.node_core.specs.Step.{machine_step}
 use Rattle.node_core.specs.Own.{Own, own_by, own_of, ids_of, id_of}
+use Rattle.node_core.specs.Bridge.{failed_front, fails, sets_level, tells_level}
+use Rattle.smema_bridge.specs.declared.line.SegmentLine.{SegmentLine}
+use Rattle.smema_bridge.specs.declared.line.SegmentLine.TheVariants.{Ready, Available, Failed}
 use Rattle.standings.specs.Marks.{has_id, is_held}
 use Rattle.line_step.specs.Named.{ids_of_act}
 
@@ -284,7 +288,7 @@ exit_spares id desk exits.Ready body = outlet_took_spares id desk body out_input
 exit_spares id desk exits.Unready body = outlet_took_spares id desk body out_input.RevokeMachineReady (outlet_row body.outlet out_input.RevokeMachineReady) tt refl
 exit_spares id desk (exits.Start named) body = start_took_spares id desk body named (would_open body.outlet named) (outlet_row body.outlet (out_input.Start named (opening_board (would_open body.outlet named) body.kept))) refl
 exit_spares id desk (exits.Stop state named) body = outlet_took_spares id desk body (out_input.Stop state named) (outlet_row body.outlet (out_input.Stop state named)) tt refl
-exit_spares id desk exits.Query body = spares_some (spares_told id body _)
+exit_spares id desk (exits.Query top bottom) body = spares_some (spares_told id body _)
 exit_spares id desk exits.Nothing body = spares_some (spares_still id body)
 
 intake_took_spares : (id : ℕ) (desk : Desk) (body : Body) (input : InInput) (found : Option InRow) → intake_row body.intake input ≡ found → SparesAny id body (intake_took desk body found)
@@ -405,6 +409,21 @@ wills_spares : (id : ℕ) (side : Side) (on : Bool) (body : Body) → Spares id 
 wills_spares id Entry on body = record { same = λ _. record { kept = refl; held = refl; taking = refl } }
 wills_spares id Exit on body = record { same = λ _. record { kept = refl; held = refl; taking = refl } }
 
+tells_level_spares : (id : ℕ) (line : SegmentLine) (on : Bool) (body : Body) → Spares id body (tells_level line on body)
+tells_level_spares id Ready on body = record { same = λ _. record { kept = refl; held = refl; taking = refl } }
+tells_level_spares id Available on body = record { same = λ _. record { kept = refl; held = refl; taking = refl } }
+tells_level_spares id Failed on body = record { same = λ _. record { kept = refl; held = refl; taking = refl } }
+
+fails_spares : (id : ℕ) (front : Option ℕ) (body : Body) → Spares id body (fails front body)
+fails_spares id None body = spares_still id body
+fails_spares id (Some other) body = marks_spares id other qualities.Failed body
+
+levels_spares : (id : ℕ) (desk : Desk) (line : SegmentLine) (on : Bool) (body : Body) → Spares id body (sets_level desk line on body)
+levels_spares id desk line on body =
+    let told = tells_level line on body in
+    spares_both id body told (λ one. fails (failed_front desk.bridge line on one) one) (tells_level_spares id line on body)
+    (fails_spares id (failed_front desk.bridge line on told.body) told.body)
+
 faults_spares : (id : ℕ) (desk : Desk) (side : Side) (body : Body) → Spares id body (faults desk side body)
 faults_spares id desk Entry body = at_intake_spares id desk in_input.Fault body
 faults_spares id desk Exit body = at_outlet_spares id desk out_input.Fault body tt
@@ -426,10 +445,13 @@ event_spares id desk Shutdown body = spares_both id body (shuts_down desk Entry 
     (let b = (shuts_down desk Entry body).body in session_spares id desk Exit b (session_row (session_at Exit b) shutdown))
 event_spares id desk (Fault side) body = faults_spares id desk side body
 event_spares id desk (Will side on) body = wills_spares id side on body
+event_spares id desk (Level line on) body = levels_spares id desk line on body
 event_spares id desk (Insert new barcode) body = inserts_spares id desk new barcode body
 event_spares id desk (Remove other) body = removes_spares id other body
 event_spares id desk (Replace old new) body = replaces_spares id desk old new body
 event_spares id desk (Mark other quality) body = marks_spares id other quality body
+event_spares id desk Forecast body = spares_told id body _
+event_spares id desk (Query barcode) body = spares_told id body _
 
 -- ---- the announcements
 

@@ -31,9 +31,9 @@ use Rattle.line_step.specs.World.{WorldParts, end_of, link_at, link_of}
 use Rattle.line_step.specs.State.{LineState, marks_in, no_line, one_more}
 use Rattle.line_step.specs.Acts.{act_did, acts_did, answers, cut_told, sent_by}
 use Rattle.line_step.specs.Steps.{MachineSteps, is_second, read_by}
-use Rattle.line_step.specs.Reasons.{May, may_add, may_connect, may_cut, may_flow, may_lie, may_spoil}
+use Rattle.line_step.specs.Reasons.{May, may_add, may_connect, may_cut, may_flow, may_lie, may_spoil, may_unseen}
 use Rattle.line_step.specs.Shown.{ascending, between_shown, ids_marked, kept_shown, shown_from, standing_told, standings_told, taken_below}
-use Rattle.line_step.specs.Lines.{Becomes, Connects, Flows, LineDoes, LineSteps, Moves, Unless, cut_in, lied, move_told, moved, spoil_told, spoiled, unvouched_told}
+use Rattle.line_step.specs.Lines.{Becomes, Connects, Flows, LineDoes, LineSteps, Moves, Unless, cut_in, lied, move_told, moved, spoil_told, spoiled, unseen, unvouched_told}
 use Rattle.line_step.specs.Runs.{Point, IsRun, state_behind}
 use Rattle.line_step.specs.Lies.{has_lie, is_lie, tells_lie}
 
@@ -68,6 +68,7 @@ act-honest second machine (acts.Notices side) world = refl
 act-honest second machine acts.Connects world = refl
 act-honest second machine (acts.Deed deed) world = refl
 act-honest second machine (acts.Drive side on) world = refl
+act-honest second machine (acts.Signals signal on) world = refl
 act-honest second machine (acts.Marks id quality) world = refl
 act-honest second machine (acts.Inserts id) world = refl
 act-honest second machine (acts.Removes id) world = refl
@@ -167,17 +168,25 @@ lie : (number which : ℕ) (sensed : Sensed) (before : LineState) (unvouched : O
 lie number which sensed before None is = rw is refl
 lie number which sensed before (Some line) is = rw is refl
 
+unseen-told : (number which : ℕ) (side : Side) (before : LineState) (unvouched : Option ℕ) → before.unvouched ≡ unvouched → Remembers before (unseen number which side before) (happenings.Unseen which side ∷ unvouched_told before.unvouched)
+unseen-told number which side before None is = rw is refl
+unseen-told number which side before (Some line) is = rw is refl
+
 does-remember : (number : ℕ) (line : ScriptLine) (before after : LineState) (told : List Happening) → LineDoes number line before after told → Remembers before after told
 does-remember number lines.Blank before after told does = becomes before before after [] told (honest before before [] refl refl) does
 does-remember number (lines.Machine capacity used) before after told does =
     let what = happenings.Machine (length before.machines + 1) capacity ∷ [] in
-    unless (may_add before) before after told (Becomes (one_more capacity used before) what after told) (becomes before (one_more capacity used before) after what told (honest before (one_more capacity used before) what refl refl)) does
+    unless (may_add before) before after told (Becomes (one_more false capacity used before) what after told) (becomes before (one_more false capacity used before) after what told (honest before (one_more false capacity used before) what refl refl)) does
+does-remember number (lines.Bridge capacity used) before after told does =
+    let what = happenings.Bridge (length before.machines + 1) capacity ∷ [] in
+    unless (may_add before) before after told (Becomes (one_more true capacity used before) what after told) (becomes before (one_more true capacity used before) after what told (honest before (one_more true capacity used before) what refl refl)) does
 does-remember number (lines.Insert which barcode) before after told does = given _ number which _ before after told does
 does-remember number (lines.Remove which id) before after told does = given _ number which _ before after told does
 does-remember number (lines.Replace which id) before after told does = given _ number which _ before after told does
 does-remember number (lines.Mark which id quality) before after told does = given _ number which _ before after told does
 does-remember number (lines.Hold which side) before after told does = given _ number which _ before after told does
 does-remember number (lines.Go which side) before after told does = given _ number which _ before after told does
+does-remember number (lines.Signal which line on) before after told does = given _ number which _ before after told does
 does-remember number (lines.Connect which) before after told does = unless (may_connect which before) before after told (Connects number which before after told) (twice number which before after told) does
 does-remember number (lines.Flow which side count) before after told does = unless (may_flow which side before) before after told (Flows number which side count before after told) (flow number which side count before after told) does
 does-remember number (lines.Notice which side) before after told does = given _ number which _ before after told does
@@ -193,6 +202,9 @@ does-remember number (lines.Fault which side) before after told does = given _ n
 does-remember number (lines.Lie which sensed) before after told does =
     let what = happenings.Lie which sensed ∷ unvouched_told before.unvouched in
     unless (may_lie which sensed.side before) before after told (Becomes (lied number which sensed before) what after told) (becomes before (lied number which sensed before) after what told (lie number which sensed before before.unvouched refl)) does
+does-remember number (lines.Unseen which side) before after told does =
+    let what = happenings.Unseen which side ∷ unvouched_told before.unvouched in
+    unless (may_unseen which side before) before after told (Becomes (unseen number which side before) what after told) (becomes before (unseen number which side before) after what told (unseen-told number which side before before.unvouched refl)) does
 does-remember number (lines.Sense which) before after told does = given _ number which _ before after told does
 does-remember number (lines.Begin gap) before after told does = move gap moves.Begin before after told does
 does-remember number (lines.Left gap) before after told does = move gap moves.Left before after told does
@@ -201,6 +213,8 @@ does-remember number (lines.Back gap) before after told does = move gap moves.Ba
 does-remember number (lines.HandIn gap) before after told does = move gap moves.HandIn before after told does
 does-remember number (lines.Take gap) before after told does = move gap moves.Take before after told does
 does-remember number lines.Show before after told does = becomes before before after (shown_from 1 before.machines) told (honest before before (shown_from 1 before.machines) refl (shown-honest 1 before.machines)) does
+does-remember number (lines.Forecast which) before after told does = given _ number which _ before after told does
+does-remember number (lines.Query which barcode) before after told does = given _ number which _ before after told does
 
 lie-behind : (a b : List Happening) → tells_lie b ≡ false → tells_lie (a ++ b) ≡ tells_lie a
 lie-behind [] b none = none
@@ -227,6 +241,6 @@ run-remembers s (line ∷ asked) (point ∷ points) run =
     ∙ ap (λ t. t || has_lie points) (steps-remember (s.lines + 1) line s point.after point.told run.0)
     ∙ or-assoc (is_some s.unvouched) (tells_lie point.told) (has_lie points)
 
--- A LINE IS UNVOUCHED exactly where one of the lines of its script told what was not so
+-- A LINE IS UNVOUCHED exactly where one of the lines of its script told what was not so, or let a board come or go unseen
 pub lies_remembered : (asked : List ScriptLine) (points : List Point) → IsRun no_line asked points → is_some (state_behind no_line points).unvouched ≡ has_lie points
 lies_remembered asked points run = run-remembers no_line asked points run

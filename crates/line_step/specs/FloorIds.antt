@@ -1,5 +1,6 @@
 -- The ids of the boards on the floor, in lists and gaps: which line of the script changes them, and how.
-use Rattle.std.specs.Prelude.{◌≡◌, ◌≢◌, ◌++◌, ℕ, true, List, [], ◌∷◌, Some}
+use Rattle.std.specs.Prelude.{◌≡◌, ◌≢◌, ◌++◌, ℕ, true, List, [], ◌∷◌, Some, None}
+use Rattle.line_base.specs.declared.states.Side.TheVariants.{Entry, Exit}
 use Rattle.std.specs.List.{AllByRecursion}
 use Rattle.line_world.specs.declared.board.Board.{Board}
 use Rattle.line_world.specs.FloorPlan.{has_id}
@@ -18,13 +19,16 @@ abbrev pub boards_of : LineState → List Board
 boards_of s = boards_on s.world.floor
 
 -- ---- IDS STAY: an insertion adds a board with its id, a removal and a done `take` take one away, a replacement puts
--- another id for one in its place, and nothing else that happens changes a board
+-- another id for one in its place; a board that comes out of a bridge's segment unseen has no id, one that goes into it
+-- unseen is taken away; and nothing else that happens changes a board
 
 abbrev pub ChangesBoards : Happening → List Board → List Board → Type 0
 ChangesBoards (happenings.Done machine (acts.Inserts id)) old new = LosesBoard new old (record { id = Some id })
 ChangesBoards (happenings.Done machine (acts.Removes id)) old new = (board : Board) × (has_id id board ≡ true) × LosesBoard old new board
 ChangesBoards (happenings.Done machine (acts.Replaces was now)) old new = ChangesId was now old new
 ChangesBoards (happenings.Moved gap moves.Take) old new = (board : Board) × LosesBoard old new board
+ChangesBoards (happenings.Unseen machine Entry) old new = LosesBoard new old (record { id = None })
+ChangesBoards (happenings.Unseen machine Exit) old new = (board : Board) × LosesBoard old new board
 ChangesBoards _ old new = new ≡ old
 
 -- what happened one after the other

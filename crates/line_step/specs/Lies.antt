@@ -1,4 +1,4 @@
--- Whether a line of the script told what was not so.
+-- Whether a line of the script told what was not so, or let a board come or go unseen.
 use Rattle.std.specs.Prelude.{◌||◌, Bool, true, false, List, [], ◌∷◌}
 use Rattle.line_report.specs.declared.happening.Happening.{Happening}
 use Rattle.line_report.specs.declared.happening.Happening.TheVariants as happenings
@@ -6,6 +6,7 @@ use Rattle.line_step.specs.Runs.{Point}
 
 abbrev pub is_lie : Happening → Bool
 is_lie (happenings.Lie machine sensed) = true
+is_lie (happenings.Unseen machine side) = true
 is_lie _ = false
 
 abbrev pub tells_lie : List Happening → Bool

@@ -1,11 +1,12 @@
 -- THE LINE STEP: what a line of the script does, where no reason stands against it.
-use Rattle.std.specs.Prelude.{◌≡◌, ℕ, ◌+◌, ◌-◌, true, false, List, [], ◌∷◌, ◌++◌, Option, Some, None, Result, Ok, Err, length}
+use Rattle.std.specs.Prelude.{◌≡◌, ℕ, ◌+◌, ◌-◌, true, false, List, [], ◌∷◌, ◌++◌, Option, Some, None, Result, Ok, Err, drop, length}
 use Rattle.std.specs.Borrow.{Bor}
 use Rattle.board_record.specs.declared.sensed.Sensed.{Sensed}
 use Rattle.line_base.specs.declared.states.Side.{Side}
+use Rattle.line_base.specs.declared.states.Side.TheVariants.{Entry, Exit}
 use Rattle.line_script.specs.declared.line.ScriptLine.{ScriptLine}
 use Rattle.line_script.specs.declared.line.ScriptLine.TheVariants as lines
-use Rattle.line_world.specs.FloorPlan.{FloorPlan, machine_at, with_unread}
+use Rattle.line_world.specs.FloorPlan.{FloorPlan, machine_at, with_boards, with_unread}
 use Rattle.line_world.specs.Moves.{floor_move}
 use Rattle.line_world.specs.declared.moves.Move.{Move}
 use Rattle.line_world.specs.declared.moves.Move.TheVariants as moves
@@ -19,7 +20,7 @@ use Rattle.line_step.specs.World.{end_of, link_at, link_of, piece_for, with_floo
 use Rattle.line_step.specs.State.{LineState, one_more, with_world}
 use Rattle.line_step.specs.Acts.{cut_told}
 use Rattle.line_step.specs.Steps.{MachineSteps, StepsTwice}
-use Rattle.line_step.specs.Reasons.{May, may_add, may_connect, may_cut, may_flow, may_give, may_lie, may_notice, may_remove, may_replace, may_sense, may_spoil}
+use Rattle.line_step.specs.Reasons.{May, may_add, may_connect, may_cut, may_flow, may_give, may_lie, may_notice, may_remove, may_replace, may_sense, may_spoil, may_unseen}
 use Rattle.line_step.specs.Shown.{shown, standings_told}
 use Rattle.line_report.specs.declared.happening.Happening.{Happening}
 use Rattle.line_report.specs.declared.happening.Happening.TheVariants as happenings
@@ -102,17 +103,37 @@ lied number machine sensed s = record s {
   unvouched = first_of number s.unvouched;
 }
 
+-- ---- a board comes or goes unseen
+
+-- a board that comes out of a bridge's segment lies at the back of its list and has no id that anybody knows; one that
+-- goes into it is the front one. No sensor sees either
+abbrev pub unseen_on : ℕ → Side → FloorPlan → FloorPlan
+unseen_on machine Entry floor = with_boards floor machine ((machine_at floor machine).boards ++ record { id = None } ∷ [])
+unseen_on machine Exit floor = with_boards floor machine (drop 1 (machine_at floor machine).boards)
+
+abbrev pub unseen : ℕ → ℕ → Side → LineState → LineState
+unseen number machine side s = record s {
+  world = with_floor (unseen_on machine side s.world.floor) s.world;
+  unvouched = first_of number s.unvouched;
+}
+
 -- ---- the forms
 
 abbrev pub LineDoes : ℕ → ScriptLine → LineState → LineState → List Happening → Type 0
 LineDoes number lines.Blank before after told = Becomes before [] after told
-LineDoes number (lines.Machine capacity used) before after told = Unless (may_add before) before after told (Becomes (one_more capacity used before) (happenings.Machine (length before.machines + 1) capacity ∷ []) after told)
+LineDoes number (lines.Machine capacity used) before after told = Unless (may_add before) before after told (Becomes (one_more false capacity used before) (happenings.Machine (length before.machines + 1) capacity ∷ []) after told)
+LineDoes number (lines.Bridge capacity used) before after told =
+    Unless (may_add before) before after told
+    (Becomes (one_more true capacity used before) (happenings.Bridge (length before.machines + 1) capacity ∷ []) after told)
 LineDoes number (lines.Insert machine barcode) before after told = Unless (may_give machine (inputs.Insert barcode) before) before after told (MachineSteps number machine (inputs.Insert barcode) before after told)
 LineDoes number (lines.Remove machine id) before after told = Unless (may_remove machine id before) before after told (MachineSteps number machine (inputs.Remove id) before after told)
 LineDoes number (lines.Replace machine id) before after told = Unless (may_replace machine id before) before after told (MachineSteps number machine (inputs.Replace id) before after told)
 LineDoes number (lines.Mark machine id quality) before after told = Unless (may_give machine (inputs.Mark id quality) before) before after told (MachineSteps number machine (inputs.Mark id quality) before after told)
 LineDoes number (lines.Hold machine side) before after told = Unless (may_give machine (inputs.Will side false) before) before after told (MachineSteps number machine (inputs.Will side false) before after told)
 LineDoes number (lines.Go machine side) before after told = Unless (may_give machine (inputs.Will side true) before) before after told (MachineSteps number machine (inputs.Will side true) before after told)
+LineDoes number (lines.Signal machine line on) before after told =
+    Unless (may_give machine (inputs.Level line on) before) before after told
+    (MachineSteps number machine (inputs.Level line on) before after told)
 LineDoes number (lines.Connect machine) before after told = Unless (may_connect machine before) before after told (Connects number machine before after told)
 LineDoes number (lines.Flow machine side count) before after told = Unless (may_flow machine side before) before after told (Flows number machine side count before after told)
 LineDoes number (lines.Notice machine side) before after told = Unless (may_notice machine side before) before after told (MachineSteps number machine (inputs.Notice side) before after told)
@@ -129,7 +150,16 @@ LineDoes number (lines.Back gap) before after told = Moves gap moves.Back before
 LineDoes number (lines.HandIn gap) before after told = Moves gap moves.HandIn before after told
 LineDoes number (lines.Take gap) before after told = Moves gap moves.Take before after told
 LineDoes number (lines.Lie machine sensed) before after told = Unless (may_lie machine sensed.side before) before after told (Becomes (lied number machine sensed before) (happenings.Lie machine sensed ∷ unvouched_told before.unvouched) after told)
+LineDoes number (lines.Unseen machine side) before after told =
+    Unless (may_unseen machine side before) before after told
+    (Becomes (unseen number machine side before) (happenings.Unseen machine side ∷ unvouched_told before.unvouched) after told)
 LineDoes number lines.Show before after told = Becomes before (shown before) after told
+LineDoes number (lines.Forecast machine) before after told =
+    Unless (may_give machine inputs.Forecast before) before after told
+    (MachineSteps number machine inputs.Forecast before after told)
+LineDoes number (lines.Query machine barcode) before after told =
+    Unless (may_give machine (inputs.Query barcode) before) before after told
+    (MachineSteps number machine (inputs.Query barcode) before after told)
 
 -- ---- and the standings that changed
 

@@ -1,6 +1,6 @@
 -- A line by numbers: its machines and links as functions of their number, with nothing beyond its ends, and relations of
 -- neighbours.
-use Rattle.std.specs.Prelude.{◌≡◌, ◌≢◌, ℕ, ◌+◌, zero, suc, slice_index_or}
+use Rattle.std.specs.Prelude.{◌≡◌, ◌≢◌, ℕ, ◌+◌, zero, suc, false, slice_index_or}
 use Rattle.line_link.specs.Link.{LinkParts}
 use Rattle.line_world.specs.FloorPlan.{AtMachine, gap_at, machine_at}
 use Rattle.line_world.specs.declared.gap.AtGap.{AtGap}
@@ -20,7 +20,7 @@ pub record Between : Type 0 where
 
 -- beyond the ends of a line: a machine without boards and connections
 abbrev pub no_node : NodeState
-no_node = new_node (profile_of 0 1 0)
+no_node = new_node (profile_of false 0 1 0)
 
 abbrev pub node_at : LineState → ℕ → NodeState
 node_at s zero = no_node

@@ -1,6 +1,6 @@
 -- Why a line of the script does nothing: the first reason that holds, in the order of the script grammar, on the state
 -- before the line.
-use Rattle.std.specs.Prelude.{ℕ, ◌&&◌, not, Bool, true, false, List, [], ◌∷◌, Option, Some, None, Result, Ok, Err, is_none, is_some, length, nat_le, nat_lt}
+use Rattle.std.specs.Prelude.{ℕ, ◌&&◌, not, Bool, true, false, List, [], ◌∷◌, Option, Some, None, Result, Ok, Err, is_none, is_some, length, nat_le, nat_lt, slice_get}
 use Rattle.line_base.specs.declared.states.Side.{Side}
 use Rattle.line_base.specs.declared.states.Side.TheVariants.{Entry, Exit}
 use Rattle.board_record.specs.declared.sensed.Sensed.{Sensed}
@@ -79,6 +79,11 @@ is_read (_ ∷ _) = false
 abbrev pub has_unread : ℕ → WorldParts → Bool
 has_unread machine world = not (is_read (machine_at world.floor machine).unread)
 
+-- a board is to go from a machine's list, and none lies there
+abbrev pub is_bare : ℕ → Side → WorldParts → Bool
+is_bare machine Entry world = false
+is_bare machine Exit world = is_none (slice_get (machine_at world.floor machine).boards 0)
+
 -- ---- the reasons of each form
 
 -- one more machine
@@ -115,11 +120,18 @@ may_cut gap s = no_if (not (has_link gap s)) (reasons.Move moves.NoGap) (no_if (
 
 -- what flows to a side is spoiled: no neighbour, not connected, not standing
 abbrev pub may_spoil : ℕ → Side → LineState → May
-may_spoil machine side s = if_there (machine_in machine s) (λ node. no_if (not (has_neighbour machine side s)) reasons.NoNeighbour (no_if (not (is_linked machine side s.world)) (reasons.Node nos.NotConnected) (no_if (not (link_stands machine side s.world)) reasons.NotStanding may_do)))
+may_spoil machine side s = if_there (machine_in machine s) (λ node. no_if (not (has_neighbour machine side s)) reasons.NoNeighbour (no_if (not (is_linked machine side s.world)) (reasons.Node nos.NotConnected) (no_if (not (link_stands machine side s.world)) (reasons.Node nos.NotStanding) may_do)))
 
 -- a machine reads what its sensors saw: nothing to read
 abbrev pub may_sense : ℕ → LineState → May
 may_sense machine s = if_there (machine_in machine s) (λ node. no_if (not (has_unread machine s.world)) reasons.NothingToRead may_do)
+
+-- a board comes or goes unseen: not a bridge; and for one that goes: nothing there
+abbrev pub may_unseen : ℕ → Side → LineState → May
+may_unseen machine side s =
+    if_there (machine_in machine s) (λ node.
+    no_if (is_none node.bridge) (reasons.Node nos.NotABridge)
+    (no_if (is_bare machine side s.world) (reasons.Move moves.NothingThere) may_do))
 
 -- a sensor event that was not: no neighbour
 abbrev pub may_lie : ℕ → Side → LineState → May

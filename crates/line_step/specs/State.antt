@@ -8,7 +8,8 @@ use Rattle.standings.specs.Marks.{Owned, marks_of}
 use Rattle.standings.specs.declared.mark.Mark.{Mark}
 use Rattle.line_step.specs.World.{WorldParts, links_more, no_world}
 
--- spent: memory ran out in a step. lines: how many lines were done. unvouched: the first that told what was not so
+-- spent: memory ran out in a step. lines: how many lines were done. unvouched: the first that told what was not so, or
+-- moved a board unseen
 pub record LineState : Type 0 where
   pub spent : Bool
   pub machines : List NodeState
@@ -39,13 +40,20 @@ with_world world s = record s { world = world }
 abbrev pub machine_text : ℕ → List ℕ
 machine_text number = codes "M" ++ decimal number
 
--- what a machine of the line is made from
-abbrev pub profile_of : ℕ → ℕ → ℕ → NodeProfile
-profile_of number capacity used = record { number = number; machine = machine_text number; lane = 1; capacity = capacity; used = used; bridge = false }
+-- what a machine of the line is made from, be it a bridge or none
+abbrev pub profile_of : Bool → ℕ → ℕ → ℕ → NodeProfile
+profile_of is_bridge number capacity used = record {
+  number = number;
+  machine = machine_text number;
+  lane = 1;
+  capacity = capacity;
+  used = used;
+  bridge = is_bridge;
+}
 
-abbrev pub one_more : ℕ → ℕ → LineState → LineState
-one_more capacity used s = record s {
-  machines = s.machines ++ new_node (profile_of (length s.machines + 1) capacity used) ∷ [];
+abbrev pub one_more : Bool → ℕ → ℕ → LineState → LineState
+one_more is_bridge capacity used s = record s {
+  machines = s.machines ++ new_node (profile_of is_bridge (length s.machines + 1) capacity used) ∷ [];
   world = record s.world { links = links_more (length s.machines) s.world.links; floor = one_machine_more s.world.floor };
 }
 

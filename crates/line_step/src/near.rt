@@ -12,7 +12,7 @@ ghost use Rattle.line_world.specs.declared.moves.Move.{Move};
 ghost use Rattle.node_core.specs.declared.act.Act.{Act};
 ghost use Rattle.node_core.specs.declared.input.Input.{Input};
 ghost use Rattle.line_step.specs.Acts.{acts_did};
-ghost use Rattle.line_step.specs.Lines.{LineDoes, lied, moved};
+ghost use Rattle.line_step.specs.Lines.{LineDoes, lied, moved, unseen};
 ghost use Rattle.line_step.specs.Near.{HasPlace, near_at, nears_did};
 ghost use Rattle.line_step.specs.Numbered.{ChangesGap, ChangesLink, ChangesMachine};
 ghost use Rattle.line_step.specs.State.{LineState, one_more, with_world};
@@ -21,14 +21,16 @@ ghost use Rattle.line_step.specs.World.{WorldParts, with_link};
 
 /// A step changes its machine, what is at it on the floor, and the links and gaps on both its sides, and nothing else of
 /// the line. What is done to a link changes that link alone; a move changes what is around its gap; a sensor event that was
-/// not changes what its machine has unread; and one machine more is all that is new then.
-#[tactic(auto, using(crate::proofs::Changing::link_changes, crate::proofs::Changing::lied_changes, crate::proofs::Changing::more_changes))]
+/// not changes what its machine has unread, a board that comes or goes unseen what lies in its machine's list; and one
+/// machine more is all that is new then.
+#[tactic(auto, using(crate::proofs::Changing::link_changes, crate::proofs::Changing::lied_changes, crate::proofs::Changing::unseen_changes, crate::proofs::Changing::more_changes))]
 pub fn a_step_changes_its_machine_alone()
     ensures step { (number machine : ℕ) (input : Input) (before after : LineState) (told : List Happening) → MachineSteps number machine input before after told → ChangesMachine machine before after }
     ensures link { (link : ℕ) (parts : LinkParts) (before : LineState) → ChangesLink link before (with_world (with_link link parts before.world) before) }
     ensures moved { (gap : ℕ) (step : Move) (before : LineState) → ChangesGap gap before (moved (floor_move gap step before.world.floor) before) }
     ensures lied { (number machine : ℕ) (sensed : Sensed) (before : LineState) → ChangesMachine machine before (lied number machine sensed before) }
-    ensures more { (capacity used : ℕ) (before : LineState) → ChangesMachine (length before.machines + 1) before (one_more capacity used before) }
+    ensures unseen { (number machine : ℕ) (side : Side) (before : LineState) → ChangesMachine machine before (unseen number machine side before) }
+    ensures more { (is_bridge : Bool) (capacity used : ℕ) (before : LineState) → ChangesMachine (length before.machines + 1) before (one_more is_bridge capacity used before) }
 {}
 
 /// What the acts of a machine do is done, in their order, to what is at it on the floor and to the links and gaps on both
