@@ -1,6 +1,6 @@
 -- What a hand takes from the floor is told, and lay there; and a step without one leaves every board where it is.
-use Rattle.std.proofs.Common.{Bool, List, None, Option, Ok, Err, Result, Some, [], ap, arith, false, length, length-set, refl, slice_set, subst, suc, sym, true, zero, ℕ, ◌++◌, ◌-◌, ◌∙◌, ◌∷◌, ◌≡◌, ◌≤◌}
-use Rattle.std.specs.Prelude.{not}
+use Rattle.std.proofs.Common.{Bool, List, None, Option, Ok, Err, Result, Some, [], ap, arith, false, length, length-set, refl, slice_set, subst, suc, sym, true, zero, ℕ, ◌++◌, ◌-◌, ◌∙◌, ◌∷◌, ◌≡◌, ◌≤◌, append_assoc}
+use Rattle.std.specs.Prelude.{not, slice_get}
 use Rattle.std.specs.List.{AllByRecursion}
 use Rattle.board_record.specs.Maker.{Maker, next_id}
 use Rattle.board_record.specs.Record.{plain_record}
@@ -36,7 +36,7 @@ use Rattle.line_step.specs.State.{LineState, machine_in, with_machine, with_worl
 use Rattle.line_step.specs.Steps.{MachineSteps, is_second, moment_of, read_by, unread_by}
 use Rattle.line_step.specs.World.{WorldParts}
 use Rattle.line_step.proofs.FloorLaws.{Holds}
-use Rattle.line_step.proofs.Hands.{AreQuiet, announces-quiet, both_shut-quiet, both_tick-quiet, faults-quiet, heard-quiet, marks-quiet, notices-quiet, opens-quiet, quiet-join, read-quiet, second-quiet}
+use Rattle.line_step.proofs.Hands.{AreQuiet, announces-quiet, both_shut-quiet, both_tick-quiet, faults-quiet, heard-quiet, marks-quiet, notices-quiet, opens-quiet, quiet-join, read-quiet, second-quiet, signals-quiet, levels-quiet, forecasts-quiet}
 use Rattle.line_step.proofs.Makers.{AreNumbered, IsOld, numbered-at, numbered-set, old-set}
 use Rattle.line_step.proofs.OnFloor.{LiesThere, as_many_gaps, lies-there_by, quiet-acts}
 use Rattle.one_standing.specs.Carried.{Trace, between_of, stand_of}
@@ -44,6 +44,11 @@ use Rattle.one_standing.specs.Places.{LiesAt, at_machine, lies_at}
 use Rattle.one_standing.proofs.ApartFloor.{counted, counted_lies}
 use Rattle.one_standing.specs.Told.{IsTold, told_first}
 use Rattle.one_standing.proofs.ApartStep.{Parted, gone_count, parted_by, told_behind}
+use Rattle.node_core.specs.Signals.{signalled}
+use Rattle.node_core.specs.Bridge.{failed_front, fails, tells_level}
+use Rattle.smema_bridge.specs.declared.line.SegmentLine.{SegmentLine}
+use Rattle.line_base.specs.declared.states.Quality.TheVariants as qualities
+use Rattle.node_core.specs.declared.act.Setting.TheVariants as settings
 
 -- ---- a board that is here lies here
 
@@ -91,10 +96,13 @@ step_told number m input act s after told steps one plain =
     let desk = desk_of steps.node (moment_of number) in
     let read = all_read desk (unread_by m s.world) steps.node.lane.body in
     let last = announces desk (event_did desk (event_of steps.node.maker input steps.steps.lane.words) read.body).body in
-    let all : steps.acts ≡ read.acts ++ (act ∷ [] ++ last.acts) = steps.steps.lane.told ∙ ap (λ hand. read.acts ++ (hand ++ last.acts)) one in
+    let own : List Act = signalled steps.node.bridge steps.next.lane.body in
+    let made : steps.steps.made ≡ read.acts ++ (act ∷ [] ++ last.acts) = steps.steps.lane.told ∙ ap (λ hand. read.acts ++ (hand ++ last.acts)) one in
+    let all : steps.acts ≡ read.acts ++ (act ∷ [] ++ (last.acts ++ own)) =
+    steps.steps.told ∙ ap (λ (acts : List Act). acts ++ own) made ∙ append_assoc read.acts (act ∷ [] ++ last.acts) own in
     let P : List Act → Type 0 = λ list. IsTold (happenings.Done m act) (acts_did (is_second input) m list (read_by m s.world)).told in
     let Q : List Happening → Type 0 = λ list. IsTold (happenings.Done m act) list in
-    subst Q (sym steps.told_is) (subst P (sym all) (acts_told (is_second input) m act read.acts last.acts (read_by m s.world) plain))
+    subst Q (sym steps.told_is) (subst P (sym all) (acts_told (is_second input) m act read.acts (last.acts ++ own) (read_by m s.world) plain))
 
 -- a machine puts a board in under its next id
 pub inserts_told : (number m new : ℕ) (barcode : Option (List ℕ)) (s after : LineState) (told : List Happening) (steps : MachineSteps number m (inputs.Insert barcode) s after told) → next_id steps.node.maker ≡ Ok new → IsTold (happenings.Done m (acts.Inserts new)) told
@@ -127,6 +135,34 @@ marks_told number m x quality s after told steps kept =
     let f : Bool → List Act = λ kept. (if_kept kept (with_kept (with_mark x quality body.kept) body) (acts.Marks x quality) body).acts in
     step_told number m (inputs.Mark x quality) (acts.Marks x quality) s after told steps (ap f kept) (λ w. refl)
 
+-- what is done behind another act of the input is told too
+step_told_second : (number m : ℕ) (input : Input) (first act : Act) (s after : LineState) (told : List Happening) (steps : MachineSteps number m input s after told) → hand_then number m input s after told steps ≡ first ∷ act ∷ []
+    → ((w : WorldParts) → (act_did (is_second input) m act w).told ≡ happenings.Done m act ∷ []) → IsTold (happenings.Done m act) told
+step_told_second number m input first act s after told steps two plain =
+    let desk = desk_of steps.node (moment_of number) in
+    let read = all_read desk (unread_by m s.world) steps.node.lane.body in
+    let last = announces desk (event_did desk (event_of steps.node.maker input steps.steps.lane.words) read.body).body in
+    let own : List Act = signalled steps.node.bridge steps.next.lane.body in
+    let made : steps.steps.made ≡ read.acts ++ (first ∷ act ∷ [] ++ last.acts) = steps.steps.lane.told ∙ ap (λ hand. read.acts ++ (hand ++ last.acts)) two in
+    let all : steps.acts ≡ (read.acts ++ first ∷ []) ++ (act ∷ (last.acts ++ own)) =
+    steps.steps.told ∙ ap (λ (acts : List Act). acts ++ own) made ∙ append_assoc read.acts (first ∷ act ∷ [] ++ last.acts) own
+    ∙ sym (append_assoc read.acts (first ∷ []) (act ∷ (last.acts ++ own))) in
+    let P : List Act → Type 0 = λ list. IsTold (happenings.Done m act) (acts_did (is_second input) m list (read_by m s.world)).told in
+    let Q : List Happening → Type 0 = λ list. IsTold (happenings.Done m act) list in
+    subst Q (sym steps.told_is) (subst P (sym all) (acts_told (is_second input) m act (read.acts ++ first ∷ []) (last.acts ++ own) (read_by m s.world) plain))
+
+-- a bridge marks its front board, where a level of the segment says that it is a failed one
+pub fails_told : (number m id : ℕ) (line : SegmentLine) (on : Bool) (s after : LineState) (told : List Happening) (steps : MachineSteps number m (inputs.Level line on) s after told)
+    → failed_front steps.node.bridge line on (tells_level line on (body_then number m (inputs.Level line on) s after told steps)).body ≡ Some id
+    → is_kept id (tells_level line on (body_then number m (inputs.Level line on) s after told steps)).body.kept ≡ true
+    → IsTold (happenings.Done m (acts.Marks id qualities.Failed)) told
+fails_told number m id line on s after told steps found kept =
+    let one : Body = (tells_level line on (body_then number m (inputs.Level line on) s after told steps)).body in
+    let sets : Act = acts.Sets (settings.Level line on) in
+    let f : Option ℕ → List Act = λ front. sets ∷ (fails front one).acts in
+    let g : Bool → List Act = λ there. sets ∷ (if_kept there (with_kept (with_mark id qualities.Failed one.kept) one) (acts.Marks id qualities.Failed) one).acts in
+    step_told_second number m (inputs.Level line on) sets (acts.Marks id qualities.Failed) s after told steps (ap f found ∙ ap g kept) (λ w. refl)
+
 -- ---- a step without a hand
 
 -- an input that is not of the hands that put boards in, take them out or change them
@@ -147,6 +183,9 @@ event_quiet desk maker inputs.Tick words body handless = both_tick-quiet desk bo
 event_quiet desk maker inputs.Shutdown words body handless = both_shut-quiet desk body
 event_quiet desk maker (inputs.Fault side) words body handless = faults-quiet desk side body
 event_quiet desk maker (inputs.Will side on) words body handless = (tt, tt)
+event_quiet desk maker (inputs.Level line on) words body handless = levels-quiet desk line on body
+event_quiet desk maker inputs.Forecast words body handless = forecasts-quiet desk (slice_get body.kept 0)
+event_quiet desk maker (inputs.Query barcode) words body handless = (tt, tt)
 event_quiet desk maker (inputs.Insert barcode) words body handless = absurd handless
 event_quiet desk maker (inputs.Remove id) words body handless = absurd handless
 event_quiet desk maker (inputs.Replace id) words body handless = absurd handless
@@ -197,11 +236,14 @@ step_still number m input s after told handless h steps =
     let read = all_read desk (unread_by m s.world) steps.node.lane.body in
     let event = event_did desk (event_of steps.node.maker input steps.steps.lane.words) read.body in
     let last = announces desk event.body in
+    let own : List Act = signalled steps.node.bridge steps.next.lane.body in
     let P : List Act → Type 0 = λ list. AreQuiet list in
     let quiet : AreQuiet steps.acts =
-    subst P (sym steps.steps.lane.told)
+    subst P (sym (steps.steps.told ∙ ap (λ (acts : List Act). acts ++ own) steps.steps.lane.told))
+    (quiet-join (read.acts ++ (event.acts ++ last.acts)) own
     (quiet-join read.acts (event.acts ++ last.acts) (read-quiet desk (unread_by m s.world) steps.node.lane.body)
-    (quiet-join event.acts last.acts (event_quiet desk steps.node.maker input steps.steps.lane.words read.body handless) (announces-quiet desk event.body))) in
+    (quiet-join event.acts last.acts (event_quiet desk steps.node.maker input steps.steps.lane.words read.body handless) (announces-quiet desk event.body)))
+    (signals-quiet steps.node.bridge steps.next.lane.body)) in
     let world = read_by m s.world in
     let plan = s.world.floor in
     let now : AtMachine = record (machine_at plan m) { unread = [] } in

@@ -1,5 +1,5 @@
 -- That each board is in one place, after a line: what is gone stays gone, and what a hand takes from the floor lies nowhere.
-use Rattle.std.proofs.Common.{Bool, List, Some, Ok, [], ap, arith, eqb-true, false, refl, subst, sym, true, ℕ, ◌+◌, ◌++◌, ◌&&◌, ◌||◌, ◌∙◌, ◌∷◌, ◌≡◌, ◌≢◌, ◌≤◌, ◌⊎◌, inl, inr, ne_eqb}
+use Rattle.std.proofs.Common.{Bool, List, Some, Ok, [], ap, arith, eqb-true, false, refl, subst, sym, true, ℕ, ◌+◌, ◌++◌, ◌&&◌, ◌||◌, ◌∙◌, ◌∷◌, ◌≡◌, ◌≢◌, ◌≤◌, ◌⊎◌, inl, inr, ne_eqb, None}
 use Rattle.std.specs.Prelude.{nat_eq, cond}
 use Rattle.std.specs.List.{AllByRecursion}
 use Rattle.line_world.specs.declared.board.Board.{Board}
@@ -25,6 +25,7 @@ use Rattle.one_standing.specs.Carried.{Trace, between_of, stand_of}
 use Rattle.one_standing.specs.Places.{AreApart, LiesAt, LiesIn, Spot}
 use Rattle.one_standing.specs.Told.{IsTold, told_first, told_later}
 use Rattle.one_standing.proofs.ApartFloor.{counted, floor_lies, lies_counted, lies_in_gap, lies_on_floor, list_once, one_place_of}
+use Rattle.line_base.specs.declared.states.Side.TheVariants.{Entry, Exit}
 
 -- ---- what a line does, before it is counted
 
@@ -56,6 +57,12 @@ gained_count x id old new gain apart =
     let more = lost_with x gain.front gain.back (record { id = Some id }) false other in
     rw (gain.before, gain.after) (omega (arith, more))
 
+-- a board without an id has none of the ids
+bare_count : (x : ℕ) (old new : List Board) → LosesBoard new old (record { id = None }) → counted x new ≤ counted x old
+bare_count x old new gain =
+    let more = lost_with x gain.front gain.back (record { id = None }) false refl in
+    rw (gain.before, gain.after) (omega (arith, more))
+
 lost_count : (x : ℕ) (old new : List Board) (board : Board) → LosesBoard old new board → counted x new ≤ counted x old
 lost_count x old new board loss =
     let less = lost_with x loss.front loss.back board (has_id x board) refl in
@@ -85,6 +92,8 @@ happening_count (happenings.Done machine (acts.Inserts id)) x old new gain apart
 happening_count (happenings.Done machine (acts.Removes id)) x old new loss apart = lost_count x old new loss.0 loss.2
 happening_count (happenings.Done machine (acts.Replaces was now)) x old new change apart = changed_count x was now old new change apart.0
 happening_count (happenings.Moved gap moves.Take) x old new loss apart = lost_count x old new loss.0 loss.1
+happening_count (happenings.Unseen machine Entry) x old new gain apart = bare_count x old new gain
+happening_count (happenings.Unseen machine Exit) x old new loss apart = lost_count x old new loss.0 loss.1
 happening_count _ x old new same apart = same_count x old new same
 
 not_front : (x : ℕ) (front back : List ℕ) → IsNot x (front ++ back) → IsNot x front

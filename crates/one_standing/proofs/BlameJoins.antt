@@ -1,5 +1,5 @@
 -- A connection: both its steps leave what flows to each side as it was said, and nothing flows to the side that connects.
-use Rattle.std.proofs.Common.{List, None, Option, Some, [], ap, arith, false, inl, inr, refl, subst, sym, ℕ, ◌+◌, ◌-◌, ◌∙◌, ◌≡◌, ◌≢◌, ◌≤◌, ◌⊎◌}
+use Rattle.std.proofs.Common.{Bool, List, None, Option, Some, [], ap, arith, false, inl, inr, refl, subst, sym, true, ℕ, ◌+◌, ◌-◌, ◌∙◌, ◌≡◌, ◌≢◌, ◌≤◌, ◌⊎◌}
 use Rattle.std.proofs.lemmas.Bool.{false≢true}
 use Rattle.line_base.specs.declared.states.Side.{Side}
 use Rattle.line_base.specs.declared.states.Side.TheVariants.{Entry, Exit}
@@ -22,10 +22,11 @@ use Rattle.line_step.proofs.Numbers.{machine_within, same_or_not}
 use Rattle.one_standing.specs.Carried.{IsFitMachine}
 use Rattle.one_standing.specs.Links.{AreWholeLinks}
 use Rattle.one_standing.proofs.Behind.{fit_machine}
-use Rattle.one_standing.proofs.BlameLinks.{AreClear, IsClear, are_clear_by, are_clear_set, clear_none, clear_off}
-use Rattle.one_standing.proofs.BlameSteps.{AreClearIn, NewBytes, entries_of, exits_of, is_bytes, new_bytes, quiet_fit, quiet_mild, step_clear}
+use Rattle.one_standing.proofs.BlameLinks.{AreClear, IsClear, are_clear_begin, are_clear_by, clear_none, clear_off, clear_ready, none_free}
+use Rattle.one_standing.proofs.BlameReady.{is_ready}
+use Rattle.one_standing.proofs.BlameSteps.{AreClearIn, IsFree, NewBytes, calls, entries_of, entries_ready, exits_of, exits_ready, is_bytes, new_bytes, quiet_fit, quiet_mild, ready_of, step_clear, still_ready}
 use Rattle.one_standing.proofs.Carrying.{SaysAlone}
-use Rattle.one_standing.proofs.FactsBlame.{at_none}
+use Rattle.one_standing.proofs.FactsBlame.{at_none, no_leave}
 use Rattle.one_standing.proofs.LedgerLine.{same_nodes}
 use Rattle.one_standing.proofs.MirroringCall.{dry_down, dry_up}
 use Rattle.one_standing.proofs.Traces.{put, put_other, put_same}
@@ -59,6 +60,14 @@ plain_meeting _ meets_second = refl
 fit_meeting : (input : Input) → IsMeeting input → IsFitInput input
 fit_meeting _ meets_first = tt
 fit_meeting _ meets_second = tt
+
+free_meeting : (input : Input) → IsMeeting input → IsFree at_none input
+free_meeting _ meets_first = tt
+free_meeting _ meets_second = tt
+
+unmet_entry : (input : Input) → IsMeeting input → calls Entry input ≡ false
+unmet_entry _ meets_first = refl
+unmet_entry _ meets_second = refl
 
 meeting_entry : (input : Input) → IsMeeting input → (bytes : List ℕ) → entry_after input bytes ≡ bytes
 meeting_entry _ meets_first bytes = refl
@@ -120,26 +129,44 @@ exits_second : (number m : ℕ) (before between after : LineState) (earlier late
 exits_second number m before between after earlier later j k =
     same_exit (m - 1) inputs.Second between after (λ bytes. refl) (new_bytes number (m - 1) inputs.Second between after later refl j.second) k ∙ exits_between number m inputs.Second before between after earlier later j k
 
+-- ---- which sides are ready behind both
+
+not_below : (m k : ℕ) → k ≢ m - 1 → 1 ≤ m → k + 1 ≢ m
+not_below m k apart counted is = apart (omega (arith, is))
+
+joins_ready : (number m : ℕ) (input : Input) (before between after : LineState) (earlier later : List Happening) → Joins number m input before between after earlier later → (k : ℕ) → k ≢ m - 1 → (side : Side) → ready_of before k side ≡ true → ready_of after k side ≡ true
+joins_ready number m input before between after earlier later j k apart Exit is =
+    still_ready number (m - 1) input Exit between after later j.second k apart
+    (exits_ready number m inputs.Connect (connecting m before) between earlier j.first refl k (ap (λ (x : NodeState). is_ready Exit x.lane.body) (same_nodes before (connecting m before) refl k) ∙ is))
+joins_ready number m input before between after earlier later j k apart Entry is =
+    entries_ready number (m - 1) input between after later j.second (unmet_entry input j.meeting) k
+    (still_ready number m inputs.Connect Entry (connecting m before) between earlier j.first (k + 1) (not_below m k apart j.counted) (ap (λ (x : NodeState). is_ready Entry x.lane.body) (same_nodes before (connecting m before) refl (k + 1)) ∙ is))
+
+second_ready : (number m : ℕ) (before between after : LineState) (earlier later : List Happening) → Joins number m inputs.Second before between after earlier later → (k : ℕ) → ready_of before k Exit ≡ true → ready_of after k Exit ≡ true
+second_ready number m before between after earlier later j k is =
+    exits_ready number (m - 1) inputs.Second between after later j.second refl k
+    (exits_ready number m inputs.Connect (connecting m before) between earlier j.first refl k (ap (λ (x : NodeState). is_ready Exit x.lane.body) (same_nodes before (connecting m before) refl k) ∙ is))
+
 -- ---- what flows behind both
 
 whole_connecting : (m : ℕ) (before : LineState) → AreWholeLinks before → AreWholeLinks (connecting m before)
 whole_connecting m before whole = whole_links (m - 1) (after_connect (link_at (m - 1) before.world)) before.world whole (whole_connect (link_at (m - 1) before.world) (whole (m - 1)))
 
 -- from what flows on the link as it is connected
-walks_both : {Taint : ℕ → Side → Type 0} {exits entries : ℕ → List ℕ} → SaysAlone → (number m : ℕ) (input : Input) (before between after : LineState) (earlier later : List Happening) → number ≤ 1000000 → ((machine : ℕ) → IsFitMachine before machine) → AreWholeLinks before
-    → Joins number m input before between after earlier later → entries (m - 1) ≡ [] → AreClear Taint exits entries (connecting m before).world → AreClear Taint exits entries after.world
-walks_both {Taint} {exits} {entries} alone number m input before between after earlier later few fit whole j empty start =
+walks_both : {Taint : ℕ → Side → Type 0} {ready : ℕ → Side → Bool} {exits entries : ℕ → List ℕ} → SaysAlone → (number m : ℕ) (input : Input) (before between after : LineState) (earlier later : List Happening) → number ≤ 1000000 → ((machine : ℕ) → IsFitMachine before machine) → AreWholeLinks before
+    → Joins number m input before between after earlier later → entries (m - 1) ≡ [] → AreClear Taint ready none_free exits entries (connecting m before).world → AreClear Taint ready none_free exits entries after.world
+walks_both {Taint} {ready} {exits} {entries} alone number m input before between after earlier later few fit whole j empty start =
     let begin : LineState = connecting m before in
     let whole_one : AreWholeLinks begin = whole_connecting m before whole in
     let fit_one : IsFitMachine begin m = fit_machine before begin m (same_nodes before begin refl m) (fit m) in
-    let first : AreClear Taint exits entries between.world =
-    step_clear alone at_none number m inputs.Connect begin between earlier j.first (quiet_fit number m inputs.Connect begin between earlier refl tt few fit_one j.first) (quiet_mild at_none number m inputs.Connect begin between earlier refl j.first)
+    let first : AreClear Taint ready none_free exits entries between.world =
+    step_clear alone no_leave number m inputs.Connect begin between earlier j.first (quiet_fit number m inputs.Connect begin between earlier refl tt few fit_one j.first) (quiet_mild no_leave number m inputs.Connect begin between earlier refl tt j.first) (λ side is. absurd (false≢true is))
     (λ second. absurd (false≢true second)) whole_one start in
     let new : NewBytes m inputs.Connect begin between = new_bytes number m inputs.Connect begin between earlier refl j.first in
     let beside : m - 1 ≢ m = (let c = j.counted in omega (arith, c)) in
     let fit_two : IsFitMachine between (m - 1) = fit_machine before between (m - 1) (new.others (m - 1) beside ∙ same_nodes before begin refl (m - 1)) (fit (m - 1)) in
     let plain = plain_meeting input j.meeting in
-    step_clear alone at_none number (m - 1) input between after later j.second (quiet_fit number (m - 1) input between after later plain (fit_meeting input j.meeting) few fit_two j.second) (quiet_mild at_none number (m - 1) input between after later plain j.second)
+    step_clear alone no_leave number (m - 1) input between after later j.second (quiet_fit number (m - 1) input between after later plain (fit_meeting input j.meeting) few fit_two j.second) (quiet_mild no_leave number (m - 1) input between after later plain (free_meeting input j.meeting) j.second) (λ side is. absurd (false≢true is))
     (λ second. empty) (whole_steps number m inputs.Connect begin between earlier j.first whole_one) first
 
 -- the exit above has no connection: nothing flows on the link, and nothing waits at it
@@ -161,12 +188,12 @@ first_clear {Taint} alone number m before between after earlier later few fit wh
     entries2 : ℕ → List ℕ
     entries2 = put (m - 1) [] (entries_of before)
 
-    here : IsClear (Taint (m - 1) Exit) (Taint (m - 1) Entry) (exits2 (m - 1)) (entries2 (m - 1)) (connected None (next_number L.made) L)
-    here = record { up = clear_none (put_same (m - 1) [] (exits_of before)) (dry_up L (whole (m - 1)) above); down = clear_none (put_same (m - 1) [] (entries_of before)) (dry_down L (whole (m - 1)) below) }
+    here : IsClear (Taint (m - 1) Exit) (Taint (m - 1) Entry) (ready_of after (m - 1)) (none_free (m - 1)) (exits2 (m - 1)) (entries2 (m - 1)) (connected None (next_number L.made) L)
+    here = record { up = clear_none refl (put_same (m - 1) [] (exits_of before)) (dry_up L (whole (m - 1)) above); down = clear_none refl (put_same (m - 1) [] (entries_of before)) (dry_down L (whole (m - 1)) below) }
 
-    start : AreClear Taint exits2 entries2 (connecting m before).world
-    start = are_clear_set (m - 1) (after_connect L) before.world (λ k apart. put_other (m - 1) k [] (exits_of before) apart) (λ k apart. put_other (m - 1) k [] (entries_of before) apart) all
-        (subst (λ (l : LinkParts). IsClear (Taint (m - 1) Exit) (Taint (m - 1) Entry) (exits2 (m - 1)) (entries2 (m - 1)) l) (sym parts_are) here)
+    start : AreClear Taint (ready_of after) none_free exits2 entries2 (connecting m before).world
+    start = are_clear_begin (ready_of after) (m - 1) (after_connect L) before.world (λ k apart. put_other (m - 1) k [] (exits_of before) apart) (λ k apart. put_other (m - 1) k [] (entries_of before) apart) (joins_ready number m inputs.Accepted before between after earlier later j) all
+        (subst (λ (l : LinkParts). IsClear (Taint (m - 1) Exit) (Taint (m - 1) Entry) (ready_of after (m - 1)) (none_free (m - 1)) (exits2 (m - 1)) (entries2 (m - 1)) l) (sym parts_are) here)
 
 -- it has one: what flowed to it goes on
 second_clear : {Taint : ℕ → Side → Type 0} → SaysAlone → (number m other : ℕ) (before between after : LineState) (earlier later : List Happening) → number ≤ 1000000 → ((machine : ℕ) → IsFitMachine before machine) → AreWholeLinks before
@@ -184,12 +211,12 @@ second_clear {Taint} alone number m other before between after earlier later few
     entries2 : ℕ → List ℕ
     entries2 = put (m - 1) [] (entries_of before)
 
-    here : IsClear (Taint (m - 1) Exit) (Taint (m - 1) Entry) (exits_of before (m - 1)) (entries2 (m - 1)) (connected (Some other) (next_number L.made) L)
-    here = record { up = clear_off (all.at (m - 1)).up; down = clear_none (put_same (m - 1) [] (entries_of before)) (dry_down L (whole (m - 1)) below) }
+    here : IsClear (Taint (m - 1) Exit) (Taint (m - 1) Entry) (ready_of after (m - 1)) (none_free (m - 1)) (exits_of before (m - 1)) (entries2 (m - 1)) (connected (Some other) (next_number L.made) L)
+    here = record { up = clear_ready (ready_of after (m - 1) Exit) (second_ready number m before between after earlier later j (m - 1)) (clear_off (all.at (m - 1)).up); down = clear_none refl (put_same (m - 1) [] (entries_of before)) (dry_down L (whole (m - 1)) below) }
 
-    start : AreClear Taint (exits_of before) entries2 (connecting m before).world
-    start = are_clear_set (m - 1) (after_connect L) before.world (λ k apart. refl) (λ k apart. put_other (m - 1) k [] (entries_of before) apart) all
-        (subst (λ (l : LinkParts). IsClear (Taint (m - 1) Exit) (Taint (m - 1) Entry) (exits_of before (m - 1)) (entries2 (m - 1)) l) (sym parts_are) here)
+    start : AreClear Taint (ready_of after) none_free (exits_of before) entries2 (connecting m before).world
+    start = are_clear_begin (ready_of after) (m - 1) (after_connect L) before.world (λ k apart. refl) (λ k apart. put_other (m - 1) k [] (entries_of before) apart) (joins_ready number m inputs.Second before between after earlier later j) all
+        (subst (λ (l : LinkParts). IsClear (Taint (m - 1) Exit) (Taint (m - 1) Entry) (ready_of after (m - 1)) (none_free (m - 1)) (exits_of before (m - 1)) (entries2 (m - 1)) l) (sym parts_are) here)
 
 -- ---- the two kinds of connection
 

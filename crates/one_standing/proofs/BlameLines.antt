@@ -1,6 +1,6 @@
 -- NO FALSE BLAME: behind each line of a script what flows to each side is said by the other end or was spoiled, and in each a
 -- breach is told only of a side to which what flowed was spoiled.
-use Rattle.std.proofs.Common.{Err, List, None, Ok, Option, Result, Some, [], ap, arith, false, inl, inr, length, refl, subst, suc, sym, take, true, zero, ℕ, ◌++◌, ◌+◌, ◌-◌, ◌∙◌, ◌∷◌, ◌≡◌, ◌≢◌, ◌≤◌, ◌⊎◌}
+use Rattle.std.proofs.Common.{Err, List, None, Ok, Option, Result, Some, [], ap, arith, false, inl, inr, length, not, refl, subst, suc, sym, take, true, zero, ℕ, ◌++◌, ◌+◌, ◌-◌, ◌∙◌, ◌∷◌, ◌≡◌, ◌≢◌, ◌≤◌, ◌⊎◌, Bool}
 use Rattle.std.specs.Prelude.{slice_index_or}
 use Rattle.std.proofs.lemmas.Bool.{false≢true}
 use Rattle.std.specs.List.{AllByRecursion}
@@ -20,17 +20,24 @@ use Rattle.line_world.specs.Moves.{floor_move}
 use Rattle.line_world.specs.declared.moves.Move.{Move}
 use Rattle.line_world.specs.declared.moves.Move.TheVariants as moves
 use Rattle.line_world.specs.declared.moves.MoveNo.{MoveNo}
+use Rattle.session_core.specs.End.{is_standing_state}
+use Rattle.session_core.specs.declared.state.SessionState.{SessionState}
+use Rattle.session_core.specs.declared.state.SessionState.TheVariants.{Handshake, NotConnected, Standing}
+use Rattle.node_core.specs.May.{may_do as may_own, may_of, no_if}
+use Rattle.node_core.specs.Sides.{is_standing}
+use Rattle.node_core.specs.declared.input.No.{No}
+use Rattle.node_core.specs.declared.input.No.TheVariants as no
 use Rattle.node_core.specs.Node.{NodeState, new_node}
 use Rattle.node_core.specs.Step.{entry_after, exit_after}
 use Rattle.node_core.specs.declared.input.Input.{Input}
 use Rattle.node_core.specs.declared.input.Input.TheVariants as inputs
 use Rattle.link_messages.specs.Fit.{IsFitInput}
-use Rattle.line_step.specs.Lines.{Becomes, Connects, Flows, LineDoes, LineSteps, Moves, Unless, cut_in, lied, met, move_told, moved, spoil_told, spoiled, unvouched_told}
+use Rattle.line_step.specs.Lines.{Becomes, Connects, Flows, LineDoes, LineSteps, Moves, Unless, cut_in, lied, met, move_told, moved, spoil_told, spoiled, unvouched_told, unseen}
 use Rattle.line_step.specs.Numbered.{Stand, no_node, node_at}
-use Rattle.line_step.specs.Reasons.{May, may_do, may_flow, may_spoil}
+use Rattle.line_step.specs.Reasons.{May, behind_own, may_do, may_flow, may_give, may_spoil}
 use Rattle.line_step.specs.Runs.{IsRun, Point}
 use Rattle.line_step.specs.Shown.{shown, standings_told}
-use Rattle.line_step.specs.State.{LineState, no_line, one_more, profile_of}
+use Rattle.line_step.specs.State.{LineState, machine_in, no_line, one_more, profile_of}
 use Rattle.line_step.specs.Steps.{MachineSteps, is_second, read_by}
 use Rattle.line_step.specs.Together.{IsLineTogether}
 use Rattle.line_step.specs.World.{end_of, link_at, link_of}
@@ -46,14 +53,16 @@ use Rattle.one_standing.specs.Told.{IsTold, told_first}
 use Rattle.one_standing.specs.Waits.{AreWaiting}
 use Rattle.one_standing.proofs.ApartStep.{told_before, told_behind}
 use Rattle.one_standing.proofs.BlameFlows.{flow_clear, flow_mild}
+use Rattle.one_standing.proofs.BlameFree.{freed}
 use Rattle.one_standing.proofs.BlameJoins.{connects_clear, less_one, same_entry, same_exit}
-use Rattle.one_standing.proofs.BlameLinks.{AreClear, IsClear, are_clear_by, are_clear_map, are_clear_with, clear_cut, clear_limit, clear_no_link, clear_nulled_down, clear_nulled_up}
-use Rattle.one_standing.proofs.BlameSteps.{AreClearIn, AreMildAt, NewBytes, entries_of, exits_of, is_bytes, new_bytes, quiet_fit, quiet_mild, step_clear}
+use Rattle.one_standing.proofs.BlameLinks.{AreClear, IsClear, are_clear_by, are_clear_map, are_clear_ready, are_clear_with, clear_cut, clear_limit, clear_no_link, clear_nulled_down, clear_nulled_up, none_free}
+use Rattle.one_standing.proofs.BlameReady.{is_ready, is_ready_state}
+use Rattle.one_standing.proofs.BlameSteps.{AreClearIn, AreMildAt, IsFree, NewBytes, both_ready, calls, entries_of, exits_of, frees_by, frees_there, is_bytes, new_bytes, quiet_fit, quiet_mild, ready_of, step_clear}
 use Rattle.one_standing.proofs.BlameTold.{AllBlames, acts_blame, blame_told, both_blame, cut_blame, shown_blame, standings_blame}
 use Rattle.one_standing.proofs.Carrying.{SaysAlone}
-use Rattle.one_standing.proofs.FactsBlame.{at_none}
+use Rattle.one_standing.proofs.FactsBlame.{Leave, at_none}
 use Rattle.one_standing.proofs.LedgerLine.{last_node, no_last, same_nodes}
-use Rattle.one_standing.proofs.LineForms.{ConnectsBear, numbered as by_number}
+use Rattle.one_standing.proofs.LineForms.{ConnectsBear, numbered as by_number, own_first, there_may}
 use Rattle.one_standing.proofs.LineRun.{AreStood, Stood, lines_after, none_stood, run_stood}
 use Rattle.one_standing.proofs.MirroringFlow.{can_flow}
 use Rattle.one_standing.proofs.MirroringPlain.{is_plain_input}
@@ -80,15 +89,20 @@ taint_more past more link Entry is = told_before more is
 
 -- ---- a line whose machines and links are the same
 
-links_clear : {Taint : ℕ → Side → Type 0} (s t : LineState) → ((k : ℕ) → link_at k t.world ≡ link_at k s.world) → AreClear Taint (exits_of s) (entries_of s) s.world → AreClear Taint (exits_of s) (entries_of s) t.world
-links_clear {Taint} s t links all = record { at = λ k. subst (λ (l : LinkParts). IsClear (Taint k Exit) (Taint k Entry) (exits_of s k) (entries_of s k) l) (sym (links k)) (all.at k) }
+links_clear : {Taint : ℕ → Side → Type 0} (s t : LineState) → ((k : ℕ) → link_at k t.world ≡ link_at k s.world) → AreClear Taint (ready_of s) none_free (exits_of s) (entries_of s) s.world → AreClear Taint (ready_of s) none_free (exits_of s) (entries_of s) t.world
+links_clear {Taint} s t links all = record { at = λ k. subst (λ (l : LinkParts). IsClear (Taint k Exit) (Taint k Entry) (ready_of s k) (none_free k) (exits_of s k) (entries_of s k) l) (sym (links k)) (all.at k) }
+
+same_ready : (s t : LineState) → t.machines ≡ s.machines → (link : ℕ) (side : Side) → ready_of s link side ≡ true → ready_of t link side ≡ true
+same_ready s t nodes link Exit is = ap (λ (n : NodeState). is_ready Exit n.lane.body) (same_nodes s t nodes link) ∙ is
+same_ready s t nodes link Entry is = ap (λ (n : NodeState). is_ready Entry n.lane.body) (same_nodes s t nodes (link + 1)) ∙ is
+
+same_bytes : {Taint : ℕ → Side → Type 0} (s t : LineState) → t.machines ≡ s.machines → AreClear Taint (ready_of s) none_free (exits_of s) (entries_of s) t.world → AreClearIn Taint t
+same_bytes s t nodes all =
+    are_clear_by t.world (λ k. ap (λ (n : NodeState). n.lane.exit_bytes) (same_nodes s t nodes k)) (λ k. ap (λ (n : NodeState). n.lane.entry_bytes) (same_nodes s t nodes (k + 1)))
+    (are_clear_ready (ready_of t) t.world (same_ready s t nodes) all)
 
 same_clear : {Taint : ℕ → Side → Type 0} (s t : LineState) → t.machines ≡ s.machines → ((k : ℕ) → link_at k t.world ≡ link_at k s.world) → AreClearIn Taint s → AreClearIn Taint t
-same_clear s t nodes links all =
-    are_clear_by t.world (λ k. ap (λ (n : NodeState). n.lane.exit_bytes) (same_nodes s t nodes k)) (λ k. ap (λ (n : NodeState). n.lane.entry_bytes) (same_nodes s t nodes (k + 1))) (links_clear s t links all)
-
-same_bytes : {Taint : ℕ → Side → Type 0} (s t : LineState) → t.machines ≡ s.machines → AreClear Taint (exits_of s) (entries_of s) t.world → AreClearIn Taint t
-same_bytes s t nodes all = are_clear_by t.world (λ k. ap (λ (n : NodeState). n.lane.exit_bytes) (same_nodes s t nodes k)) (λ k. ap (λ (n : NodeState). n.lane.entry_bytes) (same_nodes s t nodes (k + 1))) all
+same_clear s t nodes links all = same_bytes s t nodes (links_clear s t links all)
 
 -- ---- the forms
 
@@ -102,10 +116,6 @@ record Given (Taint : ℕ → Side → Type 0) (number : ℕ) (t : Trace) (befor
   together : IsLineTogether next
   all : AreClearIn Taint before
 
-not_bytes : (input : Input) → is_plain_input input ≡ true → is_bytes input ≡ false
-not_bytes (inputs.Bytes side piece) plain = absurd (false≢true plain)
-not_bytes _ plain = refl
-
 not_second : (input : Input) → is_plain_input input ≡ true → is_second input ≡ false
 not_second inputs.Second plain = absurd (false≢true plain)
 not_second _ plain = refl
@@ -118,13 +128,45 @@ still_exit : (input : Input) (bytes : List ℕ) → is_plain_input input ≡ tru
 still_exit inputs.Accepted bytes plain = absurd (false≢true plain)
 still_exit _ bytes plain = refl
 
-plain_clear : {Taint : ℕ → Side → Type 0} (number m : ℕ) (input : Input) (t : Trace) (before next : LineState) (told : List Happening) → is_plain_input input ≡ true → IsFitInput input → Given Taint number t before next told → MachineSteps number m input before next told → AreClearIn Taint next
-plain_clear {Taint} number m input t before next told plain fits g steps =
-    let none : is_bytes input ≡ false = not_bytes input plain in
+not_called : (side : Side) (input : Input) → is_plain_input input ≡ true → calls side input ≡ false
+not_called Entry inputs.Connect plain = absurd (false≢true plain)
+not_called Entry _ plain = refl
+not_called Exit inputs.Accepted plain = absurd (false≢true plain)
+not_called Exit _ plain = refl
+
+-- what is told or asked of a board is told or asked by a machine whose session stands
+abbrev FreeAt : ℕ → Input → LineState → Type 0
+FreeAt m input s = (node : NodeState) → machine_in m s ≡ Some node → IsFree (frees_by node.lane.body) input
+
+plain_clear : {Taint : ℕ → Side → Type 0} (number m : ℕ) (input : Input) (t : Trace) (before next : LineState) (told : List Happening) → is_plain_input input ≡ true → is_bytes input ≡ false → IsFitInput input → FreeAt m input before → Given Taint number t before next told → MachineSteps number m input before next told → AreClearIn Taint next
+plain_clear {Taint} number m input t before next told plain none fits free g steps =
     let new : NewBytes m input before next = new_bytes number m input before next told none steps in
+    let may : Leave = record { blames = at_none; frees = frees_by steps.node.lane.body } in
     are_clear_by next.world (same_exit m input before next (λ bytes. still_exit input bytes plain) new) (λ k. same_entry m input before next (λ bytes. still_entry input bytes plain) new (k + 1))
-    (step_clear g.alone at_none number m input before next told steps (quiet_fit number m input before next told none fits g.few (g.holds.fit m) steps) (quiet_mild at_none number m input before next told none steps)
-    (λ second. absurd (false≢true (sym (not_second input plain) ∙ second))) g.holds.links g.all)
+    (are_clear_ready (ready_of next) next.world (both_ready number m input before next told steps (not_called Exit input plain) (not_called Entry input plain))
+    (step_clear g.alone may number m input before next told steps (quiet_fit number m input before next told none fits g.few (g.holds.fit m) steps) (quiet_mild may number m input before next told none (free steps.node steps.there) steps)
+    (frees_there m before steps.node steps.there) (λ second. absurd (false≢true (sym (not_second input plain) ∙ second))) g.holds.links (freed t before g.alone g.holds g.all)))
+
+standing_first : (standing : Bool) (why : No) (next : Result (Unit {0}) No) → no_if (not standing) why next ≡ may_own → standing ≡ true
+standing_first true why next is = refl
+standing_first false why next is = cc
+
+standing_ready : (state : SessionState) → is_standing_state state ≡ true → is_ready_state state ≡ true
+standing_ready NotConnected is = absurd (false≢true is)
+standing_ready Handshake is = absurd (false≢true is)
+standing_ready Standing is = refl
+
+-- what a machine itself may do
+own_may : (m : ℕ) (input : Input) (s : LineState) (node : NodeState) → machine_in m s ≡ Some node → may_give m input s ≡ may_do → may_of node input ≡ may_own
+own_may m input s node there may = own_first (may_of node input) may_do (there_may (machine_in m s) node (λ n. behind_own (may_of n input) may_do) there may)
+
+forecast_free : (m : ℕ) (s : LineState) → may_give m inputs.Forecast s ≡ may_do → FreeAt m inputs.Forecast s
+forecast_free m s may node there =
+    standing_ready node.lane.body.exit.session.state (standing_first (is_standing Exit node.lane.body) no.NotStanding _ (own_may m inputs.Forecast s node there may))
+
+query_free : (m : ℕ) (barcode : List ℕ) (s : LineState) → may_give m (inputs.Query barcode) s ≡ may_do → FreeAt m (inputs.Query barcode) s
+query_free m barcode s may node there =
+    standing_ready node.lane.body.entry.session.state (standing_first (is_standing Entry node.lane.body) no.NotStanding _ (own_may m (inputs.Query barcode) s node there may))
 
 becomes_clear : {Taint : ℕ → Side → Type 0} (now next : LineState) (what told : List Happening) → Becomes now what next told → AreClearIn Taint now → AreClearIn Taint next
 becomes_clear {Taint} now next what told becomes all = subst (λ (s : LineState). AreClearIn Taint s) (sym becomes.after_is) all
@@ -134,21 +176,25 @@ unless_clear (Ok _) before next told Done does all then = then refl does
 unless_clear (Err reason) before next told Done does all then = becomes_clear before next (happenings.No reason ∷ []) told does all
 
 -- one machine more, with nothing that waits
-more_same : (P : NodeState → List ℕ) (capacity used : ℕ) (s : LineState) → P (new_node (profile_of (length s.machines + 1) capacity used)) ≡ P no_node → (k : ℕ) → P (node_at (one_more capacity used s) k) ≡ P (node_at s k)
-more_same P capacity used s none k = by (same_or_not k (length s.machines + 1)) where
-  new : (n : ℕ) → n ≡ length s.machines → P (slice_index_or (one_more capacity used s).machines n no_node) ≡ P (slice_index_or s.machines n no_node)
-  new n is = rw is (rw (last_node s.machines (new_node (profile_of (length s.machines + 1) capacity used)), no_last s.machines) none)
+pub more_same : {A : Type 0} (P : NodeState → A) (is_bridge : Bool) (capacity used : ℕ) (s : LineState) → P (new_node (profile_of is_bridge (length s.machines + 1) capacity used)) ≡ P no_node → (k : ℕ) → P (node_at (one_more is_bridge capacity used s) k) ≡ P (node_at s k)
+more_same {A} P is_bridge capacity used s none k = by (same_or_not k (length s.machines + 1)) where
+  new : (n : ℕ) → n ≡ length s.machines → P (slice_index_or (one_more is_bridge capacity used s).machines n no_node) ≡ P (slice_index_or s.machines n no_node)
+  new n is = rw is (rw (last_node s.machines (new_node (profile_of is_bridge (length s.machines + 1) capacity used)), no_last s.machines) none)
 
-  by : (k ≡ length s.machines + 1) ⊎ (k ≢ length s.machines + 1) → P (node_at (one_more capacity used s) k) ≡ P (node_at s k)
+  by : (k ≡ length s.machines + 1) ⊎ (k ≢ length s.machines + 1) → P (node_at (one_more is_bridge capacity used s) k) ≡ P (node_at s k)
   by (inl is) =
       let next : k ≡ suc (length s.machines) = omega (arith, is) in
-      subst (λ (m : ℕ). P (node_at (one_more capacity used s) m) ≡ P (node_at s m)) (sym next) (new (length s.machines) refl)
-  by (inr apart) = ap (λ (x : Stand). P x.node) ((more_changes capacity used s).machines k apart)
+      subst (λ (m : ℕ). P (node_at (one_more is_bridge capacity used s) m) ≡ P (node_at s m)) (sym next) (new (length s.machines) refl)
+  by (inr apart) = ap (λ (x : Stand). P x.node) ((more_changes is_bridge capacity used s).machines k apart)
 
-more_clear : {Taint : ℕ → Side → Type 0} (capacity used : ℕ) (s : LineState) → AreClearIn Taint s → AreClearIn Taint (one_more capacity used s)
-more_clear capacity used s all =
-    are_clear_by (one_more capacity used s).world (more_same (λ (n : NodeState). n.lane.exit_bytes) capacity used s refl) (λ k. more_same (λ (n : NodeState). n.lane.entry_bytes) capacity used s refl (k + 1))
-    (links_clear s (one_more capacity used s) (more_at capacity used s) all)
+more_ready : (is_bridge : Bool) (capacity used : ℕ) (s : LineState) (link : ℕ) (side : Side) → ready_of s link side ≡ true → ready_of (one_more is_bridge capacity used s) link side ≡ true
+more_ready is_bridge capacity used s link Exit is = more_same (λ (n : NodeState). is_ready Exit n.lane.body) is_bridge capacity used s refl link ∙ is
+more_ready is_bridge capacity used s link Entry is = more_same (λ (n : NodeState). is_ready Entry n.lane.body) is_bridge capacity used s refl (link + 1) ∙ is
+
+more_clear : {Taint : ℕ → Side → Type 0} (is_bridge : Bool) (capacity used : ℕ) (s : LineState) → AreClearIn Taint s → AreClearIn Taint (one_more is_bridge capacity used s)
+more_clear is_bridge capacity used s all =
+    are_clear_by (one_more is_bridge capacity used s).world (more_same (λ (n : NodeState). n.lane.exit_bytes) is_bridge capacity used s refl) (λ k. more_same (λ (n : NodeState). n.lane.entry_bytes) is_bridge capacity used s refl (k + 1))
+    (are_clear_ready (ready_of (one_more is_bridge capacity used s)) (one_more is_bridge capacity used s).world (more_ready is_bridge capacity used s) (links_clear s (one_more is_bridge capacity used s) (more_at is_bridge capacity used s) all))
 
 cut_clear : {Taint : ℕ → Side → Type 0} (gap : ℕ) (s : LineState) → AreClearIn Taint s → AreClearIn Taint (cut_in gap s)
 cut_clear {Taint} gap s all = same_bytes s (cut_in gap s) refl (are_clear_with gap (cut (link_at gap s.world)) s.world all (clear_cut (link_at gap s.world)))
@@ -175,29 +221,33 @@ moves_clear gap step before next told does all =
 
 -- a machine's step of bytes, by its number
 flow_mild_at : {Taint : ℕ → Side → Type 0} → SaysAlone → (t : Trace) (number m : ℕ) (side : Side) (count : Option ℕ) (before after : LineState) (told : List Happening) → may_flow m side before ≡ may_do → Stands t before → AreClearIn Taint before
-    → (flows : Flows number m side count before after told) → AreMildAt (Taint (link_of m side) side) side flows.steps.acts
+    → (flows : Flows number m side count before after told) → AreMildAt (Taint (link_of m side) side) (frees_by flows.steps.node.lane.body) side flows.steps.acts
 flow_mild_at {Taint} alone t number m side count before after told may holds all flows =
-    by_number (λ n. may_flow n side before ≡ may_do → (flows : Flows number n side count before after told) → AreMildAt (Taint (link_of n side) side) side flows.steps.acts) m before flows.steps.node flows.steps.there
+    by_number (λ n. may_flow n side before ≡ may_do → (flows : Flows number n side count before after told) → AreMildAt (Taint (link_of n side) side) (frees_by flows.steps.node.lane.body) side flows.steps.acts) m before flows.steps.node flows.steps.there
     (λ j may flows. flow_mild alone t number j side count before after told (can_flow (j + 1) side before may) holds all flows) may flows
 
 flow_line : {Taint : ℕ → Side → Type 0} (number m : ℕ) (side : Side) (count : Option ℕ) (t : Trace) (before next : LineState) (told : List Happening) → Given Taint number t before next told → may_flow m side before ≡ may_do → Flows number m side count before next told → AreClearIn Taint next
 flow_line number m side count t before next told g may flows =
-    flow_clear g.alone number m side count before next told g.few (g.holds.fit m) (can_flow m side before may) g.holds.links g.whole g.together flows (flow_mild_at g.alone t number m side count before next told may g.holds g.all flows) g.all
+    flow_clear g.alone number m side count before next told g.few (g.holds.fit m) (can_flow m side before may) g.holds.links g.whole g.together flows (flow_mild_at g.alone t number m side count before next told may g.holds g.all flows) g.all (freed t before g.alone g.holds g.all)
 
 does_clear : {Taint : ℕ → Side → Type 0} (number : ℕ) (line : ScriptLine) (t : Trace) (before next : LineState) (told : List Happening) → IsFitLine line → ((m : ℕ) (side : Side) → 1 ≤ m → IsTold (happenings.Spoils m side) told → Taint (link_of m side) side)
     → Given Taint number t before next told → LineDoes number line before next told → AreClearIn Taint next
 does_clear number lines.Blank t before next told fit taints g does = becomes_clear before next [] told does g.all
-does_clear number (lines.Machine capacity used) t before next told fit taints g does = unless_clear _ before next told _ does g.all (λ may done. becomes_clear (one_more capacity used before) next _ told done (more_clear capacity used before g.all))
-does_clear number (lines.Insert m None) t before next told fit taints g does = unless_clear _ before next told _ does g.all (λ may done. plain_clear number m (inputs.Insert None) t before next told refl tt g done)
-does_clear number (lines.Insert m (Some barcode)) t before next told fit taints g does = unless_clear _ before next told _ does g.all (λ may done. plain_clear number m (inputs.Insert (Some barcode)) t before next told refl fit g done)
-does_clear number (lines.Remove m id) t before next told fit taints g does = unless_clear _ before next told _ does g.all (λ may done. plain_clear number m (inputs.Remove id) t before next told refl tt g done)
-does_clear number (lines.Replace m id) t before next told fit taints g does = unless_clear _ before next told _ does g.all (λ may done. plain_clear number m (inputs.Replace id) t before next told refl tt g done)
-does_clear number (lines.Mark m id quality) t before next told fit taints g does = unless_clear _ before next told _ does g.all (λ may done. plain_clear number m (inputs.Mark id quality) t before next told refl tt g done)
-does_clear number (lines.Hold m side) t before next told fit taints g does = unless_clear _ before next told _ does g.all (λ may done. plain_clear number m (inputs.Will side false) t before next told refl tt g done)
-does_clear number (lines.Go m side) t before next told fit taints g does = unless_clear _ before next told _ does g.all (λ may done. plain_clear number m (inputs.Will side true) t before next told refl tt g done)
+does_clear number (lines.Machine capacity used) t before next told fit taints g does = unless_clear _ before next told _ does g.all (λ may done. becomes_clear (one_more false capacity used before) next _ told done (more_clear false capacity used before g.all))
+does_clear number (lines.Bridge capacity used) t before next told fit taints g does = unless_clear _ before next told _ does g.all (λ may done. becomes_clear (one_more true capacity used before) next _ told done (more_clear true capacity used before g.all))
+does_clear number (lines.Insert m None) t before next told fit taints g does = unless_clear _ before next told _ does g.all (λ may done. plain_clear number m (inputs.Insert None) t before next told refl refl tt (λ node there. tt) g done)
+does_clear number (lines.Insert m (Some barcode)) t before next told fit taints g does = unless_clear _ before next told _ does g.all (λ may done. plain_clear number m (inputs.Insert (Some barcode)) t before next told refl refl fit (λ node there. tt) g done)
+does_clear number (lines.Remove m id) t before next told fit taints g does = unless_clear _ before next told _ does g.all (λ may done. plain_clear number m (inputs.Remove id) t before next told refl refl tt (λ node there. tt) g done)
+does_clear number (lines.Replace m id) t before next told fit taints g does = unless_clear _ before next told _ does g.all (λ may done. plain_clear number m (inputs.Replace id) t before next told refl refl tt (λ node there. tt) g done)
+does_clear number (lines.Mark m id quality) t before next told fit taints g does = unless_clear _ before next told _ does g.all (λ may done. plain_clear number m (inputs.Mark id quality) t before next told refl refl tt (λ node there. tt) g done)
+does_clear number (lines.Hold m side) t before next told fit taints g does = unless_clear _ before next told _ does g.all (λ may done. plain_clear number m (inputs.Will side false) t before next told refl refl tt (λ node there. tt) g done)
+does_clear number (lines.Go m side) t before next told fit taints g does = unless_clear _ before next told _ does g.all (λ may done. plain_clear number m (inputs.Will side true) t before next told refl refl tt (λ node there. tt) g done)
+does_clear number (lines.Signal m line on) t before next told fit taints g does = unless_clear _ before next told _ does g.all (λ may done. plain_clear number m (inputs.Level line on) t before next told refl refl tt (λ node there. tt) g done)
+does_clear number (lines.Forecast m) t before next told fit taints g does = unless_clear _ before next told _ does g.all (λ may done. plain_clear number m inputs.Forecast t before next told refl refl tt (forecast_free m before may) g done)
+does_clear number (lines.Query m barcode) t before next told fit taints g does = unless_clear _ before next told _ does g.all (λ may done. plain_clear number m (inputs.Query barcode) t before next told refl refl fit (query_free m barcode before may) g done)
 does_clear number (lines.Connect m) t before next told fit taints g does = unless_clear _ before next told _ does g.all (λ may done. connects_clear g.alone number m before next told g.few g.holds.fit g.holds.links g.holds.together may done g.all)
 does_clear number (lines.Flow m side count) t before next told fit taints g does = unless_clear _ before next told _ does g.all (λ may done. flow_line number m side count t before next told g may done)
-does_clear number (lines.Notice m side) t before next told fit taints g does = unless_clear _ before next told _ does g.all (λ may done. plain_clear number m (inputs.Notice side) t before next told refl tt g done)
+does_clear number (lines.Notice m side) t before next told fit taints g does = unless_clear _ before next told _ does g.all (λ may done. plain_clear number m (inputs.Notice side) t before next told refl refl tt (λ node there. tt) g done)
 does_clear number (lines.Cut gap) t before next told fit taints g does = unless_clear _ before next told _ does g.all (λ may done. becomes_clear (cut_in gap before) next _ told done (cut_clear gap before g.all))
 does_clear number (lines.Spoil m side) t before next told fit taints g does =
     unless_clear (may_spoil m side before) before next told _ does g.all (λ may done.
@@ -205,10 +255,10 @@ does_clear number (lines.Spoil m side) t before next told fit taints g does =
     let counted : 1 ≤ m = (machine_within m before can.node can.there).0 in
     becomes_clear (spoiled m side before) next (spoil_told m side before) told done
     (spoil_clear m side t before g.holds g.waits can counted (taints m side counted (subst (λ (all : List Happening). IsTold (happenings.Spoils m side) all) (sym done.told_is) told_first)) g.all))
-does_clear number (lines.Shutdown m) t before next told fit taints g does = unless_clear _ before next told _ does g.all (λ may done. plain_clear number m inputs.Shutdown t before next told refl tt g done)
-does_clear number (lines.Tick m) t before next told fit taints g does = unless_clear _ before next told _ does g.all (λ may done. plain_clear number m inputs.Tick t before next told refl tt g done)
-does_clear number (lines.Fault m side) t before next told fit taints g does = unless_clear _ before next told _ does g.all (λ may done. plain_clear number m (inputs.Fault side) t before next told refl tt g done)
-does_clear number (lines.Sense m) t before next told fit taints g does = unless_clear _ before next told _ does g.all (λ may done. plain_clear number m inputs.Nothing t before next told refl tt g done)
+does_clear number (lines.Shutdown m) t before next told fit taints g does = unless_clear _ before next told _ does g.all (λ may done. plain_clear number m inputs.Shutdown t before next told refl refl tt (λ node there. tt) g done)
+does_clear number (lines.Tick m) t before next told fit taints g does = unless_clear _ before next told _ does g.all (λ may done. plain_clear number m inputs.Tick t before next told refl refl tt (λ node there. tt) g done)
+does_clear number (lines.Fault m side) t before next told fit taints g does = unless_clear _ before next told _ does g.all (λ may done. plain_clear number m (inputs.Fault side) t before next told refl refl tt (λ node there. tt) g done)
+does_clear number (lines.Sense m) t before next told fit taints g does = unless_clear _ before next told _ does g.all (λ may done. plain_clear number m inputs.Nothing t before next told refl refl tt (λ node there. tt) g done)
 does_clear number (lines.Begin gap) t before next told fit taints g does = moves_clear gap moves.Begin before next told does g.all
 does_clear number (lines.Left gap) t before next told fit taints g does = moves_clear gap moves.Left before next told does g.all
 does_clear number (lines.Enter gap) t before next told fit taints g does = moves_clear gap moves.Enter before next told does g.all
@@ -217,6 +267,8 @@ does_clear number (lines.HandIn gap) t before next told fit taints g does = move
 does_clear number (lines.Take gap) t before next told fit taints g does = moves_clear gap moves.Take before next told does g.all
 does_clear number (lines.Lie m sensed) t before next told fit taints g does =
     unless_clear _ before next told _ does g.all (λ may done. becomes_clear (lied number m sensed before) next _ told done (same_clear before (lied number m sensed before) refl (λ k. refl) g.all))
+does_clear number (lines.Unseen m side) t before next told fit taints g does =
+    unless_clear _ before next told _ does g.all (λ may done. becomes_clear (unseen number m side before) next _ told done (same_clear before (unseen number m side before) refl (λ k. refl) g.all))
 does_clear number lines.Show t before next told fit taints g does = becomes_clear before next (shown before) told does g.all
 
 -- ---- what each tells of breaches
@@ -229,31 +281,36 @@ unless_blame Holds (Ok _) before next told Done does then = then refl does
 unless_blame Holds (Err reason) before next told Done does then = becomes_blame Holds before next (happenings.No reason ∷ []) told does (tt, tt)
 
 -- a step without bytes breaches nothing
-quiet_blame : (Holds : ℕ → Side → Type 0) (number m : ℕ) (input : Input) (before next : LineState) (told : List Happening) → is_bytes input ≡ false → MachineSteps number m input before next told → AllBlames Holds told
-quiet_blame Holds number m input before next told none steps =
+quiet_blame : (Holds : ℕ → Side → Type 0) (number m : ℕ) (input : Input) (before next : LineState) (told : List Happening) → is_bytes input ≡ false → FreeAt m input before → MachineSteps number m input before next told → AllBlames Holds told
+quiet_blame Holds number m input before next told none free steps =
+    let may : Leave = record { blames = at_none; frees = frees_by steps.node.lane.body } in
     subst (λ (hs : List Happening). AllBlames Holds hs) (sym steps.told_is)
-    (acts_blame Holds at_none (is_second input) m steps.acts (read_by m before.world) (λ side is. absurd (false≢true is)) (quiet_mild at_none number m input before next told none steps))
+    (acts_blame Holds may (is_second input) m steps.acts (read_by m before.world) (λ side is. absurd (false≢true is)) (quiet_mild may number m input before next told none (free steps.node steps.there) steps))
 
-given_blame : (Holds : ℕ → Side → Type 0) (may : May) (number m : ℕ) (input : Input) (before next : LineState) (told : List Happening) → is_bytes input ≡ false → Unless may before next told (MachineSteps number m input before next told) → AllBlames Holds told
-given_blame Holds may number m input before next told none does = unless_blame Holds may before next told _ does (λ can done. quiet_blame Holds number m input before next told none done)
+given_blame : (Holds : ℕ → Side → Type 0) (may : May) (number m : ℕ) (input : Input) (before next : LineState) (told : List Happening) → is_bytes input ≡ false → FreeAt m input before → Unless may before next told (MachineSteps number m input before next told) → AllBlames Holds told
+given_blame Holds may number m input before next told none free does = unless_blame Holds may before next told _ does (λ can done. quiet_blame Holds number m input before next told none free done)
 
 met_quiet : (on : Connected) → is_bytes (met on) ≡ false
 met_quiet connections.Accepted = refl
 met_quiet connections.Second = refl
 
+met_free : (frees : Side → Bool) (on : Connected) → IsFree frees (met on)
+met_free frees connections.Accepted = tt
+met_free frees connections.Second = tt
+
 connects_blame : (Holds : ℕ → Side → Type 0) (number m : ℕ) (before next : LineState) (told : List Happening) → Connects number m before next told → AllBlames Holds told
 connects_blame Holds number m before next told twice =
     let on : Connected = connected_of (link_at (m - 1) before.world).upstream in
     subst (λ (hs : List Happening). AllBlames Holds hs) (sym twice.told_is)
-    (both_blame Holds twice.earlier twice.later (quiet_blame Holds number m inputs.Connect _ twice.between twice.earlier refl twice.first) (quiet_blame Holds number (m - 1) (met on) twice.between next twice.later (met_quiet on) twice.second))
+    (both_blame Holds twice.earlier twice.later (quiet_blame Holds number m inputs.Connect _ twice.between twice.earlier refl (λ node there. tt) twice.first) (quiet_blame Holds number (m - 1) (met on) twice.between next twice.later (met_quiet on) (λ node there. met_free (frees_by node.lane.body) on) twice.second))
 
 flow_blame : (past : List Happening) (number m : ℕ) (side : Side) (count : Option ℕ) (t : Trace) (before next : LineState) (told : List Happening) → SaysAlone → Stands t before → AreClearIn (TaintBy past) before → may_flow m side before ≡ may_do → Flows number m side count before next told
     → AllBlames (WasSpoiled past) told
 flow_blame past number m side count t before next told alone holds all may flows =
-    let mild : AreMildAt (TaintBy past (link_of m side) side) side flows.steps.acts = flow_mild_at alone t number m side count before next told may holds all flows in
+    let mild : AreMildAt (TaintBy past (link_of m side) side) (frees_by flows.steps.node.lane.body) side flows.steps.acts = flow_mild_at alone t number m side count before next told may holds all flows in
     let counted : 1 ≤ m = (machine_within m before flows.steps.node flows.steps.there).0 in
     subst (λ (hs : List Happening). AllBlames (WasSpoiled past) hs) (sym flows.steps.told_is)
-    (acts_blame (WasSpoiled past) mild.may false m flows.steps.acts (read_by m _) (λ at is. subst (λ (s : Side). WasSpoiled past m s) (sym (mild.taints at is).0) (taint_here past m side counted (mild.taints at is).1)) mild.mild)
+    (acts_blame (WasSpoiled past) (record { blames = mild.blames; frees = frees_by flows.steps.node.lane.body }) false m flows.steps.acts (read_by m _) (λ at is. subst (λ (s : Side). WasSpoiled past m s) (sym (mild.taints at is).0) (taint_here past m side counted (mild.taints at is).1)) mild.mild)
 
 move_blame : (Holds : ℕ → Side → Type 0) (gap : ℕ) (step : Move) (answer : Result FloorPlan MoveNo) → AllBlames Holds (move_told gap step answer)
 move_blame Holds gap step (Ok floor) = (tt, tt)
@@ -270,24 +327,28 @@ unvouched_blame Holds (Some line) = tt
 
 does_blame : (past : List Happening) (number : ℕ) (line : ScriptLine) (t : Trace) (before next : LineState) (told : List Happening) → SaysAlone → Stands t before → AreClearIn (TaintBy past) before → LineDoes number line before next told → AllBlames (WasSpoiled past) told
 does_blame past number lines.Blank t before next told alone holds all does = becomes_blame (WasSpoiled past) before next [] told does tt
-does_blame past number (lines.Machine capacity used) t before next told alone holds all does = unless_blame (WasSpoiled past) _ before next told _ does (λ may done. becomes_blame (WasSpoiled past) (one_more capacity used before) next (happenings.Machine (length before.machines + 1) capacity ∷ []) told done (tt, tt))
-does_blame past number (lines.Insert m barcode) t before next told alone holds all does = given_blame (WasSpoiled past) _ number m (inputs.Insert barcode) before next told refl does
-does_blame past number (lines.Remove m id) t before next told alone holds all does = given_blame (WasSpoiled past) _ number m (inputs.Remove id) before next told refl does
-does_blame past number (lines.Replace m id) t before next told alone holds all does = given_blame (WasSpoiled past) _ number m (inputs.Replace id) before next told refl does
-does_blame past number (lines.Mark m id quality) t before next told alone holds all does = given_blame (WasSpoiled past) _ number m (inputs.Mark id quality) before next told refl does
-does_blame past number (lines.Hold m side) t before next told alone holds all does = given_blame (WasSpoiled past) _ number m (inputs.Will side false) before next told refl does
-does_blame past number (lines.Go m side) t before next told alone holds all does = given_blame (WasSpoiled past) _ number m (inputs.Will side true) before next told refl does
+does_blame past number (lines.Machine capacity used) t before next told alone holds all does = unless_blame (WasSpoiled past) _ before next told _ does (λ may done. becomes_blame (WasSpoiled past) (one_more false capacity used before) next (happenings.Machine (length before.machines + 1) capacity ∷ []) told done (tt, tt))
+does_blame past number (lines.Bridge capacity used) t before next told alone holds all does = unless_blame (WasSpoiled past) _ before next told _ does (λ may done. becomes_blame (WasSpoiled past) (one_more true capacity used before) next (happenings.Bridge (length before.machines + 1) capacity ∷ []) told done (tt, tt))
+does_blame past number (lines.Insert m barcode) t before next told alone holds all does = given_blame (WasSpoiled past) _ number m (inputs.Insert barcode) before next told refl (λ node there. tt) does
+does_blame past number (lines.Remove m id) t before next told alone holds all does = given_blame (WasSpoiled past) _ number m (inputs.Remove id) before next told refl (λ node there. tt) does
+does_blame past number (lines.Replace m id) t before next told alone holds all does = given_blame (WasSpoiled past) _ number m (inputs.Replace id) before next told refl (λ node there. tt) does
+does_blame past number (lines.Mark m id quality) t before next told alone holds all does = given_blame (WasSpoiled past) _ number m (inputs.Mark id quality) before next told refl (λ node there. tt) does
+does_blame past number (lines.Hold m side) t before next told alone holds all does = given_blame (WasSpoiled past) _ number m (inputs.Will side false) before next told refl (λ node there. tt) does
+does_blame past number (lines.Go m side) t before next told alone holds all does = given_blame (WasSpoiled past) _ number m (inputs.Will side true) before next told refl (λ node there. tt) does
+does_blame past number (lines.Signal m line on) t before next told alone holds all does = given_blame (WasSpoiled past) _ number m (inputs.Level line on) before next told refl (λ node there. tt) does
+does_blame past number (lines.Forecast m) t before next told alone holds all does = unless_blame (WasSpoiled past) _ before next told _ does (λ may done. quiet_blame (WasSpoiled past) number m inputs.Forecast before next told refl (forecast_free m before may) done)
+does_blame past number (lines.Query m barcode) t before next told alone holds all does = unless_blame (WasSpoiled past) _ before next told _ does (λ may done. quiet_blame (WasSpoiled past) number m (inputs.Query barcode) before next told refl (query_free m barcode before may) done)
 does_blame past number (lines.Connect m) t before next told alone holds all does = unless_blame (WasSpoiled past) _ before next told _ does (λ may done. connects_blame (WasSpoiled past) number m before next told done)
 does_blame past number (lines.Flow m side count) t before next told alone holds all does = unless_blame (WasSpoiled past) _ before next told _ does (λ may done. flow_blame past number m side count t before next told alone holds all may done)
-does_blame past number (lines.Notice m side) t before next told alone holds all does = given_blame (WasSpoiled past) _ number m (inputs.Notice side) before next told refl does
+does_blame past number (lines.Notice m side) t before next told alone holds all does = given_blame (WasSpoiled past) _ number m (inputs.Notice side) before next told refl (λ node there. tt) does
 does_blame past number (lines.Cut gap) t before next told alone holds all does = unless_blame (WasSpoiled past) _ before next told _ does (λ may done. becomes_blame (WasSpoiled past) (cut_in gap before) next (happenings.Cut gap ∷ []) told done (tt, tt))
 does_blame past number (lines.Spoil m side) t before next told alone holds all does =
     unless_blame (WasSpoiled past) _ before next told _ does (λ may done. becomes_blame (WasSpoiled past) (spoiled m side before) next (spoil_told m side before) told done
     (tt, cut_blame (WasSpoiled past) (link_of m side) (spoil_sent (end_of side) (link_at (link_of m side) before.world))))
-does_blame past number (lines.Shutdown m) t before next told alone holds all does = given_blame (WasSpoiled past) _ number m inputs.Shutdown before next told refl does
-does_blame past number (lines.Tick m) t before next told alone holds all does = given_blame (WasSpoiled past) _ number m inputs.Tick before next told refl does
-does_blame past number (lines.Fault m side) t before next told alone holds all does = given_blame (WasSpoiled past) _ number m (inputs.Fault side) before next told refl does
-does_blame past number (lines.Sense m) t before next told alone holds all does = given_blame (WasSpoiled past) _ number m inputs.Nothing before next told refl does
+does_blame past number (lines.Shutdown m) t before next told alone holds all does = given_blame (WasSpoiled past) _ number m inputs.Shutdown before next told refl (λ node there. tt) does
+does_blame past number (lines.Tick m) t before next told alone holds all does = given_blame (WasSpoiled past) _ number m inputs.Tick before next told refl (λ node there. tt) does
+does_blame past number (lines.Fault m side) t before next told alone holds all does = given_blame (WasSpoiled past) _ number m (inputs.Fault side) before next told refl (λ node there. tt) does
+does_blame past number (lines.Sense m) t before next told alone holds all does = given_blame (WasSpoiled past) _ number m inputs.Nothing before next told refl (λ node there. tt) does
 does_blame past number (lines.Begin gap) t before next told alone holds all does = moves_blame (WasSpoiled past) gap moves.Begin before next told does
 does_blame past number (lines.Left gap) t before next told alone holds all does = moves_blame (WasSpoiled past) gap moves.Left before next told does
 does_blame past number (lines.Enter gap) t before next told alone holds all does = moves_blame (WasSpoiled past) gap moves.Enter before next told does
@@ -296,6 +357,8 @@ does_blame past number (lines.HandIn gap) t before next told alone holds all doe
 does_blame past number (lines.Take gap) t before next told alone holds all does = moves_blame (WasSpoiled past) gap moves.Take before next told does
 does_blame past number (lines.Lie m sensed) t before next told alone holds all does =
     unless_blame (WasSpoiled past) _ before next told _ does (λ may done. becomes_blame (WasSpoiled past) (lied number m sensed before) next (happenings.Lie m sensed ∷ unvouched_told before.unvouched) told done (tt, unvouched_blame (WasSpoiled past) before.unvouched))
+does_blame past number (lines.Unseen m side) t before next told alone holds all does =
+    unless_blame (WasSpoiled past) _ before next told _ does (λ may done. becomes_blame (WasSpoiled past) (unseen number m side before) next (happenings.Unseen m side ∷ unvouched_told before.unvouched) told done (tt, unvouched_blame (WasSpoiled past) before.unvouched))
 does_blame past number lines.Show t before next told alone holds all does = becomes_blame (WasSpoiled past) before next (shown before) told does (shown_blame (WasSpoiled past) 1 before.machines)
 
 -- ---- EACH LINE
@@ -339,10 +402,10 @@ blame_run alone past s (line ∷ asked) (point ∷ points) (suc n) fit few was r
       blame_run alone (past ++ point.told) point.after asked points n fit.1 left all.0 run.1 all.1 (line_clear past (s.lines + 1) line s point.after point.told alone here fit.0 was clear run.0),
     )
 
-none_at : (Taint : ℕ → Side → Type 0) (link : ℕ) → IsClear (Taint link Exit) (Taint link Entry) (exits_of no_line link) (entries_of no_line link) (link_at link no_line.world)
+none_at : (Taint : ℕ → Side → Type 0) (link : ℕ) → IsClear (Taint link Exit) (Taint link Entry) (ready_of no_line link) (none_free link) (exits_of no_line link) (entries_of no_line link) (link_at link no_line.world)
 none_at Taint zero = clear_no_link
 none_at Taint (suc place) =
-    subst (λ (l : LinkParts). IsClear (Taint (suc place) Exit) (Taint (suc place) Entry) (exits_of no_line (suc place)) (entries_of no_line (suc place)) l) (sym (link_beyond (suc place) no_line.world (omega arith))) clear_no_link
+    subst (λ (l : LinkParts). IsClear (Taint (suc place) Exit) (Taint (suc place) Entry) (ready_of no_line (suc place)) (none_free (suc place)) (exits_of no_line (suc place)) (entries_of no_line (suc place)) l) (sym (link_beyond (suc place) no_line.world (omega arith))) clear_no_link
 
 none_clear : AreClearIn (TaintBy []) no_line
 none_clear = record { at = λ link. none_at (TaintBy []) link }

@@ -23,7 +23,7 @@ use Rattle.line_step.specs.State.{LineState, marks_in}
 use Rattle.line_step.specs.World.{WorldParts, end_of, link_at, link_of}
 use Rattle.one_standing.specs.Told.{IsTold, told_first, told_later}
 use Rattle.one_standing.proofs.BlameLinks.{and_first, and_second}
-use Rattle.one_standing.proofs.FactsBlame.{are_mild, is_mild}
+use Rattle.one_standing.proofs.FactsBlame.{Leave, are_mild, is_mild}
 
 -- this holds of the machine and the side of a breach that is told
 abbrev pub Blames : (ℕ → Side → Type 0) → Happening → Type 0
@@ -55,13 +55,13 @@ sent_blame : (Holds : ℕ → Side → Type 0) (second : Bool) (machine : ℕ) (
 sent_blame Holds true machine side message world = (tt, cut_blame Holds machine (answer_sent (canonical message) (link_at machine world)))
 sent_blame Holds false machine side message world = (tt, cut_blame Holds (link_of machine side) (sent_of (end_of side) (canonical message) (link_at (link_of machine side) world)))
 
-act_blame : (Holds : ℕ → Side → Type 0) (may : Side → Bool) (second : Bool) (machine : ℕ) (act : Act) (world : WorldParts) → ((side : Side) → may side ≡ true → Holds machine side) → is_mild may act ≡ true → AllBlames Holds (act_did second machine act world).told
+act_blame : (Holds : ℕ → Side → Type 0) (may : Leave) (second : Bool) (machine : ℕ) (act : Act) (world : WorldParts) → ((side : Side) → may.blames side ≡ true → Holds machine side) → is_mild may act ≡ true → AllBlames Holds (act_did second machine act world).told
 act_blame Holds may second machine (acts.Sends side message) world each mild = sent_blame Holds (answers second side message) machine side message world
 act_blame Holds may second machine (acts.Breaches side text) world each mild = (each side mild, tt)
 act_blame Holds may second machine (acts.Drive side on) world each mild = tt
 act_blame Holds may second machine act world each mild = (tt, tt)
 
-pub acts_blame : (Holds : ℕ → Side → Type 0) (may : Side → Bool) (second : Bool) (machine : ℕ) (told : List Act) (world : WorldParts) → ((side : Side) → may side ≡ true → Holds machine side) → are_mild may told ≡ true → AllBlames Holds (acts_did second machine told world).told
+pub acts_blame : (Holds : ℕ → Side → Type 0) (may : Leave) (second : Bool) (machine : ℕ) (told : List Act) (world : WorldParts) → ((side : Side) → may.blames side ≡ true → Holds machine side) → are_mild may told ≡ true → AllBlames Holds (acts_did second machine told world).told
 acts_blame Holds may second machine [] world each mild = tt
 acts_blame Holds may second machine (act ∷ others) world each mild =
     both_blame Holds (act_did second machine act world).told (acts_did second machine others (act_did second machine act world).world).told (act_blame Holds may second machine act world each (and_first (is_mild may act) (are_mild may others) mild))

@@ -1,10 +1,9 @@
 -- The words of a piece, where what flows are the texts of messages that the machine at the other end sends: none is wrong, and
 -- each says such a message.
-use Rattle.std.proofs.Common.{Bool, List, Option, Some, [], ap, append_assoc, drop, false, length, refl, suc, subst, sym, true, zero, ℕ, ◌++◌, ◌∙◌, ◌∷◌, ◌≡◌}
+use Rattle.std.proofs.Common.{Bool, List, Option, Some, [], ap, append-nil, append_assoc, drop, false, length, refl, suc, subst, sym, true, zero, ℕ, ◌++◌, ◌∙◌, ◌∷◌, ◌≡◌}
 use Rattle.std.proofs.lemmas.Bool.{false≢true}
-use Rattle.std.specs.List.{AllByRecursion}
 use Rattle.line_base.specs.declared.states.Side.{Side}
-use Rattle.hermes_stream.specs.Frames.{frames_of}
+use Rattle.hermes_stream.specs.Frames.{Frames, IsOneFrame, frames_of}
 use Rattle.hermes_horizontal.specs.Canonical.{canonical}
 use Rattle.hermes_horizontal.specs.Spelling.{Spells}
 use Rattle.hermes_horizontal.specs.declared.message.Horizontal.{Horizontal}
@@ -15,17 +14,20 @@ use Rattle.node_core.specs.Words.{AreFirst, AreWords, IsWrong, first_more, first
 use Rattle.node_core.specs.declared.word.Word.{Word}
 use Rattle.node_core.specs.declared.word.Word.TheVariants as words
 use Rattle.custody.specs.Bytes.{Flows, Spoiled, texts_of}
+use Rattle.custody.proofs.Messages.{sends_a_message}
+use Rattle.custody.proofs.Spoils.{nul_stays}
 use Rattle.machine_custody.specs.Flight.{AreOldest, oldest_none, oldest_wrong}
-use Rattle.link_messages.specs.Fit.{AreFit, AreFitWords}
+use Rattle.link_messages.specs.Fit.{AreFit, AreFitWords, IsFit, more_fit, none_fit}
 use Rattle.link_messages.specs.Heard.{AreSayable, Heard, HeardSpoiled, bodies, more_sayable, none_sayable}
-use Rattle.link_messages.proofs.Fitting.{fit_behind}
+use Rattle.link_messages.proofs.Fitting.{both_fit, fit_behind}
 use Rattle.link_messages.proofs.Fronts.{IsFront, front_of}
 use Rattle.link_messages.proofs.Hearing.{no_rest, no_texts, text_is, texts_are}
 use Rattle.one_standing.specs.Carried.{Carries, carries_over, carries_spoiled, carries_whole}
 use Rattle.one_standing.proofs.BlameLinks.{Clear, clear_over, clear_spoiled, clear_whole}
 use Rattle.one_standing.proofs.Carrying.{SaysAlone}
 use Rattle.one_standing.proofs.Counting.{is_wrong_first}
-use Rattle.one_standing.proofs.FactsBlame.{AreFrom, Front, front_of as oldest_front, is_from, said}
+use Rattle.one_standing.proofs.BlameReady.{ready_after, ready_words}
+use Rattle.one_standing.proofs.FactsBlame.{AreBodiesFrom, AreFrom, Front, front_of as oldest_front, said}
 use Rattle.one_standing.proofs.MirroringFlow.{empty_of, no_words}
 
 -- ---- no word is wrong
@@ -50,35 +52,32 @@ first_said (frame ∷ frames) rest (words.Wrong text ∷ others) (message ∷ me
 
 -- ---- each says a message that comes to this side
 
--- the words are what these messages say
-pub record IsSaid (side : Side) (heard : List Word) : Type 0 where
+-- the words are what these messages say, which come so to a side that is ready or not
+pub record IsSaid (side : Side) (ready : Bool) (heard : List Word) : Type 0 where
   pub messages : List Message
   pub are : heard ≡ said messages
-  pub from : AreFrom side messages
+  pub from : AreFrom side ready messages
 
-abbrev AreBodiesFrom : Side → List Horizontal → Type 0
-AreBodiesFrom side sent = AllByRecursion (λ (body : Horizontal). is_from side body ≡ true) sent
-
-bodies_from : (side : Side) (messages : List Message) → AreFrom side messages → AreBodiesFrom side (bodies messages)
-bodies_from side [] all = tt
-bodies_from side (message ∷ messages) all = (all.0, bodies_from side messages all.1)
-
-says_of : (side : Side) (heard : List Word) (sent : List Horizontal) → AreOldest heard sent → AreSaid heard → AreBodiesFrom side sent → IsSaid side heard
-says_of side [] sent oldest plain all = record { messages = []; are = refl; from = tt }
-says_of side (words.Says message ∷ others) sent oldest plain all =
+says_of : (side : Side) (ready : Bool) (heard : List Word) (sent : List Horizontal) → AreOldest heard sent → AreSaid heard → AreBodiesFrom side ready sent → IsSaid side ready heard
+says_of side ready [] sent oldest plain all = record { messages = []; are = refl; from = tt }
+says_of side ready (words.Says message ∷ others) sent oldest plain all =
     let f : Front message.body others sent = oldest_front oldest in
-    let here : AreBodiesFrom side (message.body ∷ f.rest) = subst (λ (bs : List Horizontal). AreBodiesFrom side bs) f.is all in
-    let more : IsSaid side others = says_of side others f.rest f.oldest plain here.1 in
+    let here : AreBodiesFrom side ready (message.body ∷ f.rest) = subst (λ (bs : List Horizontal). AreBodiesFrom side ready bs) f.is all in
+    let more : IsSaid side (ready_after side ready message.body) others = says_of side (ready_after side ready message.body) others f.rest f.oldest plain here.1 in
     record { messages = message ∷ more.messages; are = ap (λ (ws : List Word). words.Says message ∷ ws) more.are; from = (here.0, more.from) }
-says_of side (words.Wrong text ∷ others) sent oldest plain all = absurd plain
+says_of side ready (words.Wrong text ∷ others) sent oldest plain all = absurd plain
 
-pub words_said : {side : Side} → SaysAlone → (old piece later new : List ℕ) (still : Bool) (heard : List Word) (messages : List Message) → AreFit messages → AreFrom side messages → Flows old (piece ++ later) (texts_of messages)
-    → AreWords old piece new still heard → IsSaid side heard
-words_said {side} alone old piece later new still heard messages fit from flows are =
-    let sayable : AreSayable messages = alone.sayable messages fit in
+plain_words : SaysAlone → (old piece later new : List ℕ) (still : Bool) (heard : List Word) (messages : List Message) → AreSayable messages → Flows old (piece ++ later) (texts_of messages) → AreWords old piece new still heard → AreSaid heard
+plain_words alone old piece later new still heard messages sayable flows are =
     let front : IsFront (texts_of messages) (old ++ piece) later = front_of (texts_of messages) (old ++ piece) later (ap frames_of (append_assoc old piece later) ∙ flows.frames) in
-    let plain : AreSaid heard = first_said (frames_of (old ++ piece)).messages (frames_of (old ++ piece)).rest heard messages front.later front.left are.first front.texts_are front.rest sayable in
-    says_of side heard (bodies messages) (alone.oldest old piece later new still heard messages sayable flows are).oldest plain (bodies_from side messages from)
+    first_said (frames_of (old ++ piece)).messages (frames_of (old ++ piece)).rest heard messages front.later front.left are.first front.texts_are front.rest sayable
+
+pub words_said : {side : Side} {ready : Bool} → SaysAlone → (old piece later new : List ℕ) (still : Bool) (heard : List Word) (messages : List Message) → AreFit messages → AreFrom side ready messages → Flows old (piece ++ later) (texts_of messages)
+    → AreWords old piece new still heard → IsSaid side ready heard
+words_said {side} {ready} alone old piece later new still heard messages fit from flows are =
+    let sayable : AreSayable messages = alone.sayable messages fit in
+    let plain : AreSaid heard = plain_words alone old piece later new still heard messages sayable flows are in
+    says_of side ready heard (bodies messages) (alone.oldest old piece later new still heard messages sayable flows are).oldest plain from
 
 -- ---- what the scene knows of them
 
@@ -93,37 +92,51 @@ carries_oldest {stream = stream} alone piece later new still heard is some are (
 -- ---- what the words of a piece are
 
 -- they say messages that come to this side; or there is none, or the first is wrong, where the text was spoiled
-pub data AreSpoken (Taint : Type 0) (side : Side) : List Word → Type 0 where
-  spoken_said : {heard : List Word} → IsSaid side heard → AreSpoken Taint side heard
-  spoken_none : AreSpoken Taint side []
-  spoken_wrong : {text : List ℕ} {others : List Word} → Taint → AreSpoken Taint side (words.Wrong text ∷ others)
+pub data AreSpoken (Taint : Type 0) (side : Side) (ready : Bool) : List Word → Type 0 where
+  spoken_said : {heard : List Word} → IsSaid side ready heard → AreSpoken Taint side ready heard
+  spoken_none : AreSpoken Taint side ready []
+  spoken_wrong : {text : List ℕ} {others : List Word} → Taint → AreSpoken Taint side ready (words.Wrong text ∷ others)
 
-wrong_or_none : {Taint : Type 0} {side : Side} (heard : List Word) → Taint → AreOldest heard [] → AreSpoken Taint side heard
+wrong_or_none : {Taint : Type 0} {side : Side} {ready : Bool} (heard : List Word) → Taint → AreOldest heard [] → AreSpoken Taint side ready heard
 wrong_or_none _ taint oldest_none = spoken_none
 wrong_or_none _ taint oldest_wrong = spoken_wrong taint
 
-pub words_spoken : {Taint : Type 0} {side : Side} {stands : Bool} {old bytes : List ℕ} → SaysAlone → (piece later new : List ℕ) (still : Bool) (heard : List Word) → bytes ≡ piece ++ later → is_empty bytes ≡ false
-    → AreWords old piece new still heard → Clear Taint side stands old bytes → AreSpoken Taint side heard
-words_spoken {old = old} alone piece later new still heard is some are (clear_whole sent fit from flows) =
+pub words_spoken : {Taint : Type 0} {side : Side} {ready free stands : Bool} {old bytes : List ℕ} → SaysAlone → (piece later new : List ℕ) (still : Bool) (heard : List Word) → bytes ≡ piece ++ later → is_empty bytes ≡ false
+    → AreWords old piece new still heard → Clear Taint side ready free stands old bytes → AreSpoken Taint side ready heard
+words_spoken {old = old} alone piece later new still heard is some are (clear_whole sent fit from then flows) =
     spoken_said (words_said alone old piece later new still heard sent fit from (subst (λ (b : List ℕ). Flows old b (texts_of sent)) is flows) are)
 words_spoken {old = old} alone piece later new still heard is some are (clear_spoiled taint spoiled) =
     wrong_or_none heard taint (alone.wrong old piece later new still heard [] (subst (λ (b : List ℕ). Spoiled old b) is spoiled) are).oldest
 words_spoken {bytes = bytes} alone piece later new still heard is some are (clear_over off none) = absurd (false≢true (sym some ∙ empty_of bytes none))
 
 -- and each of its parts is within what its type allows
-pub words_fit : {Taint : Type 0} {side : Side} {stands : Bool} {old bytes : List ℕ} → SaysAlone → (piece later new : List ℕ) (still : Bool) (heard : List Word) → bytes ≡ piece ++ later → is_empty bytes ≡ false
-    → AreWords old piece new still heard → Clear Taint side stands old bytes → AreFitWords heard
-words_fit {old = old} alone piece later new still heard is some are (clear_whole sent fit from flows) =
+pub words_fit : {Taint : Type 0} {side : Side} {ready free stands : Bool} {old bytes : List ℕ} → SaysAlone → (piece later new : List ℕ) (still : Bool) (heard : List Word) → bytes ≡ piece ++ later → is_empty bytes ≡ false
+    → AreWords old piece new still heard → Clear Taint side ready free stands old bytes → AreFitWords heard
+words_fit {old = old} alone piece later new still heard is some are (clear_whole sent fit from then flows) =
     alone.fit_words old piece later new still heard sent (alone.sayable sent fit) fit (subst (λ (b : List ℕ). Flows old b (texts_of sent)) is flows) are
 words_fit {old = old} alone piece later new still heard is some are (clear_spoiled taint spoiled) = alone.fit_wrong old piece later new still heard (subst (λ (b : List ℕ). Spoiled old b) is spoiled) are
 words_fit {bytes = bytes} alone piece later new still heard is some are (clear_over off none) = absurd (false≢true (sym some ∙ empty_of bytes none))
 
 -- ---- what waits behind it, at a side that is open still
 
-from_behind : (side : Side) (n : ℕ) (messages : List Message) → AreFrom side messages → AreFrom side (drop n messages)
-from_behind side zero messages all = all
-from_behind side (suc n) [] all = all
-from_behind side (suc n) (message ∷ messages) all = from_behind side n messages all.1
+none_left : {m : Message} {others : List Word} → AreOldest (words.Says m ∷ others) [] → ⊥
+none_left oldest = elim oldest [ ]
+
+body_is : {a b : Horizontal} {more others : List Horizontal} → a ∷ more ≡ b ∷ others → a ≡ b
+body_is is = cc
+
+bodies_are : {a b : Horizontal} {more others : List Horizontal} → a ∷ more ≡ b ∷ others → more ≡ others
+bodies_are is = cc
+
+-- what is behind the words that were heard
+from_behind : (side : Side) (ready : Bool) (heard : List Word) (messages : List Message) → AreOldest heard (bodies messages) → AreSaid heard → AreFrom side ready messages → AreFrom side (ready_words side ready heard) (drop (length heard) messages)
+from_behind side ready [] messages oldest plain all = all
+from_behind side ready (words.Wrong text ∷ others) messages oldest plain all = absurd plain
+from_behind side ready (words.Says heard ∷ others) [] oldest plain all = absurd (none_left oldest)
+from_behind side ready (words.Says heard ∷ others) (message ∷ messages) oldest plain all =
+    let f : Front heard.body others (message.body ∷ bodies messages) = oldest_front oldest in
+    from_behind side (ready_after side ready heard.body) others messages (subst (λ (bs : List Horizontal). AreOldest others bs) (sym (bodies_are f.is)) f.oldest) plain
+    (subst (λ (b : Horizontal). AreBodiesFrom side (ready_after side ready b) (bodies messages)) (body_is f.is) all.1)
 
 flows_on : (old piece later : List ℕ) (texts : List (List ℕ)) → Flows (old ++ piece) later texts → Flows old (piece ++ later) texts
 flows_on old piece later texts f = record { frames = ap frames_of (sym (append_assoc old piece later)) ∙ f.frames }
@@ -136,12 +149,52 @@ spoiled_on old piece later sp = record {
   same = λ more. ap frames_of (ap (λ (b : List ℕ). old ++ b) (append_assoc piece later more) ∙ sym (append_assoc old piece (later ++ more))) ∙ sp.same more;
 }
 
-pub clear_waits : {Taint : Type 0} {side : Side} {stands : Bool} {later : List ℕ} → SaysAlone → (old piece new : List ℕ) (still : Bool) (heard : List Word) → AreWords old piece new still heard → still ≡ true → is_wrong_first heard ≡ false
-    → Clear Taint side stands (old ++ piece) later → Clear Taint side stands new later
-clear_waits {side = side} {later = later} alone old piece new still heard are on good (clear_whole sent fit from flows) =
-    let h : Heard sent heard new later still = alone.oldest old piece later new still heard sent (alone.sayable sent fit) (flows_on old piece later (texts_of sent) flows) are in
-    clear_whole (drop (length heard) sent) (fit_behind (length heard) sent fit) (from_behind side (length heard) sent from) (h.flows on)
+pub clear_waits : {Taint : Type 0} {side : Side} {ready free stands : Bool} {later : List ℕ} → SaysAlone → (old piece new : List ℕ) (still : Bool) (heard : List Word) → AreWords old piece new still heard → still ≡ true → is_wrong_first heard ≡ false
+    → Clear Taint side ready free stands (old ++ piece) later → Clear Taint side (ready_words side ready heard) false stands new later
+clear_waits {side = side} {ready = ready} {later = later} alone old piece new still heard are on good (clear_whole sent fit from then flows) =
+    let sayable : AreSayable sent = alone.sayable sent fit in
+    let here : Flows old (piece ++ later) (texts_of sent) = flows_on old piece later (texts_of sent) flows in
+    let h : Heard sent heard new later still = alone.oldest old piece later new still heard sent sayable here are in
+    clear_whole (drop (length heard) sent) (fit_behind (length heard) sent fit) (from_behind side ready heard sent h.oldest (plain_words alone old piece later new still heard sent sayable here are) from) (λ free on. absurd (false≢true free)) (h.flows on)
 clear_waits {later = later} alone old piece new still heard are on good (clear_spoiled taint spoiled) =
     let h : HeardSpoiled [] heard new later still = alone.wrong old piece later new still heard [] (spoiled_on old piece later spoiled) are in
     clear_spoiled taint (h.spoiled on (no_words heard h.oldest good))
 clear_waits alone old piece new still heard are on good (clear_over off none) = clear_over off none
+
+-- ---- the same bytes, as the scene has them and as they are known in their order
+
+-- words that these messages are, whatever waits
+said_words : (frames : List (List ℕ)) (rest : Option (List ℕ)) (messages : List Message) → frames ≡ texts_of messages → AreSayable messages → AreFirst frames rest (said messages)
+said_words frames rest [] is sayable = first_none
+said_words frames rest (message ∷ messages) is (more_sayable it sayable) =
+    subst (λ (fs : List (List ℕ)). AreFirst fs rest (said (message ∷ messages))) (sym is) (first_more it.spells (said_words (texts_of messages) rest messages refl sayable))
+
+all_words : (old bytes : List ℕ) (messages : List Message) → AreSayable messages → Flows old bytes (texts_of messages) → AreWords old bytes [] false (said messages)
+all_words old bytes messages sayable flows = record {
+  first = said_words (frames_of (old ++ bytes)).messages (frames_of (old ++ bytes)).rest messages (ap (λ (f : Frames). f.messages) flows.frames) sayable;
+  all = λ on. absurd (false≢true on);
+}
+
+nothing_more : (old bytes : List ℕ) (texts : List (List ℕ)) → Flows old bytes texts → Flows old (bytes ++ []) texts
+nothing_more old bytes texts flows = subst (λ (b : List ℕ). Flows old b texts) (sym (append-nil bytes)) flows
+
+-- they are the same messages
+pub same_said : SaysAlone → (old bytes : List ℕ) (sent messages : List Message) → AreFit sent → AreFit messages → Flows old bytes (texts_of sent) → Flows old bytes (texts_of messages) → AreOldest (said sent) (bodies messages)
+same_said alone old bytes sent messages fit good one two =
+    (alone.oldest old bytes [] [] false (said sent) messages (alone.sayable messages good) (nothing_more old bytes (texts_of messages) two) (all_words old bytes sent (alone.sayable sent fit) one)).oldest
+
+one_frame : {message : Message} {messages : List Message} → AreSayable (message ∷ messages) → IsOneFrame (canonical message)
+one_frame (more_sayable one others) = one.one
+
+no_word : (messages : List Message) (more : Message) → AreOldest (said (messages ++ more ∷ [])) [] → ⊥
+no_word [] more oldest = elim oldest [ ]
+no_word (message ∷ messages) more oldest = elim oldest [ ]
+
+-- a text that was spoiled isn't whole: with one more message behind it it would be the first word, and wrong
+pub never_spoiled : SaysAlone → (old bytes : List ℕ) (messages : List Message) (more : Message) → AreFit messages → IsFit more → Flows old bytes (texts_of messages) → Spoiled old bytes → ⊥
+never_spoiled alone old bytes messages more fit one flows spoiled =
+    let all : AreFit (messages ++ more ∷ []) = both_fit fit (more_fit one none_fit) in
+    let text : List ℕ = canonical more in
+    let next : Flows old (bytes ++ text) (texts_of (messages ++ more ∷ [])) = sends_a_message old bytes messages more (one_frame (alone.sayable (more ∷ []) (more_fit one none_fit))) flows in
+    no_word (messages) more (alone.wrong old (bytes ++ text) [] [] false (said (messages ++ more ∷ [])) [] (subst (λ (b : List ℕ). Spoiled old b) (sym (append-nil (bytes ++ text))) (nul_stays old bytes text spoiled))
+    (all_words old (bytes ++ text) (messages ++ more ∷ []) (alone.sayable (messages ++ more ∷ []) all) next)).oldest

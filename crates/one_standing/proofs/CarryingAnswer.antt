@@ -1,5 +1,5 @@
 -- The acts of a step of a second connection, whose answer flows down though the link doesn't stand.
-use Rattle.std.proofs.Common.{Bool, List, None, Option, Some, [], ap, false, refl, subst, suc, sym, true, ℕ, ◌++◌, ◌∙◌, ◌∷◌, ◌≡◌}
+use Rattle.std.proofs.Common.{Bool, List, None, Option, Some, [], ap, false, refl, subst, suc, sym, true, ℕ, ◌++◌, ◌∙◌, ◌∷◌, ◌≡◌, append_assoc}
 use Rattle.std.specs.Prelude.{cond, drop, is_some}
 use Rattle.std.proofs.lemmas.Bool.{false≢true}
 use Rattle.line_base.specs.declared.states.Role.TheVariants.{Downstream, Upstream}
@@ -34,7 +34,7 @@ use Rattle.link_messages.specs.Fit.{AreFitActs, IsFit, IsFitAct, more_said, none
 use Rattle.machine_custody.specs.Joined.{all_met_second, answered, is_answer, met_second}
 use Rattle.machine_custody.specs.Scene.{Scene, all_met, met}
 use Rattle.machine_custody.proofs.Answering.{IsNoAnswer, announces_plain, plain_met, read_plain, second_append}
-use Rattle.machine_custody.proofs.Quiet.{AllActs, acts_more, acts_none}
+use Rattle.machine_custody.proofs.Quiet.{AllActs, acts_more, acts_none, all_append}
 use Rattle.custody.specs.Words.{sent}
 use Rattle.line_step.specs.Acts.{is_answer as is_told_answer}
 use Rattle.line_step.specs.Near.{Near, near_did, near_sent, nears_did}
@@ -121,6 +121,7 @@ act_off alone (acts.Breaches at text) rest fit k = record { place = k.place; abo
 act_off alone acts.Connects rest fit k = record { place = k.place; above = joint_on Entry acts.Connects rest refl refl k.above; there = k.there; off = k.off; below = side_on Exit acts.Connects rest refl refl k.below; linked = k.linked }
 act_off alone (acts.Deed deed) rest fit k = record { place = k.place; above = joint_on Entry (acts.Deed deed) rest refl refl k.above; there = k.there; off = k.off; below = side_on Exit (acts.Deed deed) rest refl refl k.below; linked = k.linked }
 act_off alone (acts.Marks id quality) rest fit k = record { place = k.place; above = joint_on Entry (acts.Marks id quality) rest refl refl k.above; there = k.there; off = k.off; below = side_on Exit (acts.Marks id quality) rest refl refl k.below; linked = k.linked }
+act_off alone (acts.Signals signal on) rest fit k = record { place = k.place; above = joint_on Entry (acts.Signals signal on) rest refl refl k.above; there = k.there; off = k.off; below = side_on Exit (acts.Signals signal on) rest refl refl k.below; linked = k.linked }
 act_off alone (acts.Sets setting) rest fit k = record { place = k.place; above = joint_on Entry (acts.Sets setting) rest refl refl k.above; there = k.there; off = k.off; below = side_on Exit (acts.Sets setting) rest refl refl k.below; linked = k.linked }
 
 acts_off : {has : Side → Bool} {new_entry new_exit far_above : List ℕ} → SaysAlone → (told rest : List Act) → AreFitActs told → {near : Near} {c : Scene}
@@ -208,19 +209,35 @@ mid_like {has = has} {new_entry = ne} {new_exit = nx} {far_above = fa} {near = n
     subst (λ (n : Near). IsLike has [] ne nx fa [] n (all_met_second says (met_second act c))) (sym (nears_plain has says (near_did has true act near) plain))
     (subst (λ (d : Scene). IsLike has [] ne nx fa [] (nears_did has false says (near_did has true act near)) d) (sym (plain_met says (met_second act c) plain)) last)
 
--- THE ACTS OF THE STEP in lockstep
-pub second_like : {has : Side → Bool} {new_entry new_exit far_above : List ℕ} {near : Near} {c : Scene} → SaysAlone → (desk : Desk) (unread : List Sensed) (body : Body) → AreFitActs (machine_step desk unread Second body).acts
-    → IsLikeOff has (machine_step desk unread Second body).acts new_entry new_exit far_above near c
-    → IsLike has [] new_entry new_exit far_above [] (nears_did has true (machine_step desk unread Second body).acts near) (all_met_second (machine_step desk unread Second body).acts c)
-second_like {has = has} {new_entry = ne} {new_exit = nx} {far_above = fa} {near = near} {c = c} alone desk unread body fit k =
+-- the acts of the step, with a bridge's own signals behind them
+abbrev pub second_acts : Desk → List Sensed → Body → List Act → List Act
+second_acts desk unread body own =
+    let read : Done = all_read desk unread body in
+    let did : Done = event_did desk Second read.body in
+    read.acts ++ (did.acts ++ ((announces desk did.body).acts ++ own))
+
+pub second_acts_are : (desk : Desk) (unread : List Sensed) (body : Body) (own : List Act) → (machine_step desk unread Second body).acts ++ own ≡ second_acts desk unread body own
+second_acts_are desk unread body own =
     let read : Done = all_read desk unread body in
     let did : Done = event_did desk Second read.body in
     let says : Done = announces desk did.body in
-    let rest : List Act = did.acts ++ says.acts in
+    append_assoc read.acts (did.acts ++ says.acts) own ∙ ap (λ (rest : List Act). read.acts ++ rest) (append_assoc did.acts says.acts own)
+
+-- THE ACTS OF THE STEP in lockstep
+pub second_like : {has : Side → Bool} {new_entry new_exit far_above : List ℕ} {near : Near} {c : Scene} → SaysAlone → (desk : Desk) (unread : List Sensed) (body : Body) (own : List Act) → AllActs IsNoAnswer own
+    → AreFitActs (second_acts desk unread body own)
+    → IsLikeOff has (second_acts desk unread body own) new_entry new_exit far_above near c
+    → IsLike has [] new_entry new_exit far_above [] (nears_did has true (second_acts desk unread body own) near) (all_met_second (second_acts desk unread body own) c)
+second_like {has = has} {new_entry = ne} {new_exit = nx} {far_above = fa} {near = near} {c = c} alone desk unread body own none fit k =
+    let read : Done = all_read desk unread body in
+    let did : Done = event_did desk Second read.body in
+    let says : Done = announces desk did.body in
+    let last : List Act = says.acts ++ own in
+    let rest : List Act = did.acts ++ last in
     let fits = fit_front read.acts rest fit in
     let front : IsLikeOff has rest ne nx fa (nears_did has false read.acts near) (all_met read.acts c) = acts_off alone read.acts rest fits.0 k in
     let back : IsLike has [] ne nx fa [] (nears_did has true rest (nears_did has false read.acts near)) (all_met_second rest (all_met read.acts c)) =
-    mid_like alone did.acts says.acts (answering desk read.body (session_row read.body.exit.session second) refl) (announces_plain desk did.body) fits.1 front in
+    mid_like alone did.acts last (answering desk read.body (session_row read.body.exit.session second) refl) (all_append (announces_plain desk did.body) none) fits.1 front in
     let near_is : nears_did has true (read.acts ++ rest) near ≡ nears_did has true rest (nears_did has false read.acts near) = nears_append has true read.acts rest near ∙ ap (nears_did has true rest) (nears_plain has read.acts near (read_plain desk unread body)) in
     let scene_is : all_met_second (read.acts ++ rest) c ≡ all_met_second rest (all_met read.acts c) = second_append read.acts rest c ∙ ap (all_met_second rest) (plain_met read.acts c (read_plain desk unread body)) in
     subst (λ (n : Near). IsLike has [] ne nx fa [] n (all_met_second (read.acts ++ rest) c)) (sym near_is) (subst (λ (d : Scene). IsLike has [] ne nx fa [] (nears_did has true rest (nears_did has false read.acts near)) d) (sym scene_is) back)

@@ -1,6 +1,6 @@
 -- HOW MANY MESSAGES A STEP HEARS: as many as the words that arrived, where the side is open behind it, and none else.
 use Rattle.std.proofs.Common.{Bool, List, None, Option, Result, Ok, Err, Some, [], ap, arith, false, refl, suc, sym, true, ℕ, ◌++◌, ◌+◌, ◌∙◌, ◌∷◌, ◌≡◌}
-use Rattle.std.specs.Prelude.{is_some, length}
+use Rattle.std.specs.Prelude.{is_some, length, slice_get}
 use Rattle.std.proofs.lemmas.Bool.{false≢true}
 use Rattle.line_base.specs.declared.states.Side.{Side}
 use Rattle.line_base.specs.declared.states.Side.TheVariants.{Entry, Exit}
@@ -26,7 +26,7 @@ use Rattle.node_core.specs.Boards.{is_kept}
 use Rattle.node_core.specs.Connect.{if_open}
 use Rattle.node_core.specs.Desk.{Desk}
 use Rattle.node_core.specs.Done.{Done, and_then, behind}
-use Rattle.node_core.specs.Event.{Accepted, Connect, Event, Fault, Insert, Mark, Nothing, Notice, Remove, Replace, Second, Shutdown, Tick, Will, Words, event_did, event_of, with_new}
+use Rattle.node_core.specs.Event.{Accepted, Connect, Event, Fault, Insert, Mark, Nothing, Notice, Remove, Replace, Second, Shutdown, Tick, Will, Words, event_did, event_of, with_new, Level, Forecast, Query}
 use Rattle.node_core.specs.Halves.{behind_opening, opening_board}
 use Rattle.node_core.specs.Hears.{entry_took, entry_word, exit_took, exit_word, hears, intake_took, outlet_took, passed, rowed, side_took, taken}
 use Rattle.node_core.specs.Reads.{all_read}
@@ -51,11 +51,16 @@ use Rattle.machine_custody.proofs.Quiet.{AllActs, acts_more, acts_none}
 use Rattle.line_step.proofs.Quiet.{announces_leave}
 use Rattle.one_standing.proofs.CarryingSides.{heard_at, heard_in}
 use Rattle.one_standing.proofs.CountingQuiet.{IsDeaf, actions_deaf, announces_deaf, breaches_deaf, deaf_count, faults_deaf, heard_append, if_kept_deaf, intake_deaf, notices_deaf, outlet_deaf, read_deaf, session_deaf, shuts_deaf, ticks_deaf}
+use Rattle.node_core.specs.Bridge.{failed_front, fails, sets_level, tells_level}
+use Rattle.node_core.specs.Information.{forecasts}
+use Rattle.smema_bridge.specs.declared.line.SegmentLine.{SegmentLine}
+use Rattle.line_base.specs.declared.states.Quality.TheVariants as qualities
+use Rattle.board_record.specs.declared.record.Record.{Record}
 
 -- ---- a message
 
 -- one message is heard and nothing more, or the side is closed behind it
-data IsOne (side : Side) (message : Message) (d : Done) : Type 0 where
+pub data IsOne (side : Side) (message : Message) (d : Done) : Type 0 where
   one_heard : (others : List Act) → d.acts ≡ acts.Hears side message ∷ others → AllActs IsDeaf others → IsOne side message d
   one_breach : AllActs IsDeaf d.acts → is_open side d.body ≡ false → IsOne side message d
 
@@ -78,7 +83,7 @@ exit_any desk (exits.Start id) body =
     let opens : Bool = would_open body.outlet id in
     outlet_any desk (record body { kept = behind_opening opens body.kept }) (outlet_row body.outlet (out_input.Start id (opening_board opens body.kept)))
 exit_any desk (exits.Stop state id) body = outlet_any desk body (outlet_row body.outlet (out_input.Stop state id))
-exit_any desk exits.Query body = deaf_any_some (acts_more tt acts_none)
+exit_any desk (exits.Query top bottom) body = deaf_any_some (acts_more tt acts_none)
 exit_any desk exits.Nothing body = deaf_any_some acts_none
 
 entry_any : (desk : Desk) (word : EntryWord) (body : Body) → IsDeafAny (entry_took desk word body)
@@ -115,7 +120,7 @@ rowed_one : (desk : Desk) (side : Side) (message : Message) (body : Body) (row :
 rowed_one desk side message body None = breach_one desk side message (unexpected (kind_of message.body)) body
 rowed_one desk side message body (Some row) = taken_one desk side message row.actions.first row.actions (with_session side row.after body)
 
-hears_one : (desk : Desk) (side : Side) (message : Message) (body : Body) → IsOne side message (hears desk side message body)
+pub hears_one : (desk : Desk) (side : Side) (message : Message) (body : Body) → IsOne side message (hears desk side message body)
 hears_one desk side message body = rowed_one desk side message body (session_row (session_at side body) (heard message.body (is_some (held body.outlet))))
 
 -- ---- words
@@ -203,6 +208,17 @@ is_words_to Entry (Words Entry words) = true
 is_words_to Exit (Words Exit words) = true
 is_words_to _ _ = false
 
+fails_deaf : (found : Option ℕ) (body : Body) → AllActs IsDeaf (fails found body).acts
+fails_deaf None body = acts_none
+fails_deaf (Some id) body = if_kept_deaf (is_kept id body.kept) _ body (acts.Marks id qualities.Failed) tt
+
+levels_deaf : (desk : Desk) (line : SegmentLine) (on : Bool) (body : Body) → AllActs IsDeaf (sets_level desk line on body).acts
+levels_deaf desk line on body = acts_more tt (fails_deaf (failed_front desk.bridge line on (tells_level line on body).body) (tells_level line on body).body)
+
+forecasts_deaf : (desk : Desk) (front : Option Record) → AllActs IsDeaf (forecasts desk front)
+forecasts_deaf desk None = acts_none
+forecasts_deaf desk (Some board) = acts_more tt acts_none
+
 event_none : (at : Side) (desk : Desk) (event : Event) (body : Body) → is_words_to at event ≡ false → heard_in at (event_did desk event body).acts ≡ 0
 event_none at desk Nothing body is = refl
 event_none at desk Connect body is = deaf_count at (acts_more {act = acts.Connects} tt (session_deaf desk Entry (session_row (session_at Entry body) opened) body))
@@ -217,6 +233,9 @@ event_none at desk Tick body is = deaf_count at (ticks_deaf desk body)
 event_none at desk Shutdown body is = deaf_count at (shuts_deaf desk body)
 event_none at desk (Fault side) body is = deaf_count at (faults_deaf desk side body)
 event_none at desk (Will side on) body is = refl
+event_none at desk (Level line on) body is = deaf_count at (levels_deaf desk line on body)
+event_none at desk Forecast body is = deaf_count at (forecasts_deaf desk (slice_get body.kept 0))
+event_none at desk (Query barcode) body is = refl
 event_none at desk (Insert id barcode) body is = refl
 event_none at desk (Remove id) body is = deaf_count at (if_kept_deaf (is_kept id body.kept) _ body (acts.Removes id) tt)
 event_none at desk (Replace old new) body is = deaf_count at (if_kept_deaf (is_kept old body.kept) _ body (acts.Replaces old new) tt)

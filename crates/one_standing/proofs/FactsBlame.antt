@@ -42,7 +42,6 @@ use Rattle.machine_custody.specs.Good.{Afar, GoesBy, Good}
 use Rattle.machine_custody.specs.Scene.{Scene, all_met, link_above, link_below}
 use Rattle.machine_custody.proofs.Keeping.{front_found, kept_lies, offers_the_front}
 use Rattle.machine_custody.proofs.Rows.{unheard_above, unheard_below}
-use Rattle.std.specs.List.{AllByRecursion}
 use Rattle.line_base.specs.declared.states.Role.TheVariants.{Downstream, Upstream}
 use Rattle.line_base.specs.declared.states.Side.{Side}
 use Rattle.line_base.specs.declared.states.Side.TheVariants.{Entry, Exit}
@@ -80,8 +79,9 @@ use Rattle.node_core.specs.Announces.{announces, offer, offer_by, offers_now, re
 use Rattle.node_core.specs.Boards.{if_kept, is_kept}
 use Rattle.node_core.specs.Connect.{if_open, opens, shuts_down, ticks}
 use Rattle.node_core.specs.Desk.{Desk}
-use Rattle.node_core.specs.Done.{Done, and_then, behind}
-use Rattle.node_core.specs.Event.{Accepted, Connect, Event, Fault, Insert, Mark, Nothing, Notice, Remove, Replace, Second, Shutdown, Tick, Will, Words, event_did}
+use Rattle.node_core.specs.Done.{Done, and_then, behind, done}
+use Rattle.node_core.specs.Event.{Accepted, Connect, Event, Fault, Insert, Mark, Nothing, Notice, Remove, Replace, Second, Shutdown, Tick, Will, Words, event_did, Level, Forecast, Query}
+use Rattle.node_core.specs.Information.{forecasts}
 use Rattle.node_core.specs.Halves.{behind_opening, ended, half_closed, intake_row_did, opening_board, outlet_row_did}
 use Rattle.node_core.specs.Hears.{hears, intake_took, outlet_took, passed, rowed, taken}
 use Rattle.node_core.specs.Reads.{all_read, reads, saw}
@@ -95,34 +95,48 @@ use Rattle.node_core.specs.declared.act.Act.TheVariants as acts
 use Rattle.node_core.specs.declared.lane.Body.{Body}
 use Rattle.node_core.specs.declared.word.Word.{Word}
 use Rattle.node_core.specs.declared.word.Word.TheVariants as words
+use Rattle.node_core.specs.Bridge.{failed_front, fails, tells_level}
+use Rattle.link_messages.specs.Heard.{bodies}
+use Rattle.one_standing.proofs.BlameReady.{hears_ready as behind_hearing, is_ready, read_stays, ready_after, ready_stands}
+use Rattle.smema_bridge.specs.declared.line.SegmentLine.{SegmentLine}
+use Rattle.line_base.specs.declared.states.Quality.TheVariants as qualities
 
 -- ---- acts that breach nothing but at such sides, and send only such messages as come to the side at the other end
 
--- what the machine above says to an entry, and the one below to an exit
-abbrev pub is_from : Side → Horizontal → Bool
-is_from side (message.CheckAlive ping id) = true
-is_from side (message.ServiceDescription service) = true
-is_from side (message.Notification code severity text) = true
-is_from Entry (message.BoardAvailable board) = true
-is_from Entry message.RevokeBoardAvailable = true
-is_from Entry (message.TransportFinished state id) = true
-is_from Exit (message.MachineReady quality) = true
-is_from Exit message.RevokeMachineReady = true
-is_from Exit (message.StartTransport id) = true
-is_from Exit (message.StopTransport state id) = true
-is_from side what = false
+-- what the machine above says to an entry, and the one below to an exit; of boards beside their handovers only to one that is
+-- not in its handshake
+abbrev pub is_from : Side → Bool → Horizontal → Bool
+is_from side ready (message.CheckAlive ping id) = true
+is_from side ready (message.ServiceDescription service) = true
+is_from side ready (message.Notification code severity text) = true
+is_from Entry ready (message.BoardAvailable board) = true
+is_from Entry ready message.RevokeBoardAvailable = true
+is_from Entry ready (message.TransportFinished state id) = true
+is_from Entry ready (message.BoardForecast info) = ready
+is_from Entry ready (message.SendBoardInfo info) = ready
+is_from Exit ready (message.MachineReady quality) = true
+is_from Exit ready message.RevokeMachineReady = true
+is_from Exit ready (message.StartTransport id) = true
+is_from Exit ready (message.StopTransport state id) = true
+is_from Exit ready (message.QueryBoardInfo top bottom) = ready
+is_from side ready what = false
 
-abbrev pub is_mild : (Side → Bool) → Act → Bool
-is_mild may (acts.Breaches side text) = may side
-is_mild may (acts.Sends Entry m) = is_from Exit m.body
-is_mild may (acts.Sends Exit m) = is_from Entry m.body
+-- at which sides acts may breach, and at which they may tell of boards beside their handovers
+pub record Leave : Type 0 where
+  pub blames : Side → Bool
+  pub frees : Side → Bool
+
+abbrev pub is_mild : Leave → Act → Bool
+is_mild may (acts.Breaches side text) = may.blames side
+is_mild may (acts.Sends Entry m) = is_from Exit (may.frees Entry) m.body
+is_mild may (acts.Sends Exit m) = is_from Entry (may.frees Exit) m.body
 is_mild may _ = true
 
-abbrev pub are_mild : (Side → Bool) → List Act → Bool
+abbrev pub are_mild : Leave → List Act → Bool
 are_mild may [] = true
 are_mild may (act ∷ others) = is_mild may act && are_mild may others
 
-record Mild (may : Side → Bool) (d : Done) : Type 0 where
+record Mild (may : Leave) (d : Done) : Type 0 where
   mild : are_mild may d.acts ≡ true
 
 -- at no side, and at this one alone
@@ -135,70 +149,82 @@ at_one Entry Exit = false
 at_one Exit Entry = false
 at_one Exit Exit = true
 
+-- at none, and to nobody
+abbrev pub no_leave : Leave
+no_leave = record { blames = at_none; frees = at_none }
+
+-- all of them are such as come to this side, in their order
+abbrev pub AreBodiesFrom : Side → Bool → List Horizontal → Type 0
+AreBodiesFrom side ready [] = Unit {0}
+AreBodiesFrom side ready (body ∷ others) = (is_from side ready body ≡ true) × AreBodiesFrom side (ready_after side ready body) others
+
+abbrev pub AreFrom : Side → Bool → List Message → Type 0
+AreFrom side ready messages = AreBodiesFrom side ready (bodies messages)
+
 both_mild : (a b : Bool) → a ≡ true → b ≡ true → (a && b) ≡ true
 both_mild true b one two = two
 both_mild false b one two = one
 
-mild_append : (may : Side → Bool) (a b : List Act) → are_mild may a ≡ true → are_mild may b ≡ true → are_mild may (a ++ b) ≡ true
+mild_append : (may : Leave) (a b : List Act) → are_mild may a ≡ true → are_mild may b ≡ true → are_mild may (a ++ b) ≡ true
 mild_append may [] b one two = two
 mild_append may (act ∷ a) b one two = mild_by (is_mild may act) one (λ later. mild_append may a b later two) where
   mild_by : (first : Bool) → (first && are_mild may a) ≡ true → (are_mild may a ≡ true → are_mild may (a ++ b) ≡ true) → (first && are_mild may (a ++ b)) ≡ true
   mild_by true is next = next is
   mild_by false is next = is
 
-mild_both : {may : Side → Bool} (first : Done) (next : Body → Done) → Mild may first → Mild may (next first.body) → Mild may (and_then first next)
-mild_both first next a b = record { mild = mild_append _ first.acts (next first.body).acts a.mild b.mild }
+mild_both : {may : Leave} (first : Done) (next : Body → Done) → Mild may first → Mild may (next first.body) → Mild may (and_then first next)
+mild_both {may} first next a b = record { mild = mild_append may first.acts (next first.body).acts a.mild b.mild }
 
-mild_behind : {may : Side → Bool} (told : List Act) (d : Done) → are_mild may told ≡ true → Mild may d → Mild may (behind told d)
-mild_behind told d one two = record { mild = mild_append _ told d.acts one two.mild }
+mild_behind : {may : Leave} (told : List Act) (d : Done) → are_mild may told ≡ true → Mild may d → Mild may (behind told d)
+mild_behind {may} told d one two = record { mild = mild_append may told d.acts one two.mild }
 
 -- ---- the halves and the sessions
 
-out_does_mild : (may : Side → Bool) (deed : Option OutDeed) → are_mild may (out_does deed) ≡ true
+out_does_mild : (may : Leave) (deed : Option OutDeed) → are_mild may (out_does deed) ≡ true
 out_does_mild may None = refl
 out_does_mild may (Some deed) = refl
 
-out_said_mild : (may : Side → Bool) (desk : Desk) (kept : List Record) (send : Option OutSend) → are_mild may (out_said desk kept send) ≡ true
+out_said_mild : (may : Leave) (desk : Desk) (kept : List Record) (send : Option OutSend) → are_mild may (out_said desk kept send) ≡ true
 out_said_mild may desk kept None = refl
 out_said_mild may desk [] (Some out_sends.BoardAvailable) = refl
 out_said_mild may desk (r ∷ rs) (Some out_sends.BoardAvailable) = refl
 out_said_mild may desk kept (Some out_sends.RevokeBoardAvailable) = refl
 out_said_mild may desk kept (Some (out_sends.Finished state id)) = refl
 
-drives_mild : (may : Side → Bool) (side : Side) (drive : Option Bool) → are_mild may (drives side drive) ≡ true
+drives_mild : (may : Leave) (side : Side) (drive : Option Bool) → are_mild may (drives side drive) ≡ true
 drives_mild may side None = refl
 drives_mild may side (Some on) = refl
 
-out_mild : (may : Side → Bool) (desk : Desk) (kept : List Record) (act : OutAct) → are_mild may (out_told desk kept act) ≡ true
+out_mild : (may : Leave) (desk : Desk) (kept : List Record) (act : OutAct) → are_mild may (out_told desk kept act) ≡ true
 out_mild may desk kept act = mild_append may (out_does act.deed) (out_said desk kept act.send ++ drives Exit act.drive) (out_does_mild may act.deed) (mild_append may (out_said desk kept act.send) (drives Exit act.drive) (out_said_mild may desk kept act.send) (drives_mild may Exit act.drive))
 
-in_does_mild : (may : Side → Bool) (deed : Option InDeed) → are_mild may (in_does deed) ≡ true
+in_does_mild : (may : Leave) (deed : Option InDeed) → are_mild may (in_does deed) ≡ true
 in_does_mild may None = refl
 in_does_mild may (Some deed) = refl
 
-in_said_mild : (may : Side → Bool) (desk : Desk) (send : Option InSend) → are_mild may (in_said desk send) ≡ true
+in_said_mild : (may : Leave) (desk : Desk) (send : Option InSend) → are_mild may (in_said desk send) ≡ true
 in_said_mild may desk None = refl
 in_said_mild may desk (Some in_sends.MachineReady) = refl
 in_said_mild may desk (Some in_sends.RevokeMachineReady) = refl
 in_said_mild may desk (Some (in_sends.Start id)) = refl
 in_said_mild may desk (Some (in_sends.Stop state id)) = refl
 
-in_mild : (may : Side → Bool) (desk : Desk) (act : InAct) → are_mild may (in_told desk act) ≡ true
+in_mild : (may : Leave) (desk : Desk) (act : InAct) → are_mild may (in_told desk act) ≡ true
 in_mild may desk act = mild_append may (in_does act.deed) (in_said desk act.send ++ drives Entry act.drive) (in_does_mild may act.deed) (mild_append may (in_said desk act.send) (drives Entry act.drive) (in_said_mild may desk act.send) (drives_mild may Entry act.drive))
 
-outlet_mild : {may : Side → Bool} (desk : Desk) (body : Body) (found : Option OutRow) → Mild may (outlet_row_did desk body found)
+outlet_mild : {may : Leave} (desk : Desk) (body : Body) (found : Option OutRow) → Mild may (outlet_row_did desk body found)
 outlet_mild desk body None = record { mild = refl }
-outlet_mild desk body (Some r) = record { mild = out_mild _ desk body.kept r.act }
+outlet_mild {may} desk body (Some r) = record { mild = out_mild may desk body.kept r.act }
 
-intake_mild : {may : Side → Bool} (desk : Desk) (body : Body) (found : Option InRow) → Mild may (intake_row_did desk body found)
+intake_mild : {may : Leave} (desk : Desk) (body : Body) (found : Option InRow) → Mild may (intake_row_did desk body found)
 intake_mild desk body None = record { mild = refl }
-intake_mild desk body (Some r) = record { mild = in_mild _ desk r.act }
+intake_mild {may} desk body (Some r) = record { mild = in_mild may desk r.act }
 
-half_mild : {may : Side → Bool} (desk : Desk) (side : Side) (body : Body) → Mild may (half_closed desk side body)
+half_mild : {may : Leave} (desk : Desk) (side : Side) (body : Body) → Mild may (half_closed desk side body)
 half_mild desk Entry body = intake_mild desk body (intake_row body.intake in_input.Closed)
 half_mild desk Exit body = outlet_mild desk body (outlet_row body.outlet out_input.Closed)
 
-action_mild : {may : Side → Bool} (desk : Desk) (side : Side) (action : Action) (body : Body) → Mild may (action_did desk side action body)
+action_mild : {may : Leave} (desk : Desk) (side : Side) (action : Action) (body : Body) → Mild may (action_did desk side action body)
 action_mild desk Entry SendService body = record { mild = refl }
 action_mild desk Exit SendService body = record { mild = refl }
 action_mild desk Entry (Pong id) body = record { mild = refl }
@@ -211,65 +237,65 @@ action_mild desk side Close body = mild_behind (acts.Closes side ∷ []) (half_c
 action_mild desk side Stand body = intake_mild desk body (intake_row body.intake in_input.Stand)
 action_mild desk side (Pass what) body = record { mild = refl }
 
-maybe_mild : {may : Side → Bool} (desk : Desk) (side : Side) (action : Option Action) (body : Body) → Mild may (maybe_did desk side action body)
+maybe_mild : {may : Leave} (desk : Desk) (side : Side) (action : Option Action) (body : Body) → Mild may (maybe_did desk side action body)
 maybe_mild desk side None body = record { mild = refl }
 maybe_mild desk side (Some action) body = action_mild desk side action body
 
-actions_mild : {may : Side → Bool} (desk : Desk) (side : Side) (actions : Actions) (body : Body) → Mild may (actions_did desk side actions body)
+actions_mild : {may : Leave} (desk : Desk) (side : Side) (actions : Actions) (body : Body) → Mild may (actions_did desk side actions body)
 actions_mild desk side actions body =
     let first : Done = maybe_did desk side actions.first body in
     mild_both first (λ (b : Body). and_then (maybe_did desk side actions.second b) (maybe_did desk side actions.third)) (maybe_mild desk side actions.first body)
     (mild_both (maybe_did desk side actions.second first.body) (maybe_did desk side actions.third) (maybe_mild desk side actions.second first.body) (maybe_mild desk side actions.third (maybe_did desk side actions.second first.body).body))
 
-session_mild : {may : Side → Bool} (desk : Desk) (side : Side) (body : Body) (found : Option SessionRow) → Mild may (session_did desk side found body)
+session_mild : {may : Leave} (desk : Desk) (side : Side) (body : Body) (found : Option SessionRow) → Mild may (session_did desk side found body)
 session_mild desk side body None = record { mild = refl }
 session_mild desk side body (Some r) = actions_mild desk side r.actions (with_session side r.after body)
 
-ended_mild : {may : Side → Bool} (desk : Desk) (side : Side) (body : Body) → Mild may (half_closed desk side (with_session side (at_rest (session_at side body).role) body))
+ended_mild : {may : Leave} (desk : Desk) (side : Side) (body : Body) → Mild may (half_closed desk side (with_session side (at_rest (session_at side body).role) body))
 ended_mild desk side body = half_mild desk side (with_session side (at_rest (session_at side body).role) body)
 
-saw_mild : {may : Side → Bool} (desk : Desk) (seen : Seen) (body : Body) → Mild may (reads desk seen body)
+saw_mild : {may : Leave} (desk : Desk) (seen : Seen) (body : Body) → Mild may (reads desk seen body)
 saw_mild desk seen body = mild_behind (acts.Reads seen.side seen.event ∷ []) (saw desk seen.side seen.event body) refl (by seen.side) where
-  by : {may : Side → Bool} (side : Side) → Mild may (saw desk side seen.event body)
+  by : {may : Leave} (side : Side) → Mild may (saw desk side seen.event body)
   by Entry = intake_mild desk body (intake_row body.intake (in_input.Sensed seen.event))
   by Exit = outlet_mild desk body (outlet_row body.outlet (out_input.Sensed seen.event))
 
-read_mild : {may : Side → Bool} (desk : Desk) (unread : List Seen) (body : Body) → Mild may (all_read desk unread body)
+read_mild : {may : Leave} (desk : Desk) (unread : List Seen) (body : Body) → Mild may (all_read desk unread body)
 read_mild desk [] body = record { mild = refl }
 read_mild desk (s ∷ ss) body = mild_both (reads desk s body) (all_read desk ss) (saw_mild desk s body) (read_mild desk ss (reads desk s body).body)
 
-if_mild : {may : Side → Bool} (test : Bool) (d : Done) (body : Body) → Mild may d → Mild may (if_open test d body)
+if_mild : {may : Leave} (test : Bool) (d : Done) (body : Body) → Mild may d → Mild may (if_open test d body)
 if_mild true d body m = m
 if_mild false d body m = record { mild = refl }
 
-kept_mild : {may : Side → Bool} (test : Bool) (body after : Body) (act : Act) → is_mild may act ≡ true → Mild may (if_kept test after act body)
+kept_mild : {may : Leave} (test : Bool) (body after : Body) (act : Act) → is_mild may act ≡ true → Mild may (if_kept test after act body)
 kept_mild true body after act mild = record { mild = both_mild _ true mild refl }
 kept_mild false body after act mild = record { mild = refl }
 
 -- ---- the announcements
 
-revoke_mild : {may : Side → Bool} (desk : Desk) (test : Bool) (body : Body) → Mild may (revoke_by desk test body)
+revoke_mild : {may : Leave} (desk : Desk) (test : Bool) (body : Body) → Mild may (revoke_by desk test body)
 revoke_mild desk true body = outlet_mild desk body (outlet_row body.outlet out_input.Revoke)
 revoke_mild desk false body = record { mild = refl }
 
-unready_mild : {may : Side → Bool} (desk : Desk) (test : Bool) (body : Body) → Mild may (unready_by desk test body)
+unready_mild : {may : Leave} (desk : Desk) (test : Bool) (body : Body) → Mild may (unready_by desk test body)
 unready_mild desk true body = intake_mild desk body (intake_row body.intake in_input.Unready)
 unready_mild desk false body = record { mild = refl }
 
-offer_mild : {may : Side → Bool} (desk : Desk) (test : Bool) (front : Option Record) (body : Body) → Mild may (offer_by desk test front body)
+offer_mild : {may : Leave} (desk : Desk) (test : Bool) (front : Option Record) (body : Body) → Mild may (offer_by desk test front body)
 offer_mild desk true (Some front) body = outlet_mild desk body (outlet_row body.outlet (out_input.Offer front.id))
 offer_mild desk true None body = record { mild = refl }
 offer_mild desk false front body = record { mild = refl }
 
-ready_mild : {may : Side → Bool} (desk : Desk) (test : Bool) (body : Body) → Mild may (ready_by desk test body)
+ready_mild : {may : Leave} (desk : Desk) (test : Bool) (body : Body) → Mild may (ready_by desk test body)
 ready_mild desk true body = intake_mild desk body (intake_row body.intake in_input.Ready)
 ready_mild desk false body = record { mild = refl }
 
-start_mild : {may : Side → Bool} (desk : Desk) (test : Bool) (body : Body) → Mild may (start_by desk test body)
+start_mild : {may : Leave} (desk : Desk) (test : Bool) (body : Body) → Mild may (start_by desk test body)
 start_mild desk true body = intake_mild desk body (intake_row body.intake in_input.Start)
 start_mild desk false body = record { mild = refl }
 
-announces_mild : {may : Side → Bool} (desk : Desk) (body : Body) → Mild may (announces desk body)
+announces_mild : {may : Leave} (desk : Desk) (body : Body) → Mild may (announces desk body)
 announces_mild desk body =
     let one = (revoke desk body).body in
     let two = (unready desk one).body in
@@ -282,11 +308,25 @@ announces_mild desk body =
 
 -- ---- what befalls a machine, but words
 
-abbrev pub IsNoWords : Event → Type 0
-IsNoWords (Words side words) = ⊥
-IsNoWords _ = Unit {0}
+-- where boards are told of beside their handovers, the session of that side stands
+abbrev pub IsNoWords : (Side → Bool) → Event → Type 0
+IsNoWords frees (Words side words) = ⊥
+IsNoWords frees Forecast = frees Exit ≡ true
+IsNoWords frees (Query barcode) = frees Entry ≡ true
+IsNoWords frees _ = Unit {0}
 
-event_mild : {may : Side → Bool} (desk : Desk) (event : Event) (body : Body) → IsNoWords event → Mild may (event_did desk event body)
+level_mild : {may : Leave} (line : SegmentLine) (on : Bool) (body : Body) → Mild may (tells_level line on body)
+level_mild line on body = record { mild = refl }
+
+fails_mild : {may : Leave} (found : Option ℕ) (body : Body) → Mild may (fails found body)
+fails_mild None body = record { mild = refl }
+fails_mild (Some id) body = kept_mild (is_kept id body.kept) body _ (acts.Marks id qualities.Failed) refl
+
+forecast_mild : {may : Leave} (desk : Desk) (front : Option Record) (body : Body) → may.frees Exit ≡ true → Mild may (done body (forecasts desk front))
+forecast_mild desk None body free = record { mild = refl }
+forecast_mild desk (Some board) body free = record { mild = both_mild _ true free refl }
+
+event_mild : {may : Leave} (desk : Desk) (event : Event) (body : Body) → IsNoWords may.frees event → Mild may (event_did desk event body)
 event_mild desk Nothing body other = record { mild = refl }
 event_mild desk Connect body other = mild_behind (acts.Connects ∷ []) (opens desk Entry body) refl (session_mild desk Entry body (session_row (session_at Entry body) opened))
 event_mild desk Accepted body other = session_mild desk Exit body (session_row (session_at Exit body) opened)
@@ -301,20 +341,25 @@ event_mild desk Shutdown body other = mild_both (shuts_down desk Entry body) (sh
 event_mild desk (Fault Entry) body other = intake_mild desk body (intake_row body.intake in_input.Fault)
 event_mild desk (Fault Exit) body other = outlet_mild desk body (outlet_row body.outlet out_input.Fault)
 event_mild desk (Will side on) body other = record { mild = refl }
+event_mild {may} desk (Level line on) body other =
+    mild_both (tells_level line on body) (λ (b : Body). fails (failed_front desk.bridge line on b) b) (level_mild line on body)
+    (let b = (tells_level line on body).body in fails_mild (failed_front desk.bridge line on b) b)
+event_mild desk Forecast body other = forecast_mild desk (slice_get body.kept 0) body other
+event_mild desk (Query barcode) body other = record { mild = both_mild _ true other refl }
 event_mild desk (Insert id barcode) body other = record { mild = refl }
 event_mild desk (Remove id) body other = kept_mild (is_kept id body.kept) body _ (acts.Removes id) refl
 event_mild desk (Replace old new) body other = kept_mild (is_kept old body.kept) body _ (acts.Replaces old new) refl
 event_mild desk (Mark id quality) body other = kept_mild (is_kept id body.kept) body _ (acts.Marks id quality) refl
 
-step_mild_by : {may : Side → Bool} (desk : Desk) (unread : List Seen) (event : Event) (body : Body) → Mild may (event_did desk event (all_read desk unread body).body) → Mild may (machine_step desk unread event body)
+step_mild_by : {may : Leave} (desk : Desk) (unread : List Seen) (event : Event) (body : Body) → Mild may (event_did desk event (all_read desk unread body).body) → Mild may (machine_step desk unread event body)
 step_mild_by desk unread event body m =
     let read = all_read desk unread body in
     mild_both read (λ (b : Body). and_then (event_did desk event b) (announces desk)) (read_mild desk unread body)
     (mild_both (event_did desk event read.body) (announces desk) m (announces_mild desk (event_did desk event read.body).body))
 
 -- without words nothing is breached
-pub quiet_step_mild : (may : Side → Bool) (desk : Desk) (unread : List Seen) (event : Event) (body : Body) → IsNoWords event → are_mild may (machine_step desk unread event body).acts ≡ true
-quiet_step_mild may desk unread event body other = (step_mild_by desk unread event body (event_mild desk event (all_read desk unread body).body other)).mild
+pub quiet_step_mild : (may : Leave) (desk : Desk) (unread : List Seen) (event : Event) (body : Body) → IsNoWords may.frees event → are_mild may (machine_step desk unread event body).acts ≡ true
+quiet_step_mild may desk unread event body other = (step_mild_by {may = may} desk unread event body (event_mild {may = may} desk event (all_read desk unread body).body other)).mild
 
 -- ---- a message that the machine at the other end sends
 
@@ -322,7 +367,7 @@ abbrev IsNoPass : Option Action → Type 0
 IsNoPass (Some (Pass what)) = ⊥
 IsNoPass action = Unit {0}
 
-taken_aside : {may : Side → Bool} (desk : Desk) (side : Side) (m : Message) (first : Option Action) (actions : Actions) (body : Body) → IsNoPass first → Mild may (taken desk side m first actions body)
+taken_aside : {may : Leave} (desk : Desk) (side : Side) (m : Message) (first : Option Action) (actions : Actions) (body : Body) → IsNoPass first → Mild may (taken desk side m first actions body)
 taken_aside desk side m None actions body plain = mild_behind (acts.Hears side m ∷ []) (actions_did desk side actions body) refl (actions_mild desk side actions body)
 taken_aside desk side m (Some SendService) actions body plain = mild_behind (acts.Hears side m ∷ []) (actions_did desk side actions body) refl (actions_mild desk side actions body)
 taken_aside desk side m (Some (Pong id)) actions body plain = mild_behind (acts.Hears side m ∷ []) (actions_did desk side actions body) refl (actions_mild desk side actions body)
@@ -333,11 +378,11 @@ taken_aside desk side m (Some Stand) actions body plain = mild_behind (acts.Hear
 taken_aside desk side m (Some (Pass what)) actions body plain = absurd plain
 
 -- the session has a row
-hears_by : {may : Side → Bool} (desk : Desk) (side : Side) (m : Message) (body : Body) (r : SessionRow) → session_row (session_at side body) (heard m.body (is_some (held body.outlet))) ≡ Some r
+hears_by : {may : Leave} (desk : Desk) (side : Side) (m : Message) (body : Body) (r : SessionRow) → session_row (session_at side body) (heard m.body (is_some (held body.outlet))) ≡ Some r
     → Mild may (taken desk side m r.actions.first r.actions (with_session side r.after body)) → Mild may (hears desk side m body)
 hears_by {may} desk side m body r is mild = subst (λ (found : Option SessionRow). Mild may (rowed desk side m body found)) (sym is) mild
 
-aside : {may : Side → Bool} (desk : Desk) (side : Side) (m : Message) (body : Body) (r : SessionRow) → session_row (session_at side body) (heard m.body (is_some (held body.outlet))) ≡ Some r → IsNoPass r.actions.first → Mild may (hears desk side m body)
+aside : {may : Leave} (desk : Desk) (side : Side) (m : Message) (body : Body) (r : SessionRow) → session_row (session_at side body) (heard m.body (is_some (held body.outlet))) ≡ Some r → IsNoPass r.actions.first → Mild may (hears desk side m body)
 aside desk side m body r is plain = hears_by desk side m body r is (taken_aside desk side m r.actions.first r.actions (with_session side r.after body) plain)
 
 connected_is : (state : SessionState) (after : SessionEnd) (actions : Actions) → is_connected_state state ≡ true → connected_row state after actions ≡ Some (record { after = after; actions = actions })
@@ -350,12 +395,12 @@ alive_plain None id = tt
 alive_plain (Some ping.Ask) id = tt
 alive_plain (Some ping.Answer) id = tt
 
-alive_mild : {may : Side → Bool} (desk : Desk) (side : Side) (stamp : Option ℤ) (p : Option Ping) (id : Option (List ℕ)) (body : Body) → is_open side body ≡ true → Mild may (hears desk side (record { stamp = stamp; body = message.CheckAlive p id }) body)
+alive_mild : {may : Leave} (desk : Desk) (side : Side) (stamp : Option ℤ) (p : Option Ping) (id : Option (List ℕ)) (body : Body) → is_open side body ≡ true → Mild may (hears desk side (record { stamp = stamp; body = message.CheckAlive p id }) body)
 alive_mild desk side stamp p id body on =
     let s : SessionEnd = session_at side body in
     aside desk side (record { stamp = stamp; body = message.CheckAlive p id }) body (record { after = heard_from s; actions = alive_actions p id }) (connected_is s.state (heard_from s) (alive_actions p id) on) (alive_plain p id)
 
-notified_mild : {may : Side → Bool} (desk : Desk) (side : Side) (stamp : Option ℤ) (code : Code) (severity : Severity) (text : List ℕ) (body : Body) → is_open side body ≡ true → Mild may (hears desk side (record { stamp = stamp; body = message.Notification code severity text }) body)
+notified_mild : {may : Leave} (desk : Desk) (side : Side) (stamp : Option ℤ) (code : Code) (severity : Severity) (text : List ℕ) (body : Body) → is_open side body ≡ true → Mild may (hears desk side (record { stamp = stamp; body = message.Notification code severity text }) body)
 notified_mild desk side stamp code severity text body on =
     let s : SessionEnd = session_at side body in
     aside desk side (record { stamp = stamp; body = message.Notification code severity text }) body (record { after = heard_from s; actions = nothing }) (connected_is s.state (heard_from s) nothing on) tt
@@ -364,53 +409,59 @@ traffic_is : (s : SessionEnd) (what : Horizontal) (role : Role) → s.state ≡ 
 traffic_is s what role stands is passes =
     ap (λ (state : SessionState). traffic_row state s what) stands ∙ ap (λ (r : Role). taken_row s (actions_at (handling_of (kind_of what) r) what)) is ∙ ap (λ (a : Option Actions). taken_row s a) passes
 
-passed_in : {may : Side → Bool} (desk : Desk) (m : Message) (body : Body) (found : Option InRow) (r : InRow) → found ≡ Some r → Mild may (passed desk Entry m body (intake_took desk body found))
-passed_in {may} desk m body found r is = subst (λ (f : Option InRow). Mild may (passed desk Entry m body (intake_took desk body f))) (sym is) (record { mild = in_mild _ desk r.act })
+passed_in : {may : Leave} (desk : Desk) (m : Message) (body : Body) (found : Option InRow) (r : InRow) → found ≡ Some r → Mild may (passed desk Entry m body (intake_took desk body found))
+passed_in {may} desk m body found r is = subst (λ (f : Option InRow). Mild may (passed desk Entry m body (intake_took desk body f))) (sym is) (record { mild = in_mild may desk r.act })
 
-passed_out : {may : Side → Bool} (desk : Desk) (m : Message) (body after : Body) (found : Option OutRow) (r : OutRow) → found ≡ Some r → Mild may (passed desk Exit m body (outlet_took desk after found))
-passed_out {may} desk m body after found r is = subst (λ (f : Option OutRow). Mild may (passed desk Exit m body (outlet_took desk after f))) (sym is) (record { mild = out_mild _ desk after.kept r.act })
+passed_out : {may : Leave} (desk : Desk) (m : Message) (body after : Body) (found : Option OutRow) (r : OutRow) → found ≡ Some r → Mild may (passed desk Exit m body (outlet_took desk after found))
+passed_out {may} desk m body after found r is = subst (λ (f : Option OutRow). Mild may (passed desk Exit m body (outlet_took desk after f))) (sym is) (record { mild = out_mild may desk after.kept r.act })
 
 described_in : (s : SessionEnd) (service : Service) (unsettled : Bool) → s.state ≡ Handshake → s.role ≡ Downstream → session_row s (heard (message.ServiceDescription service) unsettled) ≡ Some (record { after = stands s service.features; actions = one Stand })
 described_in s service unsettled shakes is = ap (λ (state : SessionState). service_row state s service.features unsettled) shakes ∙ ap (λ (r : Role). described_row r s service.features unsettled) is
 
 -- an entry hears what comes to it
-entry_mild : {may : Side → Bool} {afar : Afar} {above : List Record} {ga gb : Ghost} (desk : Desk) (stamp : Option ℤ) (what : Horizontal) (rest : List Horizontal) (body : Body) (c : Scene) → Good afar above [] ga gb body (unheard_above (what ∷ rest) c) → is_open Entry body ≡ true → is_from Entry what ≡ true
+entry_mild : {may : Leave} {afar : Afar} {above : List Record} {ga gb : Ghost} (desk : Desk) (stamp : Option ℤ) (what : Horizontal) (rest : List Horizontal) (body : Body) (c : Scene) → Good afar above [] ga gb body (unheard_above (what ∷ rest) c) → (ready : Bool) → (ready ≡ true → is_ready Entry body ≡ true) → is_open Entry body ≡ true → is_from Entry ready what ≡ true
     → Mild may (hears desk Entry (record { stamp = stamp; body = what }) body)
-entry_mild desk stamp (message.CheckAlive p id) rest body c g on from = alive_mild desk Entry stamp p id body on
-entry_mild desk stamp (message.Notification code severity text) rest body c g on from = notified_mild desk Entry stamp code severity text body on
-entry_mild {afar} {above} {ga} desk stamp (message.ServiceDescription service) rest body c g on from =
+entry_mild desk stamp (message.CheckAlive p id) rest body c g ready set on from = alive_mild desk Entry stamp p id body on
+entry_mild desk stamp (message.Notification code severity text) rest body c g ready set on from = notified_mild desk Entry stamp code severity text body on
+entry_mild {afar} {above} {ga} desk stamp (message.ServiceDescription service) rest body c g ready set on from =
     let k = hears_upstream {Gone = gone_by afar.gone_above} {above = above} ga (link_above [] body c) service rest g.above_pair in
     let s : SessionEnd = body.entry.session in
     aside desk Entry (record { stamp = stamp; body = message.ServiceDescription service }) body (record { after = stands s service.features; actions = one Stand }) (described_in s service (is_some (held body.outlet)) k.0 g.entry_role) tt
-entry_mild {afar} {above} {ga} desk stamp (message.BoardAvailable board) rest body c g on from =
+entry_mild {afar} {above} {ga} desk stamp (message.BoardAvailable board) rest body c g ready set on from =
     let k = hears_available {Gone = gone_by afar.gone_above} {above = above} ga (link_above [] body c) board rest g.above_pair in
     let s : SessionEnd = body.entry.session in
     let m : Message = record { stamp = stamp; body = message.BoardAvailable board } in
     let row : SessionRow = record { after = heard_from s; actions = one (Pass (message.BoardAvailable board)) } in
     let found : Option InRow = intake_row body.intake (in_input.BoardAvailable board) in
     hears_by desk Entry m body row (traffic_is s (message.BoardAvailable board) Downstream k.0 g.entry_role refl) (passed_in desk m (with_session Entry (heard_from s) body) found k.1.row k.1.is)
-entry_mild {afar} {above} {ga} desk stamp message.RevokeBoardAvailable rest body c g on from =
+entry_mild {afar} {above} {ga} desk stamp message.RevokeBoardAvailable rest body c g ready set on from =
     let k = hears_revoke_available {Gone = gone_by afar.gone_above} {above = above} ga (link_above [] body c) rest g.above_pair in
     let s : SessionEnd = body.entry.session in
     let m : Message = record { stamp = stamp; body = message.RevokeBoardAvailable } in
     let row : SessionRow = record { after = heard_from s; actions = one (Pass message.RevokeBoardAvailable) } in
     let found : Option InRow = intake_row body.intake in_input.RevokeBoardAvailable in
     hears_by desk Entry m body row (traffic_is s message.RevokeBoardAvailable Downstream k.0 g.entry_role refl) (passed_in desk m (with_session Entry (heard_from s) body) found k.1.row k.1.is)
-entry_mild {afar} {above} {ga} desk stamp (message.TransportFinished state id) rest body c g on from =
+entry_mild {afar} {above} {ga} desk stamp (message.TransportFinished state id) rest body c g ready set on from =
     let k = hears_finished {Gone = gone_by afar.gone_above} {above = above} ga (link_above [] body c) state id rest g.above_pair in
     let s : SessionEnd = body.entry.session in
     let m : Message = record { stamp = stamp; body = message.TransportFinished state id } in
     let row : SessionRow = record { after = heard_from s; actions = one (Pass (message.TransportFinished state id)) } in
     let found : Option InRow = intake_row body.intake (in_input.Finished state id) in
     hears_by desk Entry m body row (traffic_is s (message.TransportFinished state id) Downstream k.0 g.entry_role refl) (passed_in desk m (with_session Entry (heard_from s) body) found k.1.row k.1.is)
-entry_mild desk stamp (message.MachineReady quality) rest body c g on from = absurd (false≢true from)
-entry_mild desk stamp message.RevokeMachineReady rest body c g on from = absurd (false≢true from)
-entry_mild desk stamp (message.StartTransport id) rest body c g on from = absurd (false≢true from)
-entry_mild desk stamp (message.StopTransport state id) rest body c g on from = absurd (false≢true from)
-entry_mild desk stamp (message.BoardForecast info) rest body c g on from = absurd (false≢true from)
-entry_mild desk stamp (message.QueryBoardInfo top bottom) rest body c g on from = absurd (false≢true from)
-entry_mild desk stamp (message.SendBoardInfo info) rest body c g on from = absurd (false≢true from)
-entry_mild desk stamp (message.Other name) rest body c g on from = absurd (false≢true from)
+entry_mild desk stamp (message.MachineReady quality) rest body c g ready set on from = absurd (false≢true from)
+entry_mild desk stamp message.RevokeMachineReady rest body c g ready set on from = absurd (false≢true from)
+entry_mild desk stamp (message.StartTransport id) rest body c g ready set on from = absurd (false≢true from)
+entry_mild desk stamp (message.StopTransport state id) rest body c g ready set on from = absurd (false≢true from)
+entry_mild desk stamp (message.BoardForecast info) rest body c g ready set on from =
+    let s : SessionEnd = body.entry.session in
+    let m : Message = record { stamp = stamp; body = message.BoardForecast info } in
+    hears_by desk Entry m body (record { after = heard_from s; actions = one (Pass (message.BoardForecast info)) }) (traffic_is s (message.BoardForecast info) Downstream (ready_stands s.state on (set from)) g.entry_role refl) (record { mild = refl })
+entry_mild desk stamp (message.QueryBoardInfo top bottom) rest body c g ready set on from = absurd (false≢true from)
+entry_mild desk stamp (message.SendBoardInfo info) rest body c g ready set on from =
+    let s : SessionEnd = body.entry.session in
+    let m : Message = record { stamp = stamp; body = message.SendBoardInfo info } in
+    hears_by desk Entry m body (record { after = heard_from s; actions = one (Pass (message.SendBoardInfo info)) }) (traffic_is s (message.SendBoardInfo info) Downstream (ready_stands s.state on (set from)) g.entry_role refl) (record { mild = refl })
+entry_mild desk stamp (message.Other name) rest body c g ready set on from = absurd (false≢true from)
 
 -- ---- an exit
 
@@ -442,7 +493,7 @@ exit_shakes (apart_start s a) on = absurd (starts_no_description s)
 exit_shakes (apart_start_stop s a) on = absurd (starts_no_description s)
 exit_shakes (apart x e) on = exit_alone_shakes x on
 
-described_out : {may : Side → Bool} (desk : Desk) (stamp : Option ℤ) (service : Service) (body : Body) (unsettled : Bool) → is_some (held body.outlet) ≡ unsettled → body.exit.session.state ≡ Handshake → body.exit.session.role ≡ Upstream → Mild may (hears desk Exit (record { stamp = stamp; body = message.ServiceDescription service }) body)
+described_out : {may : Leave} (desk : Desk) (stamp : Option ℤ) (service : Service) (body : Body) (unsettled : Bool) → is_some (held body.outlet) ≡ unsettled → body.exit.session.state ≡ Handshake → body.exit.session.role ≡ Upstream → Mild may (hears desk Exit (record { stamp = stamp; body = message.ServiceDescription service }) body)
 described_out desk stamp service body false test shakes is =
     let s : SessionEnd = body.exit.session in
     aside desk Exit (record { stamp = stamp; body = message.ServiceDescription service }) body (record { after = stands s service.features; actions = one SendService })
@@ -452,33 +503,33 @@ described_out desk stamp service body true test shakes is =
     aside desk Exit (record { stamp = stamp; body = message.ServiceDescription service }) body (record { after = at_rest s.role; actions = two (Tell Unsettled) Close })
     (ap (λ (u : Bool). session_row s (heard (message.ServiceDescription service) u)) test ∙ ap (λ (state : SessionState). service_row state s service.features true) shakes ∙ ap (λ (r : Role). described_row r s service.features true) is) tt
 
-exit_mild : {may : Side → Bool} {afar : Afar} {above : List Record} {ga gb : Ghost} (desk : Desk) (stamp : Option ℤ) (what : Horizontal) (rest : List Horizontal) (body : Body) (c : Scene) → OffersOf body → Good afar above [] ga gb body (unheard_below (what ∷ rest) c) → is_open Exit body ≡ true → is_from Exit what ≡ true
+exit_mild : {may : Leave} {afar : Afar} {above : List Record} {ga gb : Ghost} (desk : Desk) (stamp : Option ℤ) (what : Horizontal) (rest : List Horizontal) (body : Body) (c : Scene) → OffersOf body → Good afar above [] ga gb body (unheard_below (what ∷ rest) c) → (ready : Bool) → (ready ≡ true → is_ready Exit body ≡ true) → (ready ≡ true → may.frees Exit ≡ true) → is_open Exit body ≡ true → is_from Exit ready what ≡ true
     → Mild may (hears desk Exit (record { stamp = stamp; body = what }) body)
-exit_mild desk stamp (message.CheckAlive p id) rest body c offers g on from = alive_mild desk Exit stamp p id body on
-exit_mild desk stamp (message.Notification code severity text) rest body c offers g on from = notified_mild desk Exit stamp code severity text body on
-exit_mild desk stamp (message.ServiceDescription service) rest body c offers g on from = described_out desk stamp service body (is_some (held body.outlet)) refl (exit_shakes g.below_pair.talk on) g.exit_role
-exit_mild {afar} {gb = gb} desk stamp (message.MachineReady quality) rest body c offers g on from =
+exit_mild desk stamp (message.CheckAlive p id) rest body c offers g ready set free on from = alive_mild desk Exit stamp p id body on
+exit_mild desk stamp (message.Notification code severity text) rest body c offers g ready set free on from = notified_mild desk Exit stamp code severity text body on
+exit_mild desk stamp (message.ServiceDescription service) rest body c offers g ready set free on from = described_out desk stamp service body (is_some (held body.outlet)) refl (exit_shakes g.below_pair.talk on) g.exit_role
+exit_mild {afar} {gb = gb} desk stamp (message.MachineReady quality) rest body c offers g ready set free on from =
     let k = hears_ready {Gone = gone_by afar.gone_below} gb (link_below [] body c) quality rest g.below_pair in
     let s : SessionEnd = body.exit.session in
     let m : Message = record { stamp = stamp; body = message.MachineReady quality } in
     let row : SessionRow = record { after = heard_from s; actions = one (Pass (message.MachineReady quality)) } in
     let body2 : Body = with_session Exit (heard_from s) body in
     hears_by desk Exit m body row (traffic_is s (message.MachineReady quality) Upstream k.0 g.exit_role refl) (passed_out desk m body2 body2 (outlet_row body.outlet out_input.MachineReady) k.1.row k.1.is)
-exit_mild {afar} {gb = gb} desk stamp message.RevokeMachineReady rest body c offers g on from =
+exit_mild {afar} {gb = gb} desk stamp message.RevokeMachineReady rest body c offers g ready set free on from =
     let k = hears_revoke_ready {Gone = gone_by afar.gone_below} gb (link_below [] body c) rest g.below_pair in
     let s : SessionEnd = body.exit.session in
     let m : Message = record { stamp = stamp; body = message.RevokeMachineReady } in
     let row : SessionRow = record { after = heard_from s; actions = one (Pass message.RevokeMachineReady) } in
     let body2 : Body = with_session Exit (heard_from s) body in
     hears_by desk Exit m body row (traffic_is s message.RevokeMachineReady Upstream k.0 g.exit_role refl) (passed_out desk m body2 body2 (outlet_row body.outlet out_input.RevokeMachineReady) k.1.row k.1.is)
-exit_mild {afar} {gb = gb} desk stamp (message.StopTransport state id) rest body c offers g on from =
+exit_mild {afar} {gb = gb} desk stamp (message.StopTransport state id) rest body c offers g ready set free on from =
     let k = hears_stop {Gone = gone_by afar.gone_below} gb (link_below [] body c) state id rest g.below_pair in
     let s : SessionEnd = body.exit.session in
     let m : Message = record { stamp = stamp; body = message.StopTransport state id } in
     let row : SessionRow = record { after = heard_from s; actions = one (Pass (message.StopTransport state id)) } in
     let body2 : Body = with_session Exit (heard_from s) body in
     hears_by desk Exit m body row (traffic_is s (message.StopTransport state id) Upstream k.0 g.exit_role refl) (passed_out desk m body2 body2 (outlet_row body.outlet (out_input.Stop state id)) k.1.row k.1.is)
-exit_mild {afar} {gb = gb} desk stamp (message.StartTransport id) rest body c offers g on from =
+exit_mild {afar} {gb = gb} desk stamp (message.StartTransport id) rest body c offers g ready set free on from =
     let l : LinkState = link_below [] body c in
     let open_it : Bool = would_open body.outlet id in
     let front = offers_the_front body offers in
@@ -490,13 +541,17 @@ exit_mild {afar} {gb = gb} desk stamp (message.StartTransport id) rest body c of
     let body2 : Body = with_session Exit (heard_from s) body in
     hears_by desk Exit m body row (traffic_is s (message.StartTransport id) Upstream k.0 g.exit_role refl)
     (passed_out desk m body2 (record body2 { kept = behind_opening open_it body.kept }) (outlet_row body.outlet (out_input.Start id (opening_board open_it body.kept))) k.1.row k.1.is)
-exit_mild desk stamp (message.BoardAvailable board) rest body c offers g on from = absurd (false≢true from)
-exit_mild desk stamp message.RevokeBoardAvailable rest body c offers g on from = absurd (false≢true from)
-exit_mild desk stamp (message.TransportFinished state id) rest body c offers g on from = absurd (false≢true from)
-exit_mild desk stamp (message.BoardForecast info) rest body c offers g on from = absurd (false≢true from)
-exit_mild desk stamp (message.QueryBoardInfo top bottom) rest body c offers g on from = absurd (false≢true from)
-exit_mild desk stamp (message.SendBoardInfo info) rest body c offers g on from = absurd (false≢true from)
-exit_mild desk stamp (message.Other name) rest body c offers g on from = absurd (false≢true from)
+exit_mild desk stamp (message.BoardAvailable board) rest body c offers g ready set free on from = absurd (false≢true from)
+exit_mild desk stamp message.RevokeBoardAvailable rest body c offers g ready set free on from = absurd (false≢true from)
+exit_mild desk stamp (message.TransportFinished state id) rest body c offers g ready set free on from = absurd (false≢true from)
+exit_mild desk stamp (message.BoardForecast info) rest body c offers g ready set free on from = absurd (false≢true from)
+exit_mild desk stamp (message.QueryBoardInfo top bottom) rest body c offers g ready set free on from =
+    let s : SessionEnd = body.exit.session in
+    let m : Message = record { stamp = stamp; body = message.QueryBoardInfo top bottom } in
+    hears_by desk Exit m body (record { after = heard_from s; actions = one (Pass (message.QueryBoardInfo top bottom)) }) (traffic_is s (message.QueryBoardInfo top bottom) Upstream (ready_stands s.state on (set from)) g.exit_role refl)
+    (record { mild = both_mild _ true (free from) refl })
+exit_mild desk stamp (message.SendBoardInfo info) rest body c offers g ready set free on from = absurd (false≢true from)
+exit_mild desk stamp (message.Other name) rest body c offers g ready set free on from = absurd (false≢true from)
 
 -- ---- words, one after another
 
@@ -510,74 +565,77 @@ pub front_of : {m : Message} {others : List Word} {sent : List Horizontal} → A
 front_of (oldest_says {messages = rest} others) = record { rest = rest; is = refl; oldest = others }
 
 -- one message is heard: nothing is breached, and the relation is kept
-record HearsOne (may : Side → Bool) (afar : Afar) (above : List Record) (side : Side) (rest : List Horizontal) (c : Scene) (d : Done) : Type 0 where
+record HearsOne (may : Leave) (afar : Afar) (above : List Record) (side : Side) (rest : List Horizontal) (c : Scene) (d : Done) : Type 0 where
   mild : Mild may d
   a : Ghost
   b : Ghost
   good : Good afar above [] a b d.body (all_met d.acts c)
   then : Then side rest d c
 
-hears_one : {may : Side → Bool} {afar : Afar} {above : List Record} {ga gb : Ghost} (desk : Desk) (side : Side) (m : Message) (rest : List Horizontal) (body : Body) (c : Scene) → unheard side c ≡ m.body ∷ rest → OffersOf body → Good afar above [] ga gb body c → is_open side body ≡ true → is_from side m.body ≡ true
+hears_one : {may : Leave} {afar : Afar} {above : List Record} {ga gb : Ghost} (desk : Desk) (side : Side) (m : Message) (rest : List Horizontal) (body : Body) (c : Scene) → unheard side c ≡ m.body ∷ rest → OffersOf body → Good afar above [] ga gb body c → (ready : Bool) → (ready ≡ true → is_ready side body ≡ true) → (side ≡ Exit → ready ≡ true → may.frees Exit ≡ true) → is_open side body ≡ true → is_from side ready m.body ≡ true
     → HearsOne may afar above side rest c (hears desk side m body)
-hears_one {afar = afar} {above = above} {ga = ga} {gb = gb} desk Entry m rest body c is offers g on from =
+hears_one {afar = afar} {above = above} {ga = ga} {gb = gb} desk Entry m rest body c is offers g ready set free on from =
     let same : unheard_above (m.body ∷ rest) c ≡ c = ap (λ (ms : List Horizontal). unheard_above ms c) (sym is) in
     let here : Good afar above [] ga gb body (unheard_above (m.body ∷ rest) c) = subst (λ (may : Scene). Good afar above [] ga gb body may) (sym same) g in
     let goes : GoesBy afar above [] ga gb c (hears desk Entry m body) = subst (λ (may : Scene). GoesBy afar above [] ga gb may (hears desk Entry m body)) same (entry_hears body c desk m rest here) in
-    record { mild = entry_mild desk m.stamp m.body rest body c here on from; a = goes.a; b = goes.b; good = goes.good; then = entry_hears_then desk m rest body c g.entry_role is }
-hears_one {afar = afar} {above = above} {ga = ga} {gb = gb} desk Exit m rest body c is offers g on from =
+    record { mild = entry_mild desk m.stamp m.body rest body c here ready set on from; a = goes.a; b = goes.b; good = goes.good; then = entry_hears_then desk m rest body c g.entry_role is }
+hears_one {afar = afar} {above = above} {ga = ga} {gb = gb} desk Exit m rest body c is offers g ready set free on from =
     let same : unheard_below (m.body ∷ rest) c ≡ c = ap (λ (ms : List Horizontal). unheard_below ms c) (sym is) in
     let here : Good afar above [] ga gb body (unheard_below (m.body ∷ rest) c) = subst (λ (may : Scene). Good afar above [] ga gb body may) (sym same) g in
     let goes : GoesBy afar above [] ga gb c (hears desk Exit m body) = subst (λ (may : Scene). GoesBy afar above [] ga gb may (hears desk Exit m body)) same (exit_hears body c desk m rest offers here) in
-    record { mild = exit_mild desk m.stamp m.body rest body c offers here on from; a = goes.a; b = goes.b; good = goes.good; then = exit_hears_then desk m rest body c g.exit_role is }
+    record { mild = exit_mild desk m.stamp m.body rest body c offers here ready set (free refl) on from; a = goes.a; b = goes.b; good = goes.good; then = exit_hears_then desk m rest body c g.exit_role is }
 
-open_mild : {may : Side → Bool} (test : Bool) (d : Done) (body : Body) → (test ≡ true → Mild may d) → Mild may (if_open test d body)
+open_mild : {may : Leave} (test : Bool) (d : Done) (body : Body) → (test ≡ true → Mild may d) → Mild may (if_open test d body)
 open_mild true d body m = m refl
 open_mild false d body m = record { mild = refl }
 
 abbrev pub said : List Message → List Word
 said messages = map (λ (m : Message). words.Says m) messages
 
--- all of them are such as come to this side
-abbrev pub AreFrom : Side → List Message → Type 0
-AreFrom side messages = AllByRecursion (λ (m : Message). is_from side m.body ≡ true) messages
-
 -- the others are heard, or there is nobody to hear them
-rest_mild : {may : Side → Bool} (desk : Desk) (side : Side) (messages : List Message) (rest : List Horizontal) (d : Done) (c : Scene) → Then side rest d c → (unheard side (all_met d.acts c) ≡ rest → Mild may (all_heard desk side (said messages) d.body)) → Mild may (all_heard desk side (said messages) d.body)
+rest_mild : {may : Leave} (desk : Desk) (side : Side) (messages : List Message) (rest : List Horizontal) (d : Done) (c : Scene) → Then side rest d c → (unheard side (all_met d.acts c) ≡ rest → Mild may (all_heard desk side (said messages) d.body)) → Mild may (all_heard desk side (said messages) d.body)
 rest_mild desk side messages rest d c (still is) go_on = go_on is
 rest_mild {may} desk side messages rest d c (closed off) go_on = subst (λ (e : Done). Mild may e) (sym (deaf desk side (said messages) d.body off)) (record { mild = refl })
 
-said_mild : {may : Side → Bool} {afar : Afar} {above : List Record} (desk : Desk) (side : Side) (messages : List Message) (sent : List Horizontal) {ga gb : Ghost} (body : Body) (c : Scene) → AreOldest (said messages) sent → unheard side c ≡ sent → OffersOf body → Good afar above [] ga gb body c → AreFrom side messages
+-- an exit is no readier behind a message
+ready_at : (side : Side) (ready : Bool) (what : Horizontal) → side ≡ Exit → ready_after side ready what ≡ true → ready ≡ true
+ready_at Exit ready what at is = is
+ready_at Entry ready what at is = absurd (cc)
+
+said_mild : {may : Leave} {afar : Afar} {above : List Record} (desk : Desk) (side : Side) (messages : List Message) (sent : List Horizontal) {ga gb : Ghost} (body : Body) (c : Scene) → AreOldest (said messages) sent → unheard side c ≡ sent → OffersOf body → Good afar above [] ga gb body c → (ready : Bool) → (ready ≡ true → is_ready side body ≡ true) → (side ≡ Exit → ready ≡ true → may.frees Exit ≡ true) → AreFrom side ready messages
     → Mild may (all_heard desk side (said messages) body)
-said_mild desk side [] sent body c oldest is offers g from = record { mild = refl }
-said_mild desk side (m ∷ messages) sent body c oldest is offers g from =
+said_mild desk side [] sent body c oldest is offers g ready set free from = record { mild = refl }
+said_mild {may} desk side (m ∷ messages) sent body c oldest is offers g ready set free from =
     let f : Front m.body (said messages) sent = front_of oldest in
     let d : Done = hears desk side m body in
     open_mild (is_open side body) (and_then d (all_heard desk side (said messages))) body (λ on.
-    let h = hears_one desk side m f.rest body c (is ∙ f.is) offers g on from.0 in
+    let h = hears_one desk side m f.rest body c (is ∙ f.is) offers g ready set free on from.0 in
     mild_both d (all_heard desk side (said messages)) h.mild
-    (rest_mild desk side messages f.rest d c h.then (λ is_rest. said_mild desk side messages f.rest d.body (all_met d.acts c) f.oldest is_rest ((hears_keeps 0 desk side m body).offers offers) h.good from.1)))
+    (rest_mild desk side messages f.rest d c h.then (λ is_rest. said_mild desk side messages f.rest d.body (all_met d.acts c) f.oldest is_rest ((hears_keeps 0 desk side m body).offers offers) h.good
+    (ready_after side ready m.body) (behind_hearing desk side m body ready set) (λ at now. free at (ready_at side ready m.body at now)) from.1)))
 
 -- a machine's step in which all that is heard was sent so
-pub heard_step_mild : (may : Side → Bool) {afar : Afar} {above : List Record} {ga gb : Ghost} (desk : Desk) (unread : List Seen) (side : Side) (messages : List Message) (body : Body) (c : Scene) → AreOldest (said messages) (unheard side c) → AreFrom side messages → OffersOf body → Good afar above unread ga gb body c
+pub heard_step_mild : (may : Leave) {afar : Afar} {above : List Record} {ga gb : Ghost} (desk : Desk) (unread : List Seen) (side : Side) (messages : List Message) (body : Body) (c : Scene) → AreOldest (said messages) (unheard side c) → AreFrom side (is_ready side body) messages → (side ≡ Exit → is_ready Exit body ≡ true → may.frees Exit ≡ true) → OffersOf body → Good afar above unread ga gb body c
     → are_mild may (machine_step desk unread (Words side (said messages)) body).acts ≡ true
-heard_step_mild may desk unread side messages body c oldest from offers g =
-    (step_mild_by desk unread (Words side (said messages)) body
-    (said_mild desk side messages (unheard side c) (body_read desk unread body) (scene_read desk unread body c) oldest (read_leaves side desk unread body c) ((all_read_keeps 0 desk unread body).offers offers) (all_read_good desk unread body c g) from)).mild
+heard_step_mild may desk unread side messages body c oldest from free offers g =
+    (step_mild_by {may = may} desk unread (Words side (said messages)) body
+    (said_mild {may = may} desk side messages (unheard side c) (body_read desk unread body) (scene_read desk unread body c) oldest (read_leaves side desk unread body c) ((all_read_keeps 0 desk unread body).offers offers) (all_read_good desk unread body c g)
+    (is_ready side body) (read_stays side desk unread body).ready (λ at is. free at (ap (λ (s : Side). is_ready s body) (sym at) ∙ is)) from)).mild
 
 -- nothing is heard
-pub silent_step_mild : (may : Side → Bool) (desk : Desk) (unread : List Seen) (side : Side) (body : Body) → are_mild may (machine_step desk unread (Words side []) body).acts ≡ true
-silent_step_mild may desk unread side body = (step_mild_by desk unread (Words side []) body (record { mild = refl })).mild
+pub silent_step_mild : (may : Leave) (desk : Desk) (unread : List Seen) (side : Side) (body : Body) → are_mild may (machine_step desk unread (Words side []) body).acts ≡ true
+silent_step_mild may desk unread side body = (step_mild_by {may = may} desk unread (Words side []) body (record { mild = refl })).mild
 
 -- ---- a wrong word
 
-breaches_mild : (desk : Desk) (side : Side) (text : List ℕ) (body : Body) → Mild (at_one side) (breaches desk side text body)
+breaches_mild : {frees : Side → Bool} (desk : Desk) (side : Side) (text : List ℕ) (body : Body) → Mild (record { blames = at_one side; frees = frees }) (breaches desk side text body)
 breaches_mild desk Entry text body = mild_behind (acts.Breaches Entry text ∷ (sends desk Entry (notification 1 Fatal text) ++ acts.Closes Entry ∷ [])) (ended desk Entry body) refl (ended_mild desk Entry body)
 breaches_mild desk Exit text body = mild_behind (acts.Breaches Exit text ∷ (sends desk Exit (notification 1 Fatal text) ++ acts.Closes Exit ∷ [])) (ended desk Exit body) refl (ended_mild desk Exit body)
 
 -- a step in which a wrong word is heard first breaches at that side alone, and sends no other messages either
-pub wrong_step_mild : (desk : Desk) (unread : List Seen) (side : Side) (text : List ℕ) (others : List Word) (body : Body) → are_mild (at_one side) (machine_step desk unread (Words side (words.Wrong text ∷ others)) body).acts ≡ true
-wrong_step_mild desk unread side text others body =
+pub wrong_step_mild : (frees : Side → Bool) (desk : Desk) (unread : List Seen) (side : Side) (text : List ℕ) (others : List Word) (body : Body) → are_mild (record { blames = at_one side; frees = frees }) (machine_step desk unread (Words side (words.Wrong text ∷ others)) body).acts ≡ true
+wrong_step_mild frees desk unread side text others body =
     let b : Body = (all_read desk unread body).body in
     let d : Done = breaches desk side text b in
     (step_mild_by desk unread (Words side (words.Wrong text ∷ others)) body (open_mild (is_open side b) (and_then d (all_heard desk side others)) b (λ on. mild_both d (all_heard desk side others) (breaches_mild desk side text b)
-    (subst (λ (e : Done). Mild (at_one side) e) (sym (deaf desk side others d.body (breach_shuts desk side text b))) (record { mild = refl }))))).mild
+    (subst (λ (e : Done). Mild (record { blames = at_one side; frees = frees }) e) (sym (deaf desk side others d.body (breach_shuts desk side text b))) (record { mild = refl }))))).mild

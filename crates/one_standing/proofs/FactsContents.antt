@@ -52,10 +52,16 @@ use Rattle.node_core.specs.Reads.{saw, reads, all_read}
 use Rattle.node_core.specs.Connect.{if_open, opens, notices, ticks, shuts_down}
 use Rattle.node_core.specs.Boards.{without, with_instead, with_mark, is_kept, if_kept, faults, wills}
 use Rattle.node_core.specs.Announces.{revokes_now, revoke_by, revoke, unreadies_now, unready_by, unready, offers_now, offer_by, offer, readies_now, ready_by, ready, starts_now, start_by, announces}
-use Rattle.node_core.specs.Event.{Event, Nothing, Connect, Accepted, Second, Words, Notice, Tick, Shutdown, Fault, Will, Insert, Remove, Replace, Mark, event_did}
+use Rattle.node_core.specs.Event.{Event, Nothing, Connect, Accepted, Second, Words, Notice, Tick, Shutdown, Fault, Will, Insert, Remove, Replace, Mark, event_did, Level, Forecast, Query}
 use Rattle.node_core.specs.Step.{machine_step}
 use Rattle.node_core.proofs.HalfRows.{IsNoStart, IsPlain}
 use Rattle.one_standing.specs.Contents.{In, in_first, in_later}
+use Rattle.node_core.specs.Bridge.{failed_front, fails, sets_level, tells_level}
+use Rattle.node_core.specs.Information.{forecasts}
+use Rattle.smema_bridge.specs.Levels.{BridgeLevels}
+use Rattle.smema_bridge.specs.declared.line.SegmentLine.{SegmentLine}
+use Rattle.smema_bridge.specs.declared.line.SegmentLine.TheVariants.{Available, Failed, Ready}
+use Rattle.line_base.specs.declared.states.Quality.TheVariants as qualities
 
 -- ---- a record in the three places of a machine
 
@@ -236,7 +242,7 @@ exit_brings desk exits.Ready body = outlet_took_brings desk body out_input.Machi
 exit_brings desk exits.Unready body = outlet_took_brings desk body out_input.RevokeMachineReady (outlet_row body.outlet out_input.RevokeMachineReady) tt refl
 exit_brings desk (exits.Start named) body = start_took_brings desk body named (would_open body.outlet named) (outlet_row body.outlet (out_input.Start named (opening_board (would_open body.outlet named) body.kept))) refl
 exit_brings desk (exits.Stop state named) body = outlet_took_brings desk body (out_input.Stop state named) (outlet_row body.outlet (out_input.Stop state named)) tt refl
-exit_brings desk exits.Query body = brings_some (brings_told body _)
+exit_brings desk (exits.Query top bottom) body = brings_some (brings_told body _)
 exit_brings desk exits.Nothing body = brings_some (brings_still body)
 
 intake_took_brings : (desk : Desk) (body : Body) (input : InInput) (found : Option InRow) → IsNoStart input → intake_row body.intake input ≡ found → BringsAny body (intake_took desk body found)
@@ -312,16 +318,18 @@ notices_brings desk side body = if_brings (is_open side body) (behind (acts.Noti
 
 -- a record that a machine keeps now and did not have before is that of a board that was put in, replaced or, since it was
 -- kept, marked
-abbrev pub IsByHand : Body → Event → Record → Type 0
-IsByHand body (Insert id barcode) q = q.id ≡ id
-IsByHand body (Replace old new) q = q.id ≡ new
-IsByHand body (Mark id quality) q = (q.id ≡ id) × (is_kept id body.kept ≡ true)
-IsByHand body _ q = ⊥
+abbrev pub IsByHand : Option BridgeLevels → Body → Event → Record → Type 0
+IsByHand bridge body (Insert id barcode) q = q.id ≡ id
+IsByHand bridge body (Replace old new) q = q.id ≡ new
+IsByHand bridge body (Mark id quality) q = (q.id ≡ id) × (is_kept id body.kept ≡ true)
+IsByHand bridge body (Level line on) q =
+    (id : ℕ) × (failed_front bridge line on (tells_level line on body).body ≡ Some id) × (q.id ≡ id) × (is_kept id (tells_level line on body).body.kept ≡ true)
+IsByHand bridge body _ q = ⊥
 
-record Meets (event : Event) (body : Body) (d : Done) : Type 0 where
-  each : (q : Record) → HasIn q d.body → HasIn q body ⊎ IsByHand body event q
+record Meets (bridge : Option BridgeLevels) (event : Event) (body : Body) (d : Done) : Type 0 where
+  each : (q : Record) → HasIn q d.body → HasIn q body ⊎ IsByHand bridge body event q
 
-met : (event : Event) {body : Body} {d : Done} → Brings body d → Meets event body d
+met : {bridge : Option BridgeLevels} (event : Event) {body : Body} {d : Done} → Brings body d → Meets bridge event body d
 met event b = record { each = λ q h. inl (b.each q h) }
 
 in_last : (q b : Record) (kept : List Record) → In q (kept ++ b ∷ []) → In q kept ⊎ (q ≡ b)
@@ -361,7 +369,7 @@ kept_by_hand each (has_kept i) = elim (each i) [ inl before ↦ inl (has_kept be
 kept_by_hand each has_held = inl has_held
 kept_by_hand each has_taking = inl has_taking
 
-replaced : (desk : Desk) (old new : ℕ) (body : Body) (test : Bool) → Meets (Replace old new) body (if_kept test (record body { kept = with_instead old (plain_record new desk.name None) body.kept }) (acts.Replaces old new) body)
+replaced : {bridge : Option BridgeLevels} (desk : Desk) (old new : ℕ) (body : Body) (test : Bool) → Meets bridge (Replace old new) body (if_kept test (record body { kept = with_instead old (plain_record new desk.name None) body.kept }) (acts.Replaces old new) body)
 replaced desk old new body true = record { each = λ q h. kept_by_hand (λ i. elim (in_instead q (plain_record new desk.name None) old body.kept i) [ inl before ↦ inl before | inr is ↦ inr (ap (λ (r : Record). r.id) is) ]) h }
 replaced desk old new body false = met (Replace old new) (brings_still body)
 
@@ -373,11 +381,30 @@ removed : (id : ℕ) (body : Body) (test : Bool) → Brings body (if_kept test (
 removed id body true = record { each = λ q h. none_or (kept_by_hand (λ i. inl (in_without q id body.kept i)) h) }
 removed id body false = brings_still body
 
-marked : (id : ℕ) (quality : Quality) (body : Body) (test : Bool) → is_kept id body.kept ≡ test → Meets (Mark id quality) body (if_kept test (record body { kept = with_mark id quality body.kept }) (acts.Marks id quality) body)
+marked : {bridge : Option BridgeLevels} (id : ℕ) (quality : Quality) (body : Body) (test : Bool) → is_kept id body.kept ≡ test → Meets bridge (Mark id quality) body (if_kept test (record body { kept = with_mark id quality body.kept }) (acts.Marks id quality) body)
 marked id quality body true is = record { each = λ q h. kept_by_hand (λ i. elim (in_marked q id quality body.kept i) [ inl before ↦ inl before | inr same ↦ inr (same, is) ]) h }
 marked id quality body false is = met (Mark id quality) (brings_still body)
 
-event_brings : (desk : Desk) (event : Event) (body : Body) → Meets event body (event_did desk event body)
+-- a level of the segment may mark the front board
+level_has : (line : SegmentLine) (on : Bool) (body : Body) (q : Record) → HasIn q (tells_level line on body).body → HasIn q body
+level_has Ready on body q h = h
+level_has Available on body q h = h
+level_has Failed on body q h = h
+
+fails_bring : (bridge : Option BridgeLevels) (line : SegmentLine) (on : Bool) (body : Body) (found : Option ℕ) → failed_front bridge line on (tells_level line on body).body ≡ found
+    → (q : Record) → HasIn q (fails found (tells_level line on body).body).body → HasIn q body ⊎ IsByHand bridge body (Level line on) q
+fails_bring bridge line on body None is q h = inl (level_has line on body q h)
+fails_bring bridge line on body (Some id) is q h =
+    let one : Body = (tells_level line on body).body in
+    elim ((marked {bridge = bridge} id qualities.Failed one (is_kept id one.kept) refl).each q h) [
+      | inl before ↦ inl (level_has line on body q before)
+      | inr hand ↦ inr (id, is, hand.0, hand.1)
+    ]
+
+levels_bring : (desk : Desk) (line : SegmentLine) (on : Bool) (body : Body) → Meets desk.bridge (Level line on) body (sets_level desk line on body)
+levels_bring desk line on body = record { each = λ q h. fails_bring desk.bridge line on body (failed_front desk.bridge line on (tells_level line on body).body) refl q h }
+
+event_brings : (desk : Desk) (event : Event) (body : Body) → Meets desk.bridge event body (event_did desk event body)
 event_brings desk Nothing body = met Nothing (brings_still body)
 event_brings desk Connect body = met Connect (brings_behind body (acts.Connects ∷ []) (opens desk Entry body) (session_brings desk Entry body (session_row (session_at Entry body) opened)))
 event_brings desk Accepted body = met Accepted (session_brings desk Exit body (session_row (session_at Exit body) opened))
@@ -390,6 +417,9 @@ event_brings desk Shutdown body = met Shutdown (brings_both body (shuts_down des
     (let b = (shuts_down desk Entry body).body in session_brings desk Exit b (session_row (session_at Exit b) shutdown)))
 event_brings desk (Fault side) body = met (Fault side) (faults_brings desk side body)
 event_brings desk (Will side on) body = met (Will side on) (wills_brings side on body)
+event_brings desk (Level line on) body = levels_bring desk line on body
+event_brings desk Forecast body = met Forecast (brings_told body (forecasts desk (slice_get body.kept 0)))
+event_brings desk (Query barcode) body = met (Query barcode) (brings_told body _)
 event_brings desk (Insert id barcode) body = record { each = λ q h. kept_by_hand (λ i. elim (in_last q (plain_record id desk.name barcode) body.kept i) [ inl before ↦ inl before | inr is ↦ inr (ap (λ (r : Record). r.id) is) ]) h }
 event_brings desk (Remove id) body = met (Remove id) (removed id body (is_kept id body.kept))
 event_brings desk (Replace old new) body = replaced desk old new body (is_kept old body.kept)
@@ -442,7 +472,7 @@ announces_keep desk body q i =
 
 -- ---- the step
 
-pub step_contents : (desk : Desk) (unread : List Seen) (event : Event) (body : Body) (q : Record) → In q (machine_step desk unread event body).body.kept → HasIn q body ⊎ IsByHand (all_read desk unread body).body event q
+pub step_contents : (desk : Desk) (unread : List Seen) (event : Event) (body : Body) (q : Record) → In q (machine_step desk unread event body).body.kept → HasIn q body ⊎ IsByHand desk.bridge (all_read desk unread body).body event q
 step_contents desk unread event body q i =
     let one = (all_read desk unread body).body in
     let two = (event_did desk event one).body in

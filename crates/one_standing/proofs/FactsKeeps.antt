@@ -1,5 +1,5 @@
 -- CONTENTS ARE KEPT: a record that a machine keeps before a line and behind it is the same, unless the line marks it.
-use Rattle.std.proofs.Common.{Err, List, Ok, Option, Result, Some, [], ap, arith, false, inl, inr, length, refl, subst, suc, sym, take, true, zero, ℕ, ◌+◌, ◌-◌, ◌∙◌, ◌∷◌, ◌≡◌, ◌≢◌, ◌≤◌, ◌⊎◌}
+use Rattle.std.proofs.Common.{Err, List, Ok, Option, Result, Some, [], ap, arith, false, inl, inr, length, refl, subst, suc, sym, take, true, zero, ℕ, ◌+◌, ◌-◌, ◌∙◌, ◌∷◌, ◌≡◌, ◌≢◌, ◌≤◌, ◌⊎◌, Bool}
 use Rattle.std.specs.Prelude.{slice_index_or}
 use Rattle.board_record.specs.Maker.{Maker, after_next, next_id}
 use Rattle.board_record.specs.declared.maker.IdsUsedUp.{IdsUsedUp}
@@ -12,7 +12,7 @@ use Rattle.line_link.specs.declared.link.Connected.TheVariants as connections
 use Rattle.line_script.specs.declared.line.ScriptLine.{ScriptLine}
 use Rattle.line_script.specs.declared.line.ScriptLine.TheVariants as lines
 use Rattle.line_report.specs.declared.happening.Happening.{Happening}
-use Rattle.node_core.specs.Event.{Event, Insert, Replace, event_of, maker_after, with_new}
+use Rattle.node_core.specs.Event.{Event, Insert, Replace, event_of, maker_after, with_new, Level}
 use Rattle.node_core.specs.Node.{NodeState, desk_of, new_node}
 use Rattle.node_core.specs.Step.{machine_step}
 use Rattle.node_core.specs.Own.{ids_of, own_of}
@@ -25,7 +25,7 @@ use Rattle.node_core.specs.declared.word.Word.{Word}
 use Rattle.custody.specs.Contents.{Kept, kept_first, kept_later}
 use Rattle.standings.specs.Ledger.{are_different}
 use Rattle.line_report.specs.declared.happening.Happening.TheVariants as happenings
-use Rattle.line_step.specs.Lines.{Becomes, Connects, Flows, LineDoes, LineSteps, Unless, arrived, connecting, cut_in, lied, met as met_on, move_told, moved, spoil_told, spoiled, unvouched_told}
+use Rattle.line_step.specs.Lines.{Becomes, Connects, Flows, LineDoes, LineSteps, Unless, arrived, connecting, cut_in, lied, met as met_on, move_told, moved, spoil_told, spoiled, unvouched_told, unseen}
 use Rattle.line_step.specs.Runs.{IsRun, Point}
 use Rattle.line_step.specs.Shown.{shown, standings_told}
 use Rattle.line_world.specs.FloorPlan.{FloorPlan}
@@ -46,7 +46,7 @@ use Rattle.one_standing.specs.Carried.{Trace}
 use Rattle.one_standing.specs.Stands.{Stands}
 use Rattle.one_standing.specs.Contents.{AreContentsKept, ContentsAreKept, In, IsMarked, KeepsContents, in_first, in_later}
 use Rattle.one_standing.specs.Told.{IsTold}
-use Rattle.one_standing.proofs.ApartHands.{body_then, marks_told}
+use Rattle.one_standing.proofs.ApartHands.{body_then, marks_told, fails_told}
 use Rattle.one_standing.proofs.ApartStep.{told_before}
 use Rattle.one_standing.proofs.Carrying.{SaysAlone}
 use Rattle.one_standing.proofs.FactsContents.{Has, HasIn, IsByHand, has_held, has_kept, has_taking, step_contents}
@@ -60,6 +60,9 @@ use Rattle.one_standing.proofs.MarksOf.{has_kept as has_kept_mark, kept_id}
 use Rattle.one_standing.proofs.MarksPlace.{kept_unheld}
 use Rattle.one_standing.proofs.OneStand.{has_end}
 use Rattle.one_standing.proofs.Mirroring.{node_there}
+use Rattle.smema_bridge.specs.Levels.{BridgeLevels}
+use Rattle.smema_bridge.specs.declared.line.SegmentLine.{SegmentLine}
+use Rattle.line_base.specs.declared.states.Quality.TheVariants as qualities
 
 -- ---- a machine has one record of an id that it keeps
 
@@ -105,35 +108,39 @@ one_record_of {s = s} (suc j) st = let next : j + 1 ≡ suc j = omega arith in s
 -- ---- a machine's step
 
 -- what an input makes by hand
-abbrev IsHandOf : Input → Maker → Body → Record → Type 0
-IsHandOf (inputs.Insert barcode) maker body q = (id : ℕ) × (next_id maker ≡ Ok id) × (q.id ≡ id)
-IsHandOf (inputs.Replace old) maker body q = (id : ℕ) × (next_id maker ≡ Ok id) × (q.id ≡ id)
-IsHandOf (inputs.Mark id quality) maker body q = (q.id ≡ id) × (is_kept id body.kept ≡ true)
-IsHandOf _ maker body q = ⊥
+abbrev IsHandOf : Option BridgeLevels → Input → Maker → Body → Record → Type 0
+IsHandOf bridge (inputs.Insert barcode) maker body q = (id : ℕ) × (next_id maker ≡ Ok id) × (q.id ≡ id)
+IsHandOf bridge (inputs.Replace old) maker body q = (id : ℕ) × (next_id maker ≡ Ok id) × (q.id ≡ id)
+IsHandOf bridge (inputs.Mark id quality) maker body q = (q.id ≡ id) × (is_kept id body.kept ≡ true)
+IsHandOf bridge (inputs.Level line on) maker body q = IsByHand bridge body (Level line on) q
+IsHandOf bridge _ maker body q = ⊥
 
-made_by : (maker : Maker) (body : Body) (found : Result ℕ IdsUsedUp) (event : ℕ → Event) (q : Record) → next_id maker ≡ found → ((id : ℕ) → IsByHand body (event id) q → q.id ≡ id) → IsByHand body (with_new found event) q → (id : ℕ) × (next_id maker ≡ Ok id) × (q.id ≡ id)
-made_by maker body (Ok id) event q is each hand = (id, is, each id hand)
-made_by maker body (Err why) event q is each hand = elim hand [ ]
+made_by : (bridge : Option BridgeLevels) (maker : Maker) (body : Body) (found : Result ℕ IdsUsedUp) (event : ℕ → Event) (q : Record) → next_id maker ≡ found → ((id : ℕ) → IsByHand bridge body (event id) q → q.id ≡ id) → IsByHand bridge body (with_new found event) q → (id : ℕ) × (next_id maker ≡ Ok id) × (q.id ≡ id)
+made_by bridge maker body (Ok id) event q is each hand = (id, is, each id hand)
+made_by bridge maker body (Err why) event q is each hand = elim hand [ ]
 
-hand_of : (maker : Maker) (body : Body) (input : Input) (heard : List Word) (q : Record) → IsByHand body (event_of maker input heard) q → IsHandOf input maker body q
-hand_of maker body (inputs.Insert barcode) heard q hand = made_by maker body (next_id maker) (λ id. Insert id barcode) q refl (λ id is. is) hand
-hand_of maker body (inputs.Replace old) heard q hand = made_by maker body (next_id maker) (Replace old) q refl (λ id is. is) hand
-hand_of maker body (inputs.Mark id quality) heard q hand = hand
-hand_of maker body inputs.Nothing heard q hand = hand
-hand_of maker body inputs.Connect heard q hand = hand
-hand_of maker body inputs.Accepted heard q hand = hand
-hand_of maker body inputs.Second heard q hand = hand
-hand_of maker body (inputs.Bytes side piece) heard q hand = hand
-hand_of maker body (inputs.Notice side) heard q hand = hand
-hand_of maker body inputs.Tick heard q hand = hand
-hand_of maker body inputs.Shutdown heard q hand = hand
-hand_of maker body (inputs.Fault side) heard q hand = hand
-hand_of maker body (inputs.Will side on) heard q hand = hand
-hand_of maker body (inputs.Remove id) heard q hand = hand
+hand_of : (bridge : Option BridgeLevels) (maker : Maker) (body : Body) (input : Input) (heard : List Word) (q : Record) → IsByHand bridge body (event_of maker input heard) q → IsHandOf bridge input maker body q
+hand_of bridge maker body (inputs.Insert barcode) heard q hand = made_by bridge maker body (next_id maker) (λ id. Insert id barcode) q refl (λ id is. is) hand
+hand_of bridge maker body (inputs.Replace old) heard q hand = made_by bridge maker body (next_id maker) (Replace old) q refl (λ id is. is) hand
+hand_of bridge maker body (inputs.Mark id quality) heard q hand = hand
+hand_of bridge maker body inputs.Nothing heard q hand = hand
+hand_of bridge maker body inputs.Connect heard q hand = hand
+hand_of bridge maker body inputs.Accepted heard q hand = hand
+hand_of bridge maker body inputs.Second heard q hand = hand
+hand_of bridge maker body (inputs.Bytes side piece) heard q hand = hand
+hand_of bridge maker body (inputs.Notice side) heard q hand = hand
+hand_of bridge maker body inputs.Tick heard q hand = hand
+hand_of bridge maker body inputs.Shutdown heard q hand = hand
+hand_of bridge maker body (inputs.Fault side) heard q hand = hand
+hand_of bridge maker body (inputs.Will side on) heard q hand = hand
+hand_of bridge maker body (inputs.Remove id) heard q hand = hand
+hand_of bridge maker body (inputs.Level line on) heard q hand = hand
+hand_of bridge maker body inputs.Forecast heard q hand = hand
+hand_of bridge maker body (inputs.Query barcode) heard q hand = hand
 
 -- a record that is kept before a step and behind it is the same, or the input is of the hands that make it or mark it
 pub machine_contents : (number machine : ℕ) (input : Input) (before after : LineState) (told : List Happening) (steps : MachineSteps number machine input before after told) → IsOneRecord (node_at before machine).lane.body
-    → (q p : Record) → In q (node_at before machine).lane.body.kept → In p (node_at after machine).lane.body.kept → q.id ≡ p.id → (p ≡ q) ⊎ IsHandOf input steps.node.maker (body_then number machine input before after told steps) p
+    → (q p : Record) → In q (node_at before machine).lane.body.kept → In p (node_at after machine).lane.body.kept → q.id ≡ p.id → (p ≡ q) ⊎ IsHandOf steps.node.bridge input steps.node.maker (body_then number machine input before after told steps) p
 machine_contents number machine input before after told steps one q p i j same =
     let node_is : node_at before machine ≡ steps.node = node_there machine before steps.node steps.there in
     let next_is : node_at after machine ≡ steps.next = node_there machine after steps.next (ap (machine_in machine) steps.after_is ∙ machine_set_own machine before steps.node steps.next steps.there) in
@@ -142,7 +149,7 @@ machine_contents number machine input before after told steps one q p i j same =
     let found = step_contents (desk_of steps.node (moment_of number)) (unread_by machine before.world) (event_of steps.node.maker input lane.words) steps.node.lane.body p (subst (λ (b : Body). In p b.kept) body_is j) in
     elim found [
       | inl has ↦ inl (one q p i (subst (λ (n : NodeState). HasIn p n.lane.body) (sym node_is) has) same)
-      | inr hand ↦ inr (hand_of steps.node.maker (body_then number machine input before after told steps) input lane.words p hand)
+      | inr hand ↦ inr (hand_of steps.node.bridge steps.node.maker (body_then number machine input before after told steps) input lane.words p hand)
     ]
 
 -- ---- a line
@@ -157,7 +164,7 @@ same_kept Marks before after a nodes = λ machine q p i j same. inl (a.one machi
 
 -- the step of a machine, whose hands do only this
 step_keeps : (Marks : ℕ → ℕ → Type 0) (number m : ℕ) (input : Input) (before after : LineState) (told : List Happening) → Starting before → (steps : MachineSteps number m input before after told)
-    → ((q p : Record) → In q (node_at before m).lane.body.kept → q.id ≡ p.id → IsHandOf input steps.node.maker (body_then number m input before after told steps) p → Marks m p.id) → KeepsContents Marks before after
+    → ((q p : Record) → In q (node_at before m).lane.body.kept → q.id ≡ p.id → IsHandOf steps.node.bridge input steps.node.maker (body_then number m input before after told steps) p → Marks m p.id) → KeepsContents Marks before after
 step_keeps Marks number m input before after told a steps hand = λ machine q p i j same. by machine q p i j same (same_or_not machine m) where
   by : (machine : ℕ) (q p : Record) → In q (node_at before machine).lane.body.kept → In p (node_at after machine).lane.body.kept → q.id ≡ p.id → (machine ≡ m) ⊎ (machine ≢ m) → (p ≡ q) ⊎ Marks machine p.id
   by machine q p i j same (inl is) =
@@ -196,26 +203,30 @@ abbrev IsPlainInput : Input → Type 0
 IsPlainInput (inputs.Insert barcode) = ⊥
 IsPlainInput (inputs.Replace old) = ⊥
 IsPlainInput (inputs.Mark id quality) = ⊥
+IsPlainInput (inputs.Level line on) = ⊥
 IsPlainInput _ = Unit {0}
 
-no_hand : (input : Input) (maker : Maker) (body : Body) (p : Record) → IsPlainInput input → IsHandOf input maker body p → ⊥
-no_hand (inputs.Insert barcode) maker body p plain hand = plain
-no_hand (inputs.Replace old) maker body p plain hand = plain
-no_hand (inputs.Mark id quality) maker body p plain hand = plain
-no_hand inputs.Nothing maker body p plain hand = hand
-no_hand inputs.Connect maker body p plain hand = hand
-no_hand inputs.Accepted maker body p plain hand = hand
-no_hand inputs.Second maker body p plain hand = hand
-no_hand (inputs.Bytes side piece) maker body p plain hand = hand
-no_hand (inputs.Notice side) maker body p plain hand = hand
-no_hand inputs.Tick maker body p plain hand = hand
-no_hand inputs.Shutdown maker body p plain hand = hand
-no_hand (inputs.Fault side) maker body p plain hand = hand
-no_hand (inputs.Will side on) maker body p plain hand = hand
-no_hand (inputs.Remove id) maker body p plain hand = hand
+no_hand : (bridge : Option BridgeLevels) (input : Input) (maker : Maker) (body : Body) (p : Record) → IsPlainInput input → IsHandOf bridge input maker body p → ⊥
+no_hand bridge (inputs.Insert barcode) maker body p plain hand = plain
+no_hand bridge (inputs.Replace old) maker body p plain hand = plain
+no_hand bridge (inputs.Mark id quality) maker body p plain hand = plain
+no_hand bridge inputs.Nothing maker body p plain hand = hand
+no_hand bridge inputs.Connect maker body p plain hand = hand
+no_hand bridge inputs.Accepted maker body p plain hand = hand
+no_hand bridge inputs.Second maker body p plain hand = hand
+no_hand bridge (inputs.Bytes side piece) maker body p plain hand = hand
+no_hand bridge (inputs.Notice side) maker body p plain hand = hand
+no_hand bridge inputs.Tick maker body p plain hand = hand
+no_hand bridge inputs.Shutdown maker body p plain hand = hand
+no_hand bridge (inputs.Fault side) maker body p plain hand = hand
+no_hand bridge (inputs.Will side on) maker body p plain hand = hand
+no_hand bridge (inputs.Remove id) maker body p plain hand = hand
+no_hand bridge (inputs.Level line on) maker body p plain hand = plain
+no_hand bridge inputs.Forecast maker body p plain hand = hand
+no_hand bridge (inputs.Query barcode) maker body p plain hand = hand
 
 plain_keeps : (Marks : ℕ → ℕ → Type 0) (number m : ℕ) (input : Input) (before after : LineState) (told : List Happening) → IsPlainInput input → Starting before → MachineSteps number m input before after told → KeepsContents Marks before after
-plain_keeps Marks number m input before after told plain a steps = step_keeps Marks number m input before after told a steps (λ q p i same hand. absurd (no_hand input steps.node.maker (body_then number m input before after told steps) p plain hand))
+plain_keeps Marks number m input before after told plain a steps = step_keeps Marks number m input before after told a steps (λ q p i same hand. absurd (no_hand steps.node.bridge input steps.node.maker (body_then number m input before after told steps) p plain hand))
 
 given_keeps : (Marks : ℕ → ℕ → Type 0) (may : May) (number m : ℕ) (input : Input) (before next : LineState) (told : List Happening) → IsPlainInput input → Starting before → Unless may before next told (MachineSteps number m input before next told) → KeepsContents Marks before next
 given_keeps Marks may number m input before next told plain a does = unless_keeps Marks may before next told (MachineSteps number m input before next told) a (plain_keeps Marks number m input before next told plain a) does
@@ -242,7 +253,7 @@ second_keeps Marks number m machine input start between next told plain is above
     let j2 : In p (node_at next m).lane.body.kept = subst (λ (n : ℕ). In p (node_at next n).lane.body.kept) is j in
     elim (machine_contents number m input between next told steps (subst (λ (n : NodeState). IsOneRecord n.lane.body) (sym above) one) q p i2 j2 same) [
       | inl one_is ↦ inl one_is
-      | inr hand ↦ absurd (no_hand input steps.node.maker (body_then number m input between next told steps) p plain hand)
+      | inr hand ↦ absurd (no_hand steps.node.bridge input steps.node.maker (body_then number m input between next told steps) p plain hand)
     ]
 
 connects_keeps : (Marks : ℕ → ℕ → Type 0) (number m : ℕ) (before next : LineState) (told : List Happening) → Starting before → Connects number m before next told → KeepsContents Marks before next
@@ -266,16 +277,16 @@ flows_keeps Marks number m side count before next told a flows =
     let start : LineState = arrived m side count before in
     from_same Marks before start next refl (plain_keeps Marks number m (inputs.Bytes side flows.piece) start next told tt (starting_same before start refl a) flows.steps)
 
-more_kept : (capacity used : ℕ) (s : LineState) (machine : ℕ) → (node_at (one_more capacity used s) machine).lane.body.kept ≡ (node_at s machine).lane.body.kept
-more_kept capacity used s machine = by (same_or_not machine (length s.machines + 1)) where
-  new : (n : ℕ) → n ≡ length s.machines → (slice_index_or (one_more capacity used s).machines n no_node).lane.body.kept ≡ (slice_index_or s.machines n no_node).lane.body.kept
-  new n is = rw is (rw (last_node s.machines (new_node (profile_of (length s.machines + 1) capacity used)), no_last s.machines) refl)
+more_kept : (is_bridge : Bool) (capacity used : ℕ) (s : LineState) (machine : ℕ) → (node_at (one_more is_bridge capacity used s) machine).lane.body.kept ≡ (node_at s machine).lane.body.kept
+more_kept is_bridge capacity used s machine = by (same_or_not machine (length s.machines + 1)) where
+  new : (n : ℕ) → n ≡ length s.machines → (slice_index_or (one_more is_bridge capacity used s).machines n no_node).lane.body.kept ≡ (slice_index_or s.machines n no_node).lane.body.kept
+  new n is = rw is (rw (last_node s.machines (new_node (profile_of is_bridge (length s.machines + 1) capacity used)), no_last s.machines) refl)
 
-  by : (machine ≡ length s.machines + 1) ⊎ (machine ≢ length s.machines + 1) → (node_at (one_more capacity used s) machine).lane.body.kept ≡ (node_at s machine).lane.body.kept
+  by : (machine ≡ length s.machines + 1) ⊎ (machine ≢ length s.machines + 1) → (node_at (one_more is_bridge capacity used s) machine).lane.body.kept ≡ (node_at s machine).lane.body.kept
   by (inl is) =
       let next : machine ≡ suc (length s.machines) = omega (arith, is) in
-      subst (λ (m : ℕ). (node_at (one_more capacity used s) m).lane.body.kept ≡ (node_at s m).lane.body.kept) (sym next) (new (length s.machines) refl)
-  by (inr apart) = ap (λ (x : Stand). x.node.lane.body.kept) ((more_changes capacity used s).machines machine apart)
+      subst (λ (m : ℕ). (node_at (one_more is_bridge capacity used s) m).lane.body.kept ≡ (node_at s m).lane.body.kept) (sym next) (new (length s.machines) refl)
+  by (inr apart) = ap (λ (x : Stand). x.node.lane.body.kept) ((more_changes is_bridge capacity used s).machines machine apart)
 
 moved_kept : (s : LineState) (answer : Result FloorPlan MoveNo) (machine : ℕ) → (node_at (moved answer s) machine).lane.body.kept ≡ (node_at s machine).lane.body.kept
 moved_kept s (Ok floor) machine = nodes_kept s (moved (Ok floor) s) refl machine
@@ -288,18 +299,30 @@ move_keeps Marks gap step before next told a does =
 
 -- a mark that changes a record is told
 mark_is_told : (number m id : ℕ) (quality : Quality) (before next : LineState) (told : List Happening) (steps : MachineSteps number m (inputs.Mark id quality) before next told) (p : Record)
-    → IsHandOf (inputs.Mark id quality) steps.node.maker (body_then number m (inputs.Mark id quality) before next told steps) p → IsMarked told m p.id
+    → IsHandOf steps.node.bridge (inputs.Mark id quality) steps.node.maker (body_then number m (inputs.Mark id quality) before next told steps) p → IsMarked told m p.id
 mark_is_told number m id quality before next told steps p hand = record {
   quality = quality;
   marks = subst (λ (x : ℕ). IsTold (happenings.Done m (acts.Marks x quality)) told) (sym hand.0) (marks_told number m id quality before next told steps hand.1);
 }
 
+-- a mark of a bridge's failed front board is told
+level_is_told : (number m : ℕ) (line : SegmentLine) (on : Bool) (before next : LineState) (told : List Happening) (steps : MachineSteps number m (inputs.Level line on) before next told) (p : Record)
+    → IsHandOf steps.node.bridge (inputs.Level line on) steps.node.maker (body_then number m (inputs.Level line on) before next told steps) p → IsMarked told m p.id
+level_is_told number m line on before next told steps p hand = record {
+  quality = qualities.Failed;
+  marks = subst (λ (x : ℕ). IsTold (happenings.Done m (acts.Marks x qualities.Failed)) told) (sym hand.2) (fails_told number m hand.0 line on before next told steps hand.1 hand.3);
+}
+
 does_keeps : (number : ℕ) (line : ScriptLine) (before next : LineState) (told : List Happening) → Starting before → LineDoes number line before next told → KeepsContents (IsMarked told) before next
 does_keeps number lines.Blank before next told a does = becomes_keeps _ before before next [] told a does (λ machine. refl)
 does_keeps number (lines.Machine capacity used) before next told a does =
-    let now : LineState = one_more capacity used before in
+    let now : LineState = one_more false capacity used before in
     let what : List Happening = happenings.Machine (length before.machines + 1) capacity ∷ [] in
-    unless_keeps _ _ before next told (Becomes now what next told) a (λ becomes. becomes_keeps _ before now next what told a becomes (more_kept capacity used before)) does
+    unless_keeps _ _ before next told (Becomes now what next told) a (λ becomes. becomes_keeps _ before now next what told a becomes (more_kept false capacity used before)) does
+does_keeps number (lines.Bridge capacity used) before next told a does =
+    let now : LineState = one_more true capacity used before in
+    let what : List Happening = happenings.Bridge (length before.machines + 1) capacity ∷ [] in
+    unless_keeps _ _ before next told (Becomes now what next told) a (λ becomes. becomes_keeps _ before now next what told a becomes (more_kept true capacity used before)) does
 does_keeps number (lines.Insert m barcode) before next told a does =
     unless_keeps _ _ before next told (MachineSteps number m (inputs.Insert barcode) before next told) a
     (λ steps. step_keeps _ number m (inputs.Insert barcode) before next told a steps (made_not (IsMarked told) number m (inputs.Insert barcode) before next told a steps refl)) does
@@ -312,6 +335,11 @@ does_keeps number (lines.Mark m id quality) before next told a does =
     (λ steps. step_keeps (IsMarked told) number m (inputs.Mark id quality) before next told a steps (λ q p i same hand. mark_is_told number m id quality before next told steps p hand)) does
 does_keeps number (lines.Hold m side) before next told a does = given_keeps _ _ number m (inputs.Will side false) before next told tt a does
 does_keeps number (lines.Go m side) before next told a does = given_keeps _ _ number m (inputs.Will side true) before next told tt a does
+does_keeps number (lines.Signal m line on) before next told a does =
+    unless_keeps _ _ before next told (MachineSteps number m (inputs.Level line on) before next told) a
+    (λ steps. step_keeps (IsMarked told) number m (inputs.Level line on) before next told a steps (λ q p i same hand. level_is_told number m line on before next told steps p hand)) does
+does_keeps number (lines.Forecast m) before next told a does = given_keeps _ _ number m (inputs.Forecast) before next told tt a does
+does_keeps number (lines.Query m barcode) before next told a does = given_keeps _ _ number m (inputs.Query barcode) before next told tt a does
 does_keeps number (lines.Connect m) before next told a does = unless_keeps _ _ before next told (Connects number m before next told) a (connects_keeps _ number m before next told a) does
 does_keeps number (lines.Flow m side count) before next told a does = unless_keeps _ _ before next told (Flows number m side count before next told) a (flows_keeps _ number m side count before next told a) does
 does_keeps number (lines.Notice m side) before next told a does = given_keeps _ _ number m (inputs.Notice side) before next told tt a does
@@ -336,6 +364,10 @@ does_keeps number (lines.Take gap) before next told a does = move_keeps _ gap mo
 does_keeps number (lines.Lie m sensed) before next told a does =
     let now : LineState = lied number m sensed before in
     let what : List Happening = happenings.Lie m sensed ∷ unvouched_told before.unvouched in
+    unless_keeps _ _ before next told (Becomes now what next told) a (λ becomes. becomes_keeps _ before now next what told a becomes (nodes_kept before now refl)) does
+does_keeps number (lines.Unseen m side) before next told a does =
+    let now : LineState = unseen number m side before in
+    let what : List Happening = happenings.Unseen m side ∷ unvouched_told before.unvouched in
     unless_keeps _ _ before next told (Becomes now what next told) a (λ becomes. becomes_keeps _ before now next what told a becomes (nodes_kept before now refl)) does
 does_keeps number lines.Show before next told a does = becomes_keeps _ before before next (shown before) told a does (λ machine. refl)
 

@@ -31,7 +31,7 @@ use Rattle.node_core.specs.declared.input.No.{No}
 use Rattle.node_core.specs.declared.lane.Body.{Body as Machine}
 use Rattle.node_core.specs.declared.word.Word.{Word}
 use Rattle.machine_custody.specs.ByHand.{AreHere, Grows}
-use Rattle.machine_custody.specs.Flight.{IsPlain, plain_fault, plain_nothing, plain_notice, plain_shutdown, plain_tick, plain_will, plain_words}
+use Rattle.machine_custody.specs.Flight.{IsPlain, plain_fault, plain_nothing, plain_notice, plain_shutdown, plain_tick, plain_will, plain_words, plain_level, plain_forecast, plain_query}
 use Rattle.machine_custody.specs.Good.{GoesBy, Good, Lies, lies_first, lies_later}
 use Rattle.machine_custody.specs.Scene.{Scene}
 use Rattle.machine_custody.specs.Unique.{IsApart}
@@ -64,6 +64,7 @@ use Rattle.one_standing.proofs.HandsThere.{gone_renamed, gone_without, lies_rena
 use Rattle.one_standing.proofs.Plain.{flow_leaves, leaves_bear, step_bears}
 use Rattle.one_standing.proofs.RestLine.{node_there}
 use Rattle.one_standing.proofs.Traces.{put, put_other, put_same}
+use Rattle.smema_bridge.specs.declared.line.SegmentLine.{SegmentLine}
 
 -- what is had of a line of the script beside what its form does
 pub record Around (t : Trace) (before after : LineState) (told : List Happening) : Type 0 where
@@ -340,6 +341,9 @@ pub data IsPlainInput : Input → Type 0 where
   is_shutdown : IsPlainInput inputs.Shutdown
   is_fault : {side : Side} → IsPlainInput (inputs.Fault side)
   is_will : {side : Side} {on : Bool} → IsPlainInput (inputs.Will side on)
+  is_level : {line : SegmentLine} {on : Bool} → IsPlainInput (inputs.Level line on)
+  is_forecast : IsPlainInput inputs.Forecast
+  is_query : {barcode : List ℕ} → IsPlainInput (inputs.Query barcode)
 
 pub plain_event : (maker : Maker) (input : Input) (words : List Word) (c : Scene) → IsPlainInput input → AreHeard input words c → IsPlain (event_of maker input words) c
 plain_event maker _ words c is_nothing heard = plain_nothing
@@ -349,6 +353,9 @@ plain_event maker _ words c is_tick heard = plain_tick
 plain_event maker _ words c is_shutdown heard = plain_shutdown
 plain_event maker _ words c is_fault heard = plain_fault
 plain_event maker _ words c is_will heard = plain_will
+plain_event maker _ words c is_level heard = plain_level
+plain_event maker _ words c is_forecast heard = plain_forecast
+plain_event maker _ words c is_query heard = plain_query
 
 no_connect : {input : Input} {A : Type 0} → IsPlainInput input → input ≡ inputs.Connect → A
 no_connect is_nothing is = absurd (cc)
@@ -358,6 +365,9 @@ no_connect is_tick is = absurd (cc)
 no_connect is_shutdown is = absurd (cc)
 no_connect is_fault is = absurd (cc)
 no_connect is_will is = absurd (cc)
+no_connect is_level is = absurd (cc)
+no_connect is_forecast is = absurd (cc)
+no_connect is_query is = absurd (cc)
 
 no_accepted : {input : Input} {A : Type 0} → IsPlainInput input → input ≡ inputs.Accepted → A
 no_accepted is_nothing is = absurd (cc)
@@ -367,6 +377,9 @@ no_accepted is_tick is = absurd (cc)
 no_accepted is_shutdown is = absurd (cc)
 no_accepted is_fault is = absurd (cc)
 no_accepted is_will is = absurd (cc)
+no_accepted is_level is = absurd (cc)
+no_accepted is_forecast is = absurd (cc)
+no_accepted is_query is = absurd (cc)
 
 pub other_bears : (number j : ℕ) (input : Input) (t : Trace) (before after : LineState) (told all : List Happening) → IsPlainInput input → Around t before after all → (steps : MachineSteps number (j + 1) input before after told) → may_of steps.node input ≡ may_do
     → Mirrors number j input t before after → Bearing after

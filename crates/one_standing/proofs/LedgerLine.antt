@@ -28,7 +28,7 @@ use Rattle.line_report.specs.declared.happening.Happening.TheVariants as happeni
 use Rattle.standings.specs.Ledger.{AreLegal, Ledger, are_different, has_entry, ledger_after_all}
 use Rattle.standings.specs.Marks.{Owned, Where, has_at}
 use Rattle.standings.specs.declared.deed.Deed.{Deed}
-use Rattle.line_step.specs.Lines.{Becomes, Connects, Flows, LineDoes, LineSteps, Unless, arrived, connecting, cut_in, lied, met, move_told, moved, spoil_told, spoiled, unvouched_told}
+use Rattle.line_step.specs.Lines.{Becomes, Connects, Flows, LineDoes, LineSteps, Unless, arrived, connecting, cut_in, lied, met, move_told, moved, spoil_told, spoiled, unvouched_told, unseen}
 use Rattle.line_step.specs.Numbered.{ChangesMachine, Stand, no_node, node_at}
 use Rattle.line_step.specs.Reasons.{May}
 use Rattle.line_step.specs.Shown.{shown, standings_told}
@@ -46,8 +46,10 @@ use Rattle.one_standing.proofs.LedgerMarks.{FitsLine, differ_of, taken_old}
 use Rattle.one_standing.proofs.LedgerSteps.{IsMadeNow, all_of, deeds_by, did_goes}
 use Rattle.one_standing.proofs.LedgerTold.{acts_deeds, cut_none, deeds_join, shown_none, standings_none}
 use Rattle.one_standing.proofs.LedgerTurns.{Fits, Follows, after_append, entry_at, legal_append}
-use Rattle.one_standing.proofs.LedgerWalk.{Did, IsNewFor, step_did}
+use Rattle.one_standing.proofs.LedgerWalk.{Did, IsNewFor, step_did, did_behind}
 use Rattle.one_standing.proofs.Mirroring.{node_there}
+use Rattle.node_core.specs.Signals.{signalled}
+use Rattle.one_standing.proofs.Signalled.{signals_silent}
 
 -- the deeds of what is told are legal, and the ledger behind them is that of the line after
 pub record Led (Old : ℕ → Type 0) (after : LineState) (ledger : Ledger) (told : List Happening) : Type 0 where
@@ -115,6 +117,9 @@ new_event New maker inputs.Tick words new = tt
 new_event New maker inputs.Shutdown words new = tt
 new_event New maker (inputs.Fault side) words new = tt
 new_event New maker (inputs.Will side on) words new = tt
+new_event New maker (inputs.Level line on) words new = tt
+new_event New maker inputs.Forecast words new = tt
+new_event New maker (inputs.Query barcode) words new = tt
 new_event New maker (inputs.Remove id) words new = tt
 new_event New maker (inputs.Mark id quality) words new = tt
 
@@ -126,7 +131,10 @@ step_own {New} number machine input before after told steps new =
     let desk = desk_of steps.node (moment_of number) in
     let unread = unread_by machine before.world in
     subst (λ (b : Body). Did New (own_of steps.node.lane.body) steps.acts (own_of b)) (sym lane.body)
-    (subst (λ (a : List Act). Did New (own_of steps.node.lane.body) a (own_of (machine_step desk unread event steps.node.lane.body).body)) (sym lane.told) (step_did desk unread event steps.node.lane.body (new_event New steps.node.maker input lane.words new)))
+    (subst (λ (a : List Act). Did New (own_of steps.node.lane.body) a (own_of (machine_step desk unread event steps.node.lane.body).body))
+    (sym (steps.steps.told ∙ ap (λ (made : List Act). made ++ signalled steps.node.bridge steps.next.lane.body) lane.told))
+    (did_behind (signalled steps.node.bridge steps.next.lane.body) (signals_silent steps.node.bridge steps.next.lane.body)
+    (step_did desk unread event steps.node.lane.body (new_event New steps.node.maker input lane.words new))))
 
 machine_led : {Older Old : ℕ → Type 0} (number machine : ℕ) (input : Input) (before after : LineState) (told : List Happening) → ((x : ℕ) → Older x → Old x) → (steps : MachineSteps number machine input before after told)
     → IsNewInput (IsMadeNow Older Old) input steps.node.maker → are_different (all_of (own_of (node_at before machine).lane.body)) ≡ true → ((id : ℕ) → (own_of (node_at after machine).lane.body).taking ≡ Some id → Old id)
@@ -238,6 +246,9 @@ none_new New inputs.Tick maker none = tt
 none_new New inputs.Shutdown maker none = tt
 none_new New (inputs.Fault side) maker none = tt
 none_new New (inputs.Will side on) maker none = tt
+none_new New (inputs.Level line on) maker none = tt
+none_new New inputs.Forecast maker none = tt
+none_new New (inputs.Query barcode) maker none = tt
 none_new New (inputs.Remove id) maker none = tt
 none_new New (inputs.Mark id quality) maker none = tt
 
@@ -300,16 +311,16 @@ pub no_last : (nodes : List NodeState) → slice_index_or nodes (length nodes) n
 no_last [] = refl
 no_last (node ∷ nodes) = no_last nodes
 
-more_own : (capacity used : ℕ) (s : LineState) → OwnSame s (one_more capacity used s)
-more_own capacity used s machine = by (same_or_not machine (length s.machines + 1)) where
-  new : (n : ℕ) → n ≡ length s.machines → owned_by (slice_index_or (one_more capacity used s).machines n no_node) ≡ owned_by (slice_index_or s.machines n no_node)
-  new n is = rw is (rw (last_node s.machines (new_node (profile_of (length s.machines + 1) capacity used)), no_last s.machines) refl)
+more_own : (is_bridge : Bool) (capacity used : ℕ) (s : LineState) → OwnSame s (one_more is_bridge capacity used s)
+more_own is_bridge capacity used s machine = by (same_or_not machine (length s.machines + 1)) where
+  new : (n : ℕ) → n ≡ length s.machines → owned_by (slice_index_or (one_more is_bridge capacity used s).machines n no_node) ≡ owned_by (slice_index_or s.machines n no_node)
+  new n is = rw is (rw (last_node s.machines (new_node (profile_of is_bridge (length s.machines + 1) capacity used)), no_last s.machines) refl)
 
-  by : (machine ≡ length s.machines + 1) ⊎ (machine ≢ length s.machines + 1) → owned_by (node_at (one_more capacity used s) machine) ≡ owned_by (node_at s machine)
+  by : (machine ≡ length s.machines + 1) ⊎ (machine ≢ length s.machines + 1) → owned_by (node_at (one_more is_bridge capacity used s) machine) ≡ owned_by (node_at s machine)
   by (inl is) =
       let next : machine ≡ suc (length s.machines) = omega (arith, is) in
-      subst (λ (m : ℕ). owned_by (node_at (one_more capacity used s) m) ≡ owned_by (node_at s m)) (sym next) (new (length s.machines) refl)
-  by (inr apart) = ap (λ (x : Stand). owned_by x.node) ((more_changes capacity used s).machines machine apart)
+      subst (λ (m : ℕ). owned_by (node_at (one_more is_bridge capacity used s) m) ≡ owned_by (node_at s m)) (sym next) (new (length s.machines) refl)
+  by (inr apart) = ap (λ (x : Stand). owned_by x.node) ((more_changes is_bridge capacity used s).machines machine apart)
 
 -- ---- each form
 
@@ -333,15 +344,22 @@ unvouched_none (Some line) = refl
 does_led : (number : ℕ) (line : ScriptLine) (before next : LineState) (told : List Happening) (ledger : Ledger) → Around before next → LineDoes number line before next told → LedLine before next ledger told
 does_led number lines.Blank before next told ledger a does = becomes_led before before next [] told ledger a does (λ machine. refl) refl
 does_led number (lines.Machine capacity used) before next told ledger a does =
-    let now : LineState = one_more capacity used before in
+    let now : LineState = one_more false capacity used before in
     let what : List Happening = happenings.Machine (length before.machines + 1) capacity ∷ [] in
-    unless_led _ before next told ledger (Becomes now what next told) a (λ becomes. becomes_led before now next what told ledger a becomes (more_own capacity used before) refl) does
+    unless_led _ before next told ledger (Becomes now what next told) a (λ becomes. becomes_led before now next what told ledger a becomes (more_own false capacity used before) refl) does
+does_led number (lines.Bridge capacity used) before next told ledger a does =
+    let now : LineState = one_more true capacity used before in
+    let what : List Happening = happenings.Bridge (length before.machines + 1) capacity ∷ [] in
+    unless_led _ before next told ledger (Becomes now what next told) a (λ becomes. becomes_led before now next what told ledger a becomes (more_own true capacity used before) refl) does
 does_led number (lines.Insert machine barcode) before next told ledger a does = inserted_led _ number machine barcode before next told ledger a does
 does_led number (lines.Remove machine id) before next told ledger a does = given_led _ number machine (inputs.Remove id) before next told ledger tt a does
 does_led number (lines.Replace machine id) before next told ledger a does = replaced_led _ number machine id before next told ledger a does
 does_led number (lines.Mark machine id quality) before next told ledger a does = given_led _ number machine (inputs.Mark id quality) before next told ledger tt a does
 does_led number (lines.Hold machine side) before next told ledger a does = given_led _ number machine (inputs.Will side false) before next told ledger tt a does
 does_led number (lines.Go machine side) before next told ledger a does = given_led _ number machine (inputs.Will side true) before next told ledger tt a does
+does_led number (lines.Signal machine line on) before next told ledger a does = given_led _ number machine (inputs.Level line on) before next told ledger tt a does
+does_led number (lines.Forecast machine) before next told ledger a does = given_led _ number machine (inputs.Forecast) before next told ledger tt a does
+does_led number (lines.Query machine barcode) before next told ledger a does = given_led _ number machine (inputs.Query barcode) before next told ledger tt a does
 does_led number (lines.Connect machine) before next told ledger a does = unless_led _ before next told ledger (Connects number machine before next told) a (connects_led number machine before next told ledger a) does
 does_led number (lines.Flow machine side count) before next told ledger a does = unless_led _ before next told ledger (Flows number machine side count before next told) a (flows_led number machine side count before next told ledger a) does
 does_led number (lines.Notice machine side) before next told ledger a does = given_led _ number machine (inputs.Notice side) before next told ledger tt a does
@@ -367,6 +385,10 @@ does_led number (lines.Take gap) before next told ledger a does = move_led gap m
 does_led number (lines.Lie machine sensed) before next told ledger a does =
     let now : LineState = lied number machine sensed before in
     let what : List Happening = happenings.Lie machine sensed ∷ unvouched_told before.unvouched in
+    unless_led _ before next told ledger (Becomes now what next told) a (λ becomes. becomes_led before now next what told ledger a becomes (own_nodes before now refl) (unvouched_none before.unvouched)) does
+does_led number (lines.Unseen machine side) before next told ledger a does =
+    let now : LineState = unseen number machine side before in
+    let what : List Happening = happenings.Unseen machine side ∷ unvouched_told before.unvouched in
     unless_led _ before next told ledger (Becomes now what next told) a (λ becomes. becomes_led before now next what told ledger a becomes (own_nodes before now refl) (unvouched_none before.unvouched)) does
 does_led number lines.Show before next told ledger a does = becomes_led before before next (shown before) told ledger a does (λ machine. refl) (shown_none 1 before.machines)
 

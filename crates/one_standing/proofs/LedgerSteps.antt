@@ -67,7 +67,7 @@ either_none : (a b : Bool) → (a || b) ≡ false → (a ≡ false) × (b ≡ fa
 either_none false b is = (refl, is)
 either_none true b is = absurd (let h : true ≡ false = is in cc)
 
-none_either : (x : ℕ) (xs ys : List ℕ) → has_id x (xs ++ ys) ≡ false → (has_id x xs ≡ false) × (has_id x ys ≡ false)
+pub none_either : (x : ℕ) (xs ys : List ℕ) → has_id x (xs ++ ys) ≡ false → (has_id x xs ≡ false) × (has_id x ys ≡ false)
 none_either x xs ys none = either_none (has_id x xs) (has_id x ys) (sym (list_any-append (λ (other : ℕ). other == x) xs ys) ∙ none)
 
 both_not : (a b : Bool) → a ≡ false → b ≡ true → (not a && b) ≡ true
@@ -96,10 +96,10 @@ last_none : (x : ℕ) (ys : List ℕ) → are_different (ys ++ x ∷ []) ≡ tru
 last_none x [] is = refl
 last_none x (y ∷ ys) is = rw (apart_by x y ys (y == x) refl (different_first y (ys ++ x ∷ []) is)) (last_none x ys (different_rest y (ys ++ x ∷ []) is))
 
-settled_ids : (held : Option ℕ) (ids : List ℕ) (id : ℕ) → one_of held ++ (ids ++ id ∷ []) ≡ one_of held ++ ((ids ++ id ∷ []) ++ [])
+pub settled_ids : (held : Option ℕ) (ids : List ℕ) (id : ℕ) → one_of held ++ (ids ++ id ∷ []) ≡ one_of held ++ ((ids ++ id ∷ []) ++ [])
 settled_ids held ids id = ap (λ (l : List ℕ). one_of held ++ l) (sym (append-nil (ids ++ id ∷ [])))
 
-dropped_ids : (held : Option ℕ) (ids : List ℕ) (id : ℕ) → are_different (one_of held ++ (ids ++ id ∷ [])) ≡ true → are_different (one_of held ++ (ids ++ [])) ≡ true
+pub dropped_ids : (held : Option ℕ) (ids : List ℕ) (id : ℕ) → are_different (one_of held ++ (ids ++ id ∷ [])) ≡ true → are_different (one_of held ++ (ids ++ [])) ≡ true
 dropped_ids held ids id is =
     ap (λ (l : List ℕ). are_different (one_of held ++ l)) (append-nil ids)
     ∙ different_front (one_of held ++ ids) (id ∷ []) (ap are_different (append_assoc (one_of held) ids (id ∷ [])) ∙ is)

@@ -1,6 +1,6 @@
 -- What a machine owns goes from place to place as the acts of its step say: each deed finds its id where it takes it from.
 -- One lemma for each definition of the machine step, in the order of the definitions.
-use Rattle.std.proofs.Common.{if◌then◌else◌, ◌&&◌, subst, ◌≡◌, ◌∙◌, ◌++◌, ◌==◌, ◌||◌, ℕ, Bool, true, false, List, [], ◌∷◌, Option, Some, None, refl, sym, ap}
+use Rattle.std.proofs.Common.{if◌then◌else◌, ◌&&◌, subst, ◌≡◌, ◌∙◌, ◌++◌, ◌==◌, ◌||◌, ℕ, Bool, true, false, List, [], ◌∷◌, Option, Some, None, refl, sym, ap, append_assoc}
 use Rattle.std.specs.Prelude.{is_some, slice_get}
 use Rattle.std.proofs.lemmas.Bool.{false≢true}
 use Rattle.std.proofs.lemmas.List.{map-append}
@@ -55,12 +55,17 @@ use Rattle.node_core.specs.Reads.{saw, reads, all_read}
 use Rattle.node_core.specs.Connect.{if_open, opens, notices, ticks, shuts_down}
 use Rattle.node_core.specs.Boards.{without, with_instead, with_mark, is_kept, if_kept, faults, wills}
 use Rattle.node_core.specs.Announces.{revokes_now, revoke_by, revoke, unreadies_now, unready_by, unready, offers_now, offer_by, offer, readies_now, ready_by, ready, starts_now, start_by, start, announces}
-use Rattle.node_core.specs.Event.{Event, Nothing, Connect, Accepted, Second, Words, Notice, Tick, Shutdown, Fault, Will, Insert, Remove, Replace, Mark, event_did}
+use Rattle.node_core.specs.Event.{Event, Nothing, Connect, Accepted, Second, Words, Notice, Tick, Shutdown, Fault, Will, Insert, Remove, Replace, Mark, event_did, Level, Forecast, Query}
 use Rattle.node_core.specs.Step.{machine_step}
 use Rattle.node_core.specs.Own.{with_id_instead, without_id, Own, own_by, own_of, ids_of, id_of}
 use Rattle.node_core.specs.declared.act.Deed.TheVariants as deeds
 use Rattle.node_core.proofs.HalfRows.{IsNoStart, IsPlain}
 use Rattle.standings.specs.Marks.{has_id}
+use Rattle.node_core.specs.Bridge.{failed_front, fails, sets_level, tells_level}
+use Rattle.node_core.specs.Information.{forecasts}
+use Rattle.smema_bridge.specs.declared.line.SegmentLine.{SegmentLine}
+use Rattle.smema_bridge.specs.declared.line.SegmentLine.TheVariants.{Available, Failed, Ready}
+use Rattle.line_base.specs.declared.states.Quality.TheVariants as qualities
 
 -- ---- acts that move no record
 
@@ -286,7 +291,7 @@ exit_walks desk exits.Ready body = outlet_took_walks desk body out_input.Machine
 exit_walks desk exits.Unready body = outlet_took_walks desk body out_input.RevokeMachineReady (outlet_row body.outlet out_input.RevokeMachineReady) tt refl
 exit_walks desk (exits.Start named) body = start_took_walks desk body named (would_open body.outlet named) (outlet_row body.outlet (out_input.Start named (opening_board (would_open body.outlet named) body.kept))) refl
 exit_walks desk (exits.Stop state named) body = outlet_took_walks desk body (out_input.Stop state named) (outlet_row body.outlet (out_input.Stop state named)) tt refl
-exit_walks desk exits.Query body = walks_some (walks_told body _ refl)
+exit_walks desk (exits.Query top bottom) body = walks_some (walks_told body _ refl)
 exit_walks desk exits.Nothing body = walks_some (walks_still body)
 
 intake_took_walks : (desk : Desk) (body : Body) (input : InInput) (found : Option InRow) → IsNoStart input → intake_row body.intake input ≡ found → WalksAny body (intake_took desk body found)
@@ -419,6 +424,25 @@ IsNewFor New (Insert id barcode) = New id
 IsNewFor New (Replace old new) = New new
 IsNewFor New _ = Unit {0}
 
+fails_walk : (found : Option ℕ) (body : Body) → Walks body (fails found body)
+fails_walk None body = walks_still body
+fails_walk (Some id) body = marks_by id qualities.Failed body (is_kept id body.kept)
+
+tells_walk : (line : SegmentLine) (on : Bool) (body : Body) → Walks body (tells_level line on body)
+tells_walk Ready on body = record { walk = walk_on refl walk_end }
+tells_walk Available on body = record { walk = walk_on refl walk_end }
+tells_walk Failed on body = walks_told body _ refl
+
+levels_walk : (desk : Desk) (line : SegmentLine) (on : Bool) (body : Body) → Walks body (sets_level desk line on body)
+levels_walk desk line on body =
+    let one : Body = (tells_level line on body).body in
+    walks_both body (tells_level line on body) (λ (b : Body). fails (failed_front desk.bridge line on b) b) (tells_walk line on body)
+    (fails_walk (failed_front desk.bridge line on one) one)
+
+forecasts_silent : (desk : Desk) (front : Option Record) → are_silent (forecasts desk front) ≡ true
+forecasts_silent desk None = refl
+forecasts_silent desk (Some board) = refl
+
 event_meets : {New : ℕ → Type 0} (desk : Desk) (event : Event) (body : Body) → IsNewFor New event → Meets New body (event_did desk event body)
 event_meets desk Nothing body new = meets_walk (walks_still body)
 event_meets desk Connect body new = meets_walk (walks_behind body (acts.Connects ∷ []) refl (opens desk Entry body) (session_walks desk Entry body (session_row (session_at Entry body) opened)))
@@ -432,6 +456,9 @@ event_meets desk Shutdown body new = meets_walk (walks_both body (shuts_down des
     (let b = (shuts_down desk Entry body).body in session_walks desk Exit b (session_row (session_at Exit b) shutdown)))
 event_meets desk (Fault side) body new = meets_walk (faults_walks desk side body)
 event_meets desk (Will side on) body new = meets_walk (wills_walks side on body)
+event_meets desk (Level line on) body new = meets_walk (levels_walk desk line on body)
+event_meets desk Forecast body new = meets_walk (walks_told body _ (forecasts_silent desk (slice_get body.kept 0)))
+event_meets desk (Query barcode) body new = meets_walk (walks_told body _ refl)
 event_meets desk (Insert id barcode) body new = record { hand = hand_kept (body.kept ++ plain_record id desk.name barcode ∷ []) (id_of (held body.outlet)) (id_of (in_held body.intake)) (behind_ids body.kept (plain_record id desk.name barcode)) (hand_inserts new) }
 event_meets desk (Remove id) body new = removes_by id body (is_kept id body.kept) refl
 event_meets desk (Replace old new) body fresh = replaces_by desk old new body (is_kept old body.kept) fresh refl
@@ -527,3 +554,23 @@ step_did desk unread event body new =
     let one = (all_read desk unread body).body in
     let two = (event_did desk event one).body in
     did (all_read desk unread body).acts (event_did desk event one).acts (announces desk two).acts (all_read_walks desk unread body).walk (event_meets desk event one new).hand (announces_tells desk two).says
+
+silent_by : (one front both : Bool) → (one && front) ≡ true → (front ≡ true → both ≡ true) → (one && both) ≡ true
+silent_by true front both is next = next is
+silent_by false front both is next = cc
+
+pub both_silent : (first rest : List Act) → are_silent first ≡ true → are_silent rest ≡ true → are_silent (first ++ rest) ≡ true
+both_silent [] rest one other = other
+both_silent (act ∷ first) rest one other = silent_by (is_silent act) (are_silent first) (are_silent (first ++ rest)) one (λ is. both_silent first rest is other)
+
+-- acts that move no record, behind the announcements
+announces_behind : {own end : Own} {told : List Act} (more : List Act) → are_silent more ≡ true → Announces own told end → Announces own (told ++ more) end
+announces_behind {own} {end} more quiet (says_more told others is rest) =
+    subst (λ (all : List Act). Announces own all end) (sym (append_assoc told others more)) (says_more told (others ++ more) is (announces_behind more quiet rest))
+announces_behind more quiet (says_last {told = told} is) = says_more told more is (says_last quiet)
+announces_behind more quiet (says_start {others = others} is) = says_start (both_silent others more is quiet)
+
+pub did_behind : {New : ℕ → Type 0} {own end : Own} {told : List Act} (more : List Act) → are_silent more ≡ true → Did New own told end → Did New own (told ++ more) end
+did_behind {New} {own} {end} more quiet (did read met told r h a) =
+    subst (λ (all : List Act). Did New own all end) (sym (append_assoc read (met ++ told) more ∙ ap (λ (rest : List Act). read ++ rest) (append_assoc met told more)))
+    (did read met (told ++ more) r h (announces_behind more quiet a))

@@ -3,9 +3,11 @@ pub mod ApartHands
 pub mod ApartStep
 pub mod Behind
 pub mod BlameFlows
+pub mod BlameFree
 pub mod BlameJoins
 pub mod BlameLines
 pub mod BlameLinks
+pub mod BlameReady
 pub mod BlameSteps
 pub mod BlameTold
 pub mod BlameWords
@@ -56,6 +58,7 @@ pub mod RestNone
 pub mod RestReal
 pub mod RestScene
 pub mod RestStep
+pub mod Signalled
 pub mod SpoilingLine
 pub mod SpoilingWaits
 pub mod Steps

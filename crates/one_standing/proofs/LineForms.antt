@@ -18,8 +18,8 @@ use Rattle.line_report.specs.declared.happening.Happening.TheVariants as happeni
 use Rattle.line_report.specs.declared.happening.Reason.{Reason}
 use Rattle.line_report.specs.declared.happening.Reason.TheVariants as reasons
 use Rattle.line_step.specs.Lies.{tells_lie}
-use Rattle.line_step.specs.Lines.{Becomes, Connects, Flows, LineDoes, Unless, cut_in, lied, spoiled, unvouched_told}
-use Rattle.line_step.specs.Reasons.{May, behind_own, has_neighbour, if_there, is_here, may_add, may_connect, may_do, may_flow, may_give, may_lie, may_notice, may_remove, may_replace, no_if}
+use Rattle.line_step.specs.Lines.{Becomes, Connects, Flows, LineDoes, Unless, cut_in, lied, spoiled, unvouched_told, unseen}
+use Rattle.line_step.specs.Reasons.{May, behind_own, has_neighbour, if_there, is_here, may_add, may_connect, may_do, may_flow, may_give, may_lie, may_notice, may_remove, may_replace, no_if, may_unseen}
 use Rattle.line_step.specs.State.{LineState, machine_in, one_more}
 use Rattle.line_step.specs.Steps.{MachineSteps}
 use Rattle.line_step.proofs.Numbers.{machine_within}
@@ -31,7 +31,7 @@ use Rattle.one_standing.proofs.ApartHands.{remove_here, replace_here}
 use Rattle.one_standing.specs.Told.{IsTold}
 use Rattle.one_standing.proofs.Behind.{Bears}
 use Rattle.one_standing.proofs.Carrying.{SaysAlone}
-use Rattle.one_standing.proofs.HandSteps.{Around, Bearing, IsPlainInput, flow_bears, insert_bears, is_fault, is_notice, is_nothing, is_shutdown, is_tick, is_will, mark_bears, other_bears, remove_bears, replace_bears}
+use Rattle.one_standing.proofs.HandSteps.{Around, Bearing, IsPlainInput, flow_bears, insert_bears, is_fault, is_notice, is_nothing, is_shutdown, is_tick, is_will, is_level, is_forecast, is_query, mark_bears, other_bears, remove_bears, replace_bears}
 use Rattle.one_standing.proofs.LineMoves.{moves_bear}
 use Rattle.one_standing.proofs.MirroringFlow.{mirrors_flow}
 use Rattle.one_standing.proofs.MirroringPlain.{is_plain_input, mirrors_plain}
@@ -163,10 +163,15 @@ ConnectsBear = (number machine : ℕ) (t : Trace) (before after : LineState) (to
 no_lie : (told : List Happening) → tells_lie told ≡ false → (machine : ℕ) (sensed : Sensed) (more : List Happening) → told ≡ happenings.Lie machine sensed ∷ more → ⊥
 no_lie told none machine sensed more is = false≢true (sym none ∙ ap tells_lie is)
 
+none_unseen : (told : List Happening) → tells_lie told ≡ false → (machine : ℕ) (side : Side) (more : List Happening) → told ≡ happenings.Unseen machine side ∷ more → ⊥
+none_unseen told none machine side more is = false≢true (sym none ∙ ap tells_lie is)
+
 pub line_bears : ConnectsBear → (number : ℕ) (line : ScriptLine) (t : Trace) (before next : LineState) (told all : List Happening) → Setting number t before next told all → tells_lie told ≡ false → IsFitLine line → LineDoes number line before next told → Bearing next
 line_bears connects number lines.Blank t before next told all s honest fit is = becomes_bears t before before next _ told is (t, still_bears t before s.around.st)
 line_bears connects number (lines.Machine capacity used) t before next told all s honest fit is =
-    unless_bears t (may_add before) before next told _ s.around.st is (λ may done. becomes_bears t before (one_more capacity used before) next _ told done (t, still_bears t (one_more capacity used before) (more_stands t capacity used before s.around.st may)))
+    unless_bears t (may_add before) before next told _ s.around.st is (λ may done. becomes_bears t before (one_more false capacity used before) next _ told done (t, still_bears t (one_more false capacity used before) (more_stands t false capacity used before s.around.st may)))
+line_bears connects number (lines.Bridge capacity used) t before next told all s honest fit is =
+    unless_bears t (may_add before) before next told _ s.around.st is (λ may done. becomes_bears t before (one_more true capacity used before) next _ told done (t, still_bears t (one_more true capacity used before) (more_stands t true capacity used before s.around.st may)))
 line_bears connects number (lines.Insert machine None) t before next told all s honest fit is = unless_bears t _ before next told _ s.around.st is (λ may done. insert_line number machine None t before next told all tt s may done)
 line_bears connects number (lines.Insert machine (Some barcode)) t before next told all s honest fit is = unless_bears t _ before next told _ s.around.st is (λ may done. insert_line number machine (Some barcode) t before next told all fit s may done)
 line_bears connects number (lines.Remove machine id) t before next told all s honest fit is = unless_bears t _ before next told _ s.around.st is (λ may done. remove_line number machine id t before next told all s may done)
@@ -174,6 +179,9 @@ line_bears connects number (lines.Replace machine id) t before next told all s h
 line_bears connects number (lines.Mark machine id quality) t before next told all s honest fit is = unless_bears t _ before next told _ s.around.st is (λ may done. mark_line number machine id quality t before next told all s may done)
 line_bears connects number (lines.Hold machine side) t before next told all s honest fit is = unless_bears t _ before next told _ s.around.st is (λ may done. give_bears number machine (inputs.Will side false) t before next told all refl tt is_will s may done)
 line_bears connects number (lines.Go machine side) t before next told all s honest fit is = unless_bears t _ before next told _ s.around.st is (λ may done. give_bears number machine (inputs.Will side true) t before next told all refl tt is_will s may done)
+line_bears connects number (lines.Signal machine line on) t before next told all s honest fit is = unless_bears t _ before next told _ s.around.st is (λ may done. give_bears number machine (inputs.Level line on) t before next told all refl tt is_level s may done)
+line_bears connects number (lines.Forecast machine) t before next told all s honest fit is = unless_bears t _ before next told _ s.around.st is (λ may done. give_bears number machine inputs.Forecast t before next told all refl tt is_forecast s may done)
+line_bears connects number (lines.Query machine barcode) t before next told all s honest fit is = unless_bears t _ before next told _ s.around.st is (λ may done. give_bears number machine (inputs.Query barcode) t before next told all refl fit is_query s may done)
 line_bears connects number (lines.Connect machine) t before next told all s honest fit is = unless_bears t _ before next told _ s.around.st is (λ may done. connects number machine t before next told all s may done)
 line_bears connects number (lines.Flow machine side count) t before next told all s honest fit is = unless_bears t _ before next told _ s.around.st is (λ may done. flow_line number machine side count t before next told all s may done)
 line_bears connects number (lines.Notice machine side) t before next told all s honest fit is = unless_bears t _ before next told _ s.around.st is (λ may done. notice_bears number machine side t before next told all s may done)
@@ -192,4 +200,7 @@ line_bears connects number (lines.Take gap) t before next told all s honest fit 
 line_bears connects number (lines.Lie machine sensed) t before next told all s honest fit is =
     unless_bears t (may_lie machine sensed.side before) before next told (Becomes (lied number machine sensed before) (happenings.Lie machine sensed ∷ unvouched_told before.unvouched) next told) s.around.st is
     (λ may done. absurd (no_lie told honest machine sensed (unvouched_told before.unvouched) done.told_is))
+line_bears connects number (lines.Unseen machine side) t before next told all s honest fit is =
+    unless_bears t (may_unseen machine side before) before next told (Becomes (unseen number machine side before) (happenings.Unseen machine side ∷ unvouched_told before.unvouched) next told) s.around.st is
+    (λ may done. absurd (none_unseen told honest machine side (unvouched_told before.unvouched) done.told_is))
 line_bears connects number lines.Show t before next told all s honest fit is = becomes_bears t before before next _ told is (t, still_bears t before s.around.st)

@@ -1,5 +1,5 @@
 -- A STEP OF A MACHINE OF THE LINE is one in its scene, where what comes to its two sides is carried as its acts hear it.
-use Rattle.std.proofs.Common.{le→leb, Bool, List, Option, Some, [], ap, arith, false, length, refl, subst, suc, sym, true, zero, ℕ, ◌+◌, ◌-◌, ◌&&◌, ◌∙◌, ◌≡◌, ◌≢◌, ◌≤◌}
+use Rattle.std.proofs.Common.{le→leb, Bool, List, Option, Some, [], ap, arith, false, length, refl, subst, suc, sym, true, zero, ℕ, ◌+◌, ◌-◌, ◌&&◌, ◌∙◌, ◌≡◌, ◌≢◌, ◌≤◌, ◌++◌}
 use Rattle.std.specs.Prelude.{nat_le, nat_lt}
 use Rattle.std.proofs.lemmas.Option.{slice_get-get_or, slice_get_within}
 use Rattle.line_base.specs.Moment.{IsMomentMillis}
@@ -22,7 +22,7 @@ use Rattle.node_core.specs.declared.lane.Body.{Body}
 use Rattle.node_core.specs.declared.word.Word.{Word}
 use Rattle.link_messages.specs.Fit.{AreFitActs, Fits, IsFitBody, IsFitDesk, IsFitEvent, IsFitMaker}
 use Rattle.link_messages.proofs.Eventing.{maker_stays_fit}
-use Rattle.link_messages.proofs.Saying.{step_fits}
+use Rattle.link_messages.proofs.Saying.{step_fits, signals_fit}
 use Rattle.machine_custody.specs.Scene.{Scene, all_met}
 use Rattle.line_step.specs.Near.{HasPlace, Near, has_gap_at, near_at, nears_did}
 use Rattle.line_step.specs.Numbered.{no_node, node_at}
@@ -42,6 +42,10 @@ use Rattle.one_standing.proofs.Carrying.{SaysAlone}
 use Rattle.one_standing.proofs.CarryingActs.{IsLike, acts_like}
 use Rattle.one_standing.proofs.CarryingSides.{Joint}
 use Rattle.one_standing.proofs.MirroringEnds.{IsAround, Reaches, before_one, reaches}
+use Rattle.link_messages.proofs.SayingWhat.{both_said}
+use Rattle.node_core.specs.Signals.{signalled}
+use Rattle.smema_bridge.specs.Levels.{BridgeLevels}
+use Rattle.one_standing.proofs.Signalled.{signals_passed}
 
 -- ---- a machine that is there, by number
 
@@ -162,14 +166,19 @@ abbrev pub GoAlong : (Side → Bool) → Bool → List Act → List ℕ → List
 GoAlong has second told new_entry new_exit far_above far_below all near c =
     AreFitActs told → IsLike has told new_entry new_exit far_above far_below near c → IsLike has [] new_entry new_exit far_above far_below (nears_did has second told near) (all told c)
 
+-- a bridge's own signals go along with every scene
+abbrev pub PassesSignals : (List Act → Scene → Scene) → Scene → Type 0
+PassesSignals all c = (made : List Act) (bridge : Option BridgeLevels) (body : Body) → all (made ++ signalled bridge body) c ≡ all made c
+
 pub mirrored : {far_above far_below : List ℕ} (number j : ℕ) (input : Input) (before : LineState) (w : WorldParts) (after : LineState) (told : List Happening) (all : List Act → Scene → Scene) (c : Scene)
+    → PassesSignals all c
     → w.floor ≡ before.world.floor → length before.world.floor.machines ≡ length before.machines → length before.world.floor.gaps ≡ length before.world.floor.machines - 1 → number ≤ 1000000 → IsFitMachine before (j + 1)
     → (steps : MachineSteps number (j + 1) input (with_world w before) after told) → IsFitEvent (event_of steps.node.maker input steps.steps.lane.words) → (machine_at before.world.floor (j + 1)).boards ≡ c.boards
     → GoAlong (links_of j before) (is_second input) steps.acts steps.next.lane.entry_bytes steps.next.lane.exit_bytes far_above far_below all (near_at (j + 1) (read_by (j + 1) w)) c
     → Joint Entry (has_link j before) steps.acts steps.next.lane.entry_bytes far_above (link_at j w) (gap_at before.world.floor j) c.above.stands c.above.gap c.above.down c.above.up
     → Joint Exit (has_link (j + 1) before) steps.acts steps.next.lane.exit_bytes far_below (link_at (j + 1) w) (gap_at before.world.floor (j + 1)) c.below.stands c.below.gap c.below.up c.below.down
     → Mirrored number j input before.world steps.node steps.next steps.steps.lane.words far_above far_below (links_of j before) after all c
-mirrored {far_above = fa} {far_below = fb} number j input before w after told all c floor many gaps few good steps fit boards along above below =
+mirrored {far_above = fa} {far_below = fb} number j input before w after told all c passes floor many gaps few good steps fit boards along above below =
     let start : LineState = with_world w before in
     let node : NodeState = steps.node in
     let next : NodeState = steps.next in
@@ -180,10 +189,15 @@ mirrored {far_above = fa} {far_below = fb} number j input before w after told al
     let done : Done = machine_step desk unread event node.lane.body in
     let same_unread : unread_by (j + 1) w ≡ unread = ap (λ (f : FloorPlan). (machine_at f (j + 1)).unread) floor in
     let body_is : next.lane.body ≡ done.body = lane.body ∙ ap (λ (us : List Sensed). (machine_step desk us event node.lane.body).body) same_unread in
-    let acts_are : steps.acts ≡ done.acts = lane.told ∙ ap (λ (us : List Sensed). (machine_step desk us event node.lane.body).acts) same_unread in
+    let made_are : steps.steps.made ≡ done.acts = lane.told ∙ ap (λ (us : List Sensed). (machine_step desk us event node.lane.body).acts) same_unread in
+    let scene_is : all steps.acts c ≡ all done.acts c =
+    ap (λ (acts : List Act). all acts c) steps.steps.told ∙ passes steps.steps.made node.bridge next.lane.body ∙ ap (λ (acts : List Act). all acts c) made_are in
     let node_is : node_at before (j + 1) ≡ node = node_there (j + 1) before node steps.there in
     let next_is : node_at after (j + 1) ≡ next = next_there number j input start after told steps in
     let fits : Fits done = step_fits desk unread event node.lane.body (fit_desk node number before (j + 1) node_is few good) fit (subst (λ (n : NodeState). IsFitBody n.lane.body) node_is good.body) in
+    let are_fit : AreFitActs steps.acts =
+    subst (λ (acts : List Act). AreFitActs acts) (sym steps.steps.told)
+    (both_said (subst (λ (acts : List Act). AreFitActs acts) (sym made_are) fits.acts) (signals_fit node.bridge next.lane.body)) in
     let there : IsThere j start =
     there_by number j input start after told (ap (λ (f : FloorPlan). length f.machines) floor ∙ many) (ap (λ (f : FloorPlan). length f.gaps) floor ∙ gaps ∙ sym (ap (λ (f : FloorPlan). length f.machines - 1) floor)) steps in
     let up = subst (λ (g : AtGap). Joint Entry (has_link j before) steps.acts next.lane.entry_bytes fa (link_at j w) g c.above.stands c.above.gap c.above.down c.above.up) (ap (λ (f : FloorPlan). gap_at f j) (sym floor)) above in
@@ -191,10 +205,10 @@ mirrored {far_above = fa} {far_below = fb} number j input before w after told al
     let like : IsLike (links_of j start) steps.acts next.lane.entry_bytes next.lane.exit_bytes fa fb (near_at (j + 1) (read_by (j + 1) w)) c =
     read_like j start steps.acts c there (ap (λ (f : FloorPlan). (machine_at f (j + 1)).boards) floor ∙ boards) up down in
     let near : Near = nears_did (links_of j start) (is_second input) steps.acts (near_at (j + 1) (read_by (j + 1) w)) in
-    let then : IsLike (links_of j start) [] next.lane.entry_bytes next.lane.exit_bytes fa fb near (all steps.acts c) = along (subst (λ (told : List Act). AreFitActs told) (sym acts_are) fits.acts) like in
+    let then : IsLike (links_of j start) [] next.lane.entry_bytes next.lane.exit_bytes fa fb near (all steps.acts c) = along are_fit like in
     record {
       body = ap (λ (n : NodeState). n.lane.body) next_is ∙ body_is;
-      reached = subst (λ (told : List Act). Reaches j (links_of j start) next.lane.entry_bytes next.lane.exit_bytes fa fb after (all told c)) acts_are (reaches j after (links_of j start) near (all steps.acts c) (near_after number j input start after told there steps) then);
+      reached = subst (λ (d : Scene). Reaches j (links_of j start) next.lane.entry_bytes next.lane.exit_bytes fa fb after d) scene_is (reaches j after (links_of j start) near (all steps.acts c) (near_after number j input start after told there steps) then);
       fit = fit_behind_step after (j + 1) node next input done next_is body_is lane.made steps.steps.name steps.steps.number fits (subst (λ (n : NodeState). IsFitMaker n.maker) node_is good.maker)
           (subst (λ (n : NodeState). IsText n.name) node_is good.name) (subst (λ (n : NodeState). n.number ≤ 999_999_999) node_is good.lane);
     }
@@ -231,7 +245,7 @@ mirrors_by alone t number j input before w after told floor plain few holds step
     let next_is : node_at after (j + 1) ≡ steps.next = next_there number j input start after told steps in
     let apart : j ≢ j + 1 = omega arith in
     let behind : j + 1 + 1 ≢ j + 1 = omega arith in
-    let m = mirrored number j input before w after told (λ acts scene. all_met acts scene) (scene_at t before j) floor holds.together.floor holds.ids.whole few (holds.fit (j + 1)) steps fit refl (along_plain alone input steps.acts plain) above below in
+    let m = mirrored number j input before w after told (λ acts scene. all_met acts scene) (scene_at t before j) (signals_passed (scene_at t before j)) floor holds.together.floor holds.ids.whole few (holds.fit (j + 1)) steps fit refl (along_plain alone input steps.acts plain) above below in
     let now = m.reached in
     record {
       node = steps.node;

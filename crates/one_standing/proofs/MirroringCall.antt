@@ -52,6 +52,7 @@ use Rattle.one_standing.proofs.Mirroring.{along_plain, beside, links_of, mirrore
 use Rattle.one_standing.proofs.MirroringEnds.{IsAround, around_same, before_one}
 use Rattle.one_standing.proofs.MirroringFlow.{link_there}
 use Rattle.one_standing.proofs.MirroringPlain.{above_quiet, below_quiet, quiet_side}
+use Rattle.one_standing.proofs.Signalled.{signals_passed}
 
 -- ---- what is there behind it
 
@@ -158,7 +159,7 @@ call_by {far = far} {up = up} alone t number j before between told on may few ho
     below_quiet (has_link (j + 1 + 1) before) steps.acts (link_at (j + 1 + 1) before.world) (gap_at before.world.floor (j + 1 + 1)) refl (λ is. (holds.carried (j + 1 + 1) is).up) (λ is. (holds.carried (j + 1 + 1) is).down) (links (j + 1 + 1)).begun
     (quiet_side number (j + 1) inputs.Connect start between told Exit refl steps) exit in
     let c : Scene = call_scene on up t before j in
-    let m = mirrored number (j + 1) inputs.Connect before w between told (λ acts scene. all_met acts scene) c floor together.floor holds.ids.whole few (holds.fit (j + 1 + 1)) steps tt refl (along_plain alone inputs.Connect steps.acts refl)
+    let m = mirrored number (j + 1) inputs.Connect before w between told (λ acts scene. all_met acts scene) c (signals_passed c) floor together.floor holds.ids.whole few (holds.fit (j + 1 + 1)) steps tt refl (along_plain alone inputs.Connect steps.acts refl)
     (subst (λ (l : LinkParts). Joint Entry (has_link (j + 1) before) steps.acts next.lane.entry_bytes far l (gap_at before.world.floor (j + 1)) on (gap_at before.world.floor (j + 1)) [] up) (sym here) above)
     (subst (λ (l : LinkParts). Joint Exit (has_link (j + 1 + 1) before) steps.acts next.lane.exit_bytes (node_at before (j + 1 + 1 + 1)).lane.entry_bytes l (gap_at before.world.floor (j + 1 + 1)) (link_at (j + 1 + 1) before.world).stands (gap_at before.world.floor (j + 1 + 1)) (t.up (j + 1 + 1)) (t.down (j + 1 + 1))) (sym other) below) in
     let now = m.reached in

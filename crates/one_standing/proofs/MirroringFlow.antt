@@ -55,6 +55,7 @@ use Rattle.one_standing.proofs.Counting.{HearsAll, is_wrong_first, step_hears_al
 use Rattle.one_standing.proofs.Mirroring.{mirrors_by, node_there}
 use Rattle.one_standing.proofs.MirroringEnds.{before_one}
 use Rattle.one_standing.proofs.MirroringPlain.{above_quiet, below_quiet, joint_when, quiet_side}
+use Rattle.one_standing.proofs.Signalled.{signals_unheard}
 
 -- ---- what a piece comes to at the side that hears it
 
@@ -118,7 +119,11 @@ words_heard number j side piece start after told steps on =
     let unread : List Sensed = unread_by (j + 1) start.world in
     let lane = steps.steps.lane in
     let opened : is_open side (machine_step desk unread (Words side lane.words) node.lane.body).body ≡ true = sym (ap (λ (b : Body). is_open side b) lane.body) ∙ on in
-    subst (λ (told : List Act). HearsAll side lane.words told) (sym lane.told) (step_hears_all side desk unread lane.words node.lane.body opened)
+    let all : HearsAll side lane.words (machine_step desk unread (Words side lane.words) node.lane.body).acts = step_hears_all side desk unread lane.words node.lane.body opened in
+    record {
+      count = ap (heard_in side) steps.steps.told ∙ signals_unheard side steps.steps.made node.bridge steps.next.lane.body ∙ ap (heard_in side) lane.told ∙ all.count;
+      good = all.good;
+    }
 
 words_close : (number j : ℕ) (side : Side) (piece : Bor (List ℕ)) (start after : LineState) (told : List Happening) (steps : MachineSteps number (j + 1) (inputs.Bytes side piece) start after told)
     → is_open side steps.node.lane.body ≡ true → is_open side steps.next.lane.body ≡ false → open_after side true steps.acts ≡ false

@@ -35,6 +35,7 @@ use Rattle.one_standing.proofs.Mirroring.{along_plain, beside, mirrored, next_th
 use Rattle.one_standing.proofs.MirroringCall.{MirrorsCall, call_did, call_scene}
 use Rattle.one_standing.proofs.MirroringFlow.{link_there}
 use Rattle.one_standing.proofs.MirroringPlain.{above_quiet, below_quiet, quiet_side}
+use Rattle.one_standing.proofs.Signalled.{signals_passed}
 
 -- ---- what is there behind it
 
@@ -133,7 +134,7 @@ accepts alone t number j before between after earlier told few holds links first
     below_quiet (has_link (j + 1) between) steps.acts L (gap_at between.world.floor (j + 1)) (call.around.stands_above there) (λ is. call.around.up_above there) (λ is. call.around.down_above there) (call.around.begun_above there)
     (quiet_side number j inputs.Accepted between after told Exit refl steps) lane.brings.1 in
     let good : IsFitMachine between (j + 1) = fit_at before between (j + 1) leaves.own (holds.fit (j + 1)) in
-    let m = mirrored number j inputs.Accepted between between.world after told (λ acts scene. all_met acts scene) (meet_scene d.above.stands d.above.up d.above.down t between j) refl leaves.many leaves.gaps few good steps tt refl (along_plain alone inputs.Accepted steps.acts refl) above below in
+    let m = mirrored number j inputs.Accepted between between.world after told (λ acts scene. all_met acts scene) (meet_scene d.above.stands d.above.up d.above.down t between j) (signals_passed (meet_scene d.above.stands d.above.up d.above.down t between j)) refl leaves.many leaves.gaps few good steps tt refl (along_plain alone inputs.Accepted steps.acts refl) above below in
     let now = m.reached in
     record {
       node = node;

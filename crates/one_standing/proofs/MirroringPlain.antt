@@ -35,6 +35,7 @@ use Rattle.one_standing.proofs.Carrying.{SaysAlone}
 use Rattle.one_standing.proofs.CarryingSides.{Home, IsSide, Joint, heard_in, home_hears, joint_as, joint_none}
 use Rattle.one_standing.proofs.Counting.{input_words, is_bytes_to, step_hears_none}
 use Rattle.one_standing.proofs.Mirroring.{mirrors_by, node_there}
+use Rattle.one_standing.proofs.Signalled.{signals_unheard}
 
 -- ---- the inputs
 
@@ -98,7 +99,7 @@ below_quiet has told link gap is up down begun none same =
 pub quiet_side : (number j : ℕ) (input : Input) (start after : LineState) (told : List Happening) (side : Side) → is_bytes_to side input ≡ false → (steps : MachineSteps number (j + 1) input start after told) → heard_in side steps.acts ≡ 0
 quiet_side number j input start after told side plain steps =
     let node : NodeState = steps.node in
-    ap (heard_in side) steps.steps.lane.told
+    ap (heard_in side) steps.steps.told ∙ signals_unheard side steps.steps.made node.bridge steps.next.lane.body ∙ ap (heard_in side) steps.steps.lane.told
     ∙ step_hears_none side (desk_of node (moment_of number)) (unread_by (j + 1) start.world) (event_of node.maker input steps.steps.lane.words) node.lane.body (input_words side node.maker input steps.steps.lane.words plain)
 
 pub maker_of : (s : LineState) (machine : ℕ) (node : NodeState) → node_at s machine ≡ node → IsFitMaker (node_at s machine).maker → IsFitMaker node.maker

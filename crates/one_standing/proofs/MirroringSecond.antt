@@ -1,5 +1,5 @@
 -- THE SECOND STEP OF A SECOND CONNECTION: the exit above has a connection already, and answers.
-use Rattle.std.proofs.Common.{Bool, List, [], ap, arith, false, length, refl, subst, sym, true, ℕ, ◌+◌, ◌∙◌, ◌∷◌, ◌≡◌, ◌≢◌, ◌≤◌}
+use Rattle.std.proofs.Common.{Bool, List, [], ap, arith, false, length, refl, subst, sym, true, ℕ, ◌+◌, ◌∙◌, ◌∷◌, ◌≡◌, ◌≢◌, ◌≤◌, ◌++◌}
 use Rattle.line_base.specs.declared.states.Side.TheVariants.{Entry, Exit}
 use Rattle.board_record.specs.declared.sensed.Sensed.{Sensed}
 use Rattle.line_link.specs.Link.{AreBegun, LinkParts}
@@ -29,13 +29,15 @@ use Rattle.one_standing.specs.Mirrors.{cut_above, cut_below}
 use Rattle.one_standing.specs.Stands.{Stands}
 use Rattle.one_standing.proofs.Carrying.{SaysAlone}
 use Rattle.one_standing.proofs.CarryingActs.{IsLike}
-use Rattle.one_standing.proofs.CarryingAnswer.{IsLikeOff, second_like}
+use Rattle.one_standing.proofs.CarryingAnswer.{IsLikeOff, second_like, second_acts, second_acts_are}
 use Rattle.one_standing.proofs.CarryingSides.{IsSide, Joint, joint_as}
 use Rattle.one_standing.proofs.Mirroring.{GoAlong, beside, links_of, mirrored, next_there, node_there, reached_of}
 use Rattle.one_standing.proofs.MirroringCall.{MirrorsCall, call_did, call_scene}
 use Rattle.one_standing.proofs.MirroringFlow.{link_there}
 use Rattle.one_standing.proofs.MirroringMeet.{Leaves, MirrorsMeet, call_leaves, called_scene, carried_by, fit_at, meet_did, meet_scene, still_linked}
 use Rattle.one_standing.proofs.MirroringPlain.{above_quiet, home_quiet, quiet_side}
+use Rattle.one_standing.proofs.Signalled.{signals_passed_second, signals_no_answer}
+use Rattle.node_core.specs.Signals.{signalled}
 
 -- ---- a link that doesn't stand stands no more behind any acts
 
@@ -106,10 +108,13 @@ answers alone t number j before between after earlier told few holds links first
     let gap : near.below.gap ≡ gap_at between.world.floor (j + 1) = gaps_stay between.world.floor (j + 1) (j + 1) now in
     let P : List Act → Type 0 = λ (told : List Act). AreFitActs told → IsLikeOff (links_of j between) told next.lane.entry_bytes next.lane.exit_bytes (node_at between j).lane.exit_bytes near c
     → IsLike (links_of j between) [] next.lane.entry_bytes next.lane.exit_bytes (node_at between j).lane.exit_bytes [] (nears_did (links_of j between) true told near) (all_met_second told c) in
-    let all : P steps.acts = subst P (sym lane.told) (λ fit k. second_like alone desk unread node.lane.body fit k) in
+    let own : List Act = signalled node.bridge next.lane.body in
+    let acts_are : steps.acts ≡ second_acts desk unread node.lane.body own =
+    steps.steps.told ∙ ap (λ (acts : List Act). acts ++ own) lane.told ∙ second_acts_are desk unread node.lane.body own in
+    let all : P steps.acts = subst P (sym acts_are) (λ fit k. second_like alone desk unread node.lane.body own (signals_no_answer node.bridge next.lane.body) fit k) in
     let along : GoAlong (links_of j between) true steps.acts next.lane.entry_bytes next.lane.exit_bytes (node_at between j).lane.exit_bytes [] (λ acts scene. all_met_second acts scene) near c =
     λ fit k. all fit (record { place = k.place; above = k.above; there = now_there; off = off; below = record { is_on = side.is_on; same = gap; comes = side.comes; goes = side.goes; begun = side.begun; begun_home = side.begun_home }; linked = call.linked }) in
-    let m = mirrored number j inputs.Second between between.world after told (λ acts scene. all_met_second acts scene) c refl leaves.many leaves.gaps few good steps tt refl along above below in
+    let m = mirrored number j inputs.Second between between.world after told (λ acts scene. all_met_second acts scene) c (signals_passed_second c) refl leaves.many leaves.gaps few good steps tt refl along above below in
     let last = m.reached in
     record {
       node = node;

@@ -45,10 +45,7 @@ use Rattle.one_standing.proofs.Traces.{put}
 pub sound_step : (number machine : ℕ) (input : Input) (before after : LineState) (told : List Happening) → (steps : MachineSteps number machine input before after told) → may_of steps.node input ≡ may_do
     → IsSound steps.node.capacity steps.node.lane.body → IsSound steps.next.capacity steps.next.lane.body
 sound_step number machine input before after told steps may sound =
-    let node : NodeState = steps.node in
-    let lane = steps.steps.lane in
-    subst (λ (most : ℕ). IsSound most steps.next.lane.body) (sym steps.steps.capacity)
-    (sound_after node node.spent (desk_of node (moment_of number)) (desk_of node (moment_of number)) node.maker steps.next.maker node.lane steps.next.lane (unread_by machine before.world) input (moment_of number) steps.acts refl may refl lane sound)
+    sound_after steps.node steps.next (unread_by machine before.world) input (moment_of number) steps.acts may steps.steps sound
 
 -- by the machine's number
 pub node_next : (number machine : ℕ) (input : Input) (before after : LineState) (told : List Happening) → (steps : MachineSteps number machine input before after told) → node_at after machine ≡ steps.next

@@ -144,3 +144,13 @@ ledger_along alone connects line before after told reached fit few steps none =
       beside = book_of before was.ledger was.fits;
       each = λ other book. books_line before after line told other was.stood now.stood steps book;
     }
+
+-- ---- the relation
+
+-- where no line told what was not so, the state before the last one stands in the relation of the line
+pub stood_before : SaysAlone → ConnectsBear → (line : ScriptLine) (before after : LineState) (told : List Happening) → IsReached before → LineSteps (before.lines + 1) line before after told → after.unvouched ≡ None → Stood before
+stood_before alone connects line before after told reached steps none =
+    let point : Point = record { told = told; after = after } in
+    let run : IsRun no_line (reached.asked ++ line ∷ []) (reached.points ++ point ∷ []) = reached_run line before after told reached steps in
+    let all : has_lie (reached.points ++ point ∷ []) ≡ false = honest_run after (reached.asked ++ line ∷ []) (reached.points ++ point ∷ []) run (behind_more no_line reached.points point) none in
+    (told_by alone connects before reached (honest_before reached.points point all)).stood

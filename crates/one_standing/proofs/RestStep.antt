@@ -1,6 +1,6 @@
 -- A side without a connection whose half has no handover stays so in a step that makes no connection there. One lemma for
 -- each definition of a micro event, in the order of the definitions.
-use Rattle.std.proofs.Common.{◌≡◌, ◌++◌, Bool, true, false, List, [], ◌∷◌, Option, Some, None, refl, sym, ap, subst}
+use Rattle.std.proofs.Common.{◌≡◌, ◌++◌, Bool, true, false, List, [], ◌∷◌, Option, Some, None, refl, sym, ap, subst, ℕ}
 use Rattle.std.specs.Prelude.{◌&&◌, is_some, slice_get}
 use Rattle.line_base.specs.declared.states.SensorEvent.{SensorEvent}
 use Rattle.line_base.specs.declared.states.Side.{Side}
@@ -37,7 +37,7 @@ use Rattle.node_core.specs.Boards.{if_kept, is_kept, with_instead, with_kept, wi
 use Rattle.node_core.specs.Connect.{if_open, meets_second, opens, shuts_down, ticks}
 use Rattle.node_core.specs.Desk.{Desk}
 use Rattle.node_core.specs.Done.{Done, and_then}
-use Rattle.node_core.specs.Event.{Accepted, Connect, Event, Fault, Insert, Mark, Notice, Nothing, Remove, Replace, Second, Shutdown, Tick, Will, Words, event_did}
+use Rattle.node_core.specs.Event.{Accepted, Connect, Event, Fault, Insert, Mark, Notice, Nothing, Remove, Replace, Second, Shutdown, Tick, Will, Words, event_did, Level, Forecast, Query}
 use Rattle.node_core.specs.Halves.{at_intake, at_outlet, behind_opening, ended, half_closed, intake_row_did, opening_board, outlet_row_did}
 use Rattle.node_core.specs.Hears.{entry_took, entry_word, exit_took, exit_word, intake_took, outlet_took, passed, rowed, side_took, taken}
 use Rattle.node_core.specs.Reads.{all_read, reads, saw}
@@ -54,6 +54,10 @@ use Rattle.node_core.specs.declared.word.ExitWord.TheVariants as exits
 use Rattle.node_core.specs.declared.word.Word.{Word}
 use Rattle.node_core.specs.declared.word.Word.TheVariants.{Says, Wrong}
 use Rattle.node_core.proofs.Opened.{second_has_none, shutdown_has_none, tick_has_none}
+use Rattle.node_core.specs.Bridge.{failed_front, fails, sets_level, tells_level}
+use Rattle.smema_bridge.specs.declared.line.SegmentLine.{SegmentLine}
+use Rattle.smema_bridge.specs.declared.line.SegmentLine.TheVariants.{Available, Failed, Ready}
+use Rattle.line_base.specs.declared.states.Quality.TheVariants as qualities
 
 -- the half of a side has no handover
 abbrev pub IsFree : Side → Body → Type 0
@@ -219,7 +223,7 @@ exit_stills desk exits.Ready body = outlet_took_stills desk body (outlet_row bod
 exit_stills desk exits.Unready body = outlet_took_stills desk body (outlet_row body.outlet out_input.RevokeMachineReady)
 exit_stills desk (exits.Start id) body = start_took_stills desk body (would_open body.outlet id) (outlet_row body.outlet (out_input.Start id (opening_board (would_open body.outlet id) body.kept)))
 exit_stills desk (exits.Stop state id) body = outlet_took_stills desk body (outlet_row body.outlet (out_input.Stop state id))
-exit_stills desk exits.Query body = stills_some (λ k. k)
+exit_stills desk (exits.Query top bottom) body = stills_some (λ k. k)
 exit_stills desk exits.Nothing body = stills_some (λ k. k)
 
 intake_took_stills : (desk : Desk) (body : Body) (found : Option InRow) → StillsAny Exit body (intake_took desk body found)
@@ -339,6 +343,20 @@ IsNoOpening Entry Connect = ⊥
 IsNoOpening Exit Accepted = ⊥
 IsNoOpening _ _ = Unit {0}
 
+fails_still : (at : Side) (found : Option ℕ) (body : Body) → Stills at body (fails found body)
+fails_still at None body = λ k. k
+fails_still at (Some id) body = if_kept_stills at (is_kept id body.kept) body (with_mark id qualities.Failed body.kept) _
+
+tells_still : (at : Side) (line : SegmentLine) (on : Bool) (body : Body) → Stills at body (tells_level line on body)
+tells_still at Ready on body = wills_still at Entry on body
+tells_still at Available on body = wills_still at Exit on body
+tells_still at Failed on body = λ k. k
+
+levels_still : (at : Side) (desk : Desk) (line : SegmentLine) (on : Bool) (body : Body) → Stills at body (sets_level desk line on body)
+levels_still at desk line on body = λ k.
+    let one : Body = (tells_level line on body).body in
+    fails_still at (failed_front desk.bridge line on one) one (tells_still at line on body k)
+
 event_stills : (at : Side) (desk : Desk) (event : Event) (body : Body) → IsNoOpening at event → Stills at body (event_did desk event body)
 event_stills at desk Nothing body plain = λ k. k
 event_stills Entry desk Connect body plain = absurd plain
@@ -352,6 +370,9 @@ event_stills at desk Tick body plain = λ k. ticks_still at desk Exit (ticks des
 event_stills at desk Shutdown body plain = λ k. shuts_down_stills at desk Exit (shuts_down desk Entry body).body (shuts_down_stills at desk Entry body k)
 event_stills at desk (Fault side) body plain = faults_still at desk side body
 event_stills at desk (Will side on) body plain = wills_still at side on body
+event_stills at desk (Level line on) body plain = levels_still at desk line on body
+event_stills at desk Forecast body plain = λ k. k
+event_stills at desk (Query barcode) body plain = λ k. k
 event_stills at desk (Insert id barcode) body plain = kept_stills at (body.kept ++ plain_record id desk.name barcode ∷ []) body
 event_stills at desk (Remove id) body plain = if_kept_stills at (is_kept id body.kept) body (without id body.kept) _
 event_stills at desk (Replace old new) body plain = if_kept_stills at (is_kept old body.kept) body (with_instead old (plain_record new desk.name None) body.kept) _

@@ -25,9 +25,9 @@ use Rattle.node_core.specs.declared.input.Input.{Input}
 use Rattle.node_core.specs.declared.input.Input.TheVariants as inputs
 use Rattle.node_core.specs.declared.lane.Lane.{Lane}
 use Rattle.node_core.specs.declared.word.Word.{Word}
-use Rattle.line_step.specs.Lines.{Becomes, Connects, Flows, LineDoes, Moves, Unless, arrived, connecting, cut_in, lied, met, moved, spoiled}
+use Rattle.line_step.specs.Lines.{Becomes, Connects, Flows, LineDoes, Moves, Unless, arrived, connecting, cut_in, lied, met, moved, spoiled, unseen}
 use Rattle.line_step.specs.Numbered as numbered
-use Rattle.line_step.specs.Numbered.{no_node, node_at, stand_at}
+use Rattle.line_step.specs.Numbered.{no_node, node_at}
 use Rattle.line_step.specs.Opened.{open_act, open_after, opened_by}
 use Rattle.line_step.specs.Reasons.{May}
 use Rattle.line_step.specs.State.{LineState, machine_in, no_line, one_more, profile_of}
@@ -144,26 +144,26 @@ moved_still (Err why) s waits = waits
 
 -- ---- one machine more
 
-new_waits : (profile_number capacity used : ℕ) → Waits (new_node (profile_of profile_number capacity used)).lane
-new_waits number capacity used Entry there = needs_none
-new_waits number capacity used Exit there = needs_none
+new_waits : (profile_number : ℕ) (is_bridge : Bool) (capacity used : ℕ) → Waits (new_node (profile_of is_bridge profile_number capacity used)).lane
+new_waits number is_bridge capacity used Entry there = needs_none
+new_waits number is_bridge capacity used Exit there = needs_none
 
 got_last : (nodes : List NodeState) (new : NodeState) → slice_index_or (nodes ++ new ∷ []) (length nodes) no_node ≡ new
 got_last [] new = refl
 got_last (n ∷ nodes) new = got_last nodes new
 
-more_waits : (capacity used : ℕ) (s : LineState) → AreWaiting s → AreWaiting (one_more capacity used s)
-more_waits capacity used s waits k = by (same_or_not k (length s.machines + 1))
+more_waits : (is_bridge : Bool) (capacity used : ℕ) (s : LineState) → AreWaiting s → AreWaiting (one_more is_bridge capacity used s)
+more_waits is_bridge capacity used s waits k = by (same_or_not k (length s.machines + 1))
   where
     next : length s.machines + 1 ≡ suc (length s.machines)
     next = omega arith
 
-    by : (k ≡ length s.machines + 1) ⊎ (k ≢ length s.machines + 1) → Waits (node_at (one_more capacity used s) k).lane
+    by : (k ≡ length s.machines + 1) ⊎ (k ≢ length s.machines + 1) → Waits (node_at (one_more is_bridge capacity used s) k).lane
     by (inl is) =
-        let new : NodeState = new_node (profile_of (length s.machines + 1) capacity used) in
-        subst (λ (n : ℕ). Waits (node_at (one_more capacity used s) n).lane) (sym (is ∙ next))
-        (subst (λ (n : NodeState). Waits n.lane) (sym (got_last s.machines new)) (new_waits (length s.machines + 1) capacity used))
-    by (inr apart) = subst (λ (n : NodeState). Waits n.lane) (sym (ap (λ (x : numbered.Stand). x.node) ((more_changes capacity used s).machines k apart))) (waits k)
+        let new : NodeState = new_node (profile_of is_bridge (length s.machines + 1) capacity used) in
+        subst (λ (n : ℕ). Waits (node_at (one_more is_bridge capacity used s) n).lane) (sym (is ∙ next))
+        (subst (λ (n : NodeState). Waits n.lane) (sym (got_last s.machines new)) (new_waits (length s.machines + 1) is_bridge capacity used))
+    by (inr apart) = subst (λ (n : NodeState). Waits n.lane) (sym (ap (λ (x : numbered.Stand). x.node) ((more_changes is_bridge capacity used s).machines k apart))) (waits k)
 
 -- ---- a line of the script
 
@@ -178,18 +178,22 @@ moves : (gap : ℕ) (step : Move) (before after : LineState) (told : List Happen
 moves gap step before after told is waits = made before (moved (floor_move gap step before.world.floor) before) after _ told is (moved_still (floor_move gap step before.world.floor) before waits)
 
 pub none_waiting : AreWaiting no_line
-none_waiting zero side there = new_waits 0 1 0 side there
-none_waiting (suc place) side there = new_waits 0 1 0 side there
+none_waiting zero side there = new_waits 0 false 1 0 side there
+none_waiting (suc place) side there = new_waits 0 false 1 0 side there
 
 pub does_waiting : (number : ℕ) (line : ScriptLine) (before next : LineState) (told : List Happening) → AreWaiting before → LineDoes number line before next told → AreWaiting next
 does_waiting number lines.Blank before next told waits is = made before before next [] told is waits
-does_waiting number (lines.Machine capacity used) before next told waits is = unless _ before next told _ is waits (λ done. made before (one_more capacity used before) next _ told done (more_waits capacity used before waits))
+does_waiting number (lines.Machine capacity used) before next told waits is = unless _ before next told _ is waits (λ done. made before (one_more false capacity used before) next _ told done (more_waits false capacity used before waits))
+does_waiting number (lines.Bridge capacity used) before next told waits is = unless _ before next told _ is waits (λ done. made before (one_more true capacity used before) next _ told done (more_waits true capacity used before waits))
 does_waiting number (lines.Insert machine barcode) before next told waits is = unless _ before next told _ is waits (λ done. steps number machine (inputs.Insert barcode) before next told done waits)
 does_waiting number (lines.Remove machine id) before next told waits is = unless _ before next told _ is waits (λ done. steps number machine (inputs.Remove id) before next told done waits)
 does_waiting number (lines.Replace machine id) before next told waits is = unless _ before next told _ is waits (λ done. steps number machine (inputs.Replace id) before next told done waits)
 does_waiting number (lines.Mark machine id quality) before next told waits is = unless _ before next told _ is waits (λ done. steps number machine (inputs.Mark id quality) before next told done waits)
 does_waiting number (lines.Hold machine side) before next told waits is = unless _ before next told _ is waits (λ done. steps number machine (inputs.Will side false) before next told done waits)
 does_waiting number (lines.Go machine side) before next told waits is = unless _ before next told _ is waits (λ done. steps number machine (inputs.Will side true) before next told done waits)
+does_waiting number (lines.Signal machine line on) before next told waits is = unless _ before next told _ is waits (λ done. steps number machine (inputs.Level line on) before next told done waits)
+does_waiting number (lines.Forecast machine) before next told waits is = unless _ before next told _ is waits (λ done. steps number machine (inputs.Forecast) before next told done waits)
+does_waiting number (lines.Query machine barcode) before next told waits is = unless _ before next told _ is waits (λ done. steps number machine (inputs.Query barcode) before next told done waits)
 does_waiting number (lines.Connect machine) before next told waits is = unless _ before next told _ is waits (λ done. connects number machine before next told done waits)
 does_waiting number (lines.Flow machine side count) before next told waits is = unless _ before next told _ is waits (λ done. flows number machine side count before next told done waits)
 does_waiting number (lines.Notice machine side) before next told waits is = unless _ before next told _ is waits (λ done. steps number machine (inputs.Notice side) before next told done waits)
@@ -206,4 +210,5 @@ does_waiting number (lines.Back gap) before next told waits is = moves gap move.
 does_waiting number (lines.HandIn gap) before next told waits is = moves gap move.HandIn before next told is waits
 does_waiting number (lines.Take gap) before next told waits is = moves gap move.Take before next told is waits
 does_waiting number (lines.Lie machine sensed) before next told waits is = unless _ before next told _ is waits (λ done. made before (lied number machine sensed before) next _ told done (still_waiting before (lied number machine sensed before) refl waits))
+does_waiting number (lines.Unseen machine side) before next told waits is = unless _ before next told _ is waits (λ done. made before (unseen number machine side before) next _ told done (still_waiting before (unseen number machine side before) refl waits))
 does_waiting number lines.Show before next told waits is = made before before next _ told is waits

@@ -223,8 +223,8 @@ moved_whole : (answer : Result FloorPlan MoveNo) (s : LineState) → AreWholeLin
 moved_whole (Ok floor) s all = all
 moved_whole (Err why) s all = all
 
-more_whole : (capacity used : ℕ) (s : LineState) → AreWholeLinks s → AreWholeLinks (one_more capacity used s)
-more_whole capacity used s all link = subst IsWholeLink (sym (more_at capacity used s link)) (all link)
+more_whole : (is_bridge : Bool) (capacity used : ℕ) (s : LineState) → AreWholeLinks s → AreWholeLinks (one_more is_bridge capacity used s)
+more_whole is_bridge capacity used s all link = subst IsWholeLink (sym (more_at is_bridge capacity used s link)) (all link)
 
 -- a link that is spoiled stands, and lies between two machines
 pub record CanSpoil (machine : ℕ) (side : Side) (s : LineState) : Type 0 where
@@ -234,7 +234,7 @@ pub record CanSpoil (machine : ℕ) (side : Side) (s : LineState) : Type 0 where
   pub stands : (link_at (link_of machine side) s.world).stands ≡ true
 
 can_by : (machine : ℕ) (side : Side) (s : LineState) (found : Option NodeState) (a b c : Bool) → machine_in machine s ≡ found → has_neighbour machine side s ≡ a → (link_at (link_of machine side) s.world).stands ≡ c
-    → if_there found (λ (node : NodeState). no_if (not a) reasons.NoNeighbour (no_if b (reasons.Node nos.NotConnected) (no_if (not c) reasons.NotStanding may_do))) ≡ may_do → CanSpoil machine side s
+    → if_there found (λ (node : NodeState). no_if (not a) reasons.NoNeighbour (no_if b (reasons.Node nos.NotConnected) (no_if (not c) (reasons.Node nos.NotStanding) may_do))) ≡ may_do → CanSpoil machine side s
 can_by machine side s None a b c there neighbour stands may = absurd (cc)
 can_by machine side s (Some node) false b c there neighbour stands may = absurd (cc)
 can_by machine side s (Some node) true true c there neighbour stands may = absurd (cc)
@@ -263,13 +263,17 @@ none_whole_links (suc place) = subst IsWholeLink (sym (link_beyond (suc place) n
 
 pub does_whole_links : (number : ℕ) (line : ScriptLine) (before next : LineState) (told : List Happening) → AreWholeLinks before → LineDoes number line before next told → AreWholeLinks next
 does_whole_links number lines.Blank before next told all is = made before before next [] told is all
-does_whole_links number (lines.Machine capacity used) before next told all is = unless _ before next told _ is all (λ may done. made before (one_more capacity used before) next _ told done (more_whole capacity used before all))
+does_whole_links number (lines.Machine capacity used) before next told all is = unless _ before next told _ is all (λ may done. made before (one_more false capacity used before) next _ told done (more_whole false capacity used before all))
+does_whole_links number (lines.Bridge capacity used) before next told all is = unless _ before next told _ is all (λ may done. made before (one_more true capacity used before) next _ told done (more_whole true capacity used before all))
 does_whole_links number (lines.Insert machine barcode) before next told all is = unless _ before next told _ is all (λ may done. steps number machine (inputs.Insert barcode) before next told done all)
 does_whole_links number (lines.Remove machine id) before next told all is = unless _ before next told _ is all (λ may done. steps number machine (inputs.Remove id) before next told done all)
 does_whole_links number (lines.Replace machine id) before next told all is = unless _ before next told _ is all (λ may done. steps number machine (inputs.Replace id) before next told done all)
 does_whole_links number (lines.Mark machine id quality) before next told all is = unless _ before next told _ is all (λ may done. steps number machine (inputs.Mark id quality) before next told done all)
 does_whole_links number (lines.Hold machine side) before next told all is = unless _ before next told _ is all (λ may done. steps number machine (inputs.Will side false) before next told done all)
 does_whole_links number (lines.Go machine side) before next told all is = unless _ before next told _ is all (λ may done. steps number machine (inputs.Will side true) before next told done all)
+does_whole_links number (lines.Signal machine line on) before next told all is = unless _ before next told _ is all (λ may done. steps number machine (inputs.Level line on) before next told done all)
+does_whole_links number (lines.Forecast machine) before next told all is = unless _ before next told _ is all (λ may done. steps number machine (inputs.Forecast) before next told done all)
+does_whole_links number (lines.Query machine barcode) before next told all is = unless _ before next told _ is all (λ may done. steps number machine (inputs.Query barcode) before next told done all)
 does_whole_links number (lines.Connect machine) before next told all is = unless _ before next told _ is all (λ may done. connects number machine before next told done all)
 does_whole_links number (lines.Flow machine side count) before next told all is = unless _ before next told _ is all (λ may done. flows number machine side count before next told done all)
 does_whole_links number (lines.Notice machine side) before next told all is = unless _ before next told _ is all (λ may done. steps number machine (inputs.Notice side) before next told done all)
@@ -291,4 +295,5 @@ does_whole_links number (lines.Back gap) before next told all is = moves gap mov
 does_whole_links number (lines.HandIn gap) before next told all is = moves gap move.HandIn before next told is all
 does_whole_links number (lines.Take gap) before next told all is = moves gap move.Take before next told is all
 does_whole_links number (lines.Lie machine sensed) before next told all is = unless _ before next told _ is all (λ may done. made before _ next _ told done all)
+does_whole_links number (lines.Unseen machine side) before next told all is = unless _ before next told _ is all (λ may done. made before _ next _ told done all)
 does_whole_links number lines.Show before next told all is = made before before next _ told is all

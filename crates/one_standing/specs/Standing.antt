@@ -54,6 +54,7 @@ pub record HasOneStanding (s : LineState) : Type 0 where
 -- the barcode of a line is a text, as that of every line which is read is
 abbrev pub IsFitLine : ScriptLine → Type 0
 IsFitLine (lines.Insert machine (Some barcode)) = IsText barcode
+IsFitLine (lines.Query machine barcode) = IsText barcode
 IsFitLine _ = Unit {0}
 
 -- THE LAW: it holds after each line of every script, up to the first one that told what was not so. A script has at most
