@@ -82,6 +82,7 @@ act_lies second machine (acts.Hears side message) world gap = refl
 act_lies second machine (acts.Breaches side text) world gap = refl
 act_lies second machine acts.Connects world gap = refl
 act_lies second machine (acts.Marks id quality) world gap = refl
+act_lies second machine (acts.Signals signal on) world gap = refl
 act_lies second machine (acts.Sets setting) world gap = refl
 
 pub acts_lies : (second : Bool) (machine : ℕ) (told : List Act) (world : WorldParts) (gap : ℕ) → (gap_at (acts_did second machine told world).world.floor gap).lies ≡ (gap_at world.floor gap).lies
@@ -139,6 +140,7 @@ act_unread second machine (acts.Hears side message) world other = refl
 act_unread second machine (acts.Breaches side text) world other = refl
 act_unread second machine acts.Connects world other = refl
 act_unread second machine (acts.Marks id quality) world other = refl
+act_unread second machine (acts.Signals signal on) world other = refl
 act_unread second machine (acts.Sets setting) world other = refl
 
 acts_unread : (second : Bool) (machine : ℕ) (told : List Act) (world : WorldParts) (other : ℕ) → (machine_at (acts_did second machine told world).world.floor other).unread ≡ (machine_at world.floor other).unread
@@ -224,6 +226,7 @@ act_lists x second machine (acts.Hears side message) world other new lies = lies
 act_lists x second machine (acts.Breaches side text) world other new lies = lies
 act_lists x second machine acts.Connects world other new lies = lies
 act_lists x second machine (acts.Marks id quality) world other new lies = lies
+act_lists x second machine (acts.Signals signal on) world other new lies = lies
 act_lists x second machine (acts.Sets setting) world other new lies = lies
 
 and_one : (a b : Bool) → (a && b) ≡ true → a ≡ true

@@ -189,7 +189,7 @@ exit_works desk message (exits.Start id) body k =
     let test = would_open body.outlet id in
     start_half desk message body (out_input.Start id (opening_board test body.kept)) (behind_opening test body.kept) (outlet_row body.outlet (out_input.Start id (opening_board test body.kept))) refl tt k
 exit_works desk message (exits.Stop state id) body k = exit_half desk message body (out_input.Stop state id) (outlet_row body.outlet (out_input.Stop state id)) refl tt k
-exit_works desk message exits.Query body k = works_some (behind_hearing Exit message body _ (works_aside body _ k refl refl refl))
+exit_works desk message (exits.Query top bottom) body k = works_some (behind_hearing Exit message body _ (works_aside body _ k refl refl refl))
 exit_works desk message exits.Nothing body k = works_some (behind_hearing Exit message body _ (works_still body k))
 
 -- ---- a message at the entry

@@ -52,7 +52,7 @@ use Rattle.line_history.proofs.Leaving.{leaves_told, none_leave}
 use Rattle.line_history.proofs.Said.{said_then}
 use Rattle.line_history.proofs.SettledRun.{IsInAt, Told, acts_append, line_told, none_knows, stepped_does}
 use Rattle.line_history.proofs.Stepping.{IsJustStarted, StepDoes, is_leaving as leaves_now, leaving_append, tells_leaving}
-use Rattle.line_history.proofs.View.{Kind, Stays, Stepped, Turn, done_act, done_by, has_stepped, is_still, line_kind, line_turn, told_of_act, undriven}
+use Rattle.line_history.proofs.View.{Kind, Stays, Stepped, Turn, done_act, done_by, has_stepped, is_still, line_kind, line_turn, told_of_act, undriven, unwilled}
 use Rattle.line_history.proofs.Where.{IsBeyond, WhereAlone, alone_beyond, alone_gone, alone_kept, is_across, is_inside_there, kept_above, not_above, unread_leaves, where_alone, where_started}
 
 and_false : (b : Bool) → (b && false) ≡ false
@@ -61,7 +61,7 @@ and_false false = refl
 
 -- ---- what is told of leaving
 
-leaving_one : (gap machine : ℕ) (act : Act) (same : Bool) → (machine == gap) ≡ same → is_leaving gap (happenings.Done machine act) ≡ tells_leaving (cond same (act ∷ []) [])
+leaving_one : (gap machine : ℕ) (act : Act) (same : Bool) → (machine == gap) ≡ same → is_leaving gap (happenings.Done machine act) ≡ tells_leaving (cond same (told_of_act act) [])
 leaving_one gap machine (acts.Deed (deeds.Leaves id)) true is = is
 leaving_one gap machine (acts.Deed (deeds.Leaves id)) false is = is
 leaving_one gap machine (acts.Deed (deeds.Opens id)) true is = refl
@@ -97,6 +97,7 @@ or_false false b = refl
 
 undriven_one : (act : Act) (b : Bool) → (tells_leaving (told_of_act act) || b) ≡ (leaves_now act || b)
 undriven_one (acts.Drive side on) b = refl
+undriven_one (acts.Signals signal on) b = refl
 undriven_one act b = or_false (leaves_now act) b
 
 undriven_leaving : (told : List Act) → tells_leaving (undriven told) ≡ tells_leaving told
@@ -177,7 +178,7 @@ off_still before after told x goes old off = (let less = old_count before after 
 
 -- ---- the machine above is as it was
 
-still_follows : (j : ℕ) (last : Option Record) (t t2 : Trace) (before after : LineState) (told : List Happening) (r : Record) → Line (j + 1) last t t2 before after told r → (node_at after (j + 1)).lane.body ≡ (node_at before (j + 1)).lane.body → done_by (j + 1) told ≡ []
+still_follows : (j : ℕ) (last : Option Record) (t t2 : Trace) (before after : LineState) (told : List Happening) (r : Record) → Line (j + 1) last t t2 before after told r → unwilled (node_at after (j + 1)).lane.body ≡ unwilled (node_at before (j + 1)).lane.body → done_by (j + 1) told ≡ []
     → Follows after (j + 1) (let_go (j + 1) last before told) r
 still_follows j last t t2 before after told r l same none = by l.was where
   stays : let_go (j + 1) last before told ≡ last

@@ -1,3 +1,9 @@
+pub mod OpenedRun
+pub mod Stills
+pub mod Gaps
+pub mod UpForms
+pub mod LinkUp
+pub mod Orders
 pub mod Folds
 pub mod Halves
 pub mod Hearing
@@ -11,3 +17,8 @@ pub mod Leaving
 pub mod Where
 pub mod LetGoRun
 pub mod Started
+pub mod Offering
+pub mod OfferingStep
+pub mod OfferingWhole
+pub mod Courses
+pub mod OfferedRun

@@ -186,6 +186,7 @@ act_later id h (acts.Marks other quality) not = λ told is. later_said h.since.c
 act_later id h (acts.Inserts other) not = λ told is. later_said h.since.closed id (acts.Inserts other) told refl is
 act_later id h (acts.Removes other) not = λ told is. later_said h.since.closed id (acts.Removes other) told refl is
 act_later id h (acts.Replaces was now) not = λ told is. later_said h.since.closed id (acts.Replaces was now) told refl is
+act_later id h (acts.Signals signal on) not = λ told is. later_said h.since.closed id (acts.Signals signal on) told refl is
 act_later id h (acts.Sets setting) not = λ told is. later_said h.since.closed id (acts.Sets setting) told refl is
 act_later id h (acts.Deed (deeds.Opens other)) not = λ told is. later_said h.since.closed id (acts.Deed (deeds.Opens other)) told refl is
 act_later id h (acts.Deed (deeds.Refuses other)) not = λ told is. later_said h.since.closed id (acts.Deed (deeds.Refuses other)) told refl is

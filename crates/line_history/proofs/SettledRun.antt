@@ -1,5 +1,5 @@
 -- Along a run: what a machine tells of its entry is orderly, and so each board that settles was said.
-use Rattle.std.proofs.Common.{Bool, List, None, Option, Some, [], ap, append_assoc, arith, false, refl, suc, subst, sym, take, true, zero, ℕ, ◌++◌, ◌+◌, ◌==◌, ◌∙◌, ◌∷◌, ◌≡◌}
+use Rattle.std.proofs.Common.{Bool, List, None, Option, Some, [], ap, append-nil, append_assoc, arith, false, refl, suc, subst, sym, take, true, zero, ℕ, ◌&&◌, ◌++◌, ◌+◌, ◌==◌, ◌∙◌, ◌∷◌, ◌≡◌}
 use Rattle.std.specs.Prelude.{cond}
 use Rattle.line_base.specs.declared.states.Side.TheVariants.{Entry}
 use Rattle.board_record.specs.declared.record.Record.{Record}
@@ -43,13 +43,18 @@ entry_append : (a b : List Act) → entry_of (a ++ b) ≡ entry_of a ++ entry_of
 entry_append [] b = refl
 entry_append (act ∷ a) b = ap (λ (x : List Act). cond (is_at_entry act) (act ∷ []) [] ++ x) (entry_append a b) ∙ sym (append_assoc (cond (is_at_entry act) (act ∷ []) []) (entry_of a) (entry_of b))
 
-entry_one : (machine other : ℕ) (act : Act) (same at : Bool) → (other == machine) ≡ same → is_at_entry act ≡ at → entry_act machine (happenings.Done other act) ≡ entry_of (done_act machine (happenings.Done other act))
-entry_one machine other act true true is at = rw (is, at) refl
-entry_one machine other act true false is at = rw (is, at) refl
-entry_one machine other act false at is entry = rw is refl
+-- drives and a bridge's signals are not at the entry's handover
+entry_undriven_one : (act : Act) → entry_of (told_of_act act) ≡ entry_of (act ∷ [])
+entry_undriven_one (acts.Drive side on) = refl
+entry_undriven_one (acts.Signals signal on) = refl
+entry_undriven_one _ = refl
+
+entry_one : (act : Act) (same : Bool) → cond (same && is_at_entry act) (act ∷ []) [] ≡ entry_of (cond same (told_of_act act) [])
+entry_one act true = sym (entry_undriven_one act ∙ append-nil (cond (is_at_entry act) (act ∷ []) []))
+entry_one act false = refl
 
 entry_happening : (machine : ℕ) (happening : Happening) → entry_act machine happening ≡ entry_of (done_act machine happening)
-entry_happening machine (happenings.Done other act) = entry_one machine other act (other == machine) (is_at_entry act) refl refl
+entry_happening machine (happenings.Done other act) = entry_one act (other == machine)
 entry_happening machine _ = refl
 
 pub entry_is : (machine : ℕ) (told : List Happening) → entry_acts machine told ≡ entry_of (done_by machine told)
@@ -61,11 +66,6 @@ entry_is machine (happening ∷ told) =
 pub acts_append : (machine : ℕ) (a b : List Happening) → entry_acts machine (a ++ b) ≡ entry_acts machine a ++ entry_acts machine b
 acts_append machine [] b = refl
 acts_append machine (h ∷ a) b = ap (λ (x : List Act). entry_act machine h ++ x) (acts_append machine a b) ∙ sym (append_assoc (entry_act machine h) (entry_acts machine a) (entry_acts machine b))
-
--- drives are not at the entry's handover
-entry_undriven_one : (act : Act) → entry_of (told_of_act act) ≡ entry_of (act ∷ [])
-entry_undriven_one (acts.Drive side on) = refl
-entry_undriven_one _ = refl
 
 pub entry_undriven : (told : List Act) → entry_of (undriven told) ≡ entry_of told
 entry_undriven [] = refl

@@ -4,7 +4,7 @@ use Rattle.std.specs.Prelude.{cond}
 use Rattle.std.specs.List.{list_any}
 use Rattle.line_script.specs.declared.line.ScriptLine.{ScriptLine}
 use Rattle.node_core.specs.Done.{Done}
-use Rattle.node_core.specs.Event.{Accepted, Connect, Event, Fault, Insert, Mark, Nothing, Notice, Remove, Replace, Second, Shutdown, Tick, Will, Words}
+use Rattle.node_core.specs.Event.{Accepted, Connect, Event, Fault, Forecast, Insert, Level, Mark, Nothing, Notice, Query, Remove, Replace, Second, Shutdown, Tick, Will, Words}
 use Rattle.node_core.specs.Own.{Own, id_of, own_of}
 use Rattle.node_core.specs.Step.{machine_step}
 use Rattle.node_core.specs.declared.act.Act.{Act}
@@ -46,7 +46,7 @@ open_append o (act ∷ a) b = open_append (open_act o act) a b
 not_so : {X : Type 0} → false ≡ true → X
 not_so is = cc
 
-silent_open : (o : Option ℕ) (act : Act) → is_silent act ≡ true → open_act o act ≡ o
+pub silent_open : (o : Option ℕ) (act : Act) → is_silent act ≡ true → open_act o act ≡ o
 silent_open o (acts.Deed (deeds.Opens id)) is = not_so is
 silent_open o (acts.Deed (deeds.Refuses id)) is = refl
 silent_open o (acts.Deed (deeds.Leaves id)) is = not_so is
@@ -65,13 +65,13 @@ and_two : (a b : Bool) → (a && b) ≡ true → b ≡ true
 and_two true b is = is
 and_two false b is = not_so is
 
-silent_all : (o : Option ℕ) (told : List Act) → are_silent told ≡ true → open_all o told ≡ o
+pub silent_all : (o : Option ℕ) (told : List Act) → are_silent told ≡ true → open_all o told ≡ o
 silent_all o [] is = refl
 silent_all o (act ∷ told) is =
     ap (λ (x : Option ℕ). open_all x told) (silent_open o act (and_one (is_silent act) (are_silent told) is)) ∙ silent_all o told (and_two (is_silent act) (are_silent told) is)
 
 -- what a machine takes is open, act by act
-walk_open : {own end : Own} {told : List Act} → Walk own told end → open_all own.taking told ≡ end.taking
+pub walk_open : {own end : Own} {told : List Act} → Walk own told end → open_all own.taking told ≡ end.taking
 walk_open walk_end = refl
 walk_open {own = own} (walk_on {act = act} {others = others} silent more) = ap (λ (x : Option ℕ). open_all x others) (silent_open own.taking act silent) ∙ walk_open more
 walk_open (walk_opens more) = walk_open more
@@ -81,7 +81,7 @@ walk_open (walk_loses more) = walk_open more
 walk_open (walk_settles more) = walk_open more
 walk_open (walk_drops more) = walk_open more
 
-hand_open : {New : ℕ → Type 0} {own end : Own} {told : List Act} → Hand New own told end → open_all own.taking told ≡ end.taking
+pub hand_open : {New : ℕ → Type 0} {own end : Own} {told : List Act} → Hand New own told end → open_all own.taking told ≡ end.taking
 hand_open (hand_walks walk) = walk_open walk
 hand_open (hand_inserts new) = refl
 hand_open (hand_removes has) = refl
@@ -97,10 +97,10 @@ did_open {own = own} (did {one = one} {two = two} read met told walk hand says) 
     open_append own.taking read (met ++ told) ∙ ap (λ (x : Option ℕ). open_all x (met ++ told)) (walk_open walk)
     ∙ open_append one.taking met told ∙ ap (λ (x : Option ℕ). open_all x told) (hand_open hand) ∙ announces_open says
 
-abbrev Any : ℕ → Type 0
+abbrev pub Any : ℕ → Type 0
 Any id = Unit {0}
 
-any_new : (event : Event) → IsNewFor Any event
+pub any_new : (event : Event) → IsNewFor Any event
 any_new Nothing = tt
 any_new Connect = tt
 any_new Accepted = tt
@@ -111,10 +111,13 @@ any_new Tick = tt
 any_new Shutdown = tt
 any_new (Fault side) = tt
 any_new (Will side on) = tt
+any_new (Level line on) = tt
 any_new (Insert id barcode) = tt
 any_new (Remove id) = tt
 any_new (Replace old new) = tt
 any_new (Mark id quality) = tt
+any_new Forecast = tt
+any_new (Query barcode) = tt
 
 -- ---- of the entry's acts alone
 
@@ -129,7 +132,7 @@ entry_open_act o (acts.Deed (deeds.Returns id)) off = refl
 entry_open_act o (acts.Deed (deeds.Loses id)) off = refl
 entry_open_act o _ off = refl
 
-entry_open : (o : Option ℕ) (told : List Act) → open_all o (entry_of told) ≡ open_all o told
+pub entry_open : (o : Option ℕ) (told : List Act) → open_all o (entry_of told) ≡ open_all o told
 entry_open o [] = refl
 entry_open o (act ∷ told) = by (is_at_entry act) refl (λ x. entry_open x told) where
   by : (at : Bool) → is_at_entry act ≡ at → ((x : Option ℕ) → open_all x (entry_of told) ≡ open_all x told) → open_all o (cond at (act ∷ []) [] ++ entry_of told) ≡ open_all (open_act o act) told
@@ -141,7 +144,7 @@ entry_open o (act ∷ told) = by (is_at_entry act) refl (λ x. entry_open x told
 abbrev pub taking_at : LineState → ℕ → Option ℕ
 taking_at s machine = (own_of (node_at s machine).lane.body).taking
 
-turn_open : (t : Trace) (j : ℕ) (before after : LineState) (told : List Happening) → Turn j t before after told → open_all (taking_at before (j + 1)) (entry_acts (j + 1) told) ≡ taking_at after (j + 1)
+pub turn_open : (t : Trace) (j : ℕ) (before after : LineState) (told : List Happening) → Turn j t before after told → open_all (taking_at before (j + 1)) (entry_acts (j + 1) told) ≡ taking_at after (j + 1)
 turn_open t j before after told (is_still same none) =
     ap (λ (x : List Act). open_all (taking_at before (j + 1)) x) (entry_is (j + 1) told ∙ ap entry_of none) ∙ ap (λ (b : Machine). (own_of b).taking) (sym same)
 turn_open t j before after told (has_stepped s) =
@@ -189,6 +192,7 @@ open_by o (acts.Marks other quality) told id (inr both) = inr both
 open_by o (acts.Inserts other) told id (inr both) = inr both
 open_by o (acts.Removes other) told id (inr both) = inr both
 open_by o (acts.Replaces was now) told id (inr both) = inr both
+open_by o (acts.Signals signal on) told id (inr both) = inr both
 open_by o (acts.Sets setting) told id (inr both) = inr both
 
 open_last : (o : Option ℕ) (told : List Act) (id : ℕ) → open_all o told ≡ Some id → Open o told id

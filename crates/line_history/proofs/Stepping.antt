@@ -3,10 +3,13 @@ use Rattle.std.proofs.Common.{Bool, List, None, Option, Some, [], ap, false, inl
 use Rattle.std.specs.Prelude.{slice_get}
 use Rattle.std.specs.List.{list_any}
 use Rattle.std.proofs.lemmas.List.Folds.{list_any-append}
+use Rattle.line_base.specs.declared.states.Quality.TheVariants as qualities
 use Rattle.line_base.specs.declared.states.Seen.TheVariants as seen
 use Rattle.line_base.specs.declared.states.Side.TheVariants.{Entry, Exit}
 use Rattle.board_record.specs.declared.record.Record.{Record}
 use Rattle.board_record.specs.declared.sensed.Sensed.{Sensed}
+use Rattle.smema_bridge.specs.declared.line.SegmentLine.{SegmentLine}
+use Rattle.smema_bridge.specs.declared.line.SegmentLine.TheVariants as segment
 use Rattle.session_core.specs.Input.{opened, second, shutdown, tick}
 use Rattle.session_core.specs.Row.{session_row}
 use Rattle.handover_out.specs.declared.input.OutInput.TheVariants as out_input
@@ -20,11 +23,13 @@ use Rattle.handover_in.specs.Table.{IsIntakeRow, starts_transport}
 use Rattle.handover_in.proofs.Rows.{row_is as in_row_is}
 use Rattle.node_core.specs.Announces.{announces, offer, offer_by, offers_now, readies_now, ready, ready_by, revoke, revoke_by, revokes_now, start, start_by, starts_now, unreadies_now, unready, unready_by}
 use Rattle.node_core.specs.Boards.{if_kept, is_kept, wills, with_kept}
+use Rattle.node_core.specs.Bridge.{failed_front, fails, sets_level, tells_level}
 use Rattle.node_core.specs.Connect.{opens, shuts_down, ticks}
 use Rattle.node_core.specs.Desk.{Desk}
 use Rattle.node_core.specs.Done.{Done, and_then, done}
-use Rattle.node_core.specs.Event.{Accepted, Connect, Event, Fault, Insert, Mark, Nothing, Notice, Remove, Replace, Second, Shutdown, Tick, Will, Words, event_did}
+use Rattle.node_core.specs.Event.{Accepted, Connect, Event, Fault, Forecast, Insert, Level, Mark, Nothing, Notice, Query, Remove, Replace, Second, Shutdown, Tick, Will, Words, event_did}
 use Rattle.node_core.specs.Halves.{OffersFront, intake_row_did}
+use Rattle.node_core.specs.Information.{asks_for, forecasts}
 use Rattle.node_core.specs.Reads.{all_read}
 use Rattle.node_core.specs.Sides.{is_open, session_at}
 use Rattle.node_core.specs.Step.{machine_step}
@@ -98,6 +103,30 @@ hand_meets : {P : ℕ → Type 0} {h : Hearing} (test : Bool) (body : Machine) (
 hand_meets true body kept act t not k = record { tells = t; stays = either_not (is_leaving act) false not refl }
 hand_meets false body kept act t not k = met_work (works_still body k)
 
+-- a level of a bridge's segment is set, and the front board may be marked
+level_works : {P : ℕ → Type 0} {h : Hearing} (line : SegmentLine) (on : Bool) (body : Machine) → Knows h body.intake → Works P h body (tells_level line on body)
+level_works segment.Ready on body k = works_aside body (tells_level segment.Ready on body) k refl refl refl
+level_works segment.Available on body k = works_aside body (tells_level segment.Available on body) k refl refl refl
+level_works segment.Failed on body k = works_aside body (tells_level segment.Failed on body) k refl refl refl
+
+mark_works : {P : ℕ → Type 0} {h : Hearing} (test : Bool) (id : ℕ) (kept : List Record) (body : Machine) → Knows h body.intake → Works P h body (if_kept test (with_kept kept body) (acts.Marks id qualities.Failed) body)
+mark_works true id kept body k = works_aside body (if_kept true (with_kept kept body) (acts.Marks id qualities.Failed) body) k refl refl refl
+mark_works false id kept body k = works_still body k
+
+fails_works : {P : ℕ → Type 0} {h : Hearing} (front : Option ℕ) (body : Machine) → Knows h body.intake → Works P h body (fails front body)
+fails_works None body k = works_still body k
+fails_works (Some id) body k = mark_works (is_kept id body.kept) id _ body k
+
+sets_work : {P : ℕ → Type 0} {h : Hearing} (desk : Desk) (line : SegmentLine) (on : Bool) (body : Machine) → Knows h body.intake → Works P h body (sets_level desk line on body)
+sets_work desk line on body k =
+    let one : Machine = (tells_level line on body).body in
+    works_both body (tells_level line on body) (λ (b : Machine). fails (failed_front desk.bridge line on b) b) (level_works line on body k) (λ k1. fails_works (failed_front desk.bridge line on one) one k1)
+
+-- the front board is told of ahead
+forecasts_work : {P : ℕ → Type 0} {h : Hearing} (desk : Desk) (front : Option Record) (body : Machine) → Knows h body.intake → Works P h body (done body (forecasts desk front))
+forecasts_work desk None body k = works_still body k
+forecasts_work desk (Some board) body k = works_aside body (done body (forecasts desk (Some board))) k refl refl refl
+
 -- the words that are heard are the oldest on their way
 abbrev pub AreTheirs : Event → Scene → Type 0
 AreTheirs (Words side words) c = AreOldest words (unheard side c)
@@ -122,10 +151,13 @@ event_meets desk (Fault Entry) body c theirs offers g k makes = met_work (silent
 event_meets desk (Fault Exit) body c theirs offers g k makes = met_work (outlet_works desk body out_input.Fault (outlet_row body.outlet out_input.Fault) refl tt k)
 event_meets desk (Will Entry on) body c theirs offers g k makes = met_work (works_aside body (wills Entry on body) k refl refl refl)
 event_meets desk (Will Exit on) body c theirs offers g k makes = met_work (works_aside body (wills Exit on body) k refl refl refl)
+event_meets desk (Level line on) body c theirs offers g k makes = met_work (sets_work desk line on body k)
 event_meets desk (Insert id barcode) body c theirs offers g k makes = record { tells = tells_aside body (event_did desk (Insert id barcode) body) k refl refl; stays = refl }
 event_meets desk (Remove id) body c theirs offers g k makes = hand_meets (is_kept id body.kept) body _ (acts.Removes id) (tells_aside body _ k refl refl) refl k
 event_meets desk (Replace old new) body c theirs offers g k makes = hand_meets (is_kept old body.kept) body _ (acts.Replaces old new) (tells_aside body _ k refl refl) refl k
 event_meets desk (Mark id quality) body c theirs offers g k makes = hand_meets (is_kept id body.kept) body _ (acts.Marks id quality) (tells_aside body _ k refl refl) refl k
+event_meets desk Forecast body c theirs offers g k makes = met_work (forecasts_work desk (slice_get body.kept 0) body k)
+event_meets desk (Query barcode) body c theirs offers g k makes = met_work (works_aside body (asks_for desk barcode body) k refl refl refl)
 
 -- ---- the announcements: the last one may be a start
 
@@ -221,10 +253,13 @@ heard_still desk unread Tick body c theirs = tt
 heard_still desk unread Shutdown body c theirs = tt
 heard_still desk unread (Fault side) body c theirs = tt
 heard_still desk unread (Will side on) body c theirs = tt
+heard_still desk unread (Level line on) body c theirs = tt
 heard_still desk unread (Insert id barcode) body c theirs = tt
 heard_still desk unread (Remove id) body c theirs = tt
 heard_still desk unread (Replace old new) body c theirs = tt
 heard_still desk unread (Mark id quality) body c theirs = tt
+heard_still desk unread Forecast body c theirs = tt
+heard_still desk unread (Query barcode) body c theirs = tt
 
 -- what the whole step does, and that a board is said to have left in it where the machine reads its events
 pub record StepDoes (P : ℕ → Type 0) (h : Hearing) (desk : Desk) (unread : List Sensed) (event : Event) (body : Machine) : Type 0 where

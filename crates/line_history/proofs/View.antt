@@ -21,6 +21,7 @@ use Rattle.line_link.specs.declared.link.Connected.TheVariants as connections
 use Rattle.line_link.specs.declared.link.Sent.{Sent}
 use Rattle.line_link.specs.declared.link.Sent.TheVariants as sent
 use Rattle.line_link.proofs.Coming.{coming_of_arrival}
+use Rattle.smema_bridge.specs.Levels.{BridgeLevels}
 use Rattle.line_script.specs.declared.line.ScriptLine.{ScriptLine}
 use Rattle.line_script.specs.declared.line.ScriptLine.TheVariants as lines
 use Rattle.line_world.specs.FloorPlan.{FloorPlan, gap_at, machine_at}
@@ -35,13 +36,16 @@ use Rattle.node_core.specs.Event as events
 use Rattle.node_core.specs.Node.{NodeState, desk_of, new_node}
 use Rattle.node_core.specs.Own.{own_of}
 use Rattle.node_core.specs.Sides.{is_open}
+use Rattle.node_core.specs.Signals.{signalled}
 use Rattle.node_core.specs.Step.{machine_step}
 use Rattle.node_core.specs.Words.{AreWords}
 use Rattle.node_core.specs.declared.act.Act.{Act}
 use Rattle.node_core.specs.declared.act.Act.TheVariants as acts
 use Rattle.node_core.specs.declared.input.Input.{Input}
 use Rattle.node_core.specs.declared.input.Input.TheVariants as inputs
+use Rattle.node_core.specs.declared.lane.Body.{Body as Machine}
 use Rattle.node_core.specs.declared.word.Word.{Word}
+use Rattle.node_core.proofs.Signalling.{signals_pass}
 use Rattle.line_report.specs.declared.happening.Happening.{Happening}
 use Rattle.line_report.specs.declared.happening.Happening.TheVariants as happenings
 use Rattle.standings.specs.Told.{told_of}
@@ -49,9 +53,9 @@ use Rattle.standings.specs.declared.told.Told.{Told as Standing}
 use Rattle.standings.specs.declared.told.Told.TheVariants as tolds
 use Rattle.line_step.specs.Acts.{act_did, acts_did, cut_told, is_answer, is_exit, sent_by}
 use Rattle.line_step.specs.FloorIds.{made_by, made_in}
-use Rattle.line_step.specs.Lines.{Becomes, Connects, Flows, LineDoes, LineSteps, Moves, Unless, arrived, connecting, cut_in, lied, met, move_told, moved, spoil_told, spoiled, unvouched_told}
+use Rattle.line_step.specs.Lines.{Becomes, Connects, Flows, LineDoes, LineSteps, Moves, Unless, arrived, connecting, cut_in, lied, met, move_told, moved, spoil_told, spoiled, unseen, unvouched_told}
 use Rattle.line_step.specs.Numbered.{Stand, no_node, node_at, stand_at}
-use Rattle.line_step.specs.Reasons.{May, has_link, is_empty, may_add, may_connect, may_cut, may_do, may_flow, may_lie, may_spoil}
+use Rattle.line_step.specs.Reasons.{May, has_link, is_empty, may_add, may_connect, may_cut, may_do, may_flow, may_lie, may_spoil, may_unseen}
 use Rattle.line_step.specs.Shown.{ascending, between_shown, ids_marked, kept_shown, shown, shown_from, standing_told, standings_told, taken_below}
 use Rattle.line_step.specs.State.{LineState, machine_in, marks_in, one_more, profile_of}
 use Rattle.line_step.specs.Steps.{MachineSteps, is_second, moment_of, read_by, unread_by}
@@ -73,8 +77,14 @@ use Rattle.line_history.proofs.Stepping.{AreTheirs}
 
 -- ---- the acts of one machine among all that is told
 
+-- an act as it is looked at: the switching of a drive is not told, and a bridge's own signals say nothing of boards
+abbrev pub told_of_act : Act → List Act
+told_of_act (acts.Drive side on) = []
+told_of_act (acts.Signals signal on) = []
+told_of_act act = act ∷ []
+
 abbrev pub done_act : ℕ → Happening → List Act
-done_act machine (happenings.Done other act) = if other == machine then act ∷ [] else []
+done_act machine (happenings.Done other act) = if other == machine then told_of_act act else []
 done_act machine _ = []
 
 abbrev pub done_by : ℕ → List Happening → List Act
@@ -85,13 +95,8 @@ pub done_append : (k : ℕ) (a b : List Happening) → done_by k (a ++ b) ≡ do
 done_append k [] b = refl
 done_append k (h ∷ a) b = ap (λ (x : List Act). done_act k h ++ x) (done_append k a b) ∙ sym (append_assoc (done_act k h) (done_by k a) (done_by k b))
 
-none_join : (k : ℕ) (a b : List Happening) → done_by k a ≡ [] → done_by k b ≡ [] → done_by k (a ++ b) ≡ []
+pub none_join : (k : ℕ) (a b : List Happening) → done_by k a ≡ [] → done_by k b ≡ [] → done_by k (a ++ b) ≡ []
 none_join k a b one two = done_append k a b ∙ ap (λ (x : List Act). x ++ done_by k b) one ∙ two
-
--- the switching of a drive is not told
-abbrev pub told_of_act : Act → List Act
-told_of_act (acts.Drive side on) = []
-told_of_act act = act ∷ []
 
 abbrev pub undriven : List Act → List Act
 undriven [] = []
@@ -102,10 +107,10 @@ undriven (act ∷ told) = told_of_act act ++ undriven told
 same_number : (k : ℕ) → (k == k) ≡ true
 same_number k = eq-eqb k k refl
 
-own_first : (k : ℕ) (act : Act) (rest : List Happening) → done_by k rest ≡ [] → done_by k (happenings.Done k act ∷ rest) ≡ act ∷ []
-own_first k act rest none = rw (same_number k, none) refl
+own_first : (k : ℕ) (act : Act) (rest : List Happening) → done_by k rest ≡ [] → done_by k (happenings.Done k act ∷ rest) ≡ told_of_act act
+own_first k act rest none = rw (same_number k, none) (append-nil (told_of_act act))
 
-cut_none : (k link : ℕ) (on : Sent) → done_by k (cut_told link on) ≡ []
+pub cut_none : (k link : ℕ) (on : Sent) → done_by k (cut_told link on) ≡ []
 cut_none k link sent.Cuts = refl
 cut_none k link sent.Flows = refl
 cut_none k link sent.Vanishes = refl
@@ -128,14 +133,24 @@ own_act second k (acts.Marks id quality) world = own_first k (acts.Marks id qual
 own_act second k (acts.Inserts id) world = own_first k (acts.Inserts id) [] refl
 own_act second k (acts.Removes id) world = own_first k (acts.Removes id) [] refl
 own_act second k (acts.Replaces was now) world = own_first k (acts.Replaces was now) [] refl
+own_act second k (acts.Signals signal on) world = own_first k (acts.Signals signal on) [] refl
 own_act second k (acts.Sets setting) world = own_first k (acts.Sets setting) [] refl
 
-own_acts : (second : Bool) (k : ℕ) (told : List Act) (world : WorldParts) → done_by k (acts_did second k told world).told ≡ undriven told
+pub own_acts : (second : Bool) (k : ℕ) (told : List Act) (world : WorldParts) → done_by k (acts_did second k told world).told ≡ undriven told
 own_acts second k [] world = refl
 own_acts second k (act ∷ others) world =
     let one = act_did second k act world in
     done_append k one.told (acts_did second k others one.world).told ∙ ap (λ (x : List Act). x ++ done_by k (acts_did second k others one.world).told) (own_act second k act world)
     ∙ ap (λ (x : List Act). told_of_act act ++ x) (own_acts second k others one.world)
+
+-- a bridge's own signals are not among them
+undriven_append : (a b : List Act) → undriven (a ++ b) ≡ undriven a ++ undriven b
+undriven_append [] b = refl
+undriven_append (act ∷ a) b = ap (λ (x : List Act). told_of_act act ++ x) (undriven_append a b) ∙ sym (append_assoc (told_of_act act) (undriven a) (undriven b))
+
+pub undriven_signals : (made : List Act) (bridge : Option BridgeLevels) (body : Machine) → undriven (made ++ signalled bridge body) ≡ undriven made
+undriven_signals made bridge body =
+    signals_pass undriven (λ front signal on. undriven_append front (acts.Signals signal on ∷ []) ∙ append-nil (undriven front)) made bridge body
 
 -- ---- the acts of another machine
 
@@ -163,6 +178,7 @@ other_act second k machine (acts.Marks id quality) world apart = other_first k m
 other_act second k machine (acts.Inserts id) world apart = other_first k machine (acts.Inserts id) [] apart refl
 other_act second k machine (acts.Removes id) world apart = other_first k machine (acts.Removes id) [] apart refl
 other_act second k machine (acts.Replaces was now) world apart = other_first k machine (acts.Replaces was now) [] apart refl
+other_act second k machine (acts.Signals signal on) world apart = other_first k machine (acts.Signals signal on) [] apart refl
 other_act second k machine (acts.Sets setting) world apart = other_first k machine (acts.Sets setting) [] apart refl
 
 pub other_acts : (second : Bool) (k machine : ℕ) (told : List Act) (world : WorldParts) → k ≢ machine → done_by k (acts_did second machine told world).told ≡ []
@@ -187,7 +203,7 @@ between_none k gap None (Some below) = refl
 between_none k gap (Some above) None = refl
 between_none k gap (Some above) (Some below) = two_none k (above == below) gap below
 
-shown_none : (k machine : ℕ) (nodes : List NodeState) → done_by k (shown_from machine nodes) ≡ []
+pub shown_none : (k machine : ℕ) (nodes : List NodeState) → done_by k (shown_from machine nodes) ≡ []
 shown_none k machine [] = refl
 shown_none k machine (node ∷ nodes) =
     let between = between_shown machine (own_of node.lane.body).held (taken_below nodes) in
@@ -204,11 +220,11 @@ flat_none : (k : ℕ) (f : ℕ → List Happening) (ids : List ℕ) → ((id : �
 flat_none k f [] every = refl
 flat_none k f (id ∷ ids) every = none_join k (f id) (flat_map f ids) (every id) (flat_none k f ids every)
 
-standings_none : (k : ℕ) (before next : LineState) → done_by k (standings_told before next) ≡ []
+pub standings_none : (k : ℕ) (before next : LineState) → done_by k (standings_told before next) ≡ []
 standings_none k before next =
     flat_none k (λ id. standing_told id (told_of (marks_in before id) (marks_in next id))) (ascending (ids_marked before ++ ids_marked next)) (λ id. standing_none k id (told_of (marks_in before id) (marks_in next id)))
 
-unvouched_none : (k : ℕ) (unvouched : Option ℕ) → done_by k (unvouched_told unvouched) ≡ []
+pub unvouched_none : (k : ℕ) (unvouched : Option ℕ) → done_by k (unvouched_told unvouched) ≡ []
 unvouched_none k None = refl
 unvouched_none k (Some line) = refl
 
@@ -234,7 +250,7 @@ before_one j = omega arith
 same_some : {a b : NodeState} → ◌≡◌ {A = Option NodeState} (Some a) (Some b) → a ≡ b
 same_some is = cc
 
-flow_oldest : SaysAlone → (t : Trace) (number j : ℕ) (side : Side) (count : Option ℕ) (before after : LineState) (told : List Happening) → CanFlow (j + 1) side before → Stands t before
+pub flow_oldest : SaysAlone → (t : Trace) (number j : ℕ) (side : Side) (count : Option ℕ) (before after : LineState) (told : List Happening) → CanFlow (j + 1) side before → Stands t before
     → (flows : Flows number (j + 1) side count before after told) → AreOldest flows.steps.steps.lane.words (unheard side (scene_at t before j))
 flow_oldest alone t number j Entry count before after told can st flows =
     let steps = flows.steps in
@@ -281,10 +297,17 @@ plain_theirs c maker inputs.Tick words none = tt
 plain_theirs c maker inputs.Shutdown words none = tt
 plain_theirs c maker (inputs.Fault side) words none = tt
 plain_theirs c maker (inputs.Will side on) words none = tt
+plain_theirs c maker (inputs.Level line on) words none = tt
 plain_theirs c maker (inputs.Remove id) words none = tt
 plain_theirs c maker (inputs.Mark id quality) words none = tt
+plain_theirs c maker inputs.Forecast words none = tt
+plain_theirs c maker (inputs.Query barcode) words none = tt
 
 -- ---- the turn of a machine
+
+-- a body but for what the machine is willing to do: a bridge that is added is willing to nothing yet
+abbrev pub unwilled : Machine → Machine
+unwilled body = record body { entry = record body.entry { willing = false }; exit = record body.exit { willing = false } }
 
 -- it made a step, from what it was before the line
 pub record Stepped (j : ℕ) (t : Trace) (before after : LineState) (told : List Happening) : Type 0 where
@@ -296,7 +319,7 @@ pub record Stepped (j : ℕ) (t : Trace) (before after : LineState) (told : List
   pub unread : (machine_at after.world.floor (j + 1)).unread ≡ []
 
 pub data Turn (j : ℕ) (t : Trace) (before after : LineState) (told : List Happening) : Type 0 where
-  is_still : (node_at after (j + 1)).lane.body ≡ (node_at before (j + 1)).lane.body → done_by (j + 1) told ≡ [] → Turn j t before after told
+  is_still : unwilled (node_at after (j + 1)).lane.body ≡ unwilled (node_at before (j + 1)).lane.body → done_by (j + 1) told ≡ [] → Turn j t before after told
   has_stepped : Stepped j t before after told → Turn j t before after told
 
 -- the machine's own step, from a state in which it is what it was before the line
@@ -317,14 +340,15 @@ own_turn t number j input before start after told steps same theirs =
       event = event;
       theirs = theirs;
       body = ap (λ (n : NodeState). n.lane.body) next_is ∙ lane.body ∙ ap (λ (d : Done). d.body) did;
-      acts = ap (done_by (j + 1)) steps.told_is ∙ own_acts (is_second input) (j + 1) steps.acts (read_by (j + 1) start.world) ∙ ap undriven lane.told ∙ ap (λ (d : Done). undriven d.acts) did;
+      acts = ap (done_by (j + 1)) steps.told_is ∙ own_acts (is_second input) (j + 1) steps.acts (read_by (j + 1) start.world) 
+          ∙ ap undriven steps.steps.told ∙ undriven_signals steps.steps.made node.bridge steps.next.lane.body ∙ ap undriven lane.told ∙ ap (λ (d : Done). undriven d.acts) did;
       unread = ap (λ (s : LineState). (machine_at s.world.floor (j + 1)).unread) steps.after_is ∙ none_unread (is_second input) (j + 1) steps.acts start.world;
     }
 
 -- another machine's step
 other_still : (t : Trace) (number j machine : ℕ) (input : Input) (before start after : LineState) (told : List Happening) → (steps : MachineSteps number machine input start after told) → j + 1 ≢ machine → stand_at start (j + 1) ≡ stand_at before (j + 1) → Turn j t before after told
 other_still t number j machine input before start after told steps apart same =
-    is_still (ap (λ (s : Stand). s.node.lane.body) ((step_changes number machine input start after told steps).machines (j + 1) apart ∙ same))
+    is_still (ap (λ (s : Stand). unwilled s.node.lane.body) ((step_changes number machine input start after told steps).machines (j + 1) apart ∙ same))
     (ap (done_by (j + 1)) steps.told_is ∙ other_acts (is_second input) (j + 1) machine steps.acts (read_by machine start.world) apart)
 
 -- one step, of an input that is no bytes
@@ -336,8 +360,30 @@ plain_turn t number j machine input before after told (inr apart) none steps = o
 
 -- ---- each form of line
 
+pub more_body : (is_bridge : Bool) (capacity used : ℕ) (s : LineState) (k : ℕ) → (k ≡ length s.machines + 1) ⊎ (k ≢ length s.machines + 1) → unwilled (node_at (one_more is_bridge capacity used s) k).lane.body ≡ unwilled (node_at s k).lane.body
+more_body is_bridge capacity used s k (inr apart) = ap (λ (x : Stand). unwilled x.node.lane.body) ((more_changes is_bridge capacity used s).machines k apart)
+more_body is_bridge capacity used s k (inl is) =
+    let next : k ≡ suc (length s.machines) = omega (arith, is) in
+    subst (λ (m : ℕ). unwilled (node_at (one_more is_bridge capacity used s) m).lane.body ≡ unwilled (node_at s m).lane.body) (sym next)
+    (ap (λ (n : NodeState). unwilled n.lane.body) (last_node s.machines (new_node (profile_of is_bridge (length s.machines + 1) capacity used))) ∙ sym (ap (λ (n : NodeState). unwilled n.lane.body) (no_last s.machines))) where
+      last_node : (nodes : List NodeState) (new : NodeState) → slice_index_or (nodes ++ new ∷ []) (length nodes) no_node ≡ new
+      last_node [] new = refl
+      last_node (node ∷ nodes) new = last_node nodes new
+
+      no_last : (nodes : List NodeState) → slice_index_or nodes (length nodes) no_node ≡ no_node
+      no_last [] = refl
+      no_last (node ∷ nodes) = no_last nodes
+
+quiet_turn : (j : ℕ) (t : Trace) (before next after : LineState) (what told : List Happening) → unwilled (node_at next (j + 1)).lane.body ≡ unwilled (node_at before (j + 1)).lane.body → done_by (j + 1) what ≡ [] → Becomes next what after told → Turn j t before after told
+quiet_turn j t before next after what told same none b = is_still (ap (λ (s : LineState). unwilled (node_at s (j + 1)).lane.body) b.after_is ∙ same) (ap (done_by (j + 1)) b.told_is ∙ none)
+
 still_turn : (j : ℕ) (t : Trace) (before next after : LineState) (what told : List Happening) → (node_at next (j + 1)).lane.body ≡ (node_at before (j + 1)).lane.body → done_by (j + 1) what ≡ [] → Becomes next what after told → Turn j t before after told
-still_turn j t before next after what told same none b = is_still (ap (λ (s : LineState). (node_at s (j + 1)).lane.body) b.after_is ∙ same) (ap (done_by (j + 1)) b.told_is ∙ none)
+still_turn j t before next after what told same none b = quiet_turn j t before next after what told (ap unwilled same) none b
+
+-- a machine is added, or a bridge
+more_turn : (j : ℕ) (t : Trace) (is_bridge : Bool) (capacity used : ℕ) (before after : LineState) (what told : List Happening) → done_by (j + 1) what ≡ [] → Becomes (one_more is_bridge capacity used before) what after told → Turn j t before after told
+more_turn j t is_bridge capacity used before after what told none b =
+    quiet_turn j t before (one_more is_bridge capacity used before) after what told (more_body is_bridge capacity used before (j + 1) (same_or_not (j + 1) (length before.machines + 1))) none b
 
 unless_turn : (may : May) (j : ℕ) (t : Trace) (before after : LineState) (told : List Happening) (Does : Type 0) → Unless may before after told Does → (may ≡ may_do → Does → Turn j t before after told) → Turn j t before after told
 unless_turn (Ok _) j t before after told Does is does = does refl is
@@ -347,13 +393,13 @@ given_turn : (may : May) (t : Trace) (number j machine : ℕ) (input : Input) (b
 given_turn may t number j machine input before after told none does =
     unless_turn may j t before after told (MachineSteps number machine input before after told) does (λ can steps. plain_turn t number j machine input before after told (same_or_not (j + 1) machine) none steps)
 
-same_machines : (j : ℕ) (s next : LineState) → next.machines ≡ s.machines → (node_at next (j + 1)).lane.body ≡ (node_at s (j + 1)).lane.body
+pub same_machines : (j : ℕ) (s next : LineState) → next.machines ≡ s.machines → (node_at next (j + 1)).lane.body ≡ (node_at s (j + 1)).lane.body
 same_machines j s next is = ap (λ (n : NodeState). n.lane.body) (same_nodes (j + 1) s next is) where
   same_nodes : (machine : ℕ) (s next : LineState) → next.machines ≡ s.machines → node_at next machine ≡ node_at s machine
   same_nodes zero s next is = refl
   same_nodes (suc place) s next is = ap (λ (nodes : List NodeState). slice_index_or nodes place no_node) is
 
-arrived_stand : (k machine : ℕ) (side : Side) (count : Option ℕ) (s : LineState) → stand_at (arrived machine side count s) k ≡ stand_at s k
+pub arrived_stand : (k machine : ℕ) (side : Side) (count : Option ℕ) (s : LineState) → stand_at (arrived machine side count s) k ≡ stand_at s k
 arrived_stand k machine side count s = (link_changes (link_of machine side) (after_flow (end_of side) count (link_at (link_of machine side) s.world)) s).machines k
 
 flow_turn : SaysAlone → (t : Trace) (number j machine : ℕ) (side : Side) (count : Option ℕ) (before after : LineState) (told : List Happening) → Stands t before → may_flow machine side before ≡ may_do → (j + 1 ≡ machine) ⊎ (j + 1 ≢ machine) → Flows number machine side count before after told
@@ -387,14 +433,14 @@ before_own t j before after a b none s = record {
   unread = s.unread;
 }
 
-connecting_stand : (k machine : ℕ) (s : LineState) → stand_at (connecting machine s) k ≡ stand_at s k
+pub connecting_stand : (k machine : ℕ) (s : LineState) → stand_at (connecting machine s) k ≡ stand_at s k
 connecting_stand k machine s = (link_changes (machine - 1) (after_connect (link_at (machine - 1) s.world)) s).machines k
 
 no_bytes : (on : Connected) → IsNoBytes (met on)
 no_bytes connections.Accepted = tt
 no_bytes connections.Second = tt
 
-apart_of : (j machine : ℕ) → 1 ≤ machine → j + 1 ≡ machine → j + 1 ≢ machine - 1
+pub apart_of : (j machine : ℕ) → 1 ≤ machine → j + 1 ≡ machine → j + 1 ≢ machine - 1
 apart_of j machine counted is same = absurd (omega (arith, counted, is, same))
 
 connects_by : (t : Trace) (number j machine : ℕ) (before after : LineState) (told : List Happening) → (j + 1 ≡ machine) ⊎ (j + 1 ≢ machine) → (j + 1 ≡ machine - 1) ⊎ (j + 1 ≢ machine - 1) → (steps : Connects number machine before after told)
@@ -422,7 +468,7 @@ connects_by t number j machine before after told (inr apart) (inr other) steps =
     let on = connected_of (link_at (machine - 1) before.world).upstream in
     let one : stand_at steps.between (j + 1) ≡ stand_at before (j + 1) = (step_changes number machine inputs.Connect start steps.between steps.earlier steps.first).machines (j + 1) apart ∙ connecting_stand (j + 1) machine before in
     let two : stand_at after (j + 1) ≡ stand_at steps.between (j + 1) = (step_changes number (machine - 1) (met on) steps.between after steps.later steps.second).machines (j + 1) other in
-    is_still (ap (λ (s : Stand). s.node.lane.body) (two ∙ one))
+    is_still (ap (λ (s : Stand). unwilled s.node.lane.body) (two ∙ one))
     (none_join (j + 1) steps.earlier steps.later (ap (done_by (j + 1)) steps.first.told_is ∙ other_acts false (j + 1) machine steps.first.acts (read_by machine start.world) apart)
     (ap (done_by (j + 1)) steps.second.told_is ∙ other_acts (is_second (met on)) (j + 1) (machine - 1) steps.second.acts (read_by (machine - 1) steps.between.world) other))
 
@@ -430,7 +476,7 @@ connects_turn : (t : Trace) (number j machine : ℕ) (before after : LineState) 
 connects_turn t number j machine before after told steps =
     subst (λ (x : List Happening). Turn j t before after x) (sym steps.told_is) (connects_by t number j machine before after told (same_or_not (j + 1) machine) (same_or_not (j + 1) (machine - 1)) steps)
 
-move_still : (j gap : ℕ) (step : Move) (s : LineState) (answer : Result FloorPlan MoveNo) → ((node_at (moved answer s) (j + 1)).lane.body ≡ (node_at s (j + 1)).lane.body) × (done_by (j + 1) (move_told gap step answer) ≡ [])
+pub move_still : (j gap : ℕ) (step : Move) (s : LineState) (answer : Result FloorPlan MoveNo) → ((node_at (moved answer s) (j + 1)).lane.body ≡ (node_at s (j + 1)).lane.body) × (done_by (j + 1) (move_told gap step answer) ≡ [])
 move_still j gap step s (Ok floor) = (same_machines j s (moved (Ok floor) s) refl, refl)
 move_still j gap step s (Err why) = (refl, refl)
 
@@ -440,31 +486,23 @@ moves_turn t j gap step before after told does =
     let both = move_still j gap step before answer in
     still_turn j t before (moved answer before) after (move_told gap step answer) told both.0 both.1 does
 
-more_body : (capacity used : ℕ) (s : LineState) (k : ℕ) → (k ≡ length s.machines + 1) ⊎ (k ≢ length s.machines + 1) → (node_at (one_more capacity used s) k).lane.body ≡ (node_at s k).lane.body
-more_body capacity used s k (inr apart) = ap (λ (x : Stand). x.node.lane.body) ((more_changes capacity used s).machines k apart)
-more_body capacity used s k (inl is) =
-    let next : k ≡ suc (length s.machines) = omega (arith, is) in
-    subst (λ (m : ℕ). (node_at (one_more capacity used s) m).lane.body ≡ (node_at s m).lane.body) (sym next)
-    (ap (λ (n : NodeState). n.lane.body) (last_node s.machines (new_node (profile_of (length s.machines + 1) capacity used))) ∙ sym (ap (λ (n : NodeState). n.lane.body) (no_last s.machines))) where
-      last_node : (nodes : List NodeState) (new : NodeState) → slice_index_or (nodes ++ new ∷ []) (length nodes) no_node ≡ new
-      last_node [] new = refl
-      last_node (node ∷ nodes) new = last_node nodes new
-
-      no_last : (nodes : List NodeState) → slice_index_or nodes (length nodes) no_node ≡ no_node
-      no_last [] = refl
-      no_last (node ∷ nodes) = no_last nodes
-
 does_turn : SaysAlone → (t : Trace) (number : ℕ) (line : ScriptLine) (before after : LineState) (told : List Happening) → Stands t before → LineDoes number line before after told → (j : ℕ) → Turn j t before after told
 does_turn alone t number lines.Blank before after told st does j = still_turn j t before before after [] told refl refl does
 does_turn alone t number (lines.Machine capacity used) before after told st does j =
     let what = happenings.Machine (length before.machines + 1) capacity ∷ [] in
-    unless_turn (may_add before) j t before after told (Becomes (one_more capacity used before) what after told) does (λ can b. still_turn j t before (one_more capacity used before) after what told (more_body capacity used before (j + 1) (same_or_not (j + 1) (length before.machines + 1))) refl b)
+    unless_turn (may_add before) j t before after told (Becomes (one_more false capacity used before) what after told) does (λ can b. more_turn j t false capacity used before after what told refl b)
+does_turn alone t number (lines.Bridge capacity used) before after told st does j =
+    let what = happenings.Bridge (length before.machines + 1) capacity ∷ [] in
+    unless_turn (may_add before) j t before after told (Becomes (one_more true capacity used before) what after told) does (λ can b. more_turn j t true capacity used before after what told refl b)
 does_turn alone t number (lines.Insert machine barcode) before after told st does j = given_turn _ t number j machine (inputs.Insert barcode) before after told tt does
 does_turn alone t number (lines.Remove machine id) before after told st does j = given_turn _ t number j machine (inputs.Remove id) before after told tt does
 does_turn alone t number (lines.Replace machine id) before after told st does j = given_turn _ t number j machine (inputs.Replace id) before after told tt does
 does_turn alone t number (lines.Mark machine id quality) before after told st does j = given_turn _ t number j machine (inputs.Mark id quality) before after told tt does
 does_turn alone t number (lines.Hold machine side) before after told st does j = given_turn _ t number j machine (inputs.Will side false) before after told tt does
 does_turn alone t number (lines.Go machine side) before after told st does j = given_turn _ t number j machine (inputs.Will side true) before after told tt does
+does_turn alone t number (lines.Signal machine line on) before after told st does j = given_turn _ t number j machine (inputs.Level line on) before after told tt does
+does_turn alone t number (lines.Forecast machine) before after told st does j = given_turn _ t number j machine (inputs.Forecast) before after told tt does
+does_turn alone t number (lines.Query machine barcode) before after told st does j = given_turn _ t number j machine (inputs.Query barcode) before after told tt does
 does_turn alone t number (lines.Connect machine) before after told st does j = unless_turn (may_connect machine before) j t before after told (Connects number machine before after told) does (λ can steps. connects_turn t number j machine before after told steps)
 does_turn alone t number (lines.Flow machine side count) before after told st does j =
     unless_turn (may_flow machine side before) j t before after told (Flows number machine side count before after told) does (λ can flows. flow_turn alone t number j machine side count before after told st can (same_or_not (j + 1) machine) flows)
@@ -488,13 +526,17 @@ does_turn alone t number (lines.Lie machine sensed) before after told st does j 
     let what = happenings.Lie machine sensed ∷ unvouched_told before.unvouched in
     unless_turn (may_lie machine sensed.side before) j t before after told (Becomes (lied number machine sensed before) what after told) does
     (λ can b. still_turn j t before (lied number machine sensed before) after what told (same_machines j before (lied number machine sensed before) refl) (unvouched_none (j + 1) before.unvouched) b)
+does_turn alone t number (lines.Unseen machine side) before after told st does j =
+    let what = happenings.Unseen machine side ∷ unvouched_told before.unvouched in
+    unless_turn (may_unseen machine side before) j t before after told (Becomes (unseen number machine side before) what after told) does
+    (λ can b. still_turn j t before (unseen number machine side before) after what told (same_machines j before (unseen number machine side before) refl) (unvouched_none (j + 1) before.unvouched) b)
 does_turn alone t number lines.Show before after told st does j = still_turn j t before before after (shown before) told refl (shown_none (j + 1) 1 before.machines) does
 
 -- ---- a line in which no machine makes a step, and one in which boards stay where they lie
 
 -- every machine is as it was, and tells nothing
 abbrev pub AllStill : LineState → LineState → List Happening → Type 0
-AllStill before after told = (j : ℕ) → ((node_at after (j + 1)).lane.body ≡ (node_at before (j + 1)).lane.body) × (done_by (j + 1) told ≡ [])
+AllStill before after told = (j : ℕ) → (unwilled (node_at after (j + 1)).lane.body ≡ unwilled (node_at before (j + 1)).lane.body) × (done_by (j + 1) told ≡ [])
 
 -- what lies in the gaps stays, and no board comes to a list whose id isn't made in the line
 pub record Stays (before after : LineState) (told : List Happening) : Type 0 where
@@ -562,9 +604,12 @@ stays_both before between after a b one two = record {
 abbrev pub Kind : LineState → LineState → List Happening → Type 0
 Kind before after told = AllStill before after told ⊎ Stays before after told
 
-becomes_kind : (before next after : LineState) (what told : List Happening) → AllStill before next what → Becomes next what after told → Kind before after told
-becomes_kind before next after what told all b =
-    inl (λ j. (ap (λ (s : LineState). (node_at s (j + 1)).lane.body) b.after_is ∙ (all j).0, ap (done_by (j + 1)) b.told_is ∙ (all j).1))
+quiet_kind : (before next after : LineState) (what told : List Happening) → AllStill before next what → Becomes next what after told → Kind before after told
+quiet_kind before next after what told all b =
+    inl (λ j. (ap (λ (s : LineState). unwilled (node_at s (j + 1)).lane.body) b.after_is ∙ (all j).0, ap (done_by (j + 1)) b.told_is ∙ (all j).1))
+
+becomes_kind : (before next after : LineState) (what told : List Happening) → ((j : ℕ) → ((node_at next (j + 1)).lane.body ≡ (node_at before (j + 1)).lane.body) × (done_by (j + 1) what ≡ [])) → Becomes next what after told → Kind before after told
+becomes_kind before next after what told all b = quiet_kind before next after what told (λ j. (ap unwilled (all j).0, (all j).1)) b
 
 unless_kind : (may : May) (before after : LineState) (told : List Happening) (Does : Type 0) → Unless may before after told Does → (Does → Kind before after told) → Kind before after told
 unless_kind (Ok _) before after told Does is does = does is
@@ -595,14 +640,21 @@ does_kind : (number : ℕ) (line : ScriptLine) (before after : LineState) (told 
 does_kind number lines.Blank before after told does = becomes_kind before before after [] told (λ j. (refl, refl)) does
 does_kind number (lines.Machine capacity used) before after told does =
     let what = happenings.Machine (length before.machines + 1) capacity ∷ [] in
-    unless_kind (may_add before) before after told (Becomes (one_more capacity used before) what after told) does
-    (becomes_kind before (one_more capacity used before) after what told (λ j. (more_body capacity used before (j + 1) (same_or_not (j + 1) (length before.machines + 1)), refl)))
+    unless_kind (may_add before) before after told (Becomes (one_more false capacity used before) what after told) does
+    (quiet_kind before (one_more false capacity used before) after what told (λ j. (more_body false capacity used before (j + 1) (same_or_not (j + 1) (length before.machines + 1)), refl)))
+does_kind number (lines.Bridge capacity used) before after told does =
+    let what = happenings.Bridge (length before.machines + 1) capacity ∷ [] in
+    unless_kind (may_add before) before after told (Becomes (one_more true capacity used before) what after told) does
+    (quiet_kind before (one_more true capacity used before) after what told (λ j. (more_body true capacity used before (j + 1) (same_or_not (j + 1) (length before.machines + 1)), refl)))
 does_kind number (lines.Insert machine barcode) before after told does = given_kind _ number machine (inputs.Insert barcode) before after told does
 does_kind number (lines.Remove machine id) before after told does = given_kind _ number machine (inputs.Remove id) before after told does
 does_kind number (lines.Replace machine id) before after told does = given_kind _ number machine (inputs.Replace id) before after told does
 does_kind number (lines.Mark machine id quality) before after told does = given_kind _ number machine (inputs.Mark id quality) before after told does
 does_kind number (lines.Hold machine side) before after told does = given_kind _ number machine (inputs.Will side false) before after told does
 does_kind number (lines.Go machine side) before after told does = given_kind _ number machine (inputs.Will side true) before after told does
+does_kind number (lines.Signal machine line on) before after told does = given_kind _ number machine (inputs.Level line on) before after told does
+does_kind number (lines.Forecast machine) before after told does = given_kind _ number machine (inputs.Forecast) before after told does
+does_kind number (lines.Query machine barcode) before after told does = given_kind _ number machine (inputs.Query barcode) before after told does
 does_kind number (lines.Connect machine) before after told does = unless_kind (may_connect machine before) before after told (Connects number machine before after told) does (connects_kind number machine before after told)
 does_kind number (lines.Flow machine side count) before after told does = unless_kind (may_flow machine side before) before after told (Flows number machine side count before after told) does (flows_kind number machine side count before after told)
 does_kind number (lines.Notice machine side) before after told does = given_kind _ number machine (inputs.Notice side) before after told does
@@ -625,10 +677,14 @@ does_kind number (lines.Lie machine sensed) before after told does =
     let what = happenings.Lie machine sensed ∷ unvouched_told before.unvouched in
     unless_kind (may_lie machine sensed.side before) before after told (Becomes (lied number machine sensed before) what after told) does
     (becomes_kind before (lied number machine sensed before) after what told (λ j. (same_machines j before (lied number machine sensed before) refl, unvouched_none (j + 1) before.unvouched)))
+does_kind number (lines.Unseen machine side) before after told does =
+    let what = happenings.Unseen machine side ∷ unvouched_told before.unvouched in
+    unless_kind (may_unseen machine side before) before after told (Becomes (unseen number machine side before) what after told) does
+    (becomes_kind before (unseen number machine side before) after what told (λ j. (same_machines j before (unseen number machine side before) refl, unvouched_none (j + 1) before.unvouched)))
 does_kind number lines.Show before after told does = becomes_kind before before after (shown before) told (λ j. (refl, shown_none (j + 1) 1 before.machines)) does
 
 counted_kind : (before next : LineState) (done more : List Happening) (n : ℕ) → ((j : ℕ) → done_by (j + 1) more ≡ []) → Kind before next done → Kind before (record next { lines = n }) (done ++ more)
-counted_kind before next done more n none (inl all) = inl (λ j. (same_machines j next (record next { lines = n }) refl ∙ (all j).0, none_join (j + 1) done more (all j).1 (none j)))
+counted_kind before next done more n none (inl all) = inl (λ j. (ap unwilled (same_machines j next (record next { lines = n }) refl) ∙ (all j).0, none_join (j + 1) done more (all j).1 (none j)))
 counted_kind before next done more n none (inr s) = inr (record { lies = s.lies; lists = λ x machine new lies. s.lists x machine (made_both x done more new).0 lies })
 
 pub line_kind : (number : ℕ) (line : ScriptLine) (before after : LineState) (told : List Happening) → LineSteps number line before after told → Kind before after told
@@ -638,7 +694,7 @@ line_kind number line before after told steps =
     (counted_kind before next steps.done (standings_told before next) (next.lines + 1) (λ j. standings_none (j + 1) before next) (does_kind number line before next steps.done steps.does)))
 
 counted_turn : {j : ℕ} {t : Trace} {before next : LineState} {done told : List Happening} (n : ℕ) → done_by (j + 1) told ≡ done_by (j + 1) done → (node_at (record next { lines = n }) (j + 1)).lane.body ≡ (node_at next (j + 1)).lane.body → Turn j t before next done → Turn j t before (record next { lines = n }) told
-counted_turn n acts body (is_still same none) = is_still (body ∙ same) (acts ∙ none)
+counted_turn n acts body (is_still same none) = is_still (ap unwilled body ∙ same) (acts ∙ none)
 counted_turn n acts body (has_stepped s) = has_stepped (record { desk = s.desk; event = s.event; theirs = s.theirs; body = body ∙ s.body; acts = acts ∙ s.acts; unread = s.unread })
 
 -- EACH LINE, for each machine

@@ -54,6 +54,7 @@ KeepsWhatLeft gap last s [] = Unit {0}
 KeepsWhatLeft gap last s (point ∷ points) =
     ((earlier later : List Happening) (id : ℕ) → point.told ≡ earlier ++ settles_at gap id ∷ later → IsWhatLeft gap id last s) × KeepsWhatLeft gap (let_go gap last s point.told) point.after points
 
--- THE LAW: it holds at each gap over every script, up to the first line that told what was not so
+-- THE LAW: it holds at each gap over every script, up to the first line that told what was not so, or
+-- let a board come or go unseen
 abbrev pub WhatSettlesLeft : Type 0
 WhatSettlesLeft = (asked : List ScriptLine) (points : List Point) (n gap : ℕ) → AllByRecursion IsFitLine asked → length asked ≤ 1000000 → IsRun no_line asked points → has_lie (take n points) ≡ false → KeepsWhatLeft gap None no_line (take n points)

@@ -101,6 +101,7 @@ abbrev pub all_told : List Point → List Happening
 all_told [] = []
 all_told (point ∷ points) = point.told ++ all_told points
 
--- THE LAW: it holds of the machine behind each gap over every script, up to the first line that told what was not so
+-- THE LAW: it holds of the machine behind each gap over every script, up to the first line that told what was not so, or
+-- let a board come or go unseen
 abbrev pub BoardsSettleWhenSaid : Type 0
 BoardsSettleWhenSaid = (asked : List ScriptLine) (points : List Point) (n gap : ℕ) → AllByRecursion IsFitLine asked → length asked ≤ 1000000 → IsRun no_line asked points → has_lie (take n points) ≡ false → SettlesWhenSaid (gap + 1) (all_told (take n points))

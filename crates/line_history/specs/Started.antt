@@ -38,6 +38,7 @@ HoldsWhatStarted gap past [] = Unit {0}
 HoldsWhatStarted gap past (point ∷ points) =
     ((board : Record) → taken_below point.after gap ≡ Some board → IsStartedLast board.id (entry_acts (gap + 1) (past ++ point.told))) × HoldsWhatStarted gap (past ++ point.told) points
 
--- THE LAW: it holds at each gap over every script, up to the first line that told what was not so
+-- THE LAW: it holds at each gap over every script, up to the first line that told what was not so, or
+-- let a board come or go unseen
 abbrev pub WhatIsHeldStarted : Type 0
 WhatIsHeldStarted = (asked : List ScriptLine) (points : List Point) (n gap : ℕ) → AllByRecursion IsFitLine asked → length asked ≤ 1000000 → IsRun no_line asked points → has_lie (take n points) ≡ false → HoldsWhatStarted gap [] (take n points)

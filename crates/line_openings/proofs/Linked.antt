@@ -9,6 +9,8 @@ use Rattle.board_record.specs.declared.record.Record.{Record}
 use Rattle.board_record.specs.declared.sensed.Sensed.{Sensed as Seen}
 use Rattle.hermes_horizontal.specs.declared.message.Message.{Message}
 use Rattle.hermes_horizontal.specs.declared.message.Horizontal.{Horizontal}
+use Rattle.smema_bridge.specs.declared.line.SegmentLine.{SegmentLine}
+use Rattle.smema_bridge.specs.declared.line.SegmentLine.TheVariants as segment
 use Rattle.session_core.specs.declared.actions.Action.{Action}
 use Rattle.session_core.specs.declared.actions.Action.TheVariants.{SendService, Pong, Ping, Tell, Close, Stand, Pass}
 use Rattle.session_core.specs.declared.actions.Actions.{Actions}
@@ -48,8 +50,9 @@ use Rattle.node_core.specs.Connect.{if_open, shuts_down, ticks}
 use Rattle.node_core.specs.Words.{all_heard, word_did}
 use Rattle.node_core.specs.Reads.{all_read, reads, saw}
 use Rattle.node_core.specs.Boards.{faults, if_kept, is_kept, wills, with_kept}
+use Rattle.node_core.specs.Bridge.{failed_front, fails, sets_level, tells_level}
 use Rattle.node_core.specs.Announces.{announces, offer, offer_by, offers_now, readies_now, ready, ready_by, revoke, revoke_by, revokes_now, start_by, starts_now, unready, unready_by, unreadies_now}
-use Rattle.node_core.specs.Event.{Event, Nothing, Connect, Accepted, Second, Words, Notice, Tick, Shutdown, Fault, Will, Insert, Remove, Replace, Mark, event_did}
+use Rattle.node_core.specs.Event.{Event, Nothing, Connect, Accepted, Second, Words, Notice, Tick, Shutdown, Fault, Will, Level, Insert, Remove, Replace, Mark, Forecast, Query, event_did}
 use Rattle.node_core.specs.Step.{machine_step}
 
 -- the neighbour is ready though a handover is open
@@ -220,7 +223,7 @@ exit_linked desk exits.Ready body stands h = ready_linked desk body (outlet_row 
 exit_linked desk exits.Unready body stands h = took_linked desk body out_input.RevokeMachineReady (outlet_row body.outlet out_input.RevokeMachineReady) refl tt h
 exit_linked desk (exits.Start id) body stands h = start_linked desk body id (would_open body.outlet id) (outlet_row body.outlet (out_input.Start id (opening_board (would_open body.outlet id) body.kept))) refl h
 exit_linked desk (exits.Stop state id) body stands h = took_linked desk body (out_input.Stop state id) (outlet_row body.outlet (out_input.Stop state id)) refl tt h
-exit_linked desk exits.Query body stands h = linked_some h
+exit_linked desk (exits.Query top bottom) body stands h = linked_some h
 exit_linked desk exits.Nothing body stands h = linked_some h
 
 intake_took_linked : (desk : Desk) (body : Body) (found : Option InRow) → Linked body → LinkedAny (intake_took desk body found)
@@ -320,6 +323,20 @@ wills_linked : (side : Side) (on : Bool) (body : Body) → Linked body → Linke
 wills_linked Entry on body h = linked_same body (wills Entry on body).body h refl refl
 wills_linked Exit on body h = linked_same body (wills Exit on body).body h refl refl
 
+level_linked : (line : SegmentLine) (on : Bool) (body : Body) → Linked body → Linked (tells_level line on body).body
+level_linked segment.Ready on body h = linked_same body (tells_level segment.Ready on body).body h refl refl
+level_linked segment.Available on body h = linked_same body (tells_level segment.Available on body).body h refl refl
+level_linked segment.Failed on body h = h
+
+fails_linked : (front : Option ℕ) (body : Body) → Linked body → Linked (fails front body).body
+fails_linked None body h = h
+fails_linked (Some id) body h = by_test (is_kept id body.kept) body _ _ h
+
+sets_linked : (desk : Desk) (line : SegmentLine) (on : Bool) (body : Body) → Linked body → Linked (sets_level desk line on body).body
+sets_linked desk line on body h =
+    let one : Body = (tells_level line on body).body in
+    fails_linked (failed_front desk.bridge line on one) one (level_linked line on body h)
+
 ticks_linked : (desk : Desk) (side : Side) (body : Body) → Linked body → Linked (ticks desk side body).body
 ticks_linked desk side body h = session_linked desk side tick body (session_row (session_at side body) tick) refl tt h
 
@@ -337,10 +354,13 @@ event_linked desk Tick body h = ticks_linked desk Exit (ticks desk Entry body).b
 event_linked desk Shutdown body h = shuts_linked desk Exit (shuts_down desk Entry body).body (shuts_linked desk Entry body h)
 event_linked desk (Fault side) body h = faults_linked desk side body h
 event_linked desk (Will side on) body h = wills_linked side on body h
+event_linked desk (Level line on) body h = sets_linked desk line on body h
 event_linked desk (Insert id barcode) body h = linked_same body (event_did desk (Insert id barcode) body).body h refl refl
 event_linked desk (Remove id) body h = by_test (is_kept id body.kept) body _ _ h
 event_linked desk (Replace old new) body h = by_test (is_kept old body.kept) body _ _ h
 event_linked desk (Mark id quality) body h = by_test (is_kept id body.kept) body _ _ h
+event_linked desk Forecast body h = h
+event_linked desk (Query barcode) body h = h
 
 -- ---- the announcements, and the step
 

@@ -6,6 +6,7 @@ use Rattle.line_base.specs.declared.states.Side.{Side}
 use Rattle.board_record.specs.declared.record.Record.{Record}
 use Rattle.board_record.specs.Maker.{Maker, next_id}
 use Rattle.board_record.specs.declared.maker.IdsUsedUp.{IdsUsedUp}
+use Rattle.smema_bridge.specs.Levels.{BridgeLevels}
 use Rattle.line_script.specs.declared.line.ScriptLine.{ScriptLine}
 use Rattle.line_script.specs.declared.line.ScriptLine.TheVariants as lines
 use Rattle.line_link.specs.Link.{connected_of, spoil_sent}
@@ -26,10 +27,12 @@ use Rattle.node_core.specs.Event.{Replace, event_of, with_new}
 use Rattle.node_core.specs.May.{may_of, may_do as own_do}
 use Rattle.node_core.specs.Node.{NodeState, desk_of, new_node}
 use Rattle.node_core.specs.Own.{own_of}
+use Rattle.node_core.specs.Signals.{signalled}
 use Rattle.node_core.specs.Sound.{IsSound}
 use Rattle.node_core.specs.Step.{machine_step}
 use Rattle.node_core.proofs.Sound.{HasPlaceFor, step_sound}
-use Rattle.node_core.proofs.Lasting.{may_fits, new_sound}
+use Rattle.node_core.proofs.Lasting.{first_sound, may_fits}
+use Rattle.node_core.proofs.Signalling.{signals_all}
 use Rattle.standings.specs.Told.{told_of}
 use Rattle.standings.specs.declared.told.Told.{Told as Standing}
 use Rattle.standings.specs.declared.told.Told.TheVariants as tolds
@@ -39,15 +42,15 @@ use Rattle.line_step.specs.World.{end_of, link_at, link_of}
 use Rattle.line_step.specs.State.{LineState, machine_in, marks_in, no_line, one_more, profile_of}
 use Rattle.line_step.specs.Acts.{acts_did}
 use Rattle.line_step.specs.Steps.{MachineSteps, is_second, moment_of, read_by, unread_by}
-use Rattle.line_step.specs.Reasons.{May, behind_own, if_there, may_add, may_connect, may_cut, may_do, may_flow, may_give, may_lie, may_spoil}
+use Rattle.line_step.specs.Reasons.{May, behind_own, if_there, may_add, may_connect, may_cut, may_do, may_flow, may_give, may_lie, may_spoil, may_unseen}
 use Rattle.line_step.specs.Shown.{ascending, between_shown, ids_marked, kept_shown, shown, shown_from, standing_told, standings_told, taken_below}
-use Rattle.line_step.specs.Lines.{Becomes, Connects, Flows, LineDoes, LineSteps, Moves, Unless, arrived, connecting, cut_in, lied, met, move_told, moved, spoil_told, spoiled, unvouched_told}
+use Rattle.line_step.specs.Lines.{Becomes, Connects, Flows, LineDoes, LineSteps, Moves, Unless, arrived, connecting, cut_in, lied, met, move_told, moved, spoil_told, spoiled, unseen, unvouched_told}
 use Rattle.line_step.specs.Runs.{Point, IsRun}
 use Rattle.line_step.proofs.Numbers.{machine_set_other, machine_set_own, machine_within, same_or_not}
 use Rattle.line_openings.specs.Announced.{OpensWhenAnnounced, all_told, exit_acts}
 use Rattle.line_openings.proofs.Folds.{exit_append, offered_append, offered_from, ready_append, ready_from}
 use Rattle.line_openings.proofs.Happenings.{Told, opens_as_announced, told_apart, told_both}
-use Rattle.line_openings.proofs.Orderly.{Orderly}
+use Rattle.line_openings.proofs.Orderly.{AreSilent, Orderly, orderly_both, plain_orderly, silent_both, silent_none}
 use Rattle.line_openings.proofs.Halves.{Tells}
 use Rattle.line_openings.proofs.Linked.{Linked, step_linked}
 use Rattle.line_openings.proofs.WrongWords.{good_event}
@@ -96,12 +99,18 @@ holds_there : (o : Option ℕ) (r : Bool) (found : Option NodeState) (node : Nod
 holds_there o r found node there not_there = cc
 holds_there o r found node there (is_there {node = other} has) = let same : other ≡ node = cc in subst (λ (n : NodeState). Has o r n) same has
 
+-- a bridge's own signals say nothing of its exit
+own_silent : (bridge : Option BridgeLevels) (body : Body) → AreSilent (signalled bridge body)
+own_silent bridge body = signals_all (λ (told : List Act). AreSilent told) silent_none (λ signal on. record { plain = refl; offered = λ o. refl; ready = λ r. refl }) silent_both bridge body
+
 -- the machine's own step
 own_goes : (number k : ℕ) (input : Input) (o : Option ℕ) (r : Bool) (before after : LineState) (told : List Happening) → (steps : MachineSteps number k input before after told)
     → ((words : List Word) → HasPlaceFor steps.node.capacity (event_of steps.node.maker input words) steps.node.lane.body) → Has o r steps.node → Goes k o r after told
 own_goes number k input o r before after told steps fits has =
     let node : NodeState = steps.node in
     let lane = steps.steps.lane in
+    let own : List Act = signalled node.bridge steps.next.lane.body in
+    let silent : AreSilent own = own_silent node.bridge steps.next.lane.body in
     let desk = desk_of node (moment_of number) in
     let event = event_of node.maker input lane.words in
     let did = machine_step desk (unread_by k before.world) event node.lane.body in
@@ -110,11 +119,15 @@ own_goes number k input o r before after told steps fits has =
     let list = (acts_did (is_second input) k steps.acts read).told in
     let offered : offered_from o (exit_acts k told) ≡ steps.next.lane.body.outlet.offered =
     ap (λ (x : List Happening). offered_from o (exit_acts k x)) steps.told_is ∙ acts_offered (is_second input) k steps.acts read o
+    ∙ ap (λ (x : List Act). offered_from o x) steps.steps.told ∙ offered_append o steps.steps.made own ∙ silent.offered (offered_from o steps.steps.made)
     ∙ ap (λ (x : List Act). offered_from o x) lane.told ∙ ap (λ (x : Option ℕ). offered_from x did.acts) (sym has.offered) ∙ sym t.offered ∙ ap (λ (b : Body). b.outlet.offered) (sym lane.body) in
     let ready : ready_from r (exit_acts k told) ≡ steps.next.lane.body.outlet.ready =
     ap (λ (x : List Happening). ready_from r (exit_acts k x)) steps.told_is ∙ acts_ready (is_second input) k steps.acts read r
+    ∙ ap (λ (x : List Act). ready_from r x) steps.steps.told ∙ ready_append r steps.steps.made own ∙ silent.ready (ready_from r steps.steps.made)
     ∙ ap (λ (x : List Act). ready_from r x) lane.told ∙ ap (λ (x : Bool). ready_from x did.acts) (sym has.ready) ∙ sym t.ready ∙ ap (λ (b : Body). b.outlet.ready) (sym lane.body) in
-    let orderly : Orderly o r steps.acts = subst (λ (x : List Act). Orderly o r x) (sym lane.told) (subst (λ (x : Option ℕ). Orderly x r did.acts) has.offered (subst (λ (x : Bool). Orderly node.lane.body.outlet.offered x did.acts) has.ready t.orderly)) in
+    let made : Orderly o r steps.steps.made = subst (λ (x : List Act). Orderly o r x) (sym lane.told) (subst (λ (x : Option ℕ). Orderly x r did.acts) has.offered (subst (λ (x : Bool). Orderly node.lane.body.outlet.offered x did.acts) has.ready t.orderly)) in
+    let behind : Orderly (offered_from o steps.steps.made) (ready_from r steps.steps.made) own = plain_orderly (offered_from o steps.steps.made) (ready_from r steps.steps.made) own silent.plain in
+    let orderly : Orderly o r steps.acts = subst (λ (x : List Act). Orderly o r x) (sym steps.steps.told) (orderly_both own made behind) in
     let sound : IsSound node.capacity steps.next.lane.body = subst (λ (b : Body). IsSound node.capacity b) (sym lane.body) (step_sound desk (unread_by k before.world) event node.lane.body (fits lane.words) has.sound) in
     let linked : Linked steps.next.lane.body = subst (λ (b : Body). Linked b) (sym lane.body) (step_linked desk (unread_by k before.world) event node.lane.body has.linked) in
     let there : machine_in k after ≡ Some steps.next = ap (λ (s : LineState). machine_in k s) steps.after_is ∙ machine_set_own k before node steps.next steps.there in
@@ -196,21 +209,21 @@ added_at [] node (suc place) = added_none refl
 added_at (n ∷ nodes) node zero = added_none refl
 added_at (n ∷ nodes) node (suc place) = added_at nodes node place
 
-added : (k capacity used : ℕ) (s : LineState) → Added (machine_in k s) (machine_in k (one_more capacity used s)) (new_node (profile_of (length s.machines + 1) capacity used))
-added zero capacity used s = added_none refl
-added (suc place) capacity used s = added_at s.machines (new_node (profile_of (length s.machines + 1) capacity used)) place
+added : (k : ℕ) (is_bridge : Bool) (capacity used : ℕ) (s : LineState) → Added (machine_in k s) (machine_in k (one_more is_bridge capacity used s)) (new_node (profile_of is_bridge (length s.machines + 1) capacity used))
+added zero is_bridge capacity used s = added_none refl
+added (suc place) is_bridge capacity used s = added_at s.machines (new_node (profile_of is_bridge (length s.machines + 1) capacity used)) place
 
-new_has : (number capacity used : ℕ) → Has None false (new_node (profile_of number capacity used))
-new_has number capacity used = record { offered = refl; ready = refl; sound = new_sound capacity; linked = record { idle = refl; stands = refl } }
+new_has : (number : ℕ) (is_bridge : Bool) (capacity used : ℕ) → Has None false (new_node (profile_of is_bridge number capacity used))
+new_has number is_bridge capacity used = record { offered = refl; ready = refl; sound = first_sound capacity is_bridge; linked = record { idle = refl; stands = refl } }
 
 holds_more : (o : Option ℕ) (r : Bool) (old new : Option NodeState) (node : NodeState) → Has None false node → Added old new node → Holds o r old → Holds o r new
 holds_more o r old new node has (added_none same) h = subst (λ (n : Option NodeState). Holds o r n) (sym same) h
 holds_more o r old new node has (added_here none here) not_there = subst (λ (n : Option NodeState). Holds None false n) (sym here) (is_there has)
 holds_more o r old new node has (added_here none here) (is_there other) = cc
 
-more_goes : (k capacity used : ℕ) (o : Option ℕ) (r : Bool) (s : LineState) → Holds o r (machine_in k s) → Goes k o r (one_more capacity used s) (happenings.Machine (length s.machines + 1) capacity ∷ [])
-more_goes k capacity used o r s h =
-    record { tells = told_apart k o r _ refl; holds = holds_more o r (machine_in k s) (machine_in k (one_more capacity used s)) (new_node (profile_of (length s.machines + 1) capacity used)) (new_has (length s.machines + 1) capacity used) (added k capacity used s) h }
+more_holds : (k : ℕ) (is_bridge : Bool) (capacity used : ℕ) (o : Option ℕ) (r : Bool) (s : LineState) → Holds o r (machine_in k s) → Holds o r (machine_in k (one_more is_bridge capacity used s))
+more_holds k is_bridge capacity used o r s h =
+    holds_more o r (machine_in k s) (machine_in k (one_more is_bridge capacity used s)) (new_node (profile_of is_bridge (length s.machines + 1) capacity used)) (new_has (length s.machines + 1) is_bridge capacity used) (added k is_bridge capacity used s) h
 
 -- ---- what is shown, and the standings
 
@@ -289,13 +302,19 @@ does_goes : (number k : ℕ) (line : ScriptLine) (o : Option ℕ) (r : Bool) (be
 does_goes number k lines.Blank o r before after told h does = becomes k o r before after [] told (still k o r before before [] refl refl h) does
 does_goes number k (lines.Machine capacity used) o r before after told h does =
     let what = happenings.Machine (length before.machines + 1) capacity ∷ [] in
-    unless (may_add before) k o r before after told (Becomes (one_more capacity used before) what after told) h (becomes k o r (one_more capacity used before) after what told (more_goes k capacity used o r before h)) does
+    unless (may_add before) k o r before after told (Becomes (one_more false capacity used before) what after told) h (becomes k o r (one_more false capacity used before) after what told (record { tells = told_apart k o r what refl; holds = more_holds k false capacity used o r before h })) does
+does_goes number k (lines.Bridge capacity used) o r before after told h does =
+    let what = happenings.Bridge (length before.machines + 1) capacity ∷ [] in
+    unless (may_add before) k o r before after told (Becomes (one_more true capacity used before) what after told) h (becomes k o r (one_more true capacity used before) after what told (record { tells = told_apart k o r what refl; holds = more_holds k true capacity used o r before h })) does
 does_goes number k (lines.Insert machine barcode) o r before after told h does = inserted (may_give machine (inputs.Insert barcode) before) number k machine barcode o r before after told refl h does
 does_goes number k (lines.Remove machine id) o r before after told h does = given _ number k machine (inputs.Remove id) o r before after told tt h does
 does_goes number k (lines.Replace machine id) o r before after told h does = given _ number k machine (inputs.Replace id) o r before after told tt h does
 does_goes number k (lines.Mark machine id quality) o r before after told h does = given _ number k machine (inputs.Mark id quality) o r before after told tt h does
 does_goes number k (lines.Hold machine side) o r before after told h does = given _ number k machine (inputs.Will side false) o r before after told tt h does
 does_goes number k (lines.Go machine side) o r before after told h does = given _ number k machine (inputs.Will side true) o r before after told tt h does
+does_goes number k (lines.Signal machine line on) o r before after told h does = given _ number k machine (inputs.Level line on) o r before after told tt h does
+does_goes number k (lines.Forecast machine) o r before after told h does = given _ number k machine (inputs.Forecast) o r before after told tt h does
+does_goes number k (lines.Query machine barcode) o r before after told h does = given _ number k machine (inputs.Query barcode) o r before after told tt h does
 does_goes number k (lines.Connect machine) o r before after told h does = unless (may_connect machine before) k o r before after told (Connects number machine before after told) h (connects_goes number k machine o r before after told h) does
 does_goes number k (lines.Flow machine side count) o r before after told h does = unless (may_flow machine side before) k o r before after told (Flows number machine side count before after told) h (flows_goes number k machine side count o r before after told h) does
 does_goes number k (lines.Notice machine side) o r before after told h does = given _ number k machine (inputs.Notice side) o r before after told tt h does
@@ -314,6 +333,10 @@ does_goes number k (lines.Lie machine sensed) o r before after told h does =
     let what = happenings.Lie machine sensed ∷ unvouched_told before.unvouched in
     unless (may_lie machine sensed.side before) k o r before after told (Becomes (lied number machine sensed before) what after told) h
     (becomes k o r (lied number machine sensed before) after what told (still k o r before (lied number machine sensed before) what (unvouched_none k before.unvouched) (same_in k before (lied number machine sensed before) refl) h)) does
+does_goes number k (lines.Unseen machine side) o r before after told h does =
+    let what = happenings.Unseen machine side ∷ unvouched_told before.unvouched in
+    unless (may_unseen machine side before) k o r before after told (Becomes (unseen number machine side before) what after told) h
+    (becomes k o r (unseen number machine side before) after what told (still k o r before (unseen number machine side before) what (unvouched_none k before.unvouched) (same_in k before (unseen number machine side before) refl) h)) does
 does_goes number k (lines.Sense machine) o r before after told h does = given _ number k machine inputs.Nothing o r before after told tt h does
 does_goes number k (lines.Begin gap) o r before after told h does = moves_goes k gap moves.Begin o r before after told h does
 does_goes number k (lines.Left gap) o r before after told h does = moves_goes k gap moves.Left o r before after told h does

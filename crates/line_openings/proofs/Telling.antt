@@ -1,14 +1,17 @@
 -- What a step of a machine tells: each start that is heard in it is answered as it is announced, and what the outlet has
 -- after it is what the acts say. One lemma for each definition, in the order of the definitions.
-use Rattle.std.proofs.Common.{◌∙◌, ◌≡◌, Bool, true, false, List, [], ◌∷◌, Option, Some, None, refl}
+use Rattle.std.proofs.Common.{◌∙◌, ◌≡◌, ℕ, Bool, true, false, List, [], ◌∷◌, Option, Some, None, refl}
 use Rattle.std.specs.List.{AllByRecursion}
 use Rattle.std.specs.Prelude.{slice_get}
+use Rattle.line_base.specs.declared.states.Quality.TheVariants as qualities
 use Rattle.line_base.specs.declared.states.Role.TheVariants.{Upstream}
 use Rattle.line_base.specs.declared.states.Side.{Side}
 use Rattle.line_base.specs.declared.states.Side.TheVariants.{Entry, Exit}
 use Rattle.line_base.specs.declared.states.SensorEvent.{SensorEvent}
 use Rattle.board_record.specs.declared.record.Record.{Record}
 use Rattle.board_record.specs.declared.sensed.Sensed.{Sensed as Seen}
+use Rattle.smema_bridge.specs.declared.line.SegmentLine.{SegmentLine}
+use Rattle.smema_bridge.specs.declared.line.SegmentLine.TheVariants as segment
 use Rattle.session_core.specs.Input.{opened, second, tick, shutdown}
 use Rattle.session_core.specs.Row.{session_row}
 use Rattle.handover_out.specs.declared.input.OutInput.TheVariants as out_input
@@ -23,12 +26,14 @@ use Rattle.node_core.specs.Halves.{OffersFront, ended}
 use Rattle.node_core.specs.Reads.{all_read, reads, saw}
 use Rattle.node_core.specs.Connect.{notices, opens, shuts_down, ticks}
 use Rattle.node_core.specs.Boards.{faults, if_kept, is_kept, wills, with_kept}
+use Rattle.node_core.specs.Bridge.{failed_front, fails, tells_level}
+use Rattle.node_core.specs.Information.{asks_for, forecasts}
 use Rattle.node_core.specs.Announces.{announces, offer, offer_by, offers_now, readies_now, ready, ready_by, revoke, revoke_by, revokes_now, start, start_by, starts_now, unready, unready_by, unreadies_now}
-use Rattle.node_core.specs.Event.{Event, Nothing, Connect, Accepted, Second, Words, Notice, Tick, Shutdown, Fault, Will, Insert, Remove, Replace, Mark, event_did}
+use Rattle.node_core.specs.Event.{Event, Nothing, Connect, Accepted, Second, Words, Notice, Tick, Shutdown, Fault, Will, Level, Insert, Remove, Replace, Mark, Forecast, Query, event_did}
 use Rattle.node_core.specs.Step.{machine_step}
 use Rattle.node_core.proofs.Sound.{read_exit, read_offers}
 use Rattle.line_openings.proofs.Orderly.{AreSilent}
-use Rattle.line_openings.proofs.Halves.{AreEnd, Tells, at_intake_tells, at_outlet_tells, offer_tells, tells_behind, tells_both, tells_silent, tells_still}
+use Rattle.line_openings.proofs.Halves.{AreEnd, Tells, at_intake_tells, at_outlet_tells, offer_tells, same_outlet, tells_behind, tells_both, tells_silent, tells_still}
 use Rattle.line_openings.proofs.Linked.{Linked, all_read_linked}
 use Rattle.line_openings.proofs.Hearing.{CanHear, IsGood, ended_tells, heard_tell, if_tells, session_tells}
 
@@ -83,6 +88,30 @@ wills_tell : (side : Side) (on : Bool) (body : Body) → Tells body (wills side 
 wills_tell Entry on body = tells_silent body (wills Entry on body) (record { offered = refl; ready = refl }) (record { plain = refl; offered = λ o. refl; ready = λ r. refl })
 wills_tell Exit on body = tells_silent body (wills Exit on body) (record { offered = refl; ready = refl }) (record { plain = refl; offered = λ o. refl; ready = λ r. refl })
 
+-- ---- a level of a bridge's segment, and what is told of boards
+
+level_tells : (line : SegmentLine) (on : Bool) (body : Body) → Tells body (tells_level line on body)
+level_tells segment.Ready on body = tells_silent body (tells_level segment.Ready on body) (record { offered = refl; ready = refl }) (record { plain = refl; offered = λ o. refl; ready = λ r. refl })
+level_tells segment.Available on body = tells_silent body (tells_level segment.Available on body) (record { offered = refl; ready = refl }) (record { plain = refl; offered = λ o. refl; ready = λ r. refl })
+level_tells segment.Failed on body = tells_silent body (tells_level segment.Failed on body) (record { offered = refl; ready = refl }) (record { plain = refl; offered = λ o. refl; ready = λ r. refl })
+
+fails_tells : (front : Option ℕ) (body : Body) → Tells body (fails front body)
+fails_tells None body = tells_still body
+fails_tells (Some id) body = where_kept (is_kept id body.kept) body _ (acts.Marks id qualities.Failed) (record { plain = refl; offered = λ o. refl; ready = λ r. refl })
+
+sets_tell : (desk : Desk) (line : SegmentLine) (on : Bool) (body : Body) → Tells body (event_did desk (Level line on) body)
+sets_tell desk line on body =
+    let told = tells_level line on body in
+    tells_both body told (λ (one : Body). fails (failed_front desk.bridge line on one) one) (level_tells line on body)
+    (fails_tells (failed_front desk.bridge line on told.body) told.body)
+
+forecasts_tell : (desk : Desk) (front : Option Record) (body : Body) → Tells body (done body (forecasts desk front))
+forecasts_tell desk None body = tells_still body
+forecasts_tell desk (Some board) body = tells_silent body (done body (forecasts desk (Some board))) (same_outlet body) (record { plain = refl; offered = λ o. refl; ready = λ r. refl })
+
+asks_tell : (desk : Desk) (barcode : List ℕ) (body : Body) → Tells body (asks_for desk barcode body)
+asks_tell desk barcode body = tells_silent body (asks_for desk barcode body) (same_outlet body) (record { plain = refl; offered = λ o. refl; ready = λ r. refl })
+
 -- ---- the announcements
 
 revoke_tells : (desk : Desk) (test : Bool) (body : Body) → Tells body (revoke_by desk test body)
@@ -135,10 +164,13 @@ event_tells desk Tick body good can = tells_both body (ticks desk Entry body) (t
 event_tells desk Shutdown body good can = tells_both body (shuts_down desk Entry body) (shuts_down desk Exit) (shuts_down_tell desk Entry body) (shuts_down_tell desk Exit (shuts_down desk Entry body).body)
 event_tells desk (Fault side) body good can = faults_tell desk side body
 event_tells desk (Will side on) body good can = wills_tell side on body
+event_tells desk (Level line on) body good can = sets_tell desk line on body
 event_tells desk (Insert id barcode) body good can = by_hand body _ (acts.Inserts id ∷ []) (record { plain = refl; offered = λ o. refl; ready = λ r. refl })
 event_tells desk (Remove id) body good can = where_kept (is_kept id body.kept) body _ (acts.Removes id) (record { plain = refl; offered = λ o. refl; ready = λ r. refl })
 event_tells desk (Replace old new) body good can = where_kept (is_kept old body.kept) body _ (acts.Replaces old new) (record { plain = refl; offered = λ o. refl; ready = λ r. refl })
 event_tells desk (Mark id quality) body good can = where_kept (is_kept id body.kept) body _ (acts.Marks id quality) (record { plain = refl; offered = λ o. refl; ready = λ r. refl })
+event_tells desk Forecast body good can = forecasts_tell desk (slice_get body.kept 0) body
+event_tells desk (Query barcode) body good can = asks_tell desk barcode body
 
 -- what a machine has between two steps
 pub record HearsWell (body : Body) : Type 0 where

@@ -1,5 +1,5 @@
 -- What the events of one side of a machine leave of the half at its other side.
-use Rattle.std.proofs.Common.{Bool, List, None, Option, Some, [], ap, false, refl, true, ℕ, ◌++◌, ◌∙◌, ◌∷◌, ◌≡◌}
+use Rattle.std.proofs.Common.{Bool, List, None, Option, Some, [], ap, append-nil, false, refl, true, ℕ, ◌++◌, ◌∙◌, ◌∷◌, ◌≡◌}
 use Rattle.std.specs.Prelude.{is_some, slice_get}
 use Rattle.line_base.specs.declared.states.Role.TheVariants.{Upstream}
 use Rattle.line_base.specs.declared.states.Side.{Side}
@@ -10,6 +10,7 @@ use Rattle.board_record.specs.declared.record.Record.{Record}
 use Rattle.hermes_horizontal.specs.declared.message.Message.{Message}
 use Rattle.hermes_horizontal.specs.declared.message.Horizontal.{Horizontal}
 use Rattle.hermes_horizontal.specs.Parts.{kind_of}
+use Rattle.smema_bridge.specs.Levels.{BridgeLevels}
 use Rattle.session_core.specs.Breach.{unexpected}
 use Rattle.session_core.specs.declared.actions.Action.{Action}
 use Rattle.session_core.specs.declared.actions.Action.TheVariants.{SendService, Pong, Ping, Tell, Close, Stand, Pass}
@@ -37,6 +38,7 @@ use Rattle.node_core.specs.Desk.{Desk}
 use Rattle.node_core.specs.declared.act.Act.{Act}
 use Rattle.node_core.specs.declared.act.Act.TheVariants as acts
 use Rattle.node_core.specs.declared.act.Deed.TheVariants as deeds
+use Rattle.node_core.specs.declared.act.Signal.{Signal}
 use Rattle.node_core.specs.declared.lane.Body.{Body}
 use Rattle.node_core.specs.declared.word.Word.{Word}
 use Rattle.node_core.specs.declared.word.Word.TheVariants.{Says, Wrong}
@@ -51,9 +53,11 @@ use Rattle.node_core.specs.Halves.{at_intake, at_outlet, behind_opening, ended, 
 use Rattle.node_core.specs.Session.{action_did, actions_did, breaches, maybe_did, session_did}
 use Rattle.node_core.specs.Hears.{entry_took, entry_word, exit_took, exit_word, intake_took, outlet_took, passed, rowed, taken}
 use Rattle.node_core.specs.Connect.{if_open, meets_second, notices, opens}
+use Rattle.node_core.specs.Signals.{signalled}
 use Rattle.node_core.specs.Words.{all_heard, word_did}
 use Rattle.node_core.specs.Reads.{reads, saw}
 use Rattle.node_core.proofs.Keeping.{word_keeps}
+use Rattle.node_core.proofs.Signalling.{signals_pass}
 
 -- ---- the acts that reach the link and the gap at a side, and what its intake tells of a board that settles
 
@@ -80,6 +84,17 @@ append_more (x ∷ a) b c = ap (λ xs. x ∷ xs) (append_more a b c)
 pub reaches_append : (side : Side) (a b : List Act) → reaches side (a ++ b) ≡ reaches side a ++ reaches side b
 reaches_append side [] b = refl
 reaches_append side (act ∷ a) b = ap (λ xs. reach side act ++ xs) (reaches_append side a b) ∙ append_more (reach side act) (reaches side a) (reaches side b)
+
+-- a bridge's own signals reach neither
+signal_silent : (side : Side) (signal : Signal) (on : Bool) → reaches side (acts.Signals signal on ∷ []) ≡ []
+signal_silent Entry signal on = refl
+signal_silent Exit signal on = refl
+
+pub signals_reach : (side : Side) (made : List Act) (bridge : Option BridgeLevels) (body : Body) → reaches side (made ++ signalled bridge body) ≡ reaches side made
+signals_reach side made bridge body =
+    signals_pass (λ (told : List Act). reaches side told)
+    (λ front signal on. reaches_append side front (acts.Signals signal on ∷ []) ∙ ap (λ (rest : List Act). reaches side front ++ rest) (signal_silent side signal on) ∙ append-nil (reaches side front))
+    made bridge body
 
 pub none_reach : (side : Side) (a b : List Act) → reaches side a ≡ [] → reaches side b ≡ [] → reaches side (a ++ b) ≡ []
 none_reach side a b first last = reaches_append side a b ∙ ap (λ xs. xs ++ reaches side b) first ∙ last
@@ -305,7 +320,7 @@ exit_leaves desk exits.Ready body = outlet_took_leaves desk body (outlet_row bod
 exit_leaves desk exits.Unready body = outlet_took_leaves desk body (outlet_row body.outlet out_input.RevokeMachineReady)
 exit_leaves desk (exits.Start id) body = start_took_leaves desk body (behind_opening (would_open body.outlet id) body.kept) (outlet_row body.outlet (out_input.Start id (opening_board (would_open body.outlet id) body.kept)))
 exit_leaves desk (exits.Stop state id) body = outlet_took_leaves desk body (outlet_row body.outlet (out_input.Stop state id))
-exit_leaves desk exits.Query body = leaves_some (leaves_told Exit body _ refl)
+exit_leaves desk (exits.Query top bottom) body = leaves_some (leaves_told Exit body _ refl)
 exit_leaves desk exits.Nothing body = leaves_some (leaves_still Exit body)
 
 intake_took_leaves : (desk : Desk) (body : Body) (found : Option InRow) → LeavesAny Entry body (intake_took desk body found)

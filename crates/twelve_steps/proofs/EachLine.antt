@@ -235,16 +235,16 @@ tests_true true true x y = refl
 tests_true true false x y = absurd (cc)
 tests_true false two x y = absurd (cc)
 
-more_untouched : (k capacity many : ℕ) (s : LineState) → has_link k s ≡ true → Untouched k s (one_more capacity many s)
-more_untouched k capacity many s linked =
+more_untouched : (k : ℕ) (is_bridge : Bool) (capacity many : ℕ) (s : LineState) → has_link k s ≡ true → Untouched k s (one_more is_bridge capacity many s)
+more_untouched k is_bridge capacity many s linked =
     let few = counted k s linked in
     let one = few.0 in
     let most = few.1 in
-    let now : LineState = one_more capacity many s in
+    let now : LineState = one_more is_bridge capacity many s in
     let above : length s.machines + 1 ≢ k = omega (arith, most) in
     let below : length s.machines + 1 ≢ k + 1 = omega (arith, most) in
     let count : length now.machines ≡ length s.machines + 1 = length-append s.machines _ in
-    machine_beyond k (length s.machines + 1) s now above below (more_changes capacity many s)
+    machine_beyond k (length s.machines + 1) s now above below (more_changes is_bridge capacity many s)
     (λ _. tests_true (nat_le 1 k) (nat_lt k (length now.machines)) (le-leb 1 k one) (lt-ltb k (length now.machines) (omega (arith, most, count))))
 
 cut_elsewhere : {k : ℕ} {id : Record} {left : ℕ} {told : Bool} {s next : LineState} {done what : List Happening} (gap : ℕ) → Stage k id left told s → gap ≢ k → Becomes (cut_in gap s) what next done → Goes k id left told s (lines.Cut gap) next done
@@ -254,13 +254,17 @@ spoil_elsewhere : {k : ℕ} {id : Record} {left : ℕ} {told : Bool} {s next : L
 spoil_elsewhere {k = k} {s = s} m side st apart b = becomes_goes (lines.Spoil m side) st (link_untouched k (link_of m side) (after_spoil (end_of side) (link_at (link_of m side) s.world)) s apart) refl b
 
 elsewhere_line : {k : ℕ} {id : Record} {left number : ℕ} {told : Bool} {s next : LineState} {done : List Happening} (line : ScriptLine) → NamesElsewhere k line → Had k id left number told s next → LineDoes number line s next done → Goes k id left told s line next done
-elsewhere_line {k = k} {s = s} (lines.Machine capacity many) e h is = unless_goes (lines.Machine capacity many) _ _ h.st is (λ may b. becomes_goes (lines.Machine capacity many) h.st (more_untouched k capacity many s h.st.linked) refl b)
+elsewhere_line {k = k} {s = s} (lines.Machine capacity many) e h is = unless_goes (lines.Machine capacity many) _ _ h.st is (λ may b. becomes_goes (lines.Machine capacity many) h.st (more_untouched k false capacity many s h.st.linked) refl b)
+elsewhere_line {k = k} {s = s} (lines.Bridge capacity many) e h is = unless_goes (lines.Bridge capacity many) _ _ h.st is (λ may b. becomes_goes (lines.Bridge capacity many) h.st (more_untouched k true capacity many s h.st.linked) refl b)
 elsewhere_line {number = number} (lines.Insert m barcode) e h is = unless_goes (lines.Insert m barcode) _ _ h.st is (λ may steps. elsewhere_step (lines.Insert m barcode) number m (inputs.Insert barcode) h.st e refl steps)
 elsewhere_line {number = number} (lines.Remove m board) e h is = unless_goes (lines.Remove m board) _ _ h.st is (λ may steps. elsewhere_step (lines.Remove m board) number m (inputs.Remove board) h.st e refl steps)
 elsewhere_line {number = number} (lines.Replace m board) e h is = unless_goes (lines.Replace m board) _ _ h.st is (λ may steps. elsewhere_step (lines.Replace m board) number m (inputs.Replace board) h.st e refl steps)
 elsewhere_line {number = number} (lines.Mark m board quality) e h is = unless_goes (lines.Mark m board quality) _ _ h.st is (λ may steps. elsewhere_step (lines.Mark m board quality) number m (inputs.Mark board quality) h.st e refl steps)
 elsewhere_line {number = number} (lines.Hold m side) e h is = unless_goes (lines.Hold m side) _ _ h.st is (λ may steps. elsewhere_step (lines.Hold m side) number m (inputs.Will side false) h.st e refl steps)
 elsewhere_line {number = number} (lines.Go m side) e h is = unless_goes (lines.Go m side) _ _ h.st is (λ may steps. elsewhere_step (lines.Go m side) number m (inputs.Will side true) h.st e refl steps)
+elsewhere_line {number = number} (lines.Signal m line on) e h is = unless_goes (lines.Signal m line on) _ _ h.st is (λ may steps. elsewhere_step (lines.Signal m line on) number m (inputs.Level line on) h.st e refl steps)
+elsewhere_line {number = number} (lines.Forecast m) e h is = unless_goes (lines.Forecast m) _ _ h.st is (λ may steps. elsewhere_step (lines.Forecast m) number m (inputs.Forecast) h.st e refl steps)
+elsewhere_line {number = number} (lines.Query m barcode) e h is = unless_goes (lines.Query m barcode) _ _ h.st is (λ may steps. elsewhere_step (lines.Query m barcode) number m (inputs.Query barcode) h.st e refl steps)
 elsewhere_line {k = k} {number = number} (lines.Connect m) e h is = unless_goes (lines.Connect m) _ _ h.st is (λ may c. connect_elsewhere m h e c (same_or_not (m - 1) (k + 1)))
 elsewhere_line {number = number} (lines.Flow m side count) e h is = unless_goes (lines.Flow m side count) _ _ h.st is (λ may flows. elsewhere_flow number m side count h.st e flows)
 elsewhere_line {number = number} (lines.Notice m side) e h is = unless_goes (lines.Notice m side) _ _ h.st is (λ may steps. elsewhere_step (lines.Notice m side) number m (inputs.Notice side) h.st e refl steps)
@@ -278,6 +282,7 @@ elsewhere_line (lines.Take gap) e h is = move_elsewhere (lines.Take gap) gap mov
 elsewhere_line lines.Blank e h is = absurd e
 elsewhere_line (lines.Sense m) e h is = absurd e
 elsewhere_line (lines.Lie m sensed) e h is = absurd e
+elsewhere_line (lines.Unseen m side) e h is = absurd e
 elsewhere_line lines.Show e h is = absurd e
 
 -- ---- EACH UNDISTURBED LINE

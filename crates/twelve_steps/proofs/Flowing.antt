@@ -54,7 +54,7 @@ use Rattle.one_standing.proofs.RestLine.{node_there}
 use Rattle.twelve_steps.specs.Twelve.{one_if}
 use Rattle.twelve_steps.specs.Undisturbed.{are_some}
 use Rattle.twelve_steps.proofs.Beside.{IsFirst, Leaves, leaves_still, reaches}
-use Rattle.twelve_steps.proofs.Going.{AreCounted, Forth, Stage, counted, finish_above, next_node}
+use Rattle.twelve_steps.proofs.Going.{AreCounted, Forth, Stage, counted, finish_above, lane_reaches, next_node}
 use Rattle.twelve_steps.proofs.Lower.{Lower}
 use Rattle.twelve_steps.proofs.Stage.{Joint}
 use Rattle.twelve_steps.proofs.Texts.{Carrying, Flying, HeardOne, flying_rest, heard_none, heard_one, hears_text, whole_text}
@@ -85,7 +85,7 @@ outcome_less less few (comes_to_end e) =
 
 -- ---- what is fit
 
-moment_fits : (number : ℕ) → number ≤ 1000000 → IsMomentMillis (moment_of number)
+pub moment_fits : (number : ℕ) → number ≤ 1000000 → IsMomentMillis (moment_of number)
 moment_fits number few = (record { le = tt }, record { le = le→leb number 253402300799999 (omega (arith, few)) })
 
 pub fit_desk : (node : NodeState) (number : ℕ) (s : LineState) (machine : ℕ) → node_at s machine ≡ node → number ≤ 1000000 → IsFitMachine s machine → IsFitDesk (desk_of node (moment_of number))
@@ -132,7 +132,7 @@ above_line alone k id number left told input s w0 next done st together whole fl
     subst (λ (l : LinkParts). Carrying steps.next.lane.exit_bytes (node_at s (k + 1)).lane.entry_bytes l st.up st.down) (sym link)
     (subst (λ (bs : List ℕ). Carrying bs (node_at s (k + 1)).lane.entry_bytes (link_at k s.world) st.up st.down) (ap (λ (n : NodeState). n.lane.exit_bytes) node_is ∙ sym bytes) st.link) in
     forth_less (one_if (are_some st.up_seen)) (let n : ℕ = one_if (are_some st.up_seen) in omega arith)
-    (finish_above alone k id number left (one_if (are_some st.up_seen) + 0) told input s w0 next done st together whole floor first steps st.up carrying u (x.first ++ more) behind (ap (λ (xs : List Act). reaches Exit xs) lane.told ∙ turns.reached) acts_fit (x.ends u more follows))
+    (finish_above alone k id number left (one_if (are_some st.up_seen) + 0) told input s w0 next done st together whole floor first steps st.up carrying u (x.first ++ more) behind (lane_reaches Exit number k input (with_world w0 s) next done steps ∙ ap (λ (xs : List Act). reaches Exit xs) lane.told ∙ turns.reached) acts_fit (x.ends u more follows))
 
 -- ---- it hears the oldest message
 
@@ -178,7 +178,7 @@ above_one alone k id number left told piece s w0 next done st together whole flo
     subst (λ (ms : List Message). Joint st.a st.b st.w st.u st.up_seen st.l st.down_seen (bodies ms) (bodies st.down)) up_is st.joint in
     let did : Done = machine_step desk unread (Words Exit (Says one ∷ [])) node.lane.body in
     let body_now : steps.next.lane.body ≡ did.body = lane.body ∙ ap (λ (ws : List Word). (machine_step desk unread (Words Exit ws) node.lane.body).body) words_are in
-    let acts_now : steps.acts ≡ did.acts = lane.told ∙ ap (λ (ws : List Word). (machine_step desk unread (Words Exit ws) node.lane.body).acts) words_are in
+    let acts_now : steps.steps.made ≡ did.acts = lane.told ∙ ap (λ (ws : List Word). (machine_step desk unread (Words Exit ws) node.lane.body).acts) words_are in
     let desk_fit = fit_desk node number s k node_is few fit in
     elim (above_hearing desk st.same joint) [
       | hearing {read} {mid} {first} {heard} reads hears heard_fit ends ↦
@@ -193,7 +193,7 @@ above_one alone k id number left told piece s w0 next done st together whole flo
           let carrying : Carrying steps.next.lane.exit_bytes (node_at s (k + 1)).lane.entry_bytes (link_at k w0) ups st.down =
           subst (λ (bs : List ℕ). Carrying bs (node_at s (k + 1)).lane.entry_bytes (link_at k w0) ups st.down) (sym (empty (open_if steps.next.lane.body.exit.session.state behind.stands))) carried in
           goes_forth (forth_less 1 (let n : ℕ = one_if (are_some st.up_seen) in omega arith)
-          (finish_above alone k id number left (one_if (are_some st.up_seen) + (1 + 0)) told (inputs.Bytes Exit piece) s w0 next done st together whole floor refl steps ups carrying u (first ++ (heard ++ more)) behind (ap (λ (xs : List Act). reaches Exit xs) acts_now ∙ turns.reached) acts_fit (ends u more follows)))
+          (finish_above alone k id number left (one_if (are_some st.up_seen) + (1 + 0)) told (inputs.Bytes Exit piece) s w0 next done st together whole floor refl steps ups carrying u (first ++ (heard ++ more)) behind (lane_reaches Exit number k (inputs.Bytes Exit piece) (with_world w0 s) next done steps ∙ ap (λ (xs : List Act). reaches Exit xs) acts_now ∙ turns.reached) acts_fit (ends u more follows)))
       | last {read} {first} {again} reads hears settles fewer ↦
           let step = upper.step_hears desk unread one node.lane.body at (subst (λ (es : List SensorEvent). upper.Reads desk st.a st.u es read first) (sym seen) reads) (subst (λ (what : Horizontal). upper.Hears st.a read what (over None) []) (sym body_is) hears) in
           let u : Upper = step.0 in

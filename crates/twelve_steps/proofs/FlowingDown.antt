@@ -47,7 +47,7 @@ use Rattle.one_standing.proofs.RestLine.{node_there}
 use Rattle.twelve_steps.specs.Twelve.{one_if}
 use Rattle.twelve_steps.specs.Undisturbed.{are_some}
 use Rattle.twelve_steps.proofs.Beside.{reaches}
-use Rattle.twelve_steps.proofs.Going.{AreCounted, Forth, Stage, counted, finish_below}
+use Rattle.twelve_steps.proofs.Going.{AreCounted, Forth, Stage, counted, finish_below, lane_reaches}
 use Rattle.twelve_steps.proofs.Lower.{Aside, IsLower, Lower, aside_still, settled}
 use Rattle.twelve_steps.proofs.Lower as lower
 use Rattle.twelve_steps.proofs.Stage.{Joint}
@@ -83,7 +83,7 @@ below_line alone k id number left told told_now input s w0 next done st together
     let desk_fit = fit_desk node number s (k + 1) node_is few fit in
     let short = subst (λ (n : ℕ). IsFitId n) (sym st.same) st.short in
     let acts_fit : AreFitActs (x.first ++ more) = both_fit_said (below_read_fits desk desk_fit short x.reads) (below_said_fits desk desk_fit short follows) in
-    let reached : reaches Entry steps.acts ≡ x.first ++ more = ap (λ (xs : List Act). reaches Entry xs) lane.told ∙ turns.reached in
+    let reached : reaches Entry steps.acts ≡ x.first ++ more = lane_reaches Entry number (k + 1) input (with_world w0 s) next done steps ∙ ap (λ (xs : List Act). reaches Entry xs) lane.told ∙ turns.reached in
     let tells : Tells st.b.id st.l l (x.first ++ more) = tells_both st.l x.read l x.first more (reads_tell desk x.reads) (follows_tell desk follows) in
     let carrying : Carrying (node_at s k).lane.exit_bytes steps.next.lane.entry_bytes (link_at k w0) st.up st.down =
     subst (λ (l : LinkParts). Carrying (node_at s k).lane.exit_bytes steps.next.lane.entry_bytes l st.up st.down) (sym link)
@@ -112,7 +112,7 @@ below_one alone k id number left told told_now piece s w0 next done st together 
     subst (λ (ms : List Message). Joint st.a st.b st.w st.u st.up_seen st.l st.down_seen (bodies st.up) (bodies ms)) down_is st.joint in
     let did : Done = machine_step desk unread (Words Entry (Says one ∷ [])) node.lane.body in
     let body_now : steps.next.lane.body ≡ did.body = lane.body ∙ ap (λ (ws : List Word). (machine_step desk unread (Words Entry ws) node.lane.body).body) words_are in
-    let acts_now : steps.acts ≡ did.acts = lane.told ∙ ap (λ (ws : List Word). (machine_step desk unread (Words Entry ws) node.lane.body).acts) words_are in
+    let acts_now : steps.steps.made ≡ did.acts = lane.told ∙ ap (λ (ws : List Word). (machine_step desk unread (Words Entry ws) node.lane.body).acts) words_are in
     let desk_fit = fit_desk node number s (k + 1) node_is few fit in
     let short = subst (λ (n : ℕ). IsFitId n) (sym st.same) st.short in
     elim (below_hearing desk st.same joint) [
@@ -125,7 +125,7 @@ below_one alone k id number left told told_now piece s w0 next done st together 
           let turns : lower.Turns node.capacity st.b l (first ++ (heard ++ more)) did = step.4 in
           let behind : IsLower node.capacity st.b l steps.next.lane.body = subst (λ (b : Body). IsLower node.capacity st.b l b) (sym body_now) turns.lower in
           let acts_fit : AreFitActs (first ++ (heard ++ more)) = both_fit_said (below_read_fits desk desk_fit short reads) (both_fit_said heard_fit (below_said_fits desk desk_fit short follows)) in
-          let reached : reaches Entry steps.acts ≡ first ++ (heard ++ more) = ap (λ (xs : List Act). reaches Entry xs) acts_now ∙ turns.reached in
+          let reached : reaches Entry steps.acts ≡ first ++ (heard ++ more) = lane_reaches Entry number (k + 1) (inputs.Bytes Entry piece) (with_world w0 s) next done steps ∙ ap (λ (xs : List Act). reaches Entry xs) acts_now ∙ turns.reached in
           let tells : Tells st.b.id st.l l (first ++ (heard ++ more)) = tells_both st.l read l first (heard ++ more) (reads_tell desk reads) (tells_both read mid l heard more (hears_tell hears) (follows_tell desk follows)) in
           let carrying : Carrying (node_at s k).lane.exit_bytes steps.next.lane.entry_bytes (link_at k w0) st.up downs =
           subst (λ (bs : List ℕ). Carrying (node_at s k).lane.exit_bytes bs (link_at k w0) st.up downs) (sym (empty (open_if steps.next.lane.body.entry.session.state behind.stands))) carried in
@@ -137,7 +137,7 @@ below_one alone k id number left told told_now piece s w0 next done st together 
           let step = lower.step_hears desk unread one node.lane.body at (subst (λ (es : List SensorEvent). lower.Reads desk st.b st.l es read first) (sym seen) reads) (subst (λ (what : Horizontal). lower.Hears st.b read what (settled false) heard) (sym body_is) hears) in
           let more : List Act = step.1 in
           let turns : lower.Turns node.capacity st.b step.0 (first ++ (heard ++ more)) did = step.4 in
-          let reached : reaches Entry steps.acts ≡ first ++ (heard ++ more) = ap (λ (xs : List Act). reaches Entry xs) acts_now ∙ turns.reached in
+          let reached : reaches Entry steps.acts ≡ first ++ (heard ++ more) = lane_reaches Entry number (k + 1) (inputs.Bytes Entry piece) (with_world w0 s) next done steps ∙ ap (λ (xs : List Act). reaches Entry xs) acts_now ∙ turns.reached in
           let most = st.few in
           let idle : is_idle_phase (node_at s k).lane.body.outlet.phase ≡ true =
           ap (λ (p : Phase). is_idle_phase p) (subst (λ (x : Upper). (node_at s k).lane.body.outlet.phase ≡ upper.phase_of st.a x) above st.upper.phase) in

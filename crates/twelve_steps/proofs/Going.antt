@@ -35,7 +35,7 @@ use Rattle.line_step.proofs.Nearby.{acts_near}
 use Rattle.line_step.proofs.Numbers.{machine_set_own, machine_within}
 use Rattle.one_standing.proofs.Carrying.{SaysAlone}
 use Rattle.one_standing.proofs.RestLine.{links_stay, node_there}
-use Rattle.twelve_steps.proofs.Beside.{reaches}
+use Rattle.twelve_steps.proofs.Beside.{reaches, signals_reach}
 use Rattle.twelve_steps.proofs.Lower.{IsLower, Lower}
 use Rattle.twelve_steps.proofs.Reaching.{above_of, all_between, below_of, unread_of}
 use Rattle.twelve_steps.proofs.Saying.{bodies_both, bodies_count, entry_drives, entry_says, exit_drives, exit_says, few_down, few_up}
@@ -145,6 +145,11 @@ read_between m k s0 = ap (λ (g : AtGap). record { link = link_at k s0.world; ga
 
 gaps_read : (m : ℕ) (s0 : LineState) → length (read_by m s0.world).floor.gaps ≡ length s0.world.floor.gaps
 gaps_read m s0 = gaps_counted_beside s0.world.floor m (record (machine_at s0.world.floor m) { unread = [] })
+
+-- what reaches a side is told by its lane
+pub lane_reaches : (side : Side) (number m : ℕ) (input : Input) (s0 next : LineState) (done : List Happening) (steps : MachineSteps number m input s0 next done) → reaches side steps.acts ≡ reaches side steps.steps.made
+lane_reaches side number m input s0 next done steps =
+    ap (λ (told : List Act). reaches side told) steps.steps.told ∙ signals_reach side steps.steps.made steps.node.bridge steps.next.lane.body
 
 -- at its exit
 pub exit_stepped : (number k : ℕ) (input : Input) (s0 next : LineState) (done : List Happening) (steps : MachineSteps number k input s0 next done) → is_second input ≡ false → length s0.world.floor.machines ≡ length s0.machines → k ≤ length s0.world.floor.gaps

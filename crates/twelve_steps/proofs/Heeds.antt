@@ -27,7 +27,7 @@ use Rattle.node_core.specs.Desk.{Desk}
 use Rattle.node_core.specs.Done.{Done}
 use Rattle.node_core.specs.Halves.{at_intake, at_outlet, intake_row_did, outlet_row_did}
 use Rattle.node_core.specs.Event.{event_did, event_of}
-use Rattle.node_core.specs.Node.{NodeState, desk_of, new_body, new_node}
+use Rattle.node_core.specs.Node.{NodeState, desk_of, first_body, new_node}
 use Rattle.node_core.specs.Places.{has_place, used}
 use Rattle.node_core.specs.Reads.{all_read}
 use Rattle.node_core.specs.Sides.{is_standing}
@@ -210,26 +210,26 @@ step_heeds_at number m n input before after told steps h (inr apart) =
 step_heeds : (number m : ℕ) (input : Input) (before after : LineState) (told : List Happening) → MachineSteps number m input before after told → HeedsAll before → HeedsAll after
 step_heeds number m input before after told steps h = record { at = λ n. step_heeds_at number m n input before after told steps h (same_or_not n m) }
 
-new_heeds : (capacity : ℕ) → Heeds capacity new_body
-new_heeds capacity = record { exit = λ idle some. absurd (cc); entry = λ free told. absurd (cc) }
+new_heeds : (is_bridge : Bool) (capacity : ℕ) → Heeds capacity (first_body is_bridge)
+new_heeds is_bridge capacity = record { exit = λ idle some. absurd (cc); entry = λ free told. absurd (cc) }
 
 last_is : (nodes : List NodeState) (new : NodeState) → slice_index_or (nodes ++ new ∷ []) (length nodes) no_node ≡ new
 last_is [] new = refl
 last_is (node ∷ nodes) new = last_is nodes new
 
-last_at : (capacity many : ℕ) (s : LineState) → node_at (one_more capacity many s) (suc (length s.machines)) ≡ new_node (profile_of (length s.machines + 1) capacity many)
-last_at capacity many s = last_is s.machines (new_node (profile_of (length s.machines + 1) capacity many))
+last_at : (is_bridge : Bool) (capacity many : ℕ) (s : LineState) → node_at (one_more is_bridge capacity many s) (suc (length s.machines)) ≡ new_node (profile_of is_bridge (length s.machines + 1) capacity many)
+last_at is_bridge capacity many s = last_is s.machines (new_node (profile_of is_bridge (length s.machines + 1) capacity many))
 
-more_heeds_at : (capacity many n : ℕ) (s : LineState) → HeedsAll s → (n ≡ length s.machines + 1) ⊎ (n ≢ length s.machines + 1) → Heeds (node_at (one_more capacity many s) n).capacity (node_at (one_more capacity many s) n).lane.body
-more_heeds_at capacity many n s h (inl is) =
+more_heeds_at : (is_bridge : Bool) (capacity many n : ℕ) (s : LineState) → HeedsAll s → (n ≡ length s.machines + 1) ⊎ (n ≢ length s.machines + 1) → Heeds (node_at (one_more is_bridge capacity many s) n).capacity (node_at (one_more is_bridge capacity many s) n).lane.body
+more_heeds_at is_bridge capacity many n s h (inl is) =
     let place : n ≡ suc (length s.machines) = omega (arith, is) in
-    subst (λ (x : NodeState). Heeds x.capacity x.lane.body) (sym (ap (λ (x : ℕ). node_at (one_more capacity many s) x) place ∙ last_at capacity many s)) (new_heeds capacity)
-more_heeds_at capacity many n s h (inr apart) =
-    let same : node_at (one_more capacity many s) n ≡ node_at s n = ap (λ (x : Stand). x.node) ((more_changes capacity many s).machines n apart) in
+    subst (λ (x : NodeState). Heeds x.capacity x.lane.body) (sym (ap (λ (x : ℕ). node_at (one_more is_bridge capacity many s) x) place ∙ last_at is_bridge capacity many s)) (new_heeds is_bridge capacity)
+more_heeds_at is_bridge capacity many n s h (inr apart) =
+    let same : node_at (one_more is_bridge capacity many s) n ≡ node_at s n = ap (λ (x : Stand). x.node) ((more_changes is_bridge capacity many s).machines n apart) in
     subst (λ (x : NodeState). Heeds x.capacity x.lane.body) (sym same) (h.at n)
 
-more_heeds : (capacity many : ℕ) (s : LineState) → HeedsAll s → HeedsAll (one_more capacity many s)
-more_heeds capacity many s h = record { at = λ n. more_heeds_at capacity many n s h (same_or_not n (length s.machines + 1)) }
+more_heeds : (is_bridge : Bool) (capacity many : ℕ) (s : LineState) → HeedsAll s → HeedsAll (one_more is_bridge capacity many s)
+more_heeds is_bridge capacity many s h = record { at = λ n. more_heeds_at is_bridge capacity many n s h (same_or_not n (length s.machines + 1)) }
 
 becomes_heeds : {next : LineState} {what told : List Happening} (now : LineState) → Becomes now what next told → HeedsAll now → HeedsAll next
 becomes_heeds now b h = subst (λ (x : LineState). HeedsAll x) (sym b.after_is) h
@@ -250,13 +250,17 @@ move_heeds gap step s next told b h = becomes_heeds _ b (moved_heeds (floor_move
 
 does_heed : (number : ℕ) (line : ScriptLine) (s next : LineState) (told : List Happening) → LineDoes number line s next told → HeedsAll s → HeedsAll next
 does_heed number lines.Blank s next told is h = becomes_heeds s is h
-does_heed number (lines.Machine capacity many) s next told is h = unless_heeds s next told _ _ is h (λ b. becomes_heeds _ b (more_heeds capacity many s h))
+does_heed number (lines.Machine capacity many) s next told is h = unless_heeds s next told _ _ is h (λ b. becomes_heeds _ b (more_heeds false capacity many s h))
+does_heed number (lines.Bridge capacity many) s next told is h = unless_heeds s next told _ _ is h (λ b. becomes_heeds _ b (more_heeds true capacity many s h))
 does_heed number (lines.Insert m barcode) s next told is h = unless_heeds s next told _ _ is h (λ steps. step_heeds number m _ s next told steps h)
 does_heed number (lines.Remove m id) s next told is h = unless_heeds s next told _ _ is h (λ steps. step_heeds number m _ s next told steps h)
 does_heed number (lines.Replace m id) s next told is h = unless_heeds s next told _ _ is h (λ steps. step_heeds number m _ s next told steps h)
 does_heed number (lines.Mark m id quality) s next told is h = unless_heeds s next told _ _ is h (λ steps. step_heeds number m _ s next told steps h)
 does_heed number (lines.Hold m side) s next told is h = unless_heeds s next told _ _ is h (λ steps. step_heeds number m _ s next told steps h)
 does_heed number (lines.Go m side) s next told is h = unless_heeds s next told _ _ is h (λ steps. step_heeds number m _ s next told steps h)
+does_heed number (lines.Signal m line on) s next told is h = unless_heeds s next told _ _ is h (λ steps. step_heeds number m _ s next told steps h)
+does_heed number (lines.Forecast m) s next told is h = unless_heeds s next told _ _ is h (λ steps. step_heeds number m _ s next told steps h)
+does_heed number (lines.Query m barcode) s next told is h = unless_heeds s next told _ _ is h (λ steps. step_heeds number m _ s next told steps h)
 does_heed number (lines.Connect m) s next told is h = unless_heeds s next told _ _ is h (λ c. twice_heeds number m s next told c h)
 does_heed number (lines.Flow m side count) s next told is h = unless_heeds s next told _ (Flows number m side count s next told) is h (λ flows. step_heeds number m _ _ next told flows.steps (record { at = h.at }))
 does_heed number (lines.Notice m side) s next told is h = unless_heeds s next told _ _ is h (λ steps. step_heeds number m _ s next told steps h)
@@ -266,6 +270,7 @@ does_heed number (lines.Shutdown m) s next told is h = unless_heeds s next told 
 does_heed number (lines.Tick m) s next told is h = unless_heeds s next told _ _ is h (λ steps. step_heeds number m _ s next told steps h)
 does_heed number (lines.Fault m side) s next told is h = unless_heeds s next told _ _ is h (λ steps. step_heeds number m _ s next told steps h)
 does_heed number (lines.Lie m sensed) s next told is h = unless_heeds s next told _ _ is h (λ b. becomes_heeds _ b (record { at = h.at }))
+does_heed number (lines.Unseen m side) s next told is h = unless_heeds s next told _ _ is h (λ b. becomes_heeds _ b (record { at = h.at }))
 does_heed number (lines.Sense m) s next told is h = unless_heeds s next told _ _ is h (λ steps. step_heeds number m _ s next told steps h)
 does_heed number (lines.Begin gap) s next told is h = move_heeds gap moves.Begin s next told is h
 does_heed number (lines.Left gap) s next told is h = move_heeds gap moves.Left s next told is h
@@ -289,7 +294,7 @@ no_node_at zero = refl
 no_node_at (suc m) = refl
 
 none_at : (m : ℕ) → Heeds (node_at no_line m).capacity (node_at no_line m).lane.body
-none_at m = subst (λ (x : NodeState). Heeds x.capacity x.lane.body) (sym (no_node_at m)) (new_heeds 1)
+none_at m = subst (λ (x : NodeState). Heeds x.capacity x.lane.body) (sym (no_node_at m)) (new_heeds false 1)
 
 pub none_heeds : HeedsAll no_line
 none_heeds = record { at = none_at }

@@ -14,5 +14,8 @@ pub mod Lines
 pub mod EachLine
 pub mod Possible
 pub mod Running
+pub mod Keeping
 pub mod Heeds
 pub mod Starting
+pub mod Example
+pub mod Played

@@ -1,5 +1,5 @@
 -- A STATE THAT IS ANNOUNCED has twelve link steps left, and the law.
-use Rattle.std.proofs.Common.{Bool, List, None, Option, Some, [], ap, append-nil, arith, false, length, refl, subst, sym, true, ℕ, ◌++◌, ◌+◌, ◌-◌, ◌∙◌, ◌∷◌, ◌≡◌, ◌≤◌}
+use Rattle.std.proofs.Common.{Bool, List, None, Option, Some, [], ap, append-nil, arith, false, length, refl, subst, sym, take, true, ℕ, ◌++◌, ◌+◌, ◌-◌, ◌∙◌, ◌∷◌, ◌≡◌, ◌≤◌}
 use Rattle.std.proofs.lemmas.List.{take-append-drop}
 use Rattle.std.specs.List.{AllByRecursion}
 use Rattle.std.specs.Prelude.{is_some, slice_get}
@@ -37,7 +37,7 @@ use Rattle.node_core.specs.Words.{AreFirst, AreWords, first_more, first_none}
 use Rattle.node_core.specs.declared.word.Word.TheVariants.{Says}
 use Rattle.machine_custody.specs.Flight.{AreOldest, oldest_says}
 use Rattle.machine_custody.proofs.Keeping.{kept_lies}
-use Rattle.link_messages.specs.Fit.{AreFit, IsFit, more_fit}
+use Rattle.link_messages.specs.Fit.{AreFit, none_fit}
 use Rattle.link_messages.specs.Heard.{bodies}
 use Rattle.line_step.specs.Lies.{has_lie, tells_lie}
 use Rattle.line_step.specs.Numbered.{node_at}
@@ -53,26 +53,31 @@ use Rattle.one_standing.proofs.Carrying.{SaysAlone}
 use Rattle.one_standing.proofs.LineForms.{ConnectsBear}
 use Rattle.one_standing.proofs.LineRun.{Stood, line_stood, none_stood}
 use Rattle.one_standing.proofs.RestMore.{no_link_at}
-use Rattle.twelve_steps.specs.Announced.{AreInFlight, IsAnnounced, heard, in_flight}
-use Rattle.twelve_steps.specs.Twelve.{CanGoOnToEnd, EndsWithinTwelveSteps, HoldsItToEnd, steps_to_end}
+use Rattle.line_history.proofs.OfferedRun.{none_are_offered}
+use Rattle.twelve_steps.specs.Announced.{AreInFlight, AreTextsOf, IsAnnounced, IsTextOf, heard, in_flight, more_texts, no_texts}
+use Rattle.twelve_steps.specs.Twelve.{CanGoOnToEnd, EndsWithinTwelveSteps, HoldsItToEnd, KeepsItToEnd, steps_to_end}
 use Rattle.twelve_steps.proofs.Beside.{IsFirst}
 use Rattle.twelve_steps.proofs.Flowing.{front_fits}
 use Rattle.twelve_steps.proofs.Going.{IsGap as IsGapOf, Stage, counted, lies_fresh}
 use Rattle.twelve_steps.proofs.Heeds.{HeedsAll, none_heeds, run_heeds}
+use Rattle.twelve_steps.proofs.Keeping.{behind_offered, run_keeps}
 use Rattle.twelve_steps.proofs.Lower.{IsLower, readies}
 use Rattle.twelve_steps.proofs.Running.{Ends, lines_after, or_first, or_second, run_ends}
 use Rattle.twelve_steps.proofs.Stage.{Joint, fresh, left_of, offered, offered_ready}
-use Rattle.twelve_steps.proofs.Texts.{Flying, sayable_one}
+use Rattle.twelve_steps.proofs.Texts.{Flying}
 use Rattle.twelve_steps.proofs.Upper.{offers}
 
 -- ---- what is in flight is what the line's relation has in flight
 
-whole_bytes : (message : Message) (waiting : List ℕ) (stream : Stream) → AreInFlight (message ∷ []) waiting stream → waiting ++ coming stream ≡ canonical message
-whole_bytes message waiting stream f =
-    ap (λ (bs : List ℕ). bs ++ coming stream) f.waits ∙ (take-append-drop stream.arrived (bytes_of stream.texts) ∙ (ap (λ (ts : List (List ℕ)). bytes_of ts) f.texts ∙ append-nil (canonical message)))
+one_text : {message : Message} {texts : List (List ℕ)} → AreTextsOf (message ∷ []) texts → (text : List ℕ) × (texts ≡ text ∷ []) × IsTextOf message text
+one_text (more_texts {text = text} is no_texts) = (text, refl, is)
 
-fit_one : {message : Message} → AreFit (message ∷ []) → IsFit message
-fit_one (more_fit one others) = one
+no_text : {texts : List (List ℕ)} → AreTextsOf [] texts → texts ≡ texts_of []
+no_text no_texts = refl
+
+whole_bytes : (text : List ℕ) (waiting : List ℕ) (stream : Stream) → stream.texts ≡ text ∷ [] → waiting ≡ take stream.arrived (bytes_of stream.texts) → waiting ++ coming stream ≡ text
+whole_bytes text waiting stream texts waits =
+    ap (λ (bs : List ℕ). bs ++ coming stream) waits ∙ (take-append-drop stream.arrived (bytes_of stream.texts) ∙ (ap (λ (ts : List (List ℕ)). bytes_of ts) texts ∙ append-nil text))
 
 head_is : {one : Message} {said : List Horizontal} → AreOldest (Says one ∷ []) said → (rest : List Horizontal) × (said ≡ one.body ∷ rest)
 head_is (oldest_says {messages = rest} others) = (rest, refl)
@@ -80,18 +85,49 @@ head_is (oldest_says {messages = rest} others) = (rest, refl)
 none_oldest : {one : Message} → AreOldest (Says one ∷ []) [] → ⊥
 none_oldest o = elim o [ ]
 
-one_word : SaysAlone → (message : Message) (waiting : List ℕ) (stream : Stream) → AreInFlight (message ∷ []) waiting stream → AreWords waiting (coming stream) [] false (Says message ∷ [])
-one_word alone message waiting stream f =
-    let sayable = sayable_one alone message (fit_one f.fit) in
-    let frames : frames_of (waiting ++ coming stream) ≡ record { messages = canonical message ∷ []; rest = Some [] } = ap frames_of (whole_bytes message waiting stream f) ∙ sayable.one.frames in
-    record { first = subst (λ (x : Frames). AreFirst x.messages x.rest (Says message ∷ [])) (sym frames) (first_more sayable.spells first_none); all = λ off. absurd (cc) }
+one_word : (message : Message) (text bytes new : List ℕ) → frames_of (bytes ++ new) ≡ record { messages = text ∷ []; rest = Some [] } → IsTextOf message text → AreWords bytes new [] false (Says message ∷ [])
+one_word message text bytes new frames is = record { first = subst (λ (x : Frames). AreFirst x.messages x.rest (Says message ∷ [])) (sym frames) (first_more is.spells first_none); all = λ off. absurd (cc) }
 
-carried_first : {stands : Bool} {said : List Horizontal} → SaysAlone → (message : Message) (waiting : List ℕ) (stream : Stream) → stands ≡ true → AreInFlight (message ∷ []) waiting stream → Carries stands waiting stream said → (rest : List Horizontal) × (said ≡ message.body ∷ rest)
-carried_first alone message waiting stream on f (carries_whole said good flows) =
-    head_is (alone.oldest waiting (coming stream) [] [] false (Says message ∷ []) said (alone.sayable said good) (subst (λ (bs : List ℕ). Flows waiting bs (texts_of said)) (sym (append-nil (coming stream))) flows) (one_word alone message waiting stream f)).oldest
-carried_first alone message waiting stream on f (carries_spoiled spoiled) =
-    absurd (none_oldest (alone.wrong waiting (coming stream) [] [] false (Says message ∷ []) [] (subst (λ (bs : List ℕ). Spoiled waiting bs) (sym (append-nil (coming stream))) spoiled) (one_word alone message waiting stream f)).oldest)
-carried_first alone message waiting stream on f (carries_over off none) = absurd (let no : true ≡ false = sym on ∙ off in cc)
+-- of messages that have one text together there is one
+one_said : (sent : List Message) (text : List ℕ) → texts_of sent ≡ text ∷ [] → (real : Message) × (sent ≡ real ∷ []) × (canonical real ≡ text)
+one_said [] text is = absurd (cc)
+one_said (message ∷ []) text is = (message, refl, (let same : canonical message ≡ text = cc in same))
+one_said (message ∷ other ∷ others) text is = absurd (cc)
+
+same_head : {a b : Horizontal} {rest : List Horizontal} → ◌≡◌ {A = List Horizontal} (a ∷ []) (b ∷ rest) → a ≡ b
+same_head is = cc
+
+-- a message in flight is one that was sent: fit, and it says the same
+record IsReally (message : Message) (waiting : List ℕ) (stream : Stream) (said : List Horizontal) : Type 0 where
+  real : Message
+  says : real.body ≡ message.body
+  texts : stream.texts ≡ texts_of (real ∷ [])
+  fit : AreFit (real ∷ [])
+  rest : List Horizontal
+  said_is : said ≡ message.body ∷ rest
+
+really : {stands : Bool} {said : List Horizontal} → SaysAlone → (message : Message) (text : List ℕ) (waiting : List ℕ) (stream : Stream) → stands ≡ true → stream.texts ≡ text ∷ [] → IsTextOf message text → waiting ++ coming stream ≡ text → Carries stands waiting stream said → IsReally message waiting stream said
+really alone message text waiting stream on texts is whole (carries_whole sent good flows) =
+    let frames : frames_of (waiting ++ coming stream) ≡ record { messages = text ∷ []; rest = Some [] } = ap frames_of whole ∙ is.one.frames in
+    let one = one_said sent text (ap (λ (x : Frames). x.messages) (sym flows.frames ∙ frames)) in
+    let first = head_is (alone.oldest waiting (coming stream) [] [] false (Says message ∷ []) sent (alone.sayable sent good) (subst (λ (bs : List ℕ). Flows waiting bs (texts_of sent)) (sym (append-nil (coming stream))) flows) (one_word message text waiting (coming stream) frames is)).oldest in
+    record {
+      real = one.0;
+      says = same_head (ap (λ (ms : List Message). bodies ms) (sym one.1) ∙ first.1);
+      texts = texts ∙ ap (λ (t : List ℕ). t ∷ []) (sym one.2);
+      fit = subst (λ (ms : List Message). AreFit ms) one.1 good;
+      rest = first.0;
+      said_is = first.1;
+    }
+really alone message text waiting stream on texts is whole (carries_spoiled spoiled) =
+    let frames : frames_of (waiting ++ coming stream) ≡ record { messages = text ∷ []; rest = Some [] } = ap frames_of whole ∙ is.one.frames in
+    absurd (none_oldest (alone.wrong waiting (coming stream) [] [] false (Says message ∷ []) [] (subst (λ (bs : List ℕ). Spoiled waiting bs) (sym (append-nil (coming stream))) spoiled) (one_word message text waiting (coming stream) frames is)).oldest)
+really alone message text waiting stream on texts is whole (carries_over off none) = absurd (let no : true ≡ false = sym on ∙ off in cc)
+
+in_flight_really : {stands : Bool} {said : List Horizontal} → SaysAlone → (message : Message) (waiting : List ℕ) (stream : Stream) → stands ≡ true → AreInFlight (message ∷ []) waiting stream → Carries stands waiting stream said → IsReally message waiting stream said
+in_flight_really alone message waiting stream on f carried =
+    let one = one_text f.texts in
+    really alone message one.0 waiting stream on one.1 one.2 (whole_bytes one.0 waiting stream one.1 f.waits) carried
 
 -- ---- two halves that are idle while both sessions stand
 
@@ -160,18 +196,18 @@ announced_stage {k = k} {id = id} {s = s} alone stood heeds is =
     let carried = stood.stands.carried k linked in
     let pair = (stood.stands.keeps.neighbours.at k).pair in
     let idle = talks_idle pair.talk is.stands is.exit is.entry is.outlet is.intake in
-    let down = carried_first alone is.board.message (node_at s (k + 1)).lane.entry_bytes (link_at k s.world).flows.to_downstream is.stands is.board.flies carried.down in
-    let down_is : down_words (stood.trace.down k) ≡ BoardAvailable b ∷ down_words down.0 = ap (λ (ms : List Horizontal). down_words ms) (down.1 ∙ ap (λ (m : Horizontal). m ∷ down.0) is.board.says) in
+    let down = in_flight_really alone is.board.message (node_at s (k + 1)).lane.entry_bytes (link_at k s.world).flows.to_downstream is.stands is.board.flies carried.down in
+    let down_is : down_words (stood.trace.down k) ≡ BoardAvailable b ∷ down_words down.rest = ap (λ (ms : List Horizontal). down_words ms) (down.said_is ∙ ap (λ (m : Horizontal). m ∷ down.rest) is.board.says) in
     let offer : (node_at s (k + 1)).lane.body.intake.offer ≡ None = none_offered (subst (λ (ws : List DownWord). Offers (node_at s (k + 1)).lane.body.intake.offer ws (node_at s k).lane.body.outlet.offered) down_is idle.1) in
     let willing = (heeds.at k).exit (ap (λ (p : Out). is_idle_phase p) is.outlet) (ap (λ (o : Option ℕ). is_some o) is.offered) in
     let room = (heeds.at (k + 1)).entry (ap (λ (p : In). is_free (name_of_phase p)) is.intake) is.ready in
     let links = stood.stands.links k in
     let below : IsLower (node_at s (k + 1)).capacity b readies (node_at s (k + 1)).lane.body =
     record { stands = is.entry; role = (stood.stands.sound (k + 1)).entry; phase = is.intake; offer = offer; ready = is.ready; room = room } in
-    let downward : Flying (node_at s (k + 1)).lane.entry_bytes (link_at k s.world).flows.to_downstream (is.board.message ∷ []) =
-    record { flies = record { texts = is.board.flies.texts; waits = is.board.flies.waits }; fit = is.board.flies.fit; begun = links.begun.downstream } in
+    let downward : Flying (node_at s (k + 1)).lane.entry_bytes (link_at k s.world).flows.to_downstream (down.real ∷ []) =
+    record { flies = record { texts = down.texts; waits = is.board.flies.waits }; fit = down.fit; begun = links.begun.downstream } in
     let offers_as = is.offered ∙ ap (λ (n : ℕ). Some n) (sym front.2) in
-    let says_down : ◌≡◌ {A = List Horizontal} (message.BoardAvailable b ∷ []) (is.board.message.body ∷ []) = ap (λ (m : Horizontal). m ∷ []) (sym is.board.says) in
+    let says_down : ◌≡◌ {A = List Horizontal} (message.BoardAvailable b ∷ []) (down.real.body ∷ []) = ap (λ (m : Horizontal). m ∷ []) (sym (down.says ∙ is.board.says)) in
     let contents = (stood.stands.keeps.neighbours.at k).contents in
     let same_record : b ≡ a = named_front_is k s stood a b front.1 same linked is.stands (first_open (is_idle_in (node_at s (k + 1)).lane.body.intake.phase is.intake) (subst (λ (ws : List DownWord). OpenAll (Named (gone_by (stood.trace.gone k)) (link_at k s.world).stands (node_at s k).lane.body.kept (node_at s k).lane.body.outlet.touched) (passes_offers_over (node_at s (k + 1)).lane.body.intake.phase) ws) down_is contents.offers)) in
     let stage_of : (rd : Bool) (up : List Message) → (node_at s k).lane.body.outlet.ready ≡ rd → Flying (node_at s k).lane.exit_bytes (link_at k s.world).flows.to_upstream up → Joint a b fresh (offers rd) [] readies [] (bodies up) (message.BoardAvailable b ∷ []) → left_of fresh (offers rd) readies ≤ 12 → Stage k a 12 false s =
@@ -188,7 +224,7 @@ announced_stage {k = k} {id = id} {s = s} alone stood heeds is =
       up_seen = [];
       down_seen = [];
       up = up;
-      down = is.board.message ∷ [];
+      down = down.real ∷ [];
       linked = linked;
       upper = record { stands = is.exit; role = (stood.stands.sound k).exit; phase = is.outlet; ready = ready; offer = record { offered = offers_as; front = front.1; willing = willing } };
       lower = below;
@@ -201,13 +237,13 @@ announced_stage {k = k} {id = id} {s = s} alone stood heeds is =
       settles = λ settled. absurd (cc);
     } in
     elim is.place [
-      | heard ready flies ↦ stage_of true [] ready (record { flies = record { texts = flies.texts; waits = flies.waits }; fit = flies.fit; begun = links.begun.upstream }) offered_ready (omega arith)
+      | heard ready flies ↦ stage_of true [] ready (record { flies = record { texts = no_text flies.texts; waits = flies.waits }; fit = none_fit; begun = links.begun.upstream }) offered_ready (omega arith)
       | in_flight {message = one} {quality} says flies ↦
-          let up = carried_first alone one (node_at s k).lane.exit_bytes (link_at k s.world).flows.to_upstream is.stands flies carried.up in
-          let up_is : up_words (stood.trace.up k) ≡ MachineReady ∷ up_words up.0 = ap (λ (ms : List Horizontal). up_words ms) (up.1 ∙ ap (λ (m : Horizontal). m ∷ up.0) says) in
+          let up = in_flight_really alone one (node_at s k).lane.exit_bytes (link_at k s.world).flows.to_upstream is.stands flies carried.up in
+          let up_is : up_words (stood.trace.up k) ≡ MachineReady ∷ up_words up.rest = ap (λ (ms : List Horizontal). up_words ms) (up.said_is ∙ ap (λ (m : Horizontal). m ∷ up.rest) says) in
           let ready : (node_at s k).lane.body.outlet.ready ≡ false = none_ready (subst (λ (ws : List UpWord). Readies (node_at s k).lane.body.outlet.ready ws (node_at s (k + 1)).lane.body.intake.ready) up_is idle.0) in
-          let joint : Joint a b fresh (offers false) [] readies [] (one.body ∷ []) (message.BoardAvailable b ∷ []) = subst (λ (m : Horizontal). Joint a b fresh (offers false) [] readies [] (m ∷ []) (message.BoardAvailable b ∷ [])) (sym says) (offered {q = quality}) in
-          stage_of false (one ∷ []) ready (record { flies = record { texts = flies.texts; waits = flies.waits }; fit = flies.fit; begun = links.begun.upstream }) joint (omega arith)
+          let joint : Joint a b fresh (offers false) [] readies [] (up.real.body ∷ []) (message.BoardAvailable b ∷ []) = subst (λ (m : Horizontal). Joint a b fresh (offers false) [] readies [] (m ∷ []) (message.BoardAvailable b ∷ [])) (sym (up.says ∙ says)) (offered {q = quality}) in
+          stage_of false (up.real ∷ []) ready (record { flies = record { texts = up.texts; waits = flies.waits }; fit = up.fit; begun = links.begun.upstream }) joint (omega arith)
     ]
 
 -- ---- along the script
@@ -253,5 +289,7 @@ twelve_steps alone connects asked stretch earlier points k id fit few run honest
     record {
       few = subst (λ (n : ℕ). steps_to_end k n false s stretch points ≤ 12) front.2 ends.few;
       possible = subst (λ (n : ℕ). CanGoOnToEnd k n false s points) front.2 ends.possible;
-      kept = λ board found. subst (λ (r : Record). HoldsItToEnd k r false s points) (front_same (node_at s k).lane.body.kept front.0 board front.1 found) ends.holds;
+      held = λ board found. subst (λ (r : Record). HoldsItToEnd k r false s points) (front_same (node_at s k).lane.body.kept front.0 board front.1 found) ends.holds;
+      kept = λ board found. subst (λ (r : Record). KeepsItToEnd k r false points) (front_same (node_at s k).lane.body.kept front.0 board front.1 found)
+          (run_keeps alone connects k front.0 stretch points false s stood (behind_offered alone connects asked earlier no_line none_stood none_are_offered fits.0 (omega (arith, few)) run honest) fits.1 (omega (arith, few, count)) then_run calm then_honest ends.holds);
     }

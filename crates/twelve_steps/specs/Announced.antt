@@ -4,8 +4,10 @@ use Rattle.std.specs.Prelude.{Bool, List, Some, [], take, true, ℕ, ◌+◌, �
 use Rattle.line_base.specs.declared.states.Side.TheVariants.{Entry, Exit}
 use Rattle.line_base.specs.declared.states.Quality.{Quality}
 use Rattle.board_record.specs.declared.record.Record.{Record}
+use Rattle.hermes_horizontal.specs.Spelling.{Spells}
 use Rattle.hermes_horizontal.specs.declared.message.Message.{Message}
 use Rattle.hermes_horizontal.specs.declared.message.Horizontal.TheVariants as bodies
+use Rattle.hermes_stream.specs.Frames.{IsOneFrame}
 use Rattle.session_core.specs.declared.state.SessionState.TheVariants.{Standing}
 use Rattle.handover_out.specs.declared.phase.Phase.TheVariants as out
 use Rattle.handover_in.specs.declared.phase.Phase.TheVariants as inn
@@ -13,20 +15,27 @@ use Rattle.line_link.specs.Flow.{Stream}
 use Rattle.line_link.specs.Texts.{bytes_of}
 use Rattle.line_world.specs.FloorPlan.{free_gap, gap_at, machine_at}
 use Rattle.node_core.specs.Halves.{front_id}
-use Rattle.custody.specs.Bytes.{texts_of}
 use Rattle.custody.specs.Words.{events_at}
-use Rattle.link_messages.specs.Fit.{AreFit}
 use Rattle.line_step.specs.Numbered.{node_at}
 use Rattle.line_step.specs.State.{LineState}
 use Rattle.line_step.specs.World.{link_at}
 
--- these messages are on their way, and nothing else: each text is that of its message, so none was spoiled, and at the side to
--- which they flow there waits what has arrived of the oldest text, and nothing where none of it has. Their parts are as their
--- types allow, as those of all that a machine sends are
+-- a text is one frame, which spells this message
+pub record IsTextOf (message : Message) (text : List ℕ) : Type 0 where
+  pub one : IsOneFrame text
+  pub spells : Spells text message
+
+pub data AreTextsOf : List Message → List (List ℕ) → Type 0 where
+  no_texts : AreTextsOf [] []
+  more_texts : {message : Message} {others : List Message} {text : List ℕ} {texts : List (List ℕ)}
+      → IsTextOf message text → AreTextsOf others texts → AreTextsOf (message ∷ others) (text ∷ texts)
+
+-- these messages are on their way, and nothing else: each text spells its message, so none was spoiled,
+-- and at the side to which they flow there waits what has arrived of the oldest text, and nothing where
+-- none of it has
 pub record AreInFlight (messages : List Message) (waiting : List ℕ) (stream : Stream) : Type 0 where
-  pub texts : stream.texts ≡ texts_of messages
+  pub texts : AreTextsOf messages stream.texts
   pub waits : waiting ≡ take stream.arrived (bytes_of stream.texts)
-  pub fit : AreFit messages
 
 -- the offer of a board is on its way to the intake
 pub record IsOfferInFlight (id : ℕ) (waiting : List ℕ) (stream : Stream) : Type 0 where

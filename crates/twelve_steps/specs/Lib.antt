@@ -1,3 +1,4 @@
 pub mod Announced
 pub mod Undisturbed
 pub mod Twelve
+pub mod Example

@@ -1,6 +1,7 @@
 -- TWELVE LINK STEPS: from a state that is announced for a gap and a board, an undisturbed handover ends within twelve link steps
--- of that gap, and before the end one of them can be done; and what the intake holds of it, until it settles, is the record that
--- stood at the front above the gap when it was announced.
+-- of that gap, and before the end one of them can be done; and what the intake holds of it, until it
+-- settles, and what the machine below then keeps of it, is the record that stood at the front above the
+-- gap when it was announced.
 --
 -- What is not said here: that a link step is ever made, that the stretch is long enough for the end, and anything of a
 -- stretch that is disturbed.
@@ -19,6 +20,7 @@ use Rattle.line_step.specs.Numbered.{node_at}
 use Rattle.line_step.specs.Runs.{IsRun, Point, state_behind}
 use Rattle.line_step.specs.State.{LineState, no_line}
 use Rattle.one_standing.specs.Standing.{IsFitLine}
+use Rattle.line_history.specs.Offered.{IsLast}
 use Rattle.twelve_steps.specs.Announced.{IsAnnounced}
 use Rattle.twelve_steps.specs.Undisturbed.{AreUndisturbed, CanGoOn, is_link_step}
 
@@ -70,15 +72,28 @@ HoldsItToEnd k board settled s [] = HoldsIt k board s
 HoldsItToEnd k board settled s (point ∷ points) =
     HoldsIt k board s × Unless (has_ended k (settled || tells_settled k board.id point.told) point.after) (HoldsItToEnd k board (settled || tells_settled k board.id point.told) point.after points)
 
+-- behind the line by which it is told that the board has settled, machine k + 1 keeps this record,
+-- behind all others. (Behind a later line it may have handed it on: its exit is no part of this
+-- handover.)
+abbrev pub KeepsItToEnd : ℕ → Record → Bool → List Point → Type 0
+KeepsItToEnd k board settled [] = Unit {0}
+KeepsItToEnd k board settled (point ∷ points) =
+    let settles = tells_settled k board.id point.told in
+    let settled_now = settled || settles in
+    (settles ≡ true → IsLast board (node_at point.after (k + 1)).lane.body.kept)
+    × Unless (has_ended k settled_now point.after) (KeepsItToEnd k board settled_now points)
+
 -- ---- the law
 
 pub record EndsWithin (most k id : ℕ) (s : LineState) (lines : List ScriptLine) (points : List Point) : Type 0 where
   pub few : steps_to_end k id false s lines points ≤ most
   pub possible : CanGoOnToEnd k id false s points
-  pub kept : (board : Record) → slice_get (node_at s k).lane.body.kept 0 ≡ Some board → HoldsItToEnd k board false s points
+  pub held : (board : Record) → slice_get (node_at s k).lane.body.kept 0 ≡ Some board → HoldsItToEnd k board false s points
+  pub kept : (board : Record) → slice_get (node_at s k).lane.body.kept 0 ≡ Some board
+      → KeepsItToEnd k board false points
 
--- THE LAW: it holds of each state that a script reaches whose lines told no lie, and of each undisturbed stretch of lines that
--- follows. A script has at most 1,000,000 lines, and its barcodes are texts
+-- THE LAW: it holds of each state that a script reaches whose lines told no lie and let no board come
+-- or go unseen, and of each undisturbed stretch of lines that follows. A script has at most 1,000,000 lines, and its barcodes are texts
 abbrev pub EndsWithinTwelveSteps : Type 0
 EndsWithinTwelveSteps = (asked stretch : List ScriptLine) (earlier points : List Point) (k id : ℕ) → AllByRecursion IsFitLine (asked ++ stretch) → length asked + length stretch ≤ 1000000 → IsRun no_line asked earlier → has_lie earlier ≡ false
     → IsRun (state_behind no_line earlier) stretch points → AreUndisturbed k stretch → has_lie points ≡ false → IsAnnounced (state_behind no_line earlier) k id → EndsWithin 12 k id (state_behind no_line earlier) stretch points

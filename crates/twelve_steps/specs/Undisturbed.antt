@@ -70,15 +70,17 @@ pub record IsElsewhere (k machine : ℕ) : Type 0 where
   pub not_above : machine ≢ k
   pub not_below : machine ≢ k + 1
 
--- a line names only machines other than k and k + 1, or a gap other than k. A line that adds a machine names none
+-- a line names only machines other than k and k + 1, or a gap other than k. A line that adds a machine or a bridge names none
 abbrev pub NamesElsewhere : ℕ → ScriptLine → Type 0
 NamesElsewhere k (lines.Machine capacity used) = Unit {0}
+NamesElsewhere k (lines.Bridge capacity used) = Unit {0}
 NamesElsewhere k (lines.Insert machine barcode) = IsElsewhere k machine
 NamesElsewhere k (lines.Remove machine id) = IsElsewhere k machine
 NamesElsewhere k (lines.Replace machine id) = IsElsewhere k machine
 NamesElsewhere k (lines.Mark machine id quality) = IsElsewhere k machine
 NamesElsewhere k (lines.Hold machine side) = IsElsewhere k machine
 NamesElsewhere k (lines.Go machine side) = IsElsewhere k machine
+NamesElsewhere k (lines.Signal machine line on) = IsElsewhere k machine
 NamesElsewhere k (lines.Connect machine) = IsElsewhere k machine
 NamesElsewhere k (lines.Flow machine side count) = IsElsewhere k machine
 NamesElsewhere k (lines.Notice machine side) = IsElsewhere k machine
@@ -93,11 +95,13 @@ NamesElsewhere k (lines.Enter gap) = gap ≢ k
 NamesElsewhere k (lines.Back gap) = gap ≢ k
 NamesElsewhere k (lines.HandIn gap) = gap ≢ k
 NamesElsewhere k (lines.Take gap) = gap ≢ k
+NamesElsewhere k (lines.Forecast machine) = IsElsewhere k machine
+NamesElsewhere k (lines.Query machine barcode) = IsElsewhere k machine
 NamesElsewhere k _ = ⊥
 
 -- A LINE THAT DOESN'T DISTURB the handover at gap k: a link step's form, any `sense`, a `show`, a blank line, a line of
 -- elsewhere, and a `flow`, `notice` or `spoil` at the entry of k and the exit of k + 1, and a connection of k with the machine
--- above it. A `lie` is none
+-- above it. A `lie` is none, nor is an `unseen`
 pub data IsUndisturbed (k : ℕ) : ScriptLine → Type 0 where
   flows_up : IsUndisturbed k (lines.Flow k Exit None)
   flows_down : IsUndisturbed k (lines.Flow (k + 1) Entry None)

@@ -1,0 +1,4 @@
+pub mod Queue
+pub mod Moves
+pub mod Orders
+pub mod Reaching

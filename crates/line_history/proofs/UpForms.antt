@@ -1,0 +1,734 @@
+-- A LINE, as the link behind a machine sees it: what the machine above it hears and tells, and which starts flow up behind it.
+use Rattle.std.proofs.Common.{Bool, Err, List, None, Ok, Option, Result, Some, [], ap, append-nil, arith, false, inl, inr, length, refl, subst, suc, sym, true, zero, ℕ, ◌&&◌, ◌++◌, ◌+◌, ◌-◌, ◌||◌, ◌∙◌, ◌∷◌, ◌≡◌, ◌≢◌, ◌≤◌, ◌⊎◌}
+use Rattle.std.specs.Prelude.{drop}
+use Rattle.std.specs.List.{list_any}
+use Rattle.std.proofs.lemmas.Bool.{false≢true, ltb-true}
+use Rattle.line_base.specs.declared.states.Role.TheVariants.{Downstream, Upstream}
+use Rattle.line_base.specs.declared.states.Side.{Side}
+use Rattle.line_base.specs.declared.states.Side.TheVariants.{Entry, Exit}
+use Rattle.board_record.specs.Maker.{Maker, next_id}
+use Rattle.board_record.specs.declared.maker.IdsUsedUp.{IdsUsedUp}
+use Rattle.hermes_horizontal.specs.declared.message.Horizontal.{Horizontal}
+use Rattle.hermes_horizontal.specs.declared.message.Message.{Message}
+use Rattle.hermes_stream.specs.Frames.{NeedMore, answer_of}
+use Rattle.line_link.specs.Flow.{Stream, coming, flowing, with_arrival}
+use Rattle.line_link.specs.Link.{LinkParts, after_connect, after_flow, after_spoil, connected, connected_of, cut, is_too_much, next_number, nulled, spoil_sent}
+use Rattle.line_link.specs.declared.link.Connected.{Connected}
+use Rattle.line_link.specs.declared.link.Connected.TheVariants as connections
+use Rattle.line_link.proofs.Coming.{coming_of_nul}
+use Rattle.line_script.specs.declared.line.ScriptLine.{ScriptLine}
+use Rattle.line_script.specs.declared.line.ScriptLine.TheVariants as lines
+use Rattle.line_world.specs.FloorPlan.{FloorPlan}
+use Rattle.line_world.specs.Moves.{floor_move}
+use Rattle.line_world.specs.declared.moves.Move.{Move}
+use Rattle.line_world.specs.declared.moves.Move.TheVariants as moves
+use Rattle.line_world.specs.declared.moves.MoveNo.{MoveNo}
+use Rattle.smema_bridge.specs.Levels.{BridgeLevels}
+use Rattle.line_report.specs.declared.happening.Happening.{Happening}
+use Rattle.node_core.specs.Event.{Event, event_of, with_new}
+use Rattle.node_core.specs.Event as events
+use Rattle.node_core.specs.Halves.{OffersFront}
+use Rattle.node_core.specs.Node.{NodeState, desk_of}
+use Rattle.node_core.specs.Sides.{is_open}
+use Rattle.node_core.specs.Signals.{signalled}
+use Rattle.node_core.specs.Step.{exit_after}
+use Rattle.node_core.specs.Words.{AreWords}
+use Rattle.node_core.specs.declared.act.Act.{Act}
+use Rattle.node_core.specs.declared.act.Act.TheVariants as acts
+use Rattle.node_core.specs.declared.act.Signal.{Signal}
+use Rattle.node_core.specs.declared.input.Input.{Input}
+use Rattle.node_core.specs.declared.input.Input.TheVariants as inputs
+use Rattle.node_core.specs.declared.lane.Body.{Body}
+use Rattle.node_core.specs.declared.word.Word.{Word}
+use Rattle.node_core.proofs.Signalling.{signals_pass}
+use Rattle.custody.specs.Bytes.{Flows as FlowsAs, Spoiled, texts_of}
+use Rattle.custody.proofs.Spoils.{puts_a_nul}
+use Rattle.custody.proofs.Texts.{nothing_flows}
+use Rattle.machine_custody.specs.Flight.{AreOldest, oldest_none}
+use Rattle.link_messages.specs.Fit.{AreFit, AreFitActs, AreFitWords, IsFitInput, none_fit}
+use Rattle.link_messages.specs.Heard.{Heard, HeardSpoiled, bodies}
+use Rattle.link_messages.proofs.Fitting.{fit_behind}
+use Rattle.line_step.specs.Lines.{Becomes, Connects, Flows, LineDoes, LineSteps, Moves, Unless, arrived, connecting, cut_in, lied, met, move_told, moved, spoil_told, spoiled, unseen}
+use Rattle.line_step.specs.Numbered.{node_at}
+use Rattle.line_step.specs.Reasons.{May, has_link, is_empty, may_do, may_flow, may_spoil}
+use Rattle.line_step.specs.Shown.{shown, standings_told}
+use Rattle.line_step.specs.State.{LineState, one_more, with_world}
+use Rattle.line_step.specs.Steps.{MachineSteps, is_second, moment_of, read_by, unread_by}
+use Rattle.line_step.specs.World.{WorldParts, end_of, link_at, link_of, with_link}
+use Rattle.line_step.proofs.Keeps.{more_at}
+use Rattle.line_step.proofs.Numbers.{Written, link_set, machine_within, nowhere, same_or_not, written}
+use Rattle.one_standing.specs.Carried.{Carries, IsFitMachine, Trace, carries_over, carries_spoiled, carries_whole}
+use Rattle.one_standing.specs.Links.{AreWholeLinks}
+use Rattle.one_standing.specs.Standing.{IsFitLine}
+use Rattle.one_standing.specs.Stands.{Stands}
+use Rattle.one_standing.specs.Waits.{AreWaiting}
+use Rattle.one_standing.proofs.Behind.{fit_machine}
+use Rattle.one_standing.proofs.BlameJoins.{same_exit}
+use Rattle.one_standing.proofs.BlameLines.{more_same}
+use Rattle.one_standing.proofs.BlameSteps.{NewBytes, acts_fit, heard_good, is_bytes, new_bytes, others_stay, quiet_fit}
+use Rattle.one_standing.proofs.Carrying.{SaysAlone}
+use Rattle.one_standing.proofs.Counting.{is_wrong_first}
+use Rattle.one_standing.proofs.LedgerLine.{same_nodes}
+use Rattle.one_standing.proofs.LineForms.{numbered}
+use Rattle.one_standing.proofs.Mirroring.{node_there}
+use Rattle.one_standing.proofs.MirroringCall.{dry_up}
+use Rattle.one_standing.proofs.MirroringEnds.{before_one}
+use Rattle.one_standing.proofs.MirroringFlow.{CanFlow, arrival, can_flow, empty_of, link_there, no_words}
+use Rattle.one_standing.proofs.MirroringPlain.{is_plain_input}
+use Rattle.one_standing.proofs.Plain.{node_next}
+use Rattle.one_standing.proofs.RestMore.{no_link_at}
+use Rattle.one_standing.proofs.SpoilingLine.{spoil_needs}
+use Rattle.one_standing.proofs.WholeLinks.{CanSpoil, can_spoil, steps as whole_steps, whole_arrival, whole_connect, whole_links}
+use Rattle.line_history.specs.Settled.{is_start}
+use Rattle.line_history.proofs.LinkUp.{Up, UpOn, acts_up, are_silent, at_set, is_silent, on_cut, on_limit, starts_of, up_any, up_off, up_over, up_spoiled, up_whole}
+use Rattle.line_history.proofs.Orders.{Orders, exit_words, is_plain, orders_end, orders_hears, orders_on, orders_opens, orders_refuses, orders_starts, step_orders}
+use Rattle.line_history.proofs.View.{done_append, done_by, other_acts, own_acts, cut_none, shown_none, standings_none, told_of_act, undriven, undriven_signals, unvouched_none}
+
+-- ---- what is told of acts
+
+plain_told : {words : List Word} (act : Act) (rest : List Act) → is_plain act ≡ true → Orders true words rest → Orders true words (told_of_act act ++ rest)
+plain_told (acts.Drive side on) rest plain more = more
+plain_told (acts.Signals signal on) rest plain more = more
+plain_told act rest plain more = orders_on plain more
+
+pub orders_undriven : {words : List Word} {told : List Act} → Orders true words told → Orders true words (undriven told)
+orders_undriven orders_end = orders_end
+orders_undriven (orders_on {act = act} {told = told} plain more) = plain_told act (undriven told) plain (orders_undriven more)
+orders_undriven (orders_hears more) = orders_hears (orders_undriven more)
+orders_undriven (orders_opens is more) = orders_opens is (orders_undriven more)
+orders_undriven (orders_refuses is more) = orders_refuses is (orders_undriven more)
+orders_undriven (orders_starts None) = orders_starts None
+orders_undriven (orders_starts (Some on)) = orders_starts None
+
+plain_silent : (act : Act) → is_plain act ≡ true → is_silent act ≡ true
+plain_silent (acts.Sends Entry message) plain = plain
+plain_silent (acts.Sends Exit message) plain = refl
+plain_silent _ plain = refl
+
+or_true : (a b : Bool) → b ≡ true → (a || b) ≡ true
+or_true true b is = refl
+or_true false b is = is
+
+first_true : (a b : Bool) → a ≡ true → (a || b) ≡ true
+first_true true b is = refl
+first_true false b is = absurd (false≢true is)
+
+pub any_later : (a b : List Act) → list_any is_start b ≡ true → list_any is_start (a ++ b) ≡ true
+any_later [] b is = is
+any_later (act ∷ a) b is = or_true (is_start act) (list_any is_start (a ++ b)) (any_later a b is)
+
+pub any_first : (a b : List Act) → list_any is_start a ≡ true → list_any is_start (a ++ b) ≡ true
+any_first [] b is = absurd (false≢true is)
+any_first (act ∷ a) b is = by (is_start act) is (any_first a b)
+  where
+    by : (test : Bool) → (test || list_any is_start a) ≡ true → (list_any is_start a ≡ true → list_any is_start (a ++ b) ≡ true) → (test || list_any is_start (a ++ b)) ≡ true
+    by true is later = refl
+    by false is later = later is
+
+and_true : (a b : Bool) → a ≡ true → b ≡ true → (a && b) ≡ true
+and_true true b one two = two
+and_true false b one two = one
+
+-- it tells a start, or sends none
+silent_or : {words : List Word} {told : List Act} → Orders true words told → (list_any is_start (undriven told) ≡ true) ⊎ (are_silent told ≡ true)
+silent_or orders_end = inr refl
+silent_or (orders_on {act = act} {told = told} plain more) = by (silent_or more)
+  where
+    by : (list_any is_start (undriven told) ≡ true) ⊎ (are_silent told ≡ true) → (list_any is_start (undriven (act ∷ told)) ≡ true) ⊎ (are_silent (act ∷ told) ≡ true)
+    by (inl any) = inl (any_later (told_of_act act) (undriven told) any)
+    by (inr silent) = inr (and_true (is_silent act) (are_silent told) (plain_silent act plain) silent)
+silent_or (orders_hears more) = silent_or more
+silent_or (orders_opens is more) = silent_or more
+silent_or (orders_refuses is more) = silent_or more
+silent_or (orders_starts on) = inl refl
+
+-- a bridge's own signals send none
+silent_last : (front : List Act) (signal : Signal) (on : Bool) → are_silent (front ++ acts.Signals signal on ∷ []) ≡ are_silent front
+silent_last [] signal on = refl
+silent_last (act ∷ front) signal on = ap (λ (b : Bool). is_silent act && b) (silent_last front signal on)
+
+silent_signals : (made : List Act) (bridge : Option BridgeLevels) (body : Body) → are_silent (made ++ signalled bridge body) ≡ are_silent made
+silent_signals made bridge body = signals_pass are_silent silent_last made bridge body
+
+-- ---- a step of a machine
+
+own_done : (number m : ℕ) (input : Input) (start after : LineState) (told : List Happening) → (steps : MachineSteps number m input start after told) → done_by m told ≡ undriven steps.steps.made
+own_done number m input start after told steps =
+    ap (done_by m) steps.told_is ∙ own_acts (is_second input) m steps.acts (read_by m start.world) ∙ ap undriven steps.steps.told
+    ∙ undriven_signals steps.steps.made steps.node.bridge steps.next.lane.body
+
+other_done : (k number m : ℕ) (input : Input) (start after : LineState) (told : List Happening) → MachineSteps number m input start after told → k ≢ m → done_by k told ≡ []
+other_done k number m input start after told steps apart = ap (done_by k) steps.told_is ∙ other_acts (is_second input) k m steps.acts (read_by m start.world) apart
+
+acts_orders : (number m : ℕ) (input : Input) (start after : LineState) (told : List Happening) → (steps : MachineSteps number m input start after told) → OffersFront steps.node.lane.body → Orders true (exit_words (event_of steps.node.maker input steps.steps.lane.words)) steps.steps.made
+acts_orders number m input start after told steps front =
+    subst (λ (l : List Act). Orders true (exit_words (event_of steps.node.maker input steps.steps.lane.words)) l) (sym steps.steps.lane.told)
+    (step_orders (desk_of steps.node (moment_of number)) (unread_by m start.world) (event_of steps.node.maker input steps.steps.lane.words) steps.node.lane.body front)
+
+own_orders : (number m : ℕ) (input : Input) (start after : LineState) (told : List Happening) → (steps : MachineSteps number m input start after told) → OffersFront steps.node.lane.body → Orders true (exit_words (event_of steps.node.maker input steps.steps.lane.words)) (done_by m told)
+own_orders number m input start after told steps front =
+    subst (λ (l : List Act). Orders true (exit_words (event_of steps.node.maker input steps.steps.lane.words)) l) (sym (own_done number m input start after told steps)) (orders_undriven (acts_orders number m input start after told steps front))
+
+new_none : (found : Result ℕ IdsUsedUp) (event : ℕ → Event) → ((id : ℕ) → exit_words (event id) ≡ []) → exit_words (with_new found event) ≡ []
+new_none (Ok id) event all = all id
+new_none (Err why) event all = refl
+
+-- words come at the exit with bytes to it alone
+abbrev is_bytes_up : Input → Bool
+is_bytes_up (inputs.Bytes Exit piece) = true
+is_bytes_up _ = false
+
+no_exit_words : (maker : Maker) (input : Input) (words : List Word) → is_bytes_up input ≡ false → exit_words (event_of maker input words) ≡ []
+no_exit_words maker (inputs.Bytes Exit piece) words none = absurd (false≢true (sym none))
+no_exit_words maker (inputs.Bytes Entry piece) words none = refl
+no_exit_words maker (inputs.Insert barcode) words none = new_none (next_id maker) (λ id. events.Insert id barcode) (λ id. refl)
+no_exit_words maker (inputs.Replace old) words none = new_none (next_id maker) (events.Replace old) (λ id. refl)
+no_exit_words maker _ words none = refl
+
+-- each machine offers its front record
+abbrev OffersAll : LineState → Type 0
+OffersAll s = (machine : ℕ) → OffersFront (node_at s machine).lane.body
+
+own_front : (number m : ℕ) (input : Input) (start after : LineState) (told : List Happening) → OffersFront (node_at start m).lane.body → (steps : MachineSteps number m input start after told) → OffersFront steps.node.lane.body
+own_front number m input start after told all steps = subst (λ (n : NodeState). OffersFront n.lane.body) (node_there m start steps.node steps.there) all
+
+pub offers_all : (t : Trace) (s : LineState) → Stands t s → OffersAll s
+offers_all t s st machine = (st.sound machine).offers
+
+offers_same : (s now : LineState) → now.machines ≡ s.machines → OffersAll s → OffersAll now
+offers_same s now same all machine = subst (λ (n : NodeState). OffersFront n.lane.body) (sym (same_nodes s now same machine)) (all machine)
+
+-- a step without them answers nothing
+pub no_orders : (k number m : ℕ) (input : Input) (start after : LineState) (told : List Happening) → OffersFront (node_at start m).lane.body → is_bytes_up input ≡ false → MachineSteps number m input start after told → Orders true [] (done_by k told)
+no_orders k number m input start after told all none steps = by (same_or_not k m)
+  where
+    by : (k ≡ m) ⊎ (k ≢ m) → Orders true [] (done_by k told)
+    by (inl is) =
+        subst (λ (n : ℕ). Orders true [] (done_by n told)) (sym is)
+        (subst (λ (ws : List Word). Orders true ws (done_by m told)) (no_exit_words steps.node.maker input steps.steps.lane.words none) (own_orders number m input start after told steps (own_front number m input start after told all steps)))
+    by (inr apart) = subst (λ (l : List Act). Orders true [] l) (sym (other_done k number m input start after told steps apart)) orders_end
+
+-- where it is the machine below the link, it tells a start or sends none
+silent_at : (k number m : ℕ) (input : Input) (start after : LineState) (told : List Happening) → OffersFront (node_at start m).lane.body → (steps : MachineSteps number m input start after told) → k ≡ m - 1 → (list_any is_start (done_by (k + 1) told) ≡ true) ⊎ (are_silent steps.acts ≡ true)
+silent_at k number m input start after told all steps is =
+    let counted : 1 ≤ m = (machine_within m start steps.node steps.there).0 in
+    let same : k + 1 ≡ m = omega (arith, counted, is) in
+    subst (λ (n : ℕ). (list_any is_start (done_by n told) ≡ true) ⊎ (are_silent steps.acts ≡ true)) (sym same)
+    (subst (λ (l : List Act). (list_any is_start l ≡ true) ⊎ (are_silent steps.acts ≡ true)) (sym (own_done number m input start after told steps)) (behind (silent_or (acts_orders number m input start after told steps (own_front number m input start after told all steps)))))
+  where
+    behind : (list_any is_start (undriven steps.steps.made) ≡ true) ⊎ (are_silent steps.steps.made ≡ true) → (list_any is_start (undriven steps.steps.made) ≡ true) ⊎ (are_silent steps.acts ≡ true)
+    behind (inl any) = inl any
+    behind (inr silent) = inr (ap are_silent steps.steps.told ∙ silent_signals steps.steps.made steps.node.bridge steps.next.lane.body ∙ silent)
+
+step_up : {Any : Type 0} {ids : List ℕ} {waiting : List ℕ} → SaysAlone → (k number m : ℕ) (input : Input) (start after : LineState) (told : List Happening) (steps : MachineSteps number m input start after told) → AreFitActs steps.acts
+    → (k ≡ m - 1 → Any ⊎ (are_silent steps.acts ≡ true)) → AreWholeLinks start → UpOn Any ids waiting (link_at k start.world) → UpOn Any ids waiting (link_at k after.world)
+step_up {Any} {ids} {waiting} alone k number m input start after told steps fit silent whole was =
+    subst (λ (s : LineState). UpOn Any ids waiting (link_at k s.world)) (sym steps.after_is) (acts_up alone k (is_second input) m steps.acts (read_by m start.world) fit silent whole was)
+
+-- ---- before the line
+
+-- the messages on their way up, where their bytes are whole; else none
+pub data Ups (messages : List Horizontal) (waiting bytes : List ℕ) : List Horizontal → Type 0 where
+  ups_none : Ups messages waiting bytes []
+  ups_whole : (said : List Message) → AreFit said → bodies said ≡ messages → FlowsAs waiting bytes (texts_of said) → Ups messages waiting bytes messages
+
+pub record Based (messages : List Horizontal) (stands : Bool) (waiting bytes : List ℕ) : Type 0 where
+  pub ups : List Horizontal
+  pub is : Ups messages waiting bytes ups
+  pub up : Up ⊥ (starts_of ups) stands waiting bytes
+
+based_on : {stands : Bool} {waiting : List ℕ} {stream : Stream} {messages : List Horizontal} → Carries stands waiting stream messages → Based messages stands waiting (coming stream)
+based_on (carries_whole said fit flows) = record { ups = bodies said; is = ups_whole said fit refl flows; up = up_whole said fit (inr refl) flows }
+based_on (carries_spoiled spoiled) = record { ups = []; is = ups_none; up = up_spoiled spoiled }
+based_on (carries_over off none) = record { ups = []; is = ups_none; up = up_over off none }
+
+abbrev pub Base : ℕ → Trace → LineState → Type 0
+Base k t s = Based (t.up k) (link_at k s.world).stands (node_at s k).lane.exit_bytes (coming (link_at k s.world).flows.to_upstream)
+
+pub base : (k : ℕ) (t : Trace) (s : LineState) → Stands t s → Base k t s
+base k t s st = by (has_link k s) refl
+  where
+    by : (test : Bool) → has_link k s ≡ test → Base k t s
+    by true has = based_on (st.carried k has).up
+    by false none =
+        subst (λ (l : LinkParts). Based (t.up k) l.stands (node_at s k).lane.exit_bytes (coming l.flows.to_upstream)) (sym (no_link_at s k st.together none)) (record { ups = []; is = ups_none; up = up_over refl refl })
+
+-- ---- THE LINK BEHIND MACHINE k, over a line
+
+-- a start is told by the machine below
+abbrev pub Starting : ℕ → List Happening → Type 0
+Starting k told = list_any is_start (done_by (k + 1) told) ≡ true
+
+pub record UpNext (k : ℕ) (t : Trace) (before next : LineState) (told : List Happening) : Type 0 where
+  pub ups : List Horizontal
+  pub is : Ups (t.up k) (node_at before k).lane.exit_bytes (coming (link_at k before.world).flows.to_upstream) ups
+  pub heard : List Word
+  pub oldest : AreOldest heard ups
+  pub orders : Orders true heard (done_by k told)
+  pub who : (done_by (k + 1) told ≡ []) ⊎ (heard ≡ [])
+  pub ids : List ℕ
+  pub left : (ids ≡ []) ⊎ (ids ≡ starts_of (drop (length heard) ups))
+  pub up : is_open Exit (node_at next k).lane.body ≡ true → UpOn (Starting k told) ids (node_at next k).lane.exit_bytes (link_at k next.world)
+
+-- nothing is heard there
+quiet_next : (k : ℕ) (t : Trace) (before next : LineState) (told : List Happening) → (st : Stands t before) → Orders true [] (done_by k told) → UpOn (Starting k told) (starts_of (base k t before st).ups) (node_at next k).lane.exit_bytes (link_at k next.world) → UpNext k t before next told
+quiet_next k t before next told st orders up =
+    let b : Base k t before = base k t before st in
+    record { ups = b.ups; is = b.is; heard = []; oldest = oldest_none; orders = orders; who = inr refl; ids = starts_of b.ups; left = inr refl; up = λ on. up }
+
+exit_still : (input : Input) (bytes : List ℕ) → is_plain_input input ≡ true → exit_after input bytes ≡ bytes
+exit_still inputs.Accepted bytes plain = absurd (false≢true plain)
+exit_still _ bytes plain = refl
+
+not_bytes : (input : Input) → is_plain_input input ≡ true → is_bytes input ≡ false
+not_bytes (inputs.Bytes side piece) plain = absurd (false≢true plain)
+not_bytes _ plain = refl
+
+not_up : (input : Input) → is_bytes input ≡ false → is_bytes_up input ≡ false
+not_up (inputs.Bytes side piece) none = absurd (false≢true (sym none))
+not_up _ none = refl
+
+plain_next : SaysAlone → (k number m : ℕ) (input : Input) (t : Trace) (before next : LineState) (told : List Happening) → is_plain_input input ≡ true → IsFitInput input → number ≤ 1000000 → Stands t before → MachineSteps number m input before next told → UpNext k t before next told
+plain_next alone k number m input t before next told plain fits few st steps =
+    let none : is_bytes input ≡ false = not_bytes input plain in
+    let new : NewBytes m input before next = new_bytes number m input before next told none steps in
+    quiet_next k t before next told st (no_orders k number m input before next told (offers_all t before st m) (not_up input none) steps)
+    (subst (λ (w : List ℕ). UpOn (Starting k told) (starts_of (base k t before st).ups) w (link_at k next.world)) (sym (same_exit m input before next (λ bytes. exit_still input bytes plain) new k))
+    (step_up alone k number m input before next told steps (quiet_fit number m input before next told none fits few (st.fit m) steps) (silent_at k number m input before next told (offers_all t before st m) steps) st.links (up_any (base k t before st).up)))
+
+-- what it becomes
+becomes_next : (k : ℕ) (t : Trace) (before now next : LineState) (what told : List Happening) → Becomes now what next told → UpNext k t before now what → UpNext k t before next told
+becomes_next k t before now next what told b n = subst (λ (s : LineState). UpNext k t before s told) (sym b.after_is) (subst (λ (l : List Happening). UpNext k t before now l) (sym b.told_is) n)
+
+-- where no machine tells anything and the machine's bytes and its link are the same
+still_next : (k : ℕ) (t : Trace) (before now : LineState) (what : List Happening) → Stands t before → done_by k what ≡ [] → (node_at now k).lane.exit_bytes ≡ (node_at before k).lane.exit_bytes → link_at k now.world ≡ link_at k before.world → UpNext k t before now what
+still_next k t before now what st none bytes link =
+    quiet_next k t before now what st (subst (λ (l : List Act). Orders true [] l) (sym none) orders_end)
+    (subst (λ (w : List ℕ). UpOn (Starting k what) (starts_of (base k t before st).ups) w (link_at k now.world)) (sym bytes) (subst (λ (l : LinkParts). UpOn (Starting k what) (starts_of (base k t before st).ups) (node_at before k).lane.exit_bytes l) (sym link) (up_any (base k t before st).up)))
+
+-- or the link of one number is another
+changed_next : (k link : ℕ) (parts : LinkParts) (t : Trace) (before : LineState) (what : List Happening) → (st : Stands t before) → done_by k what ≡ [] → (k ≡ link → UpOn (Starting k what) (starts_of (base k t before st).ups) (node_at before k).lane.exit_bytes parts)
+    → UpNext k t before (with_world (with_link link parts before.world) before) what
+changed_next k link parts t before what st none here =
+    let now : LineState = with_world (with_link link parts before.world) before in
+    quiet_next k t before now what st (subst (λ (l : List Act). Orders true [] l) (sym none) orders_end)
+    (subst (λ (w : List ℕ). UpOn (Starting k what) (starts_of (base k t before st).ups) w (link_at k now.world)) (sym (ap (λ (n : NodeState). n.lane.exit_bytes) (same_nodes before now refl k))) (at_set k link parts before.world here (up_any (base k t before st).up)))
+
+unless_next : (may : May) (k : ℕ) (t : Trace) (before next : LineState) (told : List Happening) (Does : Type 0) → Stands t before → Unless may before next told Does → (may ≡ may_do → Does → UpNext k t before next told) → UpNext k t before next told
+unless_next (Ok _) k t before next told Does st does then = then refl does
+unless_next (Err reason) k t before next told Does st does then = becomes_next k t before before next _ told does (still_next k t before before _ st refl refl refl)
+
+-- ---- bytes arrive
+
+-- the words of a piece are fit
+carries_fit : {stands : Bool} {stream : Stream} {messages : List Horizontal} → SaysAlone → (words : List Word) (old piece new : List ℕ) (still : Bool) (later : Stream) → coming stream ≡ piece ++ coming later → is_empty (coming stream) ≡ false
+    → AreWords old piece new still words → Carries stands old stream messages → AreFitWords words
+carries_fit alone words old piece new still later is some are (carries_whole said good flows) =
+    alone.fit_words old piece (coming later) new still words said (alone.sayable said good) good (subst (λ (bytes : List ℕ). FlowsAs old bytes (texts_of said)) is flows) are
+carries_fit alone words old piece new still later is some are (carries_spoiled spoiled) = alone.fit_wrong old piece (coming later) new still words (subst (λ (bytes : List ℕ). Spoiled old bytes) is spoiled) are
+carries_fit {stream = stream} alone words old piece new still later is some are (carries_over off nothing) = absurd (false≢true (sym some ∙ empty_of (coming stream) nothing))
+
+flow_fits : SaysAlone → (t : Trace) (number j : ℕ) (side : Side) (count : Option ℕ) (before after : LineState) (told : List Happening) → CanFlow (j + 1) side before → Stands t before
+    → (flows : Flows number (j + 1) side count before after told) → AreFitWords flows.steps.steps.lane.words
+flow_fits alone t number j Entry count before after told can st flows =
+    let steps = flows.steps in
+    let s : Stream = (link_at j before.world).flows.to_downstream in
+    let within = (machine_within (j + 1) before steps.node steps.there).1 in
+    let behind : 1 ≤ j = omega (arith, ltb-true 1 (j + 1) can.beside) in
+    let there : has_link j before ≡ true = link_there j (length before.machines) behind within in
+    let node_is : node_at before (j + 1) ≡ steps.node = node_there (j + 1) before steps.node steps.there in
+    let same : coming s ≡ coming (link_at (j + 1 - 1) before.world).flows.to_downstream = ap (λ (k : ℕ). coming (link_at k before.world).flows.to_downstream) (sym (before_one j)) in
+    let stream : Stream = (link_at (j + 1 - 1) before.world).flows.to_downstream in
+    let waits : Carries (link_at j before.world).stands steps.node.lane.entry_bytes s (t.down j) = subst (λ (m : NodeState). Carries (link_at j before.world).stands m.lane.entry_bytes s (t.down j)) node_is (st.carried j there).down in
+    carries_fit alone steps.steps.lane.words steps.node.lane.entry_bytes flows.piece.now steps.next.lane.entry_bytes (is_open Entry steps.next.lane.body) (with_arrival (flowing count stream) stream)
+    (same ∙ arrival (flowing count stream) stream flows.piece.now flows.bytes) (ap is_empty same ∙ can.comes) steps.steps.lane.brings.0 waits
+flow_fits alone t number j Exit count before after told can st flows =
+    let steps = flows.steps in
+    let s : Stream = (link_at (j + 1) before.world).flows.to_upstream in
+    let within : j + 1 + 1 ≤ length before.machines = omega (arith, ltb-true (j + 1) (length before.machines) can.beside) in
+    let there : has_link (j + 1) before ≡ true = link_there (j + 1) (length before.machines) (omega arith) within in
+    let node_is : node_at before (j + 1) ≡ steps.node = node_there (j + 1) before steps.node steps.there in
+    let waits : Carries (link_at (j + 1) before.world).stands steps.node.lane.exit_bytes s (t.up (j + 1)) = subst (λ (m : NodeState). Carries (link_at (j + 1) before.world).stands m.lane.exit_bytes s (t.up (j + 1))) node_is (st.carried (j + 1) there).up in
+    carries_fit alone steps.steps.lane.words steps.node.lane.exit_bytes flows.piece.now steps.next.lane.exit_bytes (is_open Exit steps.next.lane.body) (with_arrival (flowing count s) s)
+    (arrival (flowing count s) s flows.piece.now flows.bytes) can.comes steps.steps.lane.brings.0 waits
+
+-- what is left behind the words that are heard
+bodies_drop : (n : ℕ) (said : List Message) → bodies (drop n said) ≡ drop n (bodies said)
+bodies_drop zero said = refl
+bodies_drop (suc n) [] = refl
+bodies_drop (suc n) (message ∷ said) = bodies_drop n said
+
+-- what is heard of what flows up, and what is left
+record Hears (messages : List Horizontal) (words : List Word) (stands still : Bool) (old bytes new later : List ℕ) : Type 0 where
+  ups : List Horizontal
+  is : Ups messages old bytes ups
+  oldest : AreOldest words ups
+  up : still ≡ true → is_wrong_first words ≡ false → Up ⊥ (starts_of (drop (length words) ups)) stands new later
+
+hears_of : {stands : Bool} {stream : Stream} {messages : List Horizontal} → SaysAlone → (words : List Word) (old piece new : List ℕ) (still : Bool) (later : Stream) → coming stream ≡ piece ++ coming later → is_empty (coming stream) ≡ false
+    → AreWords old piece new still words → Carries stands old stream messages → Hears messages words stands still old (coming stream) new (coming later)
+hears_of alone words old piece new still later is some are (carries_whole said fit flows) =
+    let h : Heard said words new (coming later) still = alone.oldest old piece (coming later) new still words said (alone.sayable said fit) (subst (λ (bytes : List ℕ). FlowsAs old bytes (texts_of said)) is flows) are in
+    record {
+      ups = bodies said;
+      is = ups_whole said fit refl flows;
+      oldest = h.oldest;
+      up = λ on good. up_whole (drop (length words) said) (fit_behind (length words) said fit) (inr (ap starts_of (bodies_drop (length words) said))) (h.flows on);
+    }
+hears_of alone words old piece new still later is some are (carries_spoiled spoiled) =
+    let h : HeardSpoiled [] words new (coming later) still = alone.wrong old piece (coming later) new still words [] (subst (λ (bytes : List ℕ). Spoiled old bytes) is spoiled) are in
+    record { ups = []; is = ups_none; oldest = h.oldest; up = λ on good. up_spoiled (h.spoiled on (no_words words h.oldest good)) }
+hears_of {stream = stream} alone words old piece new still later is some are (carries_over off nothing) = absurd (false≢true (sym some ∙ empty_of (coming stream) nothing))
+
+set_own : {Any : Type 0} {ids : List ℕ} {waiting : List ℕ} (link : ℕ) (parts : LinkParts) (world : WorldParts) → UpOn Any ids waiting parts → UpOn Any ids waiting (link_at link (with_link link parts world))
+set_own {Any} {ids} {waiting} link parts world up = by (link_set link parts world)
+  where
+    by : Written link parts world → UpOn Any ids waiting (link_at link (with_link link parts world))
+    by (written now) = subst (λ (l : LinkParts). UpOn Any ids waiting l) (sym now) up
+    by (nowhere now then) = subst (λ (l : LinkParts). UpOn Any ids waiting l) (sym now) (up_over refl refl)
+
+flow_acts_fit : (number m : ℕ) (side : Side) (count : Option ℕ) (before after : LineState) (told : List Happening) → number ≤ 1000000 → IsFitMachine before m → (flows : Flows number m side count before after told) → AreFitWords flows.steps.steps.lane.words → AreFitActs flows.steps.acts
+flow_acts_fit number m side count before after told few fit flows words =
+    acts_fit number m (inputs.Bytes side flows.piece) (arrived m side count before) after told few (fit_machine before (arrived m side count before) m (same_nodes before (arrived m side count before) refl m) fit) flows.steps words
+
+flow_others : (number m : ℕ) (side : Side) (count : Option ℕ) (before after : LineState) (told : List Happening) (flows : Flows number m side count before after told) → (k : ℕ) → k ≢ m → node_at after k ≡ node_at before k
+flow_others number m side count before after told flows k apart =
+    others_stay number m (inputs.Bytes side flows.piece) (arrived m side count before) after told flows.steps k apart ∙ same_nodes before (arrived m side count before) refl k
+
+flow_own : (number m : ℕ) (side : Side) (count : Option ℕ) (before after : LineState) (told : List Happening) (flows : Flows number m side count before after told) → node_at after m ≡ flows.steps.next
+flow_own number m side count before after told flows = node_next number m (inputs.Bytes side flows.piece) (arrived m side count before) after told flows.steps
+
+-- to an entry
+entry_next : SaysAlone → (k number j : ℕ) (count : Option ℕ) (t : Trace) (before next : LineState) (told : List Happening) → CanFlow (j + 1) Entry before → number ≤ 1000000 → Stands t before → Flows number (j + 1) Entry count before next told → UpNext k t before next told
+entry_next alone k number j count t before next told can few st flows =
+    quiet_next k t before next told st (no_orders k number m (inputs.Bytes Entry flows.piece) start next told (offers_same before start refl (offers_all t before st) m) refl flows.steps)
+    (subst (λ (w : List ℕ). UpOn (Starting k told) (starts_of (base k t before st).ups) w (link_at k next.world)) (sym (bytes (same_or_not k m)))
+    (step_up alone k number m (inputs.Bytes Entry flows.piece) start next told flows.steps (flow_acts_fit number m Entry count before next told few (st.fit m) flows (flow_fits alone t number j Entry count before next told can st flows))
+    (silent_at k number m (inputs.Bytes Entry flows.piece) start next told (offers_same before start refl (offers_all t before st) m) flows.steps) (whole_links (m - 1) parts before.world st.links (whole_arrival Downstream count (link_at (m - 1) before.world) (st.links (m - 1))))
+    (at_set k (m - 1) parts before.world (λ is. subst (λ (n : ℕ). UpOn (Starting k told) (starts_of (base k t before st).ups) (node_at before k).lane.exit_bytes (link_at n before.world)) is (up_any (base k t before st).up)) (up_any (base k t before st).up))))
+  where
+    m : ℕ
+    m = j + 1
+
+    start : LineState
+    start = arrived m Entry count before
+
+    parts : LinkParts
+    parts = after_flow Downstream count (link_at (m - 1) before.world)
+
+    bytes : (k ≡ m) ⊎ (k ≢ m) → (node_at next k).lane.exit_bytes ≡ (node_at before k).lane.exit_bytes
+    bytes (inl is) =
+        ap (λ (n : ℕ). (node_at next n).lane.exit_bytes) is ∙ ap (λ (x : NodeState). x.lane.exit_bytes) (flow_own number m Entry count before next told flows) ∙ flows.steps.steps.lane.brings.1
+        ∙ sym (ap (λ (x : NodeState). x.lane.exit_bytes) (node_there m before flows.steps.node flows.steps.there)) ∙ sym (ap (λ (n : ℕ). (node_at before n).lane.exit_bytes) is)
+    bytes (inr apart) = ap (λ (x : NodeState). x.lane.exit_bytes) (flow_others number m Entry count before next told flows k apart)
+
+-- to the exit of another machine
+exit_other : SaysAlone → (k number j : ℕ) (count : Option ℕ) (t : Trace) (before next : LineState) (told : List Happening) → k ≢ j + 1 → CanFlow (j + 1) Exit before → number ≤ 1000000 → Stands t before → Flows number (j + 1) Exit count before next told → UpNext k t before next told
+exit_other alone k number j count t before next told apart can few st flows =
+    let m : ℕ = j + 1 in
+    let start : LineState = arrived m Exit count before in
+    let parts : LinkParts = after_flow Upstream count (link_at m before.world) in
+    quiet_next k t before next told st (subst (λ (l : List Act). Orders true [] l) (sym (other_done k number m (inputs.Bytes Exit flows.piece) start next told flows.steps apart)) orders_end)
+    (subst (λ (w : List ℕ). UpOn (Starting k told) (starts_of (base k t before st).ups) w (link_at k next.world)) (sym (ap (λ (x : NodeState). x.lane.exit_bytes) (flow_others number m Exit count before next told flows k apart)))
+    (step_up alone k number m (inputs.Bytes Exit flows.piece) start next told flows.steps (flow_acts_fit number m Exit count before next told few (st.fit m) flows (flow_fits alone t number j Exit count before next told can st flows))
+    (silent_at k number m (inputs.Bytes Exit flows.piece) start next told (offers_same before start refl (offers_all t before st) m) flows.steps) (whole_links m parts before.world st.links (whole_arrival Upstream count (link_at m before.world) (st.links m)))
+    (at_set k m parts before.world (λ is. absurd (apart is)) (up_any (base k t before st).up))))
+
+next_apart : (j : ℕ) → j + 1 + 1 ≢ j + 1
+next_apart j = omega arith
+
+below_apart : (j : ℕ) → j + 1 ≢ j + 1 - 1
+below_apart j = omega arith
+
+-- to its own
+exit_own : SaysAlone → (number j : ℕ) (count : Option ℕ) (t : Trace) (before next : LineState) (told : List Happening) → CanFlow (j + 1) Exit before → number ≤ 1000000 → Stands t before → Flows number (j + 1) Exit count before next told → UpNext (j + 1) t before next told
+exit_own alone number j count t before next told can few st flows = record {
+  ups = h.ups;
+  is = h.is;
+  heard = words;
+  oldest = h.oldest;
+  orders = own_orders number m (inputs.Bytes Exit flows.piece) start next told flows.steps (own_front number m (inputs.Bytes Exit flows.piece) start next told (offers_same before start refl (offers_all t before st) m) flows.steps);
+  who = inl (other_done (m + 1) number m (inputs.Bytes Exit flows.piece) start next told flows.steps (next_apart j));
+  ids = starts_of (drop (length words) h.ups);
+  left = inr refl;
+  up = λ on. (let now : is_open Exit flows.steps.next.lane.body ≡ true = sym (ap (λ (n : NodeState). is_open Exit n.lane.body) (flow_own number m Exit count before next told flows)) ∙ on in
+      subst (λ (w : List ℕ). UpOn (Starting m told) (starts_of (drop (length words) h.ups)) w (link_at m next.world)) (sym (ap (λ (x : NodeState). x.lane.exit_bytes) (flow_own number m Exit count before next told flows)))
+      (step_up alone m number m (inputs.Bytes Exit flows.piece) start next told flows.steps (flow_acts_fit number m Exit count before next told few (st.fit m) flows (flow_fits alone t number j Exit count before next told can st flows))
+      (λ is. absurd (below_apart j is)) (whole_links m parts before.world st.links (whole_arrival Upstream count (link_at m before.world) (st.links m)))
+      (set_own m parts before.world (up_any (h.up now (heard_good number m Exit flows.piece start next told flows.steps now))))));
+} where
+  m : ℕ
+  m = j + 1
+
+  start : LineState
+  start = arrived m Exit count before
+
+  words : List Word
+  words = flows.steps.steps.lane.words
+
+  stream : Stream
+  stream = (link_at m before.world).flows.to_upstream
+
+  parts : LinkParts
+  parts = after_flow Upstream count (link_at m before.world)
+
+  there : has_link m before ≡ true
+  there = link_there m (length before.machines) (omega arith) (omega (arith, ltb-true m (length before.machines) can.beside))
+
+  node_is : node_at before m ≡ flows.steps.node
+  node_is = node_there m before flows.steps.node flows.steps.there
+
+  waits : Carries (link_at m before.world).stands flows.steps.node.lane.exit_bytes stream (t.up m)
+  waits = subst (λ (n : NodeState). Carries (link_at m before.world).stands n.lane.exit_bytes stream (t.up m)) node_is (st.carried m there).up
+
+  h : Hears (t.up m) words (link_at m before.world).stands (is_open Exit flows.steps.next.lane.body) (node_at before m).lane.exit_bytes (coming stream) flows.steps.next.lane.exit_bytes (coming (with_arrival (flowing count stream) stream))
+  h = subst (λ (n : NodeState). Hears (t.up m) words (link_at m before.world).stands (is_open Exit flows.steps.next.lane.body) n.lane.exit_bytes (coming stream) flows.steps.next.lane.exit_bytes (coming (with_arrival (flowing count stream) stream))) (sym node_is)
+      (hears_of alone words flows.steps.node.lane.exit_bytes flows.piece.now flows.steps.next.lane.exit_bytes (is_open Exit flows.steps.next.lane.body) (with_arrival (flowing count stream) stream) (arrival (flowing count stream) stream flows.piece.now flows.bytes) can.comes flows.steps.steps.lane.brings.0 waits)
+
+exit_next : SaysAlone → (k number j : ℕ) (count : Option ℕ) (t : Trace) (before next : LineState) (told : List Happening) → (k ≡ j + 1) ⊎ (k ≢ j + 1) → CanFlow (j + 1) Exit before → number ≤ 1000000 → Stands t before → Flows number (j + 1) Exit count before next told → UpNext k t before next told
+exit_next alone k number j count t before next told (inl is) can few st flows = subst (λ (n : ℕ). UpNext n t before next told) (sym is) (exit_own alone number j count t before next told can few st flows)
+exit_next alone k number j count t before next told (inr apart) can few st flows = exit_other alone k number j count t before next told apart can few st flows
+
+flow_side : SaysAlone → (k number j : ℕ) (side : Side) (count : Option ℕ) (t : Trace) (before next : LineState) (told : List Happening) → CanFlow (j + 1) side before → number ≤ 1000000 → Stands t before → Flows number (j + 1) side count before next told → UpNext k t before next told
+flow_side alone k number j Entry count t before next told can few st flows = entry_next alone k number j count t before next told can few st flows
+flow_side alone k number j Exit count t before next told can few st flows = exit_next alone k number j count t before next told (same_or_not k (j + 1)) can few st flows
+
+flow_next : SaysAlone → (k number m : ℕ) (side : Side) (count : Option ℕ) (t : Trace) (before next : LineState) (told : List Happening) → may_flow m side before ≡ may_do → number ≤ 1000000 → Stands t before → Flows number m side count before next told → UpNext k t before next told
+flow_next alone k number m side count t before next told may few st flows =
+    numbered (λ (n : ℕ). may_flow n side before ≡ may_do → Flows number n side count before next told → UpNext k t before next told) m before flows.steps.node flows.steps.there
+    (λ j may flows. flow_side alone k number j side count t before next told (can_flow (j + 1) side before may) few st flows) may flows
+
+-- ---- a connection is made
+
+more_any : (k : ℕ) (a b all : List Happening) (Rest : Type 0) → all ≡ a ++ b → (list_any is_start (done_by (k + 1) a) ≡ true) ⊎ Rest → Starting k all ⊎ Rest
+more_any k a b all Rest is (inl any) = inl (ap (λ (l : List Happening). list_any is_start (done_by (k + 1) l)) is ∙ ap (list_any is_start) (done_append (k + 1) a b) ∙ any_first (done_by (k + 1) a) (done_by (k + 1) b) any)
+more_any k a b all Rest is (inr rest) = inr rest
+
+later_any : (k : ℕ) (a b all : List Happening) (Rest : Type 0) → all ≡ a ++ b → (list_any is_start (done_by (k + 1) b) ≡ true) ⊎ Rest → Starting k all ⊎ Rest
+later_any k a b all Rest is (inl any) = inl (ap (λ (l : List Happening). list_any is_start (done_by (k + 1) l)) is ∙ ap (list_any is_start) (done_append (k + 1) a b) ∙ any_later (done_by (k + 1) a) (done_by (k + 1) b) any)
+later_any k a b all Rest is (inr rest) = inr rest
+
+record Joins (number m : ℕ) (input : Input) (before between next : LineState) (earlier later told : List Happening) : Type 0 where
+  quiet : is_bytes input ≡ false
+  fits : IsFitInput input
+  first : MachineSteps number m inputs.Connect (connecting m before) between earlier
+  second : MachineSteps number (m - 1) input between next later
+  told_is : told ≡ earlier ++ later
+  all : OffersAll before
+  then : OffersFront (node_at between (m - 1)).lane.body
+
+join_orders : (k number m : ℕ) (input : Input) (before between next : LineState) (earlier later told : List Happening) → Joins number m input before between next earlier later told → Orders true [] (done_by k told)
+join_orders k number m input before between next earlier later told j = subst (λ (l : List Act). Orders true [] l) (sym (ap (done_by k) j.told_is ∙ done_append k earlier later)) (by (same_or_not k m))
+  where
+    counted : 1 ≤ m
+    counted = (machine_within m (connecting m before) j.first.node j.first.there).0
+
+    by : (k ≡ m) ⊎ (k ≢ m) → Orders true [] (done_by k earlier ++ done_by k later)
+    by (inl is) =
+        let apart : k ≢ m - 1 = omega (arith, counted, is) in
+        subst (λ (l : List Act). Orders true [] (done_by k earlier ++ l)) (sym (other_done k number (m - 1) input between next later j.second apart))
+        (subst (λ (l : List Act). Orders true [] l) (sym (append-nil (done_by k earlier))) (no_orders k number m inputs.Connect (connecting m before) between earlier (offers_same before (connecting m before) refl j.all m) refl j.first))
+    by (inr apart) =
+        subst (λ (l : List Act). Orders true [] (l ++ done_by k later)) (sym (other_done k number m inputs.Connect (connecting m before) between earlier j.first apart)) (no_orders k number (m - 1) input between next later j.then (not_up input j.quiet) j.second)
+
+whole_connecting : (m : ℕ) (before : LineState) → AreWholeLinks before → AreWholeLinks (connecting m before)
+whole_connecting m before whole = whole_links (m - 1) (after_connect (link_at (m - 1) before.world)) before.world whole (whole_connect (link_at (m - 1) before.world) (whole (m - 1)))
+
+join_up : {ids : List ℕ} {waiting : List ℕ} → SaysAlone → (k number m : ℕ) (input : Input) (t : Trace) (before between next : LineState) (earlier later told : List Happening) → number ≤ 1000000 → Stands t before → (j : Joins number m input before between next earlier later told)
+    → UpOn (Starting k told) ids waiting (link_at k (connecting m before).world) → UpOn (Starting k told) ids waiting (link_at k next.world)
+join_up alone k number m input t before between next earlier later told few st j start =
+    let begin : LineState = connecting m before in
+    let counted : 1 ≤ m = (machine_within m begin j.first.node j.first.there).0 in
+    let whole : AreWholeLinks begin = whole_connecting m before st.links in
+    let fit_one : IsFitMachine begin m = fit_machine before begin m (same_nodes before begin refl m) (st.fit m) in
+    let new : NewBytes m inputs.Connect begin between = new_bytes number m inputs.Connect begin between earlier refl j.first in
+    let beside : m - 1 ≢ m = omega (arith, counted) in
+    let fit_two : IsFitMachine between (m - 1) = fit_machine before between (m - 1) (new.others (m - 1) beside ∙ same_nodes before begin refl (m - 1)) (st.fit (m - 1)) in
+    step_up alone k number (m - 1) input between next later j.second (quiet_fit number (m - 1) input between next later j.quiet j.fits few fit_two j.second)
+    (λ is. later_any k earlier later told (are_silent j.second.acts ≡ true) j.told_is (silent_at k number (m - 1) input between next later j.then j.second is)) (whole_steps number m inputs.Connect begin between earlier j.first whole)
+    (step_up alone k number m inputs.Connect begin between earlier j.first (quiet_fit number m inputs.Connect begin between earlier refl tt few fit_one j.first)
+    (λ is. more_any k earlier later told (are_silent j.first.acts ≡ true) j.told_is (silent_at k number m inputs.Connect begin between earlier (offers_same before begin refl j.all m) j.first is)) whole start)
+
+bytes_between : (k number m : ℕ) (input : Input) (before between next : LineState) (earlier later told : List Happening) → Joins number m input before between next earlier later told → (node_at between k).lane.exit_bytes ≡ (node_at before k).lane.exit_bytes
+bytes_between k number m input before between next earlier later told j =
+    same_exit m inputs.Connect (connecting m before) between (λ bytes. refl) (new_bytes number m inputs.Connect (connecting m before) between earlier refl j.first) k
+    ∙ ap (λ (x : NodeState). x.lane.exit_bytes) (same_nodes before (connecting m before) refl k)
+
+-- another link
+join_other : SaysAlone → (k number m : ℕ) (input : Input) (t : Trace) (before between next : LineState) (earlier later told : List Happening) → k ≢ m - 1 → number ≤ 1000000 → Stands t before → Joins number m input before between next earlier later told → UpNext k t before next told
+join_other alone k number m input t before between next earlier later told apart few st j =
+    quiet_next k t before next told st (join_orders k number m input before between next earlier later told j)
+    (subst (λ (w : List ℕ). UpOn (Starting k told) (starts_of (base k t before st).ups) w (link_at k next.world))
+    (sym (ap (λ (x : NodeState). x.lane.exit_bytes) (others_stay number (m - 1) input between next later j.second k apart) ∙ bytes_between k number m input before between next earlier later told j))
+    (join_up alone k number m input t before between next earlier later told few st j (at_set k (m - 1) (after_connect (link_at (m - 1) before.world)) before.world (λ is. absurd (apart is)) (up_any (base k t before st).up))))
+
+-- the exit has no connection: nothing flows to it
+join_first : SaysAlone → (number m : ℕ) (t : Trace) (before between next : LineState) (earlier later told : List Happening) → (link_at (m - 1) before.world).upstream ≡ None → number ≤ 1000000 → Stands t before → Joins number m inputs.Accepted before between next earlier later told
+    → UpNext (m - 1) t before next told
+join_first alone number m t before between next earlier later told above few st j = record {
+  ups = (base (m - 1) t before st).ups;
+  is = (base (m - 1) t before st).is;
+  heard = [];
+  oldest = oldest_none;
+  orders = join_orders (m - 1) number m inputs.Accepted before between next earlier later told j;
+  who = inr refl;
+  ids = [];
+  left = inl refl;
+  up = λ on. (let two : NewBytes (m - 1) inputs.Accepted between next = new_bytes number (m - 1) inputs.Accepted between next later refl j.second in
+      subst (λ (w : List ℕ). UpOn (Starting (m - 1) told) [] w (link_at (m - 1) next.world)) (sym two.exit)
+      (join_up alone (m - 1) number m inputs.Accepted t before between next earlier later told few st j (set_own (m - 1) (after_connect L) before.world (subst (λ (l : LinkParts). UpOn (Starting (m - 1) told) [] [] l) (sym parts_are) here))));
+} where
+  L : LinkParts
+  L = link_at (m - 1) before.world
+
+  parts_are : after_connect L ≡ connected None (next_number L.made) L
+  parts_are = ap (λ (n : Option ℕ). connected n (next_number L.made) L) above
+
+  here : UpOn (Starting (m - 1) told) [] [] (connected None (next_number L.made) L)
+  here = up_whole [] none_fit (inr refl) (subst (λ (b : List ℕ). FlowsAs [] b []) (sym (dry_up L (st.links (m - 1)) above)) nothing_flows)
+
+-- it has one: what flowed to it goes on
+join_second : SaysAlone → (number m other : ℕ) (t : Trace) (before between next : LineState) (earlier later told : List Happening) → (link_at (m - 1) before.world).upstream ≡ Some other → number ≤ 1000000 → Stands t before → Joins number m inputs.Second before between next earlier later told
+    → UpNext (m - 1) t before next told
+join_second alone number m other t before between next earlier later told above few st j =
+    quiet_next (m - 1) t before next told st (join_orders (m - 1) number m inputs.Second before between next earlier later told j)
+    (subst (λ (w : List ℕ). UpOn (Starting (m - 1) told) (starts_of (base (m - 1) t before st).ups) w (link_at (m - 1) next.world)) (sym bytes)
+    (join_up alone (m - 1) number m inputs.Second t before between next earlier later told few st j (set_own (m - 1) (after_connect L) before.world (subst (λ (l : LinkParts). UpOn (Starting (m - 1) told) (starts_of (base (m - 1) t before st).ups) (node_at before (m - 1)).lane.exit_bytes l) (sym parts_are) here))))
+  where
+    L : LinkParts
+    L = link_at (m - 1) before.world
+
+    parts_are : after_connect L ≡ connected (Some other) (next_number L.made) L
+    parts_are = ap (λ (n : Option ℕ). connected n (next_number L.made) L) above
+
+    here : UpOn (Starting (m - 1) told) (starts_of (base (m - 1) t before st).ups) (node_at before (m - 1)).lane.exit_bytes (connected (Some other) (next_number L.made) L)
+    here = up_off (up_any (base (m - 1) t before st).up)
+
+    bytes : (node_at next (m - 1)).lane.exit_bytes ≡ (node_at before (m - 1)).lane.exit_bytes
+    bytes = (new_bytes number (m - 1) inputs.Second between next later refl j.second).exit ∙ bytes_between (m - 1) number m inputs.Second before between next earlier later told j
+
+-- the machine above is as it was behind the first step
+above_then : (number m : ℕ) (t : Trace) (before between : LineState) (earlier : List Happening) → Stands t before → MachineSteps number m inputs.Connect (connecting m before) between earlier → OffersFront (node_at between (m - 1)).lane.body
+above_then number m t before between earlier st first =
+    let counted : 1 ≤ m = (machine_within m (connecting m before) first.node first.there).0 in
+    let beside : m - 1 ≢ m = omega (arith, counted) in
+    let new : NewBytes m inputs.Connect (connecting m before) between = new_bytes number m inputs.Connect (connecting m before) between earlier refl first in
+    subst (λ (n : NodeState). OffersFront n.lane.body) (sym (new.others (m - 1) beside ∙ same_nodes before (connecting m before) refl (m - 1))) (offers_all t before st (m - 1))
+
+join_own : SaysAlone → (number m : ℕ) (found : Option ℕ) (t : Trace) (before between next : LineState) (earlier later told : List Happening) → (link_at (m - 1) before.world).upstream ≡ found → number ≤ 1000000 → Stands t before
+    → MachineSteps number m inputs.Connect (connecting m before) between earlier → MachineSteps number (m - 1) (met (connected_of found)) between next later → told ≡ earlier ++ later → UpNext (m - 1) t before next told
+join_own alone number m None t before between next earlier later told above few st one two is = join_first alone number m t before between next earlier later told above few st (record { quiet = refl; fits = tt; first = one; second = two; told_is = is; all = offers_all t before st; then = above_then number m t before between earlier st one })
+join_own alone number m (Some other) t before between next earlier later told above few st one two is = join_second alone number m other t before between next earlier later told above few st (record { quiet = refl; fits = tt; first = one; second = two; told_is = is; all = offers_all t before st; then = above_then number m t before between earlier st one })
+
+met_quiet : (on : Connected) → is_bytes (met on) ≡ false
+met_quiet connections.Accepted = refl
+met_quiet connections.Second = refl
+
+met_fits : (on : Connected) → IsFitInput (met on)
+met_fits connections.Accepted = tt
+met_fits connections.Second = tt
+
+connect_next : SaysAlone → (k number m : ℕ) (t : Trace) (before next : LineState) (told : List Happening) → (k ≡ m - 1) ⊎ (k ≢ m - 1) → number ≤ 1000000 → Stands t before → Connects number m before next told → UpNext k t before next told
+connect_next alone k number m t before next told (inl is) few st twice =
+    subst (λ (n : ℕ). UpNext n t before next told) (sym is) (join_own alone number m (link_at (m - 1) before.world).upstream t before twice.between next twice.earlier twice.later told refl few st twice.first twice.second twice.told_is)
+connect_next alone k number m t before next told (inr apart) few st twice =
+    let on : Connected = connected_of (link_at (m - 1) before.world).upstream in
+    join_other alone k number m (met on) t before twice.between next twice.earlier twice.later told apart few st (record { quiet = met_quiet on; fits = met_fits on; first = twice.first; second = twice.second; told_is = twice.told_is; all = offers_all t before st; then = above_then number m t before twice.between twice.earlier st twice.first })
+
+-- ---- the other forms
+
+spoil_up : (k m : ℕ) (side : Side) (t : Trace) (before : LineState) (what : List Happening) → (st : Stands t before) → AreWaiting before → CanSpoil m side before → k ≡ link_of m side
+    → UpOn (Starting k what) (starts_of (base k t before st).ups) (node_at before k).lane.exit_bytes (after_spoil (end_of side) (link_at (link_of m side) before.world))
+spoil_up k m Exit t before what st waits can is =
+    let L : LinkParts = link_at m before.world in
+    let needs : answer_of (node_at before k).lane.exit_bytes ≡ NeedMore = ap (λ (n : ℕ). answer_of (node_at before n).lane.exit_bytes) is ∙ spoil_needs m Exit t before st waits can in
+    on_limit (is_too_much Upstream (nulled Upstream L)) (nulled Upstream L)
+    (up_spoiled (subst (λ (b : List ℕ). Spoiled (node_at before k).lane.exit_bytes b) (sym (coming_of_nul L.flows.to_upstream (st.links m).begun.upstream)) (puts_a_nul (node_at before k).lane.exit_bytes (coming L.flows.to_upstream) needs)))
+spoil_up k m Entry t before what st waits can is =
+    let L : LinkParts = link_at (m - 1) before.world in
+    on_limit (is_too_much Downstream (nulled Downstream L)) (nulled Downstream L) (subst (λ (n : ℕ). UpOn (Starting k what) (starts_of (base k t before st).ups) (node_at before k).lane.exit_bytes (link_at n before.world)) is (up_any (base k t before st).up))
+
+moved_next : (k gap : ℕ) (step : Move) (t : Trace) (before : LineState) (answer : Result FloorPlan MoveNo) → Stands t before → UpNext k t before (moved answer before) (move_told gap step answer)
+moved_next k gap step t before (Ok floor) st = still_next k t before (moved (Ok floor) before) _ st refl (ap (λ (n : NodeState). n.lane.exit_bytes) (same_nodes before (moved (Ok floor) before) refl k)) refl
+moved_next k gap step t before (Err why) st = still_next k t before before _ st refl refl refl
+
+moves_next : (k gap : ℕ) (step : Move) (t : Trace) (before next : LineState) (told : List Happening) → Stands t before → Moves gap step before next told → UpNext k t before next told
+moves_next k gap step t before next told st does =
+    let answer : Result FloorPlan MoveNo = floor_move gap step before.world.floor in
+    becomes_next k t before (moved answer before) next (move_told gap step answer) told does (moved_next k gap step t before answer st)
+
+given_next : SaysAlone → (may : May) (k number m : ℕ) (input : Input) (t : Trace) (before next : LineState) (told : List Happening) → is_plain_input input ≡ true → IsFitInput input → number ≤ 1000000 → Stands t before
+    → Unless may before next told (MachineSteps number m input before next told) → UpNext k t before next told
+given_next alone may k number m input t before next told plain fits few st does = unless_next may k t before next told _ st does (λ can steps. plain_next alone k number m input t before next told plain fits few st steps)
+
+does_next : SaysAlone → (k number : ℕ) (line : ScriptLine) (t : Trace) (before next : LineState) (told : List Happening) → number ≤ 1000000 → IsFitLine line → Stands t before → AreWaiting before → LineDoes number line before next told → UpNext k t before next told
+does_next alone k number lines.Blank t before next told few fit st waits does = becomes_next k t before before next [] told does (still_next k t before before [] st refl refl refl)
+does_next alone k number (lines.Machine capacity used) t before next told few fit st waits does =
+    unless_next _ k t before next told _ st does (λ may done. becomes_next k t before (one_more false capacity used before) next _ told done
+    (still_next k t before (one_more false capacity used before) _ st refl (more_same (λ (n : NodeState). n.lane.exit_bytes) false capacity used before refl k) (more_at false capacity used before k)))
+does_next alone k number (lines.Bridge capacity used) t before next told few fit st waits does =
+    unless_next _ k t before next told _ st does (λ may done. becomes_next k t before (one_more true capacity used before) next _ told done
+    (still_next k t before (one_more true capacity used before) _ st refl (more_same (λ (n : NodeState). n.lane.exit_bytes) true capacity used before refl k) (more_at true capacity used before k)))
+does_next alone k number (lines.Insert m None) t before next told few fit st waits does = given_next alone _ k number m (inputs.Insert None) t before next told refl tt few st does
+does_next alone k number (lines.Insert m (Some barcode)) t before next told few fit st waits does = given_next alone _ k number m (inputs.Insert (Some barcode)) t before next told refl fit few st does
+does_next alone k number (lines.Remove m id) t before next told few fit st waits does = given_next alone _ k number m (inputs.Remove id) t before next told refl tt few st does
+does_next alone k number (lines.Replace m id) t before next told few fit st waits does = given_next alone _ k number m (inputs.Replace id) t before next told refl tt few st does
+does_next alone k number (lines.Mark m id quality) t before next told few fit st waits does = given_next alone _ k number m (inputs.Mark id quality) t before next told refl tt few st does
+does_next alone k number (lines.Hold m side) t before next told few fit st waits does = given_next alone _ k number m (inputs.Will side false) t before next told refl tt few st does
+does_next alone k number (lines.Go m side) t before next told few fit st waits does = given_next alone _ k number m (inputs.Will side true) t before next told refl tt few st does
+does_next alone k number (lines.Signal m line on) t before next told few fit st waits does = given_next alone _ k number m (inputs.Level line on) t before next told refl tt few st does
+does_next alone k number (lines.Forecast m) t before next told few fit st waits does = given_next alone _ k number m inputs.Forecast t before next told refl tt few st does
+does_next alone k number (lines.Query m barcode) t before next told few fit st waits does = given_next alone _ k number m (inputs.Query barcode) t before next told refl fit few st does
+does_next alone k number (lines.Connect m) t before next told few fit st waits does = unless_next _ k t before next told _ st does (λ may done. connect_next alone k number m t before next told (same_or_not k (m - 1)) few st done)
+does_next alone k number (lines.Flow m side count) t before next told few fit st waits does = unless_next _ k t before next told _ st does (λ may done. flow_next alone k number m side count t before next told may few st done)
+does_next alone k number (lines.Notice m side) t before next told few fit st waits does = given_next alone _ k number m (inputs.Notice side) t before next told refl tt few st does
+does_next alone k number (lines.Cut gap) t before next told few fit st waits does =
+    unless_next _ k t before next told _ st does (λ may done. becomes_next k t before (cut_in gap before) next _ told done (changed_next k gap (cut (link_at gap before.world)) t before _ st refl (λ is. on_cut (link_at gap before.world))))
+does_next alone k number (lines.Spoil m side) t before next told few fit st waits does =
+    unless_next (may_spoil m side before) k t before next told _ st does (λ may done. becomes_next k t before (spoiled m side before) next (spoil_told m side before) told done
+    (changed_next k (link_of m side) (after_spoil (end_of side) (link_at (link_of m side) before.world)) t before (spoil_told m side before) st
+    (cut_none k (link_of m side) (spoil_sent (end_of side) (link_at (link_of m side) before.world))) (λ is. spoil_up k m side t before (spoil_told m side before) st waits (can_spoil m side before may) is)))
+does_next alone k number (lines.Shutdown m) t before next told few fit st waits does = given_next alone _ k number m inputs.Shutdown t before next told refl tt few st does
+does_next alone k number (lines.Tick m) t before next told few fit st waits does = given_next alone _ k number m inputs.Tick t before next told refl tt few st does
+does_next alone k number (lines.Fault m side) t before next told few fit st waits does = given_next alone _ k number m (inputs.Fault side) t before next told refl tt few st does
+does_next alone k number (lines.Sense m) t before next told few fit st waits does = given_next alone _ k number m inputs.Nothing t before next told refl tt few st does
+does_next alone k number (lines.Begin gap) t before next told few fit st waits does = moves_next k gap moves.Begin t before next told st does
+does_next alone k number (lines.Left gap) t before next told few fit st waits does = moves_next k gap moves.Left t before next told st does
+does_next alone k number (lines.Enter gap) t before next told few fit st waits does = moves_next k gap moves.Enter t before next told st does
+does_next alone k number (lines.Back gap) t before next told few fit st waits does = moves_next k gap moves.Back t before next told st does
+does_next alone k number (lines.HandIn gap) t before next told few fit st waits does = moves_next k gap moves.HandIn t before next told st does
+does_next alone k number (lines.Take gap) t before next told few fit st waits does = moves_next k gap moves.Take t before next told st does
+does_next alone k number (lines.Lie m sensed) t before next told few fit st waits does =
+    unless_next _ k t before next told _ st does (λ may done. becomes_next k t before (lied number m sensed before) next _ told done
+    (still_next k t before (lied number m sensed before) _ st (unvouched_none k before.unvouched) (ap (λ (n : NodeState). n.lane.exit_bytes) (same_nodes before (lied number m sensed before) refl k)) refl))
+does_next alone k number (lines.Unseen m side) t before next told few fit st waits does =
+    unless_next _ k t before next told _ st does (λ may done. becomes_next k t before (unseen number m side before) next _ told done
+    (still_next k t before (unseen number m side before) _ st (unvouched_none k before.unvouched) (ap (λ (n : NodeState). n.lane.exit_bytes) (same_nodes before (unseen number m side before) refl k)) refl))
+does_next alone k number lines.Show t before next told few fit st waits does = becomes_next k t before before next (shown before) told does (still_next k t before before (shown before) st (shown_none k 1 before.machines) refl refl)
+
+-- ---- EACH LINE
+
+more_told : (k : ℕ) (a b : List Happening) → done_by k b ≡ [] → done_by k (a ++ b) ≡ done_by k a
+more_told k a b none = done_append k a b ∙ ap (λ (l : List Act). done_by k a ++ l) none ∙ append-nil (done_by k a)
+
+pub line_next : SaysAlone → (k number : ℕ) (line : ScriptLine) (t : Trace) (before after : LineState) (told : List Happening) → number ≤ 1000000 → IsFitLine line → Stands t before → AreWaiting before → LineSteps number line before after told → UpNext k t before after told
+line_next alone k number line t before after told few fit st waits steps =
+    let next : LineState = steps.next in
+    let now : LineState = record next { lines = next.lines + 1 } in
+    let one : UpNext k t before next steps.done = does_next alone k number line t before next steps.done few fit st waits steps.does in
+    let above : done_by k told ≡ done_by k steps.done = ap (done_by k) steps.told_is ∙ more_told k steps.done (standings_told before next) (standings_none k before next) in
+    let below : done_by (k + 1) told ≡ done_by (k + 1) steps.done = ap (done_by (k + 1)) steps.told_is ∙ more_told (k + 1) steps.done (standings_told before next) (standings_none (k + 1) before next) in
+    let any : Starting k steps.done ≡ Starting k told = ap (λ (l : List Act). list_any is_start l ≡ true) (sym below) in
+    let nodes : node_at now k ≡ node_at next k = same_nodes next now refl k in
+    subst (λ (s : LineState). UpNext k t before s told) (sym steps.after_is) (record {
+      ups = one.ups;
+      is = one.is;
+      heard = one.heard;
+      oldest = one.oldest;
+      orders = subst (λ (l : List Act). Orders true one.heard l) (sym above) one.orders;
+      who = elim one.who [ inl none ↦ inl (below ∙ none) | inr none ↦ inr none ];
+      ids = one.ids;
+      left = one.left;
+      up = λ on. subst (λ (n : NodeState). UpOn (Starting k told) one.ids n.lane.exit_bytes (link_at k next.world)) (sym nodes)
+          (subst (λ (A : Type 0). UpOn A one.ids (node_at next k).lane.exit_bytes (link_at k next.world)) any (one.up (ap (λ (n : NodeState). is_open Exit n.lane.body) (sym nodes) ∙ on)));
+    })

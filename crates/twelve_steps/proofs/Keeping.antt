@@ -1,0 +1,141 @@
+-- The machine below the gap keeps the record of the board that settles there.
+use Rattle.std.proofs.Common.{Bool, List, [], arith, eqb-true, false, length, refl, subst, sym, true, ℕ, ◌&&◌, ◌+◌, ◌==◌, ◌||◌, ◌∷◌, ◌≡◌, ◌≤◌}
+use Rattle.std.specs.List.{AllByRecursion}
+use Rattle.board_record.specs.declared.record.Record.{Record}
+use Rattle.line_script.specs.declared.line.ScriptLine.{ScriptLine}
+use Rattle.line_script.specs.declared.line.ScriptLine.TheVariants as lines
+use Rattle.line_report.specs.declared.happening.Happening.{Happening}
+use Rattle.line_report.specs.declared.happening.Happening.TheVariants as happenings
+use Rattle.node_core.specs.declared.act.Act.{Act}
+use Rattle.node_core.specs.declared.act.Act.TheVariants as acts
+use Rattle.node_core.specs.declared.act.Deed.TheVariants as deeds
+use Rattle.line_step.specs.Lies.{has_lie, tells_lie}
+use Rattle.line_step.specs.Lines.{LineSteps}
+use Rattle.line_step.specs.Numbered.{node_at}
+use Rattle.line_step.specs.Runs.{IsRun, Point, state_behind}
+use Rattle.line_step.specs.State.{LineState}
+use Rattle.one_standing.specs.Standing.{IsFitLine}
+use Rattle.one_standing.proofs.Carrying.{SaysAlone}
+use Rattle.one_standing.proofs.LineForms.{ConnectsBear}
+use Rattle.one_standing.proofs.LineRun.{Stood, line_stood}
+use Rattle.line_history.specs.Offered.{IsLast}
+use Rattle.line_history.proofs.Courses.{IsByHand}
+use Rattle.line_history.proofs.OfferedRun.{AreOffered, line_are_offered, line_keeps_last}
+use Rattle.line_history.proofs.Offering.{settles_act, settles_acts, settles_append}
+use Rattle.line_history.proofs.OfferingWhole.{IsAmong, among_first, among_later}
+use Rattle.line_history.proofs.View.{done_act, done_by}
+use Rattle.twelve_steps.specs.Twelve.{HoldsIt, HoldsItToEnd, KeepsItToEnd, Unless, has_ended, is_settling, tells_settled}
+use Rattle.twelve_steps.specs.Undisturbed.{AreUndisturbed, IsUndisturbed, NamesElsewhere, begins, blank, connects_above, elsewhere, enters, flows_above, flows_below, flows_down, flows_up, leaves, more, notices_above, notices_below, senses, shows, spoils_above, spoils_below}
+use Rattle.twelve_steps.proofs.Running.{lines_after, or_first, or_second}
+
+-- ---- a stretch is of no hand at machine k + 1
+
+elsewhere_hand : (k : ℕ) (line : ScriptLine) → NamesElsewhere k line → IsByHand (k + 1) line → ⊥
+elsewhere_hand k (lines.Insert machine barcode) e here = e.not_below (sym here)
+elsewhere_hand k (lines.Remove machine id) e here = e.not_below (sym here)
+elsewhere_hand k (lines.Replace machine id) e here = e.not_below (sym here)
+elsewhere_hand k (lines.Mark machine id quality) e here = e.not_below (sym here)
+elsewhere_hand k (lines.Signal machine line on) e here = e.not_below (sym here)
+elsewhere_hand k _ e here = absurd here
+
+no_hand : {k : ℕ} {line : ScriptLine} → IsUndisturbed k line → IsByHand (k + 1) line → ⊥
+no_hand flows_up here = absurd here
+no_hand flows_down here = absurd here
+no_hand begins here = absurd here
+no_hand leaves here = absurd here
+no_hand enters here = absurd here
+no_hand senses here = absurd here
+no_hand shows here = absurd here
+no_hand blank here = absurd here
+no_hand {k = k} (elsewhere {line = line} e) here = elsewhere_hand k line e here
+no_hand flows_above here = absurd here
+no_hand flows_below here = absurd here
+no_hand notices_above here = absurd here
+no_hand notices_below here = absurd here
+no_hand spoils_above here = absurd here
+no_hand spoils_below here = absurd here
+no_hand connects_above here = absurd here
+
+-- ---- what is told to settle
+
+still_act : {id : ℕ} (act : Act) (ids : List ℕ) → IsAmong id ids → IsAmong id (settles_act act ids)
+still_act (acts.Deed (deeds.Settles other)) ids is = among_later is
+still_act (acts.Deed (deeds.Opens other)) ids is = is
+still_act (acts.Deed (deeds.Refuses other)) ids is = is
+still_act (acts.Deed (deeds.Leaves other)) ids is = is
+still_act (acts.Deed (deeds.Returns other)) ids is = is
+still_act (acts.Deed (deeds.Loses other)) ids is = is
+still_act (acts.Deed (deeds.Starts other)) ids is = is
+still_act (acts.Deed (deeds.Drops other)) ids is = is
+still_act _ ids is = is
+
+still_among : {id : ℕ} (told : List Act) (ids : List ℕ) → IsAmong id ids → IsAmong id (settles_acts told ids)
+still_among [] ids is = is
+still_among (act ∷ told) ids is = still_among told (settles_act act ids) (still_act act ids is)
+
+and_one : (a b : Bool) → (a && b) ≡ true → a ≡ true
+and_one true b is = refl
+and_one false b is = is
+
+and_two : (a b : Bool) → (a && b) ≡ true → b ≡ true
+and_two true b is = is
+and_two false b is = absurd (let no : false ≡ true = is in cc)
+
+-- the first happening, or a later one
+one_settles : (k id : ℕ) (h : Happening) (ids : List ℕ) → is_settling k id h ≡ true → IsAmong id (settles_acts (done_act (k + 1) h) ids)
+one_settles k id (happenings.Done machine (acts.Deed (deeds.Settles board))) ids is =
+    let here : machine == k + 1 ≡ true = and_one (machine == k + 1) (board == id) is in
+    let same : board ≡ id = eqb-true board id (and_two (machine == k + 1) (board == id) is) in
+    subst (λ (xs : List Act). IsAmong id (settles_acts xs ids)) (sym (own here)) (subst (λ (n : ℕ). IsAmong id (n ∷ ids)) (sym same) among_first) where
+      own : machine == k + 1 ≡ true → done_act (k + 1) (happenings.Done machine (acts.Deed (deeds.Settles board))) ≡ acts.Deed (deeds.Settles board) ∷ []
+      own here = rw here refl
+one_settles k id _ ids is = absurd (let no : false ≡ true = is in cc)
+
+or_more : {X : Type 0} (a b : Bool) → (a || b) ≡ true → (a ≡ true → X) → (b ≡ true → X) → X
+or_more true b is one two = one refl
+or_more false b is one two = two is
+
+told_among : (k id : ℕ) (told : List Happening) (ids : List ℕ) → tells_settled k id told ≡ true → IsAmong id (settles_acts (done_by (k + 1) told) ids)
+told_among k id [] ids is = absurd (let no : false ≡ true = is in cc)
+told_among k id (h ∷ told) ids is =
+    subst (λ (xs : List ℕ). IsAmong id xs) (sym (settles_append (done_act (k + 1) h) (done_by (k + 1) told) ids))
+    (or_more (is_settling k id h) (tells_settled k id told) is (λ one. still_among (done_by (k + 1) told) (settles_acts (done_act (k + 1) h) ids) (one_settles k id h ids one)) (λ later. told_among k id told (settles_acts (done_act (k + 1) h) ids) later))
+
+-- ---- along the stretch
+
+line_keeps : {k : ℕ} {board : Record} {s : LineState} (line : ScriptLine) (point : Point) → IsUndisturbed k line → AreOffered s → HoldsIt k board s → LineSteps (s.lines + 1) line s point.after point.told
+    → tells_settled k board.id point.told ≡ true → IsLast board (node_at point.after (k + 1)).lane.body.kept
+line_keeps {k = k} {board = board} {s = s} line point calm offered holds steps is =
+    let found = line_keeps_last (s.lines + 1) k board.id line s point.after point.told offered steps (no_hand calm) (told_among k board.id point.told [] is) in
+    subst (λ (r : Record). IsLast r (node_at point.after (k + 1)).lane.body.kept) (holds found.0 found.2) found.3
+
+unless_next : (over : Bool) (Held Kept : Type 0) → (Held → Kept) → Unless over Held → Unless over Kept
+unless_next true Held Kept next held = tt
+unless_next false Held Kept next held = next held
+
+pub run_keeps : SaysAlone → ConnectsBear → (k : ℕ) (board : Record) (lines : List ScriptLine) (points : List Point) (settled : Bool) (s : LineState) → Stood s → AreOffered s → AllByRecursion IsFitLine lines → s.lines + length lines ≤ 1000000 → IsRun s lines points → AreUndisturbed k lines → has_lie points ≡ false
+    → HoldsItToEnd k board settled s points → KeepsItToEnd k board settled points
+run_keeps alone connects k board lines [] settled s stood offered fit few run calm honest holds = tt
+run_keeps alone connects k board [] (point ∷ points) settled s stood offered fit few run calm honest holds = absurd run
+run_keeps alone connects k board (line ∷ lines) (point ∷ points) settled s stood offered fit few run (more calm others) honest holds =
+    let here : s.lines + 1 ≤ 1000000 = omega (arith, few) in
+    let first : tells_lie point.told ≡ false = or_first (tells_lie point.told) (has_lie points) honest in
+    let after : Stood point.after = line_stood alone connects (s.lines + 1) line s point.after point.told refl here fit.0 first stood run.0 in
+    let behind : point.after.lines + length lines ≤ 1000000 = omega (arith, few, lines_after (s.lines + 1) line s point.after point.told run.0) in
+    let now : Bool = settled || tells_settled k board.id point.told in (
+      line_keeps line point calm offered holds.0 run.0,
+      unless_next (has_ended k now point.after) (HoldsItToEnd k board now point.after points) (KeepsItToEnd k board now points)
+          (λ later. run_keeps alone connects k board lines points now point.after after (line_are_offered (s.lines + 1) line s point.after point.told stood after run.0 offered) fit.1 behind run.1 others (or_second (tells_lie point.told) (has_lie points) honest) later) holds.1,
+    )
+
+-- what is offered, along the script before
+pub behind_offered : SaysAlone → ConnectsBear → (asked : List ScriptLine) (points : List Point) (s : LineState) → Stood s → AreOffered s → AllByRecursion IsFitLine asked → s.lines + length asked ≤ 1000000 → IsRun s asked points → has_lie points ≡ false → AreOffered (state_behind s points)
+behind_offered alone connects [] [] s stood offered fit few run honest = offered
+behind_offered alone connects [] (point ∷ points) s stood offered fit few run honest = absurd run
+behind_offered alone connects (line ∷ asked) [] s stood offered fit few run honest = absurd run
+behind_offered alone connects (line ∷ asked) (point ∷ points) s stood offered fit few run honest =
+    let here : s.lines + 1 ≤ 1000000 = omega (arith, few) in
+    let first : tells_lie point.told ≡ false = or_first (tells_lie point.told) (has_lie points) honest in
+    let after : Stood point.after = line_stood alone connects (s.lines + 1) line s point.after point.told refl here fit.0 first stood run.0 in
+    let behind : point.after.lines + length asked ≤ 1000000 = omega (arith, few, lines_after (s.lines + 1) line s point.after point.told run.0) in
+    behind_offered alone connects asked points point.after after (line_are_offered (s.lines + 1) line s point.after point.told stood after run.0 offered) fit.1 behind run.1 (or_second (tells_lie point.told) (has_lie points) honest)
