@@ -18,6 +18,7 @@ pub fn copy_of(alloc: Global, act: &Act) -> Result<Act, Memory>
         Act::Connects => Ok(Act::Connects),
         Act::Deed(deed) => Ok(Act::Deed(*deed)),
         Act::Drive(side, on) => Ok(Act::Drive(*side, *on)),
+        Act::Signals(signal, on) => Ok(Act::Signals(*signal, *on)),
         Act::Marks(id, quality) => Ok(Act::Marks(*id, *quality)),
         Act::Inserts(id) => Ok(Act::Inserts(*id)),
         Act::Removes(id) => Ok(Act::Removes(*id)),

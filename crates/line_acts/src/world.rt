@@ -7,7 +7,8 @@ ghost use Rattle.line_world.specs.Boards.{boards_on};
 ghost use Rattle.line_world.specs.Moves.{AnswersFloor};
 ghost use Rattle.line_step.specs.World.{end_of, link_at, link_of, links_more, no_world, piece_for, with_floor, with_link};
 ghost use Rattle.line_step.specs.Acts.{answers_on, changes, drives_on, lays, sends_on, takes_off};
-ghost use Rattle.line_step.specs.Reasons.{has_unread, is_dry_at, is_here, is_loose, link_stands};
+ghost use Rattle.line_step.specs.Reasons.{has_unread, is_bare, is_dry_at, is_here, is_loose, link_stands};
+ghost use Rattle.line_step.specs.Lines.{unseen_on};
 ghost use Rattle.line_step.specs.Together.{is_linked};
 
 use crate::links::{end_of, link_of, place_of};
@@ -172,6 +173,17 @@ impl World {
         !self.floor.unread(machine as usize).is_empty()
     }
 
+    /// Whether a board is to go from a machine and none lies there.
+    pub fn is_bare(&self, machine: u32, side: Side) -> bool
+        requires { IsMachine self.now.floor machine }
+        ensures { result ≡ is_bare machine side self.now }
+    {
+        match side {
+            Side::Entry => false,
+            Side::Exit => self.floor.list(machine as usize).get(0).is_none(),
+        }
+    }
+
     // ---- what befalls links
 
     /// A machine sends a message at a side. `Memory` where there is no room for it.
@@ -329,6 +341,21 @@ impl World {
         ensures { OnOk result (self.new ≡ with_floor (with_unread self.old.floor machine ((machine_at self.old.floor machine).unread ++ sensed ∷ [])) self.old) }
     {
         self.floor.lie(machine as usize, sensed)
+    }
+
+    /// A board without id comes to a machine's back, or its front board goes, and no sensor sees it. `Memory` where there
+    /// is no room for it.
+    pub fn unseen(&mut self, machine: u32, side: Side) -> Result<(), Memory>
+        requires { IsMachine self.old.floor machine }
+        ensures { OnOk result (self.new ≡ with_floor (unseen_on machine side self.old.floor) self.old) }
+    {
+        match side {
+            Side::Entry => self.floor.place(machine as usize, Board { id: None }),
+            Side::Exit => {
+                let _gone = self.floor.unseen_out(machine as usize);
+                Ok(())
+            }
+        }
     }
 
     // ---- what is counted

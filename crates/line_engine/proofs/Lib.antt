@@ -1,10 +1,12 @@
 pub mod Along
 pub mod Backwards
+pub mod Behind
 pub mod Counted
 pub mod Followed
 pub mod Following
 pub mod Keeping
 pub mod Naming
+pub mod Orders
 pub mod Patched
 pub mod Places
 pub mod Restored

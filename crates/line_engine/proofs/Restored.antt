@@ -17,10 +17,9 @@ use Rattle.line_step.specs.State.{LineState, owned, owned_by}
 use Rattle.line_step.specs.Steps.{MachineSteps}
 use Rattle.line_step.specs.Reasons.{May, may_add}
 use Rattle.line_step.specs.Named.{ids_named}
-use Rattle.line_step.specs.Lines.{Becomes, Connects, Flows, LineDoes, Moves, Unless, arrived, connecting, cut_in, lied, moved, spoiled}
+use Rattle.line_step.specs.Lines.{Becomes, Connects, Flows, LineDoes, Moves, Unless, arrived, connecting, cut_in, lied, moved, spoiled, unseen}
 use Rattle.line_step.proofs.Ascending.{choose_true}
 use Rattle.line_report.specs.declared.happening.Happening.{Happening}
-use Rattle.line_report.specs.declared.happening.Happening.TheVariants as happenings
 use Rattle.line_engine.specs.Stepped.{first_stepped, last_stepped, owned_between}
 
 -- ---- what machines had, put back
@@ -121,20 +120,22 @@ moved_owned (Err why) s = refl
 moves_board : (gap : ℕ) (step : Move) (before after : LineState) (told : List Happening) → Moves gap step before after told → Restores 0 0 before after
 moves_board gap step before after told b = unchanged 0 0 before (moved (floor_move gap step before.world.floor) before) after _ told (moved_owned (floor_move gap step before.world.floor) before) b
 
-added : (may : May) (before next after : LineState) (machine capacity : ℕ) (told : List Happening) → Unless may before after told (Becomes next (happenings.Machine machine capacity ∷ []) after told) → ids_named told ≡ []
-added (Err reason) before next after machine capacity told u = ap ids_named u.told_is
-added (Ok _) before next after machine capacity told u = ap ids_named u.told_is
+added : (may : May) (before next after : LineState) (what told : List Happening) → ids_named what ≡ [] → Unless may before after told (Becomes next what after told) → ids_named told ≡ []
+added (Err reason) before next after what told none u = ap ids_named u.told_is
+added (Ok _) before next after what told none u = ap ids_named u.told_is ∙ none
 
--- what a machine line tells names no id; all others restore what was
+-- what the line of a new machine tells names no id; all others restore what was
 pub restores : (number : ℕ) (line : ScriptLine) (before after : LineState) (told : List Happening) → LineDoes number line before after told → Restores (first_stepped line) (last_stepped line) before after ⊎ (ids_named told ≡ [])
 restores number lines.Blank before after told d = inl (unchanged 0 0 before before after _ told refl d)
-restores number (lines.Machine capacity used) before after told d = inr (added (may_add before) before _ after _ capacity told d)
+restores number (lines.Machine capacity used) before after told d = inr (added (may_add before) before _ after _ told refl d)
+restores number (lines.Bridge capacity used) before after told d = inr (added (may_add before) before _ after _ told refl d)
 restores number (lines.Insert machine _) before after told d = inl (unless machine machine _ before after told _ (one_step number machine _ before before after told refl) d)
 restores number (lines.Remove machine _) before after told d = inl (unless machine machine _ before after told _ (one_step number machine _ before before after told refl) d)
 restores number (lines.Replace machine _) before after told d = inl (unless machine machine _ before after told _ (one_step number machine _ before before after told refl) d)
 restores number (lines.Mark machine _ _) before after told d = inl (unless machine machine _ before after told _ (one_step number machine _ before before after told refl) d)
 restores number (lines.Hold machine _) before after told d = inl (unless machine machine _ before after told _ (one_step number machine _ before before after told refl) d)
 restores number (lines.Go machine _) before after told d = inl (unless machine machine _ before after told _ (one_step number machine _ before before after told refl) d)
+restores number (lines.Signal machine _ _) before after told d = inl (unless machine machine _ before after told _ (one_step number machine _ before before after told refl) d)
 restores number (lines.Connect machine) before after told d = inl (unless (machine - 1) machine _ before after told _ (connects number machine before after told) d)
 restores number (lines.Flow machine side count) before after told d =
     inl (unless machine machine _ before after told (Flows number machine side count before after told) (λ f. one_step number machine _ before (arrived machine side count before) after told refl f.steps) d)
@@ -152,4 +153,7 @@ restores number (lines.Back gap) before after told d = inl (moves_board gap move
 restores number (lines.HandIn gap) before after told d = inl (moves_board gap moves.HandIn before after told d)
 restores number (lines.Take gap) before after told d = inl (moves_board gap moves.Take before after told d)
 restores number (lines.Lie machine sensed) before after told d = inl (unless 0 0 _ before after told _ (unchanged 0 0 before (lied number machine sensed before) after _ told refl) d)
+restores number (lines.Unseen machine side) before after told d = inl (unless 0 0 _ before after told _ (unchanged 0 0 before (unseen number machine side before) after _ told refl) d)
 restores number lines.Show before after told d = inl (unchanged 0 0 before before after _ told refl d)
+restores number (lines.Forecast machine) before after told d = inl (unless machine machine _ before after told _ (one_step number machine _ before before after told refl) d)
+restores number (lines.Query machine _) before after told d = inl (unless machine machine _ before after told _ (one_step number machine _ before before after told refl) d)

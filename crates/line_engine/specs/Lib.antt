@@ -3,3 +3,4 @@ pub mod Stepped
 pub mod Indexed
 pub mod Kept
 pub mod Opens
+pub mod Blames

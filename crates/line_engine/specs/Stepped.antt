@@ -20,6 +20,7 @@ last_stepped (lines.Replace machine id) = machine
 last_stepped (lines.Mark machine id quality) = machine
 last_stepped (lines.Hold machine side) = machine
 last_stepped (lines.Go machine side) = machine
+last_stepped (lines.Signal machine line on) = machine
 last_stepped (lines.Connect machine) = machine
 last_stepped (lines.Flow machine side count) = machine
 last_stepped (lines.Notice machine side) = machine
@@ -27,6 +28,8 @@ last_stepped (lines.Shutdown machine) = machine
 last_stepped (lines.Tick machine) = machine
 last_stepped (lines.Fault machine side) = machine
 last_stepped (lines.Sense machine) = machine
+last_stepped (lines.Forecast machine) = machine
+last_stepped (lines.Query machine barcode) = machine
 last_stepped _ = 0
 
 abbrev pub first_stepped : ScriptLine → ℕ

@@ -1,4 +1,5 @@
 ghost use Rattle.std.specs.Prelude.{◌≡◌, ◌+◌, ◌≤◌, ℕ, None, true, false, IfOk, IsErr, OnErr, length};
+ghost use Rattle.first_in_first_out.specs.Along.{GoInOrder};
 ghost use Rattle.line_link.specs.Flow.{coming};
 ghost use Rattle.line_link.specs.Link.{flow_to};
 ghost use Rattle.line_step.specs.World.{end_of, link_at, link_of};
@@ -7,9 +8,11 @@ ghost use Rattle.line_script.specs.declared.line.ScriptLine.TheVariants as lines
 ghost use Rattle.line_step.specs.Lines.{LineSteps};
 ghost use Rattle.line_step.specs.State.{marks_in, no_line};
 ghost use Rattle.line_step.specs.Views.{standing_in, summary_of};
+ghost use Rattle.one_standing.specs.Contents.{IsMarked, KeepsContents};
 ghost use Rattle.one_standing.specs.Facts.{HasCustodyFacts};
 ghost use Rattle.one_standing.specs.Reached.{FollowsLine, HasUniqueIds, IsReached};
 ghost use Rattle.one_standing.specs.Standing.{HasOneStanding, IsFitLine};
+ghost use Rattle.line_engine.specs.Blames.{BlamesNext};
 ghost use Rattle.line_engine.specs.Opens.{OpensNext};
 
 use crate::index::Index;
@@ -79,10 +82,17 @@ impl Line {
         ensures standing { IfOk result (λ _. self.new.unvouched ≡ None → HasOneStanding self.new) }
         // and then where its board lies, and whose half holds it
         ensures custody { IfOk result (λ _. self.new.unvouched ≡ None → HasCustodyFacts self.new) }
+        // each machine lets its boards go in the order in which they came to it
+        ensures order { IfOk result (λ told. self.new.unvouched ≡ None → GoInOrder self.old self.new told) }
         // no two boards share an id, and each id was made by a machine of the line
         ensures ids { IfOk result (λ _. HasUniqueIds self.new) }
         // what it told of records leads from the marks before it to the marks after it
         ensures ledger { IfOk result (λ told. self.new.unvouched ≡ None → FollowsLine self.old self.new told) }
+        // a record that a machine keeps changes only where the line marks its board
+        ensures contents { IfOk result (λ told.
+            self.new.unvouched ≡ None → KeepsContents (IsMarked told) self.old self.new) }
+        // a breach is told only of a side to which a spoiled text flowed in a line before
+        ensures blame { IfOk result (λ told. self.new.unvouched ≡ None → BlamesNext self.old told) }
         // a handover opens exactly when board and place are announced, behind a lie too
         ensures opens { IfOk result (OpensNext self.old) }
     {
@@ -91,8 +101,11 @@ impl Line {
         }
         self.spent = true;
         self.state.unspent();
+        first_in_first_out::laws::each_line_keeps_the_order();
         is_fit(line);
         one_standing::laws::what_a_run_leads_to();
+        one_standing::laws::contents_are_kept_over_each_line();
+        one_standing::laws::a_breach_is_told_only_behind_a_spoiled_text();
         line_openings::laws::a_machine_opens_exactly_when_announced();
         let mut told = self.state.do_line(number, line)?;
         self.index
@@ -147,8 +160,15 @@ fn is_fit(line: &ScriptLine)
 {
     match line {
         ScriptLine::Insert { barcode, .. } => is_text(barcode),
+        ScriptLine::Query { barcode, .. } => is_asked(barcode),
         _ => {}
     }
+}
+
+fn is_asked(barcode: &Text)
+    ensures { (machine : ℕ) → IsFitLine (lines.Query machine barcode.now) }
+{
+    let _bytes = barcode.bytes();
 }
 
 fn is_text(barcode: &Option<Text>)

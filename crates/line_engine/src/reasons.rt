@@ -3,7 +3,7 @@
 ghost use Rattle.std.specs.Prelude.{◌≡◌};
 ghost use Rattle.node_core.specs.declared.input.Input.TheVariants as inputs;
 ghost use Rattle.node_core.specs.May.{may_of};
-ghost use Rattle.line_step.specs.Reasons.{behind_own, has_link, has_neighbour, may_add, may_connect, may_cut, may_do, may_flow, may_give, may_lie, may_notice, may_remove, may_replace, may_sense, may_spoil};
+ghost use Rattle.line_step.specs.Reasons.{behind_own, has_link, has_neighbour, may_add, may_connect, may_cut, may_do, may_flow, may_give, may_lie, may_notice, may_remove, may_replace, may_sense, may_spoil, may_unseen};
 ghost use Rattle.line_step.specs.Together.{IsLineTogether};
 
 use crate::state::State;
@@ -203,7 +203,7 @@ impl State {
             return Err(Reason::Node(No::NotConnected));
         }
         if !self.world.stands_at(machine, side) {
-            return Err(Reason::NotStanding);
+            return Err(Reason::Node(No::NotStanding));
         }
         Ok(())
     }
@@ -218,6 +218,23 @@ impl State {
         };
         if !self.world.has_unread(machine) {
             return Err(Reason::NothingToRead);
+        }
+        Ok(())
+    }
+
+    /// `NoSuchMachine`, `NotABridge`, and for a board that is to go `NothingThere`.
+    pub(crate) fn may_unseen(&self, machine: u32, side: Side) -> Result<(), Reason>
+        requires { IsLineTogether self.now }
+        ensures { result ≡ may_unseen machine side self.now }
+    {
+        let Some(node) = self.machine(machine) else {
+            return Err(Reason::NoSuchMachine);
+        };
+        if !node.is_bridge() {
+            return Err(Reason::Node(No::NotABridge));
+        }
+        if self.world.is_bare(machine, side) {
+            return Err(Reason::Move(MoveNo::NothingThere));
         }
         Ok(())
     }

@@ -46,12 +46,15 @@ pub fn stepped(line: &ScriptLine) -> Span
         ScriptLine::Mark { machine, .. } => Span::one(*machine),
         ScriptLine::Hold { machine, .. } => Span::one(*machine),
         ScriptLine::Go { machine, .. } => Span::one(*machine),
+        ScriptLine::Signal { machine, .. } => Span::one(*machine),
         ScriptLine::Flow { machine, .. } => Span::one(*machine),
         ScriptLine::Notice { machine, .. } => Span::one(*machine),
         ScriptLine::Shutdown { machine } => Span::one(*machine),
         ScriptLine::Tick { machine } => Span::one(*machine),
         ScriptLine::Fault { machine, .. } => Span::one(*machine),
         ScriptLine::Sense { machine } => Span::one(*machine),
+        ScriptLine::Forecast { machine } => Span::one(*machine),
+        ScriptLine::Query { machine, .. } => Span::one(*machine),
         _ => Span::one(0),
     }
 }

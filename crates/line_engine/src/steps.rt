@@ -1,17 +1,17 @@
 //! What a line of the script does.
 
-ghost use Rattle.std.specs.Prelude.{◌≡◌, ◌+◌, ◌-◌, ◌≤◌, ◌<◌, ◌^◌, ℕ, [], ◌∷◌, ◌++◌, IfOk, OnOk, length, true};
+ghost use Rattle.std.specs.Prelude.{◌≡◌, ◌+◌, ◌-◌, ◌≤◌, ◌<◌, ◌^◌, ◌||◌, ℕ, [], ◌∷◌, ◌++◌, IfOk, OnOk, length, true};
 ghost use Rattle.node_core.specs.Node.{new_node};
 ghost use Rattle.node_core.specs.declared.input.Input.TheVariants as inputs;
 ghost use Rattle.line_report.specs.declared.happening.Happening.TheVariants as happenings;
 ghost use Rattle.line_script.specs.Ranges.{IsWithin};
-ghost use Rattle.line_step.specs.Lines.{Becomes, Connects, Flows, LineDoes, Moves, Unless, cut_in, first_of, lied, spoil_told, spoiled, unvouched_told};
-ghost use Rattle.line_step.specs.Reasons.{may_add, may_connect, may_cut, may_do, may_flow, may_give, may_lie, may_notice, may_remove, may_replace, may_sense, may_spoil};
+ghost use Rattle.line_step.specs.Lines.{Becomes, Connects, Flows, LineDoes, Moves, Unless, cut_in, first_of, lied, spoil_told, spoiled, unseen, unvouched_told};
+ghost use Rattle.line_step.specs.Reasons.{may_add, may_connect, may_cut, may_do, may_flow, may_give, may_lie, may_notice, may_remove, may_replace, may_sense, may_spoil, may_unseen};
 ghost use Rattle.line_step.specs.Shown.{shown};
 ghost use Rattle.line_step.specs.State.{one_more, profile_of};
 ghost use Rattle.line_step.specs.Steps.{MachineSteps};
 ghost use Rattle.line_step.specs.Together.{IsLineTogether};
-ghost use Rattle.line_engine.specs.Given.{IsGiven, is_move};
+ghost use Rattle.line_engine.specs.Given.{IsGiven, is_given, is_move, made_told};
 
 use crate::show::show_all;
 use crate::state::State;
@@ -21,7 +21,7 @@ use line_base::{Memory, Side, Text};
 use line_report::{Happened, Happening, Reason};
 use line_script::ScriptLine;
 use line_world::{Move, MoveError};
-use node_core::{Input, Node, NodeProfile};
+use node_core::{Input, Node, NodeProfile, SegmentLine};
 use std::alloc::Global;
 use std::io::Write;
 
@@ -35,17 +35,10 @@ impl State {
     {
         match line {
             ScriptLine::Blank => Ok(Happened::new(self.alloc)),
-            ScriptLine::Machine { capacity, used } => self.add_machine(*capacity, *used),
-            ScriptLine::Insert { machine, barcode } => self.insert(number, *machine, barcode),
+            ScriptLine::Machine { capacity, used } => self.add_machine(false, *capacity, *used),
+            ScriptLine::Bridge { capacity, used } => self.add_machine(true, *capacity, *used),
             ScriptLine::Remove { machine, id } => self.remove(number, *machine, *id),
             ScriptLine::Replace { machine, id } => self.replace(number, *machine, *id),
-            ScriptLine::Mark {
-                machine,
-                id,
-                quality,
-            } => self.give(number, *machine, Input::Mark(*id, *quality)),
-            ScriptLine::Hold { machine, side } => self.will(number, *machine, *side, false),
-            ScriptLine::Go { machine, side } => self.will(number, *machine, *side, true),
             ScriptLine::Connect { machine } => self.connect(number, *machine),
             ScriptLine::Flow {
                 machine,
@@ -55,12 +48,36 @@ impl State {
             ScriptLine::Notice { machine, side } => self.notice(number, *machine, *side),
             ScriptLine::Cut { gap } => self.cut(*gap),
             ScriptLine::Spoil { machine, side } => self.spoil(*machine, *side),
+            ScriptLine::Sense { machine } => self.sense(number, *machine),
+            ScriptLine::Lie { machine, sensed } => self.lie(number, *machine, *sensed),
+            ScriptLine::Unseen { machine, side } => self.unseen(number, *machine, *side),
+            ScriptLine::Show => self.show(),
+            _ => self.do_given(number, line),
+        }
+    }
+
+    /// Does a line that gives a machine an input against which it alone can tell all reasons, or moves a board.
+    fn do_given(&mut self, number: u64, line: &ScriptLine) -> Result<Happened, Memory>
+        requires few { number ≤ 1000000 }
+        requires given { (is_given line.now || is_move line.now) ≡ true }
+        requires together { IsLineTogether self.old }
+        ensures { IfOk result (LineDoes number line.now self.old self.new) }
+    {
+        match line {
+            ScriptLine::Insert { machine, barcode } => self.insert(number, *machine, barcode),
+            ScriptLine::Mark {
+                machine,
+                id,
+                quality,
+            } => self.give(number, *machine, Input::Mark(*id, *quality)),
+            ScriptLine::Hold { machine, side } => self.will(number, *machine, *side, false),
+            ScriptLine::Go { machine, side } => self.will(number, *machine, *side, true),
+            ScriptLine::Signal { machine, line, on } => self.signal(number, *machine, *line, *on),
             ScriptLine::Shutdown { machine } => self.give(number, *machine, Input::Shutdown),
             ScriptLine::Tick { machine } => self.give(number, *machine, Input::Tick),
             ScriptLine::Fault { machine, side } => self.fault(number, *machine, *side),
-            ScriptLine::Lie { machine, sensed } => self.lie(number, *machine, *sensed),
-            ScriptLine::Sense { machine } => self.sense(number, *machine),
-            ScriptLine::Show => self.show(),
+            ScriptLine::Forecast { machine } => self.give(number, *machine, Input::Forecast),
+            ScriptLine::Query { machine, barcode } => self.query(number, *machine, barcode),
             _ => self.do_move(line),
         }
     }
@@ -99,20 +116,21 @@ impl State {
 
     // ---- machines
 
-    fn add_machine(&mut self, capacity: u32, used: u64) -> Result<Happened, Memory>
+    /// One machine more, which is a bridge or none.
+    fn add_machine(&mut self, is_bridge: bool, capacity: u32, used: u64) -> Result<Happened, Memory>
         requires least { 1 ≤ capacity }
         requires most { capacity ≤ 1024 }
         requires used { used < 2 ^ 48 }
         requires together { IsLineTogether self.old }
-        ensures { IfOk result (λ told. Unless (may_add self.old) self.old self.new told (Becomes (one_more capacity used self.old) (happenings.Machine (length self.old.machines + 1) capacity ∷ []) self.new told)) }
+        ensures { IfOk result (λ told. Unless (may_add self.old) self.old self.new told (Becomes (one_more is_bridge capacity used self.old) (made_told is_bridge (length self.old.machines + 1) capacity ∷ []) self.new told)) }
     {
         if let Err(reason) = self.may_add() {
             return self.refuse(reason);
         }
         let number = self.machines.len() as u32 + 1;
         self.world.add_machine()?;
-        add_node(&mut self.machines, number, capacity, used)?;
-        self.only(Happening::Machine { number, capacity })
+        add_node(&mut self.machines, is_bridge, number, capacity, used)?;
+        self.only(made(is_bridge, number, capacity))
     }
 
     /// A machine is given an input, unless a reason stands against it.
@@ -182,6 +200,31 @@ impl State {
         ensures { IfOk result (λ told. Unless (may_give machine (inputs.Will side on) self.old) self.old self.new told (MachineSteps number machine (inputs.Will side on) self.old self.new told)) }
     {
         self.give(number, machine, Input::Will(side, on))
+    }
+
+    /// The segment of a bridge switches one of its signals.
+    fn signal(
+        &mut self,
+        number: u64,
+        machine: u32,
+        line: SegmentLine,
+        on: bool,
+    ) -> Result<Happened, Memory>
+        requires few { number ≤ 1000000 }
+        requires together { IsLineTogether self.old }
+        ensures { IfOk result (λ told. Unless (may_give machine (inputs.Level line on) self.old) self.old self.new told (MachineSteps number machine (inputs.Level line on) self.old self.new told)) }
+    {
+        self.give(number, machine, Input::Level(line, on))
+    }
+
+    /// A machine asks its upstream neighbour for the board with a barcode.
+    fn query(&mut self, number: u64, machine: u32, barcode: &Text) -> Result<Happened, Memory>
+        requires few { number ≤ 1000000 }
+        requires together { IsLineTogether self.old }
+        ensures { IfOk result (λ told. Unless (may_give machine (inputs.Query barcode.now) self.old) self.old self.new told (MachineSteps number machine (inputs.Query barcode.now) self.old self.new told)) }
+    {
+        let barcode = barcode.copy(self.alloc)?;
+        self.give(number, machine, Input::Query(barcode))
     }
 
     /// The drive at a side fails.
@@ -287,7 +330,21 @@ impl State {
         self.doubt(number, told)
     }
 
-    /// The first lie is told as the one from which on nobody vouches for the standings.
+    /// A board comes out of a bridge's segment, or goes into it, and no sensor sees it.
+    fn unseen(&mut self, number: u64, machine: u32, side: Side) -> Result<Happened, Memory>
+        requires { IsLineTogether self.old }
+        ensures { IfOk result (λ told. Unless (may_unseen machine side self.old) self.old self.new told (Becomes (unseen number machine side self.old) (happenings.Unseen machine side ∷ unvouched_told self.old.unvouched) self.new told)) }
+    {
+        if let Err(reason) = self.may_unseen(machine, side) {
+            return self.refuse(reason);
+        }
+        self.world.unseen(machine, side)?;
+        let told = self.only(Happening::Unseen { machine, side })?;
+        self.doubt(number, told)
+    }
+
+    /// The first line that told what was not so, or moved a board unseen, is told as the one from which on nobody vouches
+    /// for the standings.
     fn doubt(&mut self, number: u64, mut told: Happened) -> Result<Happened, Memory>
         ensures told { IfOk result (λ more. more ≡ told ++ unvouched_told self.old.unvouched) }
         ensures after { IfOk result (λ _. self.new ≡ record self.old { unvouched = first_of number self.old.unvouched }) }
@@ -321,14 +378,30 @@ fn copy_of(alloc: Global, barcode: &Option<Text>) -> Result<Option<Text>, Memory
     }
 }
 
+/// A machine, or a bridge, was added.
+fn made(is_bridge: bool, number: u32, capacity: u32) -> Happening
+    ensures { result ≡ made_told is_bridge number capacity }
+{
+    if is_bridge {
+        return Happening::Bridge { number, capacity };
+    }
+    Happening::Machine { number, capacity }
+}
+
 /// One machine more. `Memory` where there is no room for it.
-fn add_node(machines: &mut Vec<Node>, number: u32, capacity: u32, used: u64) -> Result<(), Memory>
+fn add_node(
+    machines: &mut Vec<Node>,
+    is_bridge: bool,
+    number: u32,
+    capacity: u32,
+    used: u64,
+) -> Result<(), Memory>
     requires least { 1 ≤ capacity }
     requires most { capacity ≤ 1024 }
     requires used { used < 2 ^ 48 }
-    ensures { OnOk result (machines.new.items ≡ machines.old.items ++ new_node (profile_of number capacity used) ∷ []) }
+    ensures { OnOk result (machines.new.items ≡ machines.old.items ++ new_node (profile_of is_bridge number capacity used) ∷ []) }
 {
-    let node = new_node(*machines.allocator(), number, capacity, used)?;
+    let node = new_node(*machines.allocator(), is_bridge, number, capacity, used)?;
     match machines.push(node) {
         Ok(()) => Ok(()),
         Err(_) => Err(Memory),
@@ -337,11 +410,17 @@ fn add_node(machines: &mut Vec<Node>, number: u32, capacity: u32, used: u64) -> 
 
 /// A machine of the line: its id text is `M` and its number.
 #[tactic(auto, using(crate::proofs::Naming::name_is_plain))]
-fn new_node(alloc: Global, number: u32, capacity: u32, used: u64) -> Result<Node, Memory>
+fn new_node(
+    alloc: Global,
+    is_bridge: bool,
+    number: u32,
+    capacity: u32,
+    used: u64,
+) -> Result<Node, Memory>
     requires least { 1 ≤ capacity }
     requires most { capacity ≤ 1024 }
     requires used { used < 2 ^ 48 }
-    ensures { IfOk result (λ node. node ≡ new_node (profile_of number capacity used)) }
+    ensures { IfOk result (λ node. node ≡ new_node (profile_of is_bridge number capacity used)) }
 {
     let mut name = Vec::new(alloc);
     match write!(name, "M{number}") {
@@ -354,7 +433,7 @@ fn new_node(alloc: Global, number: u32, capacity: u32, used: u64) -> Result<Node
         lane: 1,
         capacity,
         used,
-        bridge: false,
+        bridge: is_bridge,
     };
     Node::new(alloc, profile)
 }

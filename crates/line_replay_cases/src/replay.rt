@@ -130,7 +130,7 @@ impl Replay {
 
 fn is_lie(happening: &Happening) -> bool {
     match happening {
-        Happening::Lie { .. } => true,
+        Happening::Lie { .. } | Happening::Unseen { .. } => true,
         _ => false,
     }
 }

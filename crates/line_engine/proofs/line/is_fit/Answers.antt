@@ -5,3 +5,6 @@ use Rattle.line_engine.proofs.line.is_fit.Goals as goal
 
 pub returns-in-Insert : goal.returns-in-Insert
 returns-in-Insert c = subst (λ (line : ScriptLine). IsFitLine line) (sym c.in-Insert.is) (c.is_text.ensures c.in-Insert.machine)
+
+pub returns-in-Query : goal.returns-in-Query
+returns-in-Query c = subst (λ (line : ScriptLine). IsFitLine line) (sym c.in-Query.is) (c.is_asked.ensures c.in-Query.machine)

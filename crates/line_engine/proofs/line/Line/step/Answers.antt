@@ -8,9 +8,11 @@ use Rattle.line_step.proofs.Keeps.{does_together}
 use Rattle.line_engine.specs.Indexed.{IsIndexOf}
 use Rattle.line_engine.specs.Kept.{IsKept}
 use Rattle.line_engine.specs.Stepped.{changed_told}
+use Rattle.line_engine.proofs.Behind.{step_blames, step_contents}
 use Rattle.line_engine.proofs.Followed.{follows_as}
 use Rattle.line_engine.proofs.Counted.{line_steps, steps_as}
 use Rattle.line_engine.proofs.Keeping.{Step, step_follows, step_keeps, step_opens, step_seen}
+use Rattle.line_engine.proofs.Orders.{step_orders}
 use Rattle.line_engine.proofs.line.Line.step.Goals as goal
 use Rattle.line_engine.proofs.line.Line.step.Goals.{After-unspent-2}
 
@@ -55,6 +57,9 @@ returns-clause-standing c = (step_seen (step_of (goal.at.returns-clause-standing
 pub returns-clause-custody : goal.returns-clause-custody
 returns-clause-custody c = (step_seen (step_of (goal.at.returns-clause-custody c).After-unspent-2)).custody
 
+pub returns-clause-order : goal.returns-clause-order
+returns-clause-order c = λ none. rw (← c.self.view_is) (step_orders (step_of (goal.at.returns-clause-order c).After-unspent-2) c.each_line_keeps_the_order.ensures c.self.inside.spent c.if-self.false none)
+
 pub returns-clause-ids : goal.returns-clause-ids
 returns-clause-ids c = (step_seen (step_of (goal.at.returns-clause-ids c).After-unspent-2)).ids
 
@@ -63,3 +68,9 @@ returns-clause-ledger c = λ none. rw (← c.self.view_is) (step_follows (step_o
 
 pub returns-clause-opens : goal.returns-clause-opens
 returns-clause-opens c = rw (← c.self.view_is) (step_opens (step_of (goal.at.returns-clause-opens c).After-unspent-2) c.a_machine_opens_exactly_when_announced.ensures c.self.inside.spent c.if-self.false)
+
+pub returns-clause-contents : goal.returns-clause-contents
+returns-clause-contents c = λ none. rw (← c.self.view_is) (step_contents (step_of (goal.at.returns-clause-contents c).After-unspent-2) c.contents_are_kept_over_each_line.ensures c.self.inside.spent c.if-self.false none)
+
+pub returns-clause-blame : goal.returns-clause-blame
+returns-clause-blame c = λ none. rw (← c.self.view_is) (step_blames (step_of (goal.at.returns-clause-blame c).After-unspent-2) c.a_breach_is_told_only_behind_a_spoiled_text.ensures c.self.inside.spent c.if-self.false none)

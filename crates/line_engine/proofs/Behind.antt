@@ -1,0 +1,112 @@
+-- What the laws over runs say of the line behind a run.
+use Rattle.std.proofs.Common.{Bool, List, None, Option, ap, append-nil, append_assoc, arith, false, length, refl, subst, sym, ℕ, [], ◌++◌, ◌+◌, ◌∙◌, ◌∷◌, ◌≡◌, ◌≤◌}
+use Rattle.std.proofs.lemmas.List.{take_all}
+use Rattle.std.specs.Prelude.{is_some, take}
+use Rattle.std.specs.List.{AllByRecursion}
+use Rattle.line_script.specs.declared.line.ScriptLine.{ScriptLine}
+use Rattle.line_report.specs.declared.happening.Happening.{Happening}
+use Rattle.line_step.specs.Lies.{has_lie}
+use Rattle.line_step.specs.Lines.{LineSteps}
+use Rattle.line_step.specs.Runs.{IsRun, Point, state_behind}
+use Rattle.line_step.specs.State.{LineState, no_line}
+use Rattle.line_step.proofs.Vouching.{lies_remembered}
+use Rattle.line_openings.specs.Announced.{all_told}
+use Rattle.one_standing.specs.Blame.{AreBlamesTrue, IsBlameTrue, NoFalseBlame}
+use Rattle.one_standing.specs.Contents.{AreContentsKept, ContentsAreKept, IsMarked, KeepsContents}
+use Rattle.one_standing.specs.Reached.{IsReached}
+use Rattle.one_standing.specs.Standing.{IsFitLine}
+use Rattle.one_standing.proofs.Reaching.{behind_more, lines_more, run_more}
+use Rattle.line_engine.specs.Blames.{BlamesNext}
+use Rattle.line_engine.specs.Indexed.{Entries}
+use Rattle.line_engine.proofs.Keeping.{Step, as_seen}
+
+fit_more : (asked : List ScriptLine) (line : ScriptLine) → AllByRecursion IsFitLine asked → IsFitLine line → AllByRecursion IsFitLine (asked ++ line ∷ [])
+fit_more [] line fit one = (one, tt)
+fit_more (first ∷ asked) line fit one = (fit.0, fit_more asked line fit.1 one)
+
+length_more : (asked : List ScriptLine) (line : ScriptLine) → length (asked ++ line ∷ []) ≡ length asked + 1
+length_more [] line = refl
+length_more (first ∷ asked) line = let rest = length_more asked line in omega (arith, rest)
+
+-- as many lines were counted as the run has
+lines_run : (s : LineState) (asked : List ScriptLine) (points : List Point) → IsRun s asked points → (state_behind s points).lines ≡ s.lines + length asked
+lines_run s [] [] run = omega arith
+lines_run s [] (point ∷ points) run = absurd run
+lines_run s (line ∷ asked) [] run = absurd run
+lines_run s (line ∷ asked) (point ∷ points) run =
+    let here = lines_more (s.lines + 1) line s point.after point.told run.0 in
+    let rest = lines_run point.after asked points run.1 in
+    omega (arith, here, rest)
+
+-- ---- a run with the line behind it, as the laws ask for it
+
+record Longer (line : ScriptLine) (after : LineState) (told : List Happening) (asked : List ScriptLine) (points : List Point) : Type 0 where
+  fit : AllByRecursion IsFitLine (asked ++ line ∷ [])
+  few : length (asked ++ line ∷ []) ≤ 1000000
+  run : IsRun no_line (asked ++ line ∷ []) (points ++ record { told = told; after = after } ∷ [])
+  honest : has_lie (points ++ record { told = told; after = after } ∷ []) ≡ false
+
+longer : (line : ScriptLine) (before after : LineState) (told : List Happening) (asked : List ScriptLine) (points : List Point) → IsFitLine line → before.lines + 1 ≤ 1000000 → LineSteps (before.lines + 1) line before after told → after.unvouched ≡ None
+    → AllByRecursion IsFitLine asked → IsRun no_line asked points → state_behind no_line points ≡ before → Longer line after told asked points
+longer line before after told asked points one few steps none fit run behind =
+    let point : Point = record { told = told; after = after } in
+    let more : IsRun no_line (asked ++ line ∷ []) (points ++ point ∷ []) = run_more no_line asked points line point run (subst (λ (s : LineState). LineSteps (s.lines + 1) line s after told) (sym behind) steps) in
+    let lines = lines_run no_line asked points run in
+    let counted = ap (λ (s : LineState). s.lines) behind in
+    let long = length_more asked line in
+    record {
+      fit = fit_more asked line fit one;
+      few = omega (arith, few, lines, counted, long);
+      run = more;
+      honest = sym (lies_remembered (asked ++ line ∷ []) (points ++ point ∷ []) more) ∙ ap (λ (s : LineState). is_some s.unvouched) (behind_more no_line points point) ∙ ap (λ (o : Option ℕ). is_some o) none;
+    }
+
+-- all of the points
+all_points : (points : List Point) → take (length points) points ≡ points
+all_points points = take_all (length points) points (omega arith)
+
+-- ---- contents
+
+contents_last : (s : LineState) (points : List Point) (point : Point) → AreContentsKept s (points ++ point ∷ []) → KeepsContents (IsMarked point.told) (state_behind s points) point.after
+contents_last s [] point all = all.0
+contents_last s (first ∷ points) point all = contents_last first.after points point all.1
+
+pub contents_line : ContentsAreKept → (line : ScriptLine) (before after : LineState) (told : List Happening) → IsReached before → IsFitLine line → before.lines + 1 ≤ 1000000 → LineSteps (before.lines + 1) line before after told → after.unvouched ≡ None
+    → KeepsContents (IsMarked told) before after
+contents_line law line before after told was one few steps none =
+    let point : Point = record { told = told; after = after } in
+    let l : Longer line after told was.asked was.points = longer line before after told was.asked was.points one few steps none was.fit was.run was.behind in
+    let points : List Point = was.points ++ point ∷ [] in
+    let all : AreContentsKept no_line points = subst (λ (ps : List Point). AreContentsKept no_line ps) (all_points points) (law (was.asked ++ line ∷ []) points (length points) l.fit l.few l.run (subst (λ (ps : List Point). has_lie ps ≡ false) (sym (all_points points)) l.honest)) in
+    subst (λ (s : LineState). KeepsContents (IsMarked told) s after) was.behind (contents_last no_line was.points point all)
+
+-- ---- blame
+
+blame_last : (past : List Happening) (points : List Point) (point : Point) → AreBlamesTrue past (points ++ point ∷ []) → IsBlameTrue (past ++ all_told points) point.told
+blame_last past [] point all = subst (λ (hs : List Happening). IsBlameTrue hs point.told) (sym (append-nil past)) all.0
+blame_last past (first ∷ points) point all = subst (λ (hs : List Happening). IsBlameTrue hs point.told) (append_assoc past first.told (all_told points)) (blame_last (past ++ first.told) points point all.1)
+
+pub blames_line : NoFalseBlame → (line : ScriptLine) (before after : LineState) (told : List Happening) → IsFitLine line → before.lines + 1 ≤ 1000000 → LineSteps (before.lines + 1) line before after told → after.unvouched ≡ None → BlamesNext before told
+blames_line law line before after told one few steps none = record {
+  behind = λ asked past fit run behind. (let point : Point = record { told = told; after = after } in
+      let l : Longer line after told asked past = longer line before after told asked past one few steps none fit run behind in
+      let points : List Point = past ++ point ∷ [] in
+      blame_last [] past point (subst (λ (ps : List Point). AreBlamesTrue [] ps) (all_points points) (law (asked ++ line ∷ []) points (length points) l.fit l.few l.run (subst (λ (ps : List Point). has_lie ps ≡ false) (sym (all_points points)) l.honest))));
+}
+
+-- ---- as it is seen, with what says whether it is spent
+
+pub step_contents : {number : ℕ} {line : ScriptLine} {was : Entries} {before : LineState} {entries : Entries} {after : LineState} {told : List Happening} → Step number line was before entries after told → ContentsAreKept → (spent : Bool) → spent ≡ false → after.unvouched ≡ None
+    → KeepsContents (IsMarked told) (record before { spent = spent }) (record after { spent = false })
+step_contents {number} {line} {before = before} {after = after} {told = told} s law spent seen none =
+    let few : before.lines + 1 ≤ 1000000 = subst (λ (n : ℕ). n ≤ 1000000) s.numbered s.few in
+    let steps : LineSteps (before.lines + 1) line before after told = subst (λ (n : ℕ). LineSteps n line before after told) s.numbered s.steps in
+    subst (λ (v : LineState). KeepsContents (IsMarked told) (record before { spent = spent }) v) (as_seen after false s.unspent refl)
+    (subst (λ (v : LineState). KeepsContents (IsMarked told) v after) (as_seen before spent s.kept.unspent seen) (contents_line law line before after told s.kept.reached s.fit few steps none))
+
+pub step_blames : {number : ℕ} {line : ScriptLine} {was : Entries} {before : LineState} {entries : Entries} {after : LineState} {told : List Happening} → Step number line was before entries after told → NoFalseBlame → (spent : Bool) → spent ≡ false → after.unvouched ≡ None
+    → BlamesNext (record before { spent = spent }) told
+step_blames {number} {line} {before = before} {after = after} {told = told} s law spent seen none =
+    let few : before.lines + 1 ≤ 1000000 = subst (λ (n : ℕ). n ≤ 1000000) s.numbered s.few in
+    let steps : LineSteps (before.lines + 1) line before after told = subst (λ (n : ℕ). LineSteps n line before after told) s.numbered s.steps in
+    subst (λ (v : LineState). BlamesNext v told) (as_seen before spent s.kept.unspent seen) (blames_line law line before after told s.fit few steps none)
