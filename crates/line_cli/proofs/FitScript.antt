@@ -7,7 +7,9 @@ use Rattle.std.specs.Str.{bytes_eq}
 use Rattle.std.specs.Str.Lines.{lines as lines_in}
 use Rattle.line_base.specs.declared.states.SensorEvent.{SensorEvent}
 use Rattle.line_base.specs.declared.states.Side.{Side}
-use Rattle.line_script.specs.Grammar.{Form, Value, arguments_as, board, forms, graded, insert_form, is_comment, is_later, is_seen_at, lie_of, line_among, line_as, line_of_words, mapped_ok, numeral, read_of, seen, sided, spelled, then_ok}
+use Rattle.line_base.specs.Text.{IsText}
+use Rattle.smema_bridge.specs.declared.line.SegmentLine.{SegmentLine}
+use Rattle.line_script.specs.Grammar.{Form, Value, arguments_as, board, forms, graded, insert_form, is_comment, is_later, is_seen_at, lie_of, line_among, line_as, line_of_words, mapped_ok, numeral, query_form, read_of, seen, sided, signalled, spelled, switched, then_ok}
 use Rattle.line_script.specs.Grammar as grammar
 use Rattle.line_script.specs.Words.{is_text_byte, number_in, token_of, words_of}
 use Rattle.line_script.specs.declared.line.LineWhy.{LineWhy}
@@ -31,6 +33,11 @@ made_machine (numeral capacity ∷ []) = tt
 made_machine (numeral capacity ∷ spelled used ∷ numeral count ∷ []) = tt
 made_machine _ = tt
 
+made_bridge : (values : List Value) → Fit (grammar.made_bridge values)
+made_bridge (numeral capacity ∷ []) = tt
+made_bridge (numeral capacity ∷ spelled used ∷ numeral count ∷ []) = tt
+made_bridge _ = tt
+
 made_remove : (values : List Value) → Fit (grammar.made_remove values)
 made_remove (numeral machine ∷ board id ∷ []) = tt
 made_remove _ = tt
@@ -50,6 +57,10 @@ made_hold _ = tt
 made_go : (values : List Value) → Fit (grammar.made_go values)
 made_go (numeral machine ∷ sided side ∷ []) = tt
 made_go _ = tt
+
+made_signal : (values : List Value) → Fit (grammar.made_signal values)
+made_signal (numeral machine ∷ signalled line ∷ switched on ∷ []) = tt
+made_signal _ = tt
 
 made_connect : (values : List Value) → Fit (grammar.made_connect values)
 made_connect (numeral machine ∷ []) = tt
@@ -72,6 +83,10 @@ made_spoil : (values : List Value) → Fit (grammar.made_spoil values)
 made_spoil (numeral machine ∷ sided side ∷ []) = tt
 made_spoil _ = tt
 
+made_forecast : (values : List Value) → Fit (grammar.made_forecast values)
+made_forecast (numeral machine ∷ []) = tt
+made_forecast _ = tt
+
 made_shutdown : (values : List Value) → Fit (grammar.made_shutdown values)
 made_shutdown (numeral machine ∷ []) = tt
 made_shutdown _ = tt
@@ -83,6 +98,10 @@ made_tick _ = tt
 made_fault : (values : List Value) → Fit (grammar.made_fault values)
 made_fault (numeral machine ∷ sided side ∷ []) = tt
 made_fault _ = tt
+
+made_unseen : (values : List Value) → Fit (grammar.made_unseen values)
+made_unseen (sided side ∷ numeral machine ∷ []) = tt
+made_unseen _ = tt
 
 made_sense : (values : List Value) → Fit (grammar.made_sense values)
 made_sense (numeral machine ∷ []) = tt
@@ -136,15 +155,24 @@ fit_then (Err why) made fits = tt
 by_values : (form : Form) → ((all : List Value) → Fit (form.made all)) → FitForm form
 by_values form fits words = fit_then (arguments_as form.counts form.arguments words) form.made fits
 
--- the barcode of an insertion is a text
-barcode_by : (machine : ℕ) (word : List ℕ) (short plain : Bool) → short ≡ nat_le (length word) 64 → plain ≡ list_all is_text_byte word → Fit (then_ok (then_ok (Ok (numeral machine)) (λ value. mapped_ok (λ values. value ∷ values) (then_ok (mapped_ok spelled (token_of word)) (λ value. mapped_ok (λ values. value ∷ values) (Ok []))))) grammar.made_insert)
-barcode_by machine word true true short plain = rw (sym short) (rw (sym plain) (record { short = grind (arith, nat_tests); allowed = IsAllowed-from_text word (sym plain) }))
-barcode_by machine word true false short plain = rw (sym short) (rw (sym plain) tt)
-barcode_by machine word false plain short is = rw (sym short) tt
+-- the barcode of an insertion, and that of a question, is a text
+barcode_by : (made : List Value → Result ScriptLine LineWhy) (machine : ℕ) (word : List ℕ)
+    → (IsText word → Fit (made (numeral machine ∷ spelled word ∷ []))) → (short plain : Bool)
+    → short ≡ nat_le (length word) 64 → plain ≡ list_all is_text_byte word
+    → Fit (then_ok (then_ok (Ok (numeral machine)) (λ value. mapped_ok (λ values. value ∷ values)
+    (then_ok (mapped_ok spelled (token_of word)) (λ value. mapped_ok (λ values. value ∷ values) (Ok []))))) made)
+barcode_by made machine word fits true true short plain =
+    rw (sym short) (rw (sym plain) (fits (record { short = grind (arith, nat_tests); allowed = IsAllowed-from_text word (sym plain) })))
+barcode_by made machine word fits true false short plain = rw (sym short) (rw (sym plain) tt)
+barcode_by made machine word fits false plain short is = rw (sym short) tt
 
-insert_at : (number : Result ℕ LineWhy) (word : List ℕ) → Fit (then_ok (then_ok (mapped_ok numeral number) (λ value. mapped_ok (λ values. value ∷ values) (then_ok (mapped_ok spelled (token_of word)) (λ value. mapped_ok (λ values. value ∷ values) (Ok []))))) grammar.made_insert)
-insert_at (Ok machine) word = barcode_by machine word (nat_le (length word) 64) (list_all is_text_byte word) refl refl
-insert_at (Err why) word = tt
+word_at : (made : List Value → Result ScriptLine LineWhy) (number : Result ℕ LineWhy) (word : List ℕ)
+    → ((machine : ℕ) → IsText word → Fit (made (numeral machine ∷ spelled word ∷ [])))
+    → Fit (then_ok (then_ok (mapped_ok numeral number) (λ value. mapped_ok (λ values. value ∷ values)
+    (then_ok (mapped_ok spelled (token_of word)) (λ value. mapped_ok (λ values. value ∷ values) (Ok []))))) made)
+word_at made (Ok machine) word fits =
+    barcode_by made machine word (fits machine) (nat_le (length word) 64) (list_all is_text_byte word) refl refl
+word_at made (Err why) word fits = tt
 
 insert_alone : (number : Result ℕ LineWhy) → Fit (then_ok (then_ok (mapped_ok numeral number) (λ value. mapped_ok (λ values. value ∷ values) (Ok []))) grammar.made_insert)
 insert_alone (Ok machine) = tt
@@ -156,8 +184,17 @@ too_many n = grind (arith, nat_tests)
 fit_insert : FitForm insert_form
 fit_insert [] = tt
 fit_insert (first ∷ []) = insert_alone (number_in 1 64 first)
-fit_insert (first ∷ word ∷ []) = insert_at (number_in 1 64 first) word
+fit_insert (first ∷ word ∷ []) = word_at grammar.made_insert (number_in 1 64 first) word (λ machine text. text)
 fit_insert (first ∷ word ∷ other ∷ words) = rw (too_many (length words)) tt
+
+too_many_asked : (n : ℕ) → list_any (nat_eq (suc (suc (suc n)))) (2 ∷ []) ≡ false
+too_many_asked n = grind (arith, nat_tests)
+
+fit_query : FitForm query_form
+fit_query [] = tt
+fit_query (first ∷ []) = tt
+fit_query (first ∷ word ∷ []) = word_at grammar.made_query (number_in 1 64 first) word (λ machine text. text)
+fit_query (first ∷ word ∷ other ∷ words) = rw (too_many_asked (length words)) tt
 
 -- ---- all forms
 
@@ -177,7 +214,21 @@ among [] first words all = none_among first words (is_later first) refl
 among (form ∷ rows) first words all = among_by form rows first words (bytes_eq first form.word) refl (all.0 words) (among rows first words all.1)
 
 all_fit : AllFit forms
-all_fit = (by_values grammar.machine_form made_machine, (fit_insert, (by_values grammar.remove_form made_remove, (by_values grammar.replace_form made_replace, (by_values grammar.mark_form made_mark, (by_values grammar.hold_form made_hold, (by_values grammar.go_form made_go, (by_values grammar.connect_form made_connect, (by_values grammar.flow_form made_flow, (by_values grammar.notice_form made_notice, (by_values grammar.cut_form made_cut, (by_values grammar.spoil_form made_spoil, (by_values grammar.shutdown_form made_shutdown, (by_values grammar.tick_form made_tick, (by_values grammar.fault_form made_fault, (by_values grammar.lie_form made_lie, (by_values grammar.sense_form made_sense, (by_values grammar.begin_form made_begin, (by_values grammar.left_form made_left, (by_values grammar.enter_form made_enter, (by_values grammar.back_form made_back, (by_values grammar.hand_in_form made_hand_in, (by_values grammar.take_form made_take, (by_values grammar.show_form made_show, tt))))))))))))))))))))))))
+all_fit =
+    (by_values grammar.machine_form made_machine, (by_values grammar.bridge_form made_bridge,
+    (fit_insert, (fit_query, (by_values grammar.remove_form made_remove,
+    (by_values grammar.replace_form made_replace, (by_values grammar.mark_form made_mark,
+    (by_values grammar.hold_form made_hold, (by_values grammar.go_form made_go,
+    (by_values grammar.signal_form made_signal, (by_values grammar.connect_form made_connect,
+    (by_values grammar.flow_form made_flow, (by_values grammar.notice_form made_notice,
+    (by_values grammar.cut_form made_cut, (by_values grammar.spoil_form made_spoil,
+    (by_values grammar.forecast_form made_forecast, (by_values grammar.shutdown_form made_shutdown,
+    (by_values grammar.tick_form made_tick, (by_values grammar.fault_form made_fault,
+    (by_values grammar.lie_form made_lie, (by_values grammar.unseen_form made_unseen,
+    (by_values grammar.sense_form made_sense, (by_values grammar.begin_form made_begin,
+    (by_values grammar.left_form made_left, (by_values grammar.enter_form made_enter,
+    (by_values grammar.back_form made_back, (by_values grammar.hand_in_form made_hand_in,
+    (by_values grammar.take_form made_take, (by_values grammar.show_form made_show, tt)))))))))))))))))))))))))))))
 
 comment_by : (first : List ℕ) (words : List (List ℕ)) (is : Bool) → is ≡ is_comment first → Fit (line_of_words (first ∷ words))
 comment_by first words true is = rw (sym is) tt

@@ -1,6 +1,9 @@
 ghost use Rattle.std.specs.Prelude.{◌≡◌};
+ghost use Rattle.first_in_first_out.specs.Order.{FirstInFirstOut};
 ghost use Rattle.line_step.specs.FloorIds.{IdsStay};
 ghost use Rattle.line_history.specs.LetGo.{WhatSettlesLeft};
+ghost use Rattle.line_history.specs.Offered.{WhatSettlesWasOffered};
+ghost use Rattle.line_history.specs.Opened.{WhatOpensStarted};
 ghost use Rattle.line_history.specs.Settled.{BoardsSettleWhenSaid};
 ghost use Rattle.line_history.specs.Started.{WhatIsHeldStarted};
 ghost use Rattle.line_openings.specs.Announced.{OpensWhenAnnounced};
@@ -54,6 +57,8 @@ pub fn line_main<S: Source, K: Sink>(
     ensures custody { CustodyFacts }
     // what the report tells of records is what becomes of them
     ensures ledger { LedgerFollows }
+    // each machine lets its boards go in the order in which they came to it
+    ensures order { FirstInFirstOut }
     // a record that is kept changes only where its board is marked
     ensures contents { ContentsAreKept }
     // a breach is told only of a side to which a spoiled text flowed
@@ -62,8 +67,12 @@ pub fn line_main<S: Source, K: Sink>(
     ensures said { BoardsSettleWhenSaid }
     // and its record is the one that was let go
     ensures settles { WhatSettlesLeft }
+    // word for word the one that was offered, and the machine keeps it then
+    ensures offered { WhatSettlesWasOffered }
     // which was started last there
     ensures started { WhatIsHeldStarted }
+    // and a handover opens for the last start at its gap alone, which nothing has answered yet
+    ensures asked { WhatOpensStarted }
     // an undisturbed handover ends within twelve link steps
     ensures steps { EndsWithinTwelveSteps }
     // which ask of a script what each script that is read has
@@ -74,11 +83,14 @@ pub fn line_main<S: Source, K: Sink>(
     one_standing::laws::one_standing_after_each_line();
     one_standing::laws::the_custody_facts_hold_after_each_line();
     one_standing::laws::the_ledger_follows_the_report();
+    first_in_first_out::laws::boards_go_in_the_order_in_which_they_came();
     one_standing::laws::contents_are_kept_over_each_line();
     one_standing::laws::a_breach_is_told_only_behind_a_spoiled_text();
     line_history::laws::boards_settle_when_it_is_said();
     line_history::laws::what_settles_is_what_left();
+    line_history::laws::what_settles_was_offered();
     line_history::laws::what_an_intake_holds_was_started_last();
+    line_history::laws::what_opens_was_started_last();
     twelve_steps::laws::an_undisturbed_handover_ends_within_twelve_link_steps();
     line_openings::laws::a_machine_opens_exactly_when_announced();
     do_words(alloc, words, script, report)

@@ -14,6 +14,9 @@ returns-clause-custody g c = c.the_custody_facts_hold_after_each_line.ensures
 pub returns-clause-ledger : goal.returns-clause-ledger
 returns-clause-ledger g c = c.the_ledger_follows_the_report.ensures
 
+pub returns-clause-order : goal.returns-clause-order
+returns-clause-order g c = c.boards_go_in_the_order_in_which_they_came.ensures
+
 pub returns-clause-contents : goal.returns-clause-contents
 returns-clause-contents g c = c.contents_are_kept_over_each_line.ensures
 
@@ -32,8 +35,14 @@ returns-clause-said g c = c.boards_settle_when_it_is_said.ensures
 pub returns-clause-settles : goal.returns-clause-settles
 returns-clause-settles g c = c.what_settles_is_what_left.ensures
 
+pub returns-clause-offered : goal.returns-clause-offered
+returns-clause-offered g c = c.what_settles_was_offered.ensures
+
 pub returns-clause-started : goal.returns-clause-started
 returns-clause-started g c = c.what_an_intake_holds_was_started_last.ensures
+
+pub returns-clause-asked : goal.returns-clause-asked
+returns-clause-asked g c = c.what_opens_was_started_last.ensures
 
 pub returns-clause-steps : goal.returns-clause-steps
 returns-clause-steps g c = c.an_undisturbed_handover_ends_within_twelve_link_steps.ensures
