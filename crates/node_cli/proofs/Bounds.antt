@@ -81,7 +81,7 @@ settings_bounded ms settings e =
     let two = then_ok-inverse (places_of ms) _ settings one.2 in
     let three = then_ok-inverse (bridge_of ms) _ settings two.2 in
     let four = then_ok-inverse (connections_of one.0.lane ms) _ settings three.2 in
-    let five = mapped_ok-inverse (made_settings one.0 two.0 four.0) (known_turns_of ms) settings four.2 in
+    let five = mapped_ok-inverse (made_settings one.0 two.0 three.0 four.0) (known_turns_of ms) settings four.2 in
     let P : Settings → Type 0 = λ s. AreBounded s.places in
     subst P five.2 (places_bounded ms two.0 two.1)
 

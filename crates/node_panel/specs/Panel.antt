@@ -9,7 +9,7 @@ use Rattle.line_base.specs.declared.states.Quality.{Quality}
 use Rattle.line_base.specs.declared.states.Quality.TheVariants as qualities
 use Rattle.line_base.specs.declared.states.SensorEvent.{SensorEvent}
 use Rattle.line_base.specs.declared.states.SensorEvent.TheVariants as sensors
-use Rattle.line_script.specs.Words.{words_of, is_text_byte, identity_of, token_of}
+use Rattle.line_script.specs.Words.{words_of, is_text_byte, identity_of, token_of, segment_line_of, switch_of}
 use Rattle.line_script.specs.declared.line.LineWhy.{LineWhy}
 use Rattle.line_script.specs.declared.line.LineWhy.TheVariants as whys
 use Rattle.node_panel.specs.declared.line.PanelLine.{PanelLine}
@@ -77,34 +77,47 @@ abbrev pub sense_of : List (List ℕ) → Result PanelLine LineWhy
 sense_of (side ∷ event ∷ []) = then_ok (side_of side) (λ side. mapped_ok (made_sense side) (event_of side event))
 sense_of _ = Err whys.WrongCount
 
--- the first words of the forms that aren't built yet
-abbrev pub is_later : List ℕ → Bool
-is_later first = bytes_eq first (codes "signal") || bytes_eq first (codes "ask") || bytes_eq first (codes "forecast") || bytes_eq first (codes "query")
+abbrev pub signal_of : List (List ℕ) → Result PanelLine LineWhy
+signal_of (line ∷ on ∷ []) = then_ok (segment_line_of line) (λ line. mapped_ok (lines.Signal line) (switch_of on))
+signal_of _ = Err whys.WrongCount
 
--- THE TABLE: `insert [barcode]`, `remove id`, `replace id`, `mark id quality`, `hold side`, `go side`, `connect`,
--- `shutdown`, `tick`, `fault side`, `sense side event`, `show`, `end`
+abbrev pub query_of : List (List ℕ) → Result PanelLine LineWhy
+query_of [] = Err whys.WrongCount
+query_of (barcode ∷ []) = mapped_ok lines.Query (token_of barcode)
+query_of (barcode ∷ other ∷ words) = Err whys.WrongCount
+
+-- the first word of the form that isn't built yet
+abbrev pub is_later : List ℕ → Bool
+is_later first = bytes_eq first (codes "ask")
+
+-- THE TABLE: `insert [barcode]`, `query barcode`, `remove id`, `replace id`, `mark id quality`, `hold side`, `go side`,
+-- `fault side`, `sense side event`, `signal ready|available|failed on|off`, `connect`, `shutdown`, `tick`, `forecast`,
+-- `show`, `end`
 abbrev pub asked_of_connections : List ℕ → List (List ℕ) → Result PanelLine LineWhy
 asked_of_connections first words =
     if bytes_eq first (codes "connect") then bare lines.Connect words else
     (if bytes_eq first (codes "shutdown") then bare lines.Shutdown words else
     (if bytes_eq first (codes "tick") then bare lines.Tick words else
+    (if bytes_eq first (codes "forecast") then bare lines.Forecast words else
     (if bytes_eq first (codes "show") then bare lines.Show words else
     (if bytes_eq first (codes "end") then bare lines.End words else
-    (if is_later first then Err whys.NotYet else Err whys.UnknownWord)))))
+    (if is_later first then Err whys.NotYet else Err whys.UnknownWord))))))
 
 abbrev pub asked_of_sides : List ℕ → List (List ℕ) → Result PanelLine LineWhy
 asked_of_sides first words =
     if bytes_eq first (codes "hold") then with_side lines.Hold words else
     (if bytes_eq first (codes "go") then with_side lines.Go words else
     (if bytes_eq first (codes "fault") then with_side lines.Fault words else
-    (if bytes_eq first (codes "sense") then sense_of words else asked_of_connections first words)))
+    (if bytes_eq first (codes "sense") then sense_of words else
+    (if bytes_eq first (codes "signal") then signal_of words else asked_of_connections first words))))
 
 abbrev pub asked_of : List ℕ → List (List ℕ) → Result PanelLine LineWhy
 asked_of first words =
     if bytes_eq first (codes "insert") then insert_of words else
+    (if bytes_eq first (codes "query") then query_of words else
     (if bytes_eq first (codes "remove") then with_id lines.Remove words else
     (if bytes_eq first (codes "replace") then with_id lines.Replace words else
-    (if bytes_eq first (codes "mark") then mark_of words else asked_of_sides first words)))
+    (if bytes_eq first (codes "mark") then mark_of words else asked_of_sides first words))))
 
 -- a line whose first word begins with `#` is a comment
 abbrev pub is_comment : List ℕ → Bool

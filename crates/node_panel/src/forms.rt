@@ -2,13 +2,13 @@
 
 ghost use Rattle.std.specs.Prelude.{◌≡◌, map};
 ghost use Rattle.line_script.specs.Words.{Reads};
-ghost use Rattle.node_panel.specs.Panel.{insert_of, with_id, with_side, mark_of, sense_of, bare, asked_of, asked_of_sides, asked_of_connections, is_later};
+ghost use Rattle.node_panel.specs.Panel.{insert_of, with_id, with_side, mark_of, sense_of, signal_of, query_of, bare, asked_of, asked_of_sides, asked_of_connections, is_later};
 ghost use Rattle.node_panel.specs.declared.line.PanelLine.TheVariants as lines;
 
 use crate::line::PanelLine;
 use crate::words::{event_of, id_of, quality_of, side_of};
 use board_record::Sensed;
-use line_script::words::token;
+use line_script::words::{segment_line, switch, token};
 use line_script::{LineError, LineWhy};
 use std::alloc::Global;
 
@@ -18,6 +18,9 @@ pub fn asked_of(alloc: Global, first: &[u8], words: &[&[u8]]) -> Result<PanelLin
 {
     if first == &b"insert"[..] {
         return insert(alloc, words);
+    }
+    if first == &b"query"[..] {
+        return query(alloc, words);
     }
     if first == &b"remove"[..] {
         return refused(remove(words));
@@ -55,6 +58,9 @@ fn asked_of_sides(first: &[u8], words: &[&[u8]]) -> Result<PanelLine, LineWhy>
     if first == &b"sense"[..] {
         return sense(words);
     }
+    if first == &b"signal"[..] {
+        return signal(words);
+    }
     asked_of_connections(first, words)
 }
 
@@ -69,6 +75,9 @@ fn asked_of_connections(first: &[u8], words: &[&[u8]]) -> Result<PanelLine, Line
     }
     if first == &b"tick"[..] {
         return bare(PanelLine::Tick, words);
+    }
+    if first == &b"forecast"[..] {
+        return bare(PanelLine::Forecast, words);
     }
     if first == &b"show"[..] {
         return bare(PanelLine::Show, words);
@@ -85,10 +94,7 @@ fn asked_of_connections(first: &[u8], words: &[&[u8]]) -> Result<PanelLine, Line
 fn is_later(first: &[u8]) -> bool
     ensures { result ≡ is_later first.now }
 {
-    first == &b"signal"[..]
-        || first == &b"ask"[..]
-        || first == &b"forecast"[..]
-        || first == &b"query"[..]
+    first == &b"ask"[..]
 }
 
 fn bare(line: PanelLine, words: &[&[u8]]) -> Result<PanelLine, LineWhy>
@@ -109,6 +115,18 @@ fn insert(alloc: Global, words: &[&[u8]]) -> Result<PanelLine, LineError>
             Ok(barcode) => Ok(PanelLine::Insert {
                 barcode: Some(barcode),
             }),
+            Err(error) => Err(error),
+        },
+        _ => Err(LineError::Refused(LineWhy::WrongCount)),
+    }
+}
+
+fn query(alloc: Global, words: &[&[u8]]) -> Result<PanelLine, LineError>
+    ensures { Reads (query_of (map (λ word. word.now) words.now)) result }
+{
+    match words {
+        [barcode] => match token(alloc, barcode) {
+            Ok(barcode) => Ok(PanelLine::Query { barcode }),
             Err(error) => Err(error),
         },
         _ => Err(LineError::Refused(LineWhy::WrongCount)),
@@ -198,6 +216,19 @@ fn sense(words: &[&[u8]]) -> Result<PanelLine, LineWhy>
             Ok(PanelLine::Sense {
                 sensed: Sensed { side, event },
             })
+        }
+        _ => Err(LineWhy::WrongCount),
+    }
+}
+
+fn signal(words: &[&[u8]]) -> Result<PanelLine, LineWhy>
+    ensures { result ≡ signal_of (map (λ word. word.now) words.now) }
+{
+    match words {
+        [line, on] => {
+            let line = segment_line(line)?;
+            let on = switch(on)?;
+            Ok(PanelLine::Signal { line, on })
         }
         _ => Err(LineWhy::WrongCount),
     }

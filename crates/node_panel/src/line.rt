@@ -1,5 +1,6 @@
 use board_record::{BoardId, Sensed};
 use line_base::{Quality, Side, Text};
+use smema_bridge::SegmentLine;
 
 /// What one line of a panel asks of its machine.
 #[derive(Debug, PartialEq, Eq, Drop)]
@@ -18,6 +19,8 @@ pub enum PanelLine {
     Hold { side: Side },
     /// Boards are handed over at this side again.
     Go { side: Side },
+    /// The segment of the bridge switches one of its signals.
+    Signal { line: SegmentLine, on: bool },
     /// A connection to the upstream neighbour.
     Connect,
     /// The end of both connections.
@@ -28,6 +31,10 @@ pub enum PanelLine {
     Fault { side: Side },
     /// A sensor of this side saw this.
     Sense { sensed: Sensed },
+    /// The downstream neighbour is told which board will come.
+    Forecast,
+    /// The upstream neighbour is asked for the board with this top barcode.
+    Query { barcode: Text },
     /// What the machine keeps and holds.
     Show,
     /// The end of the run.

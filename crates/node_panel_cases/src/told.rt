@@ -23,6 +23,8 @@ fn told_line(alloc: Global, line: &PanelLine) -> Result<String, AllocError> {
         PanelLine::Go { side } => told_side(alloc, "go", *side),
         PanelLine::Fault { side } => told_side(alloc, "fault", *side),
         PanelLine::Sense { sensed } => told_sense(alloc, sensed.side, sensed.event),
+        PanelLine::Signal { line, on } => format!(in alloc; "signal {line:?} {on}"),
+        PanelLine::Query { barcode } => told_text(alloc, "query", barcode),
         line => String::from_str(alloc, bare_word(line)),
     }
 }
@@ -33,6 +35,7 @@ fn bare_word(line: &PanelLine) -> &'static str {
         PanelLine::Connect => "connect",
         PanelLine::Shutdown => "shutdown",
         PanelLine::Tick => "tick",
+        PanelLine::Forecast => "forecast",
         PanelLine::Show => "show",
         PanelLine::End => "end",
         _ => "other",
@@ -41,12 +44,14 @@ fn bare_word(line: &PanelLine) -> &'static str {
 
 fn told_insert(alloc: Global, barcode: &Option<Text>) -> Result<String, AllocError> {
     match barcode {
-        Some(barcode) => {
-            let text = str::from_utf8(barcode.bytes()).unwrap_or("no text");
-            format!(in alloc; "insert {text}")
-        }
+        Some(barcode) => told_text(alloc, "insert", barcode),
         None => String::from_str(alloc, "insert"),
     }
+}
+
+fn told_text(alloc: Global, word: &str, barcode: &Text) -> Result<String, AllocError> {
+    let text = str::from_utf8(barcode.bytes()).unwrap_or("no text");
+    format!(in alloc; "{word} {text}")
 }
 
 fn told_board(alloc: Global, word: &str, id: BoardId) -> Result<String, AllocError> {

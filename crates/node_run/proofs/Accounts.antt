@@ -112,12 +112,14 @@ act_read turn machine (acts.Notices side) rest own proper = told_line turn machi
 act_read turn machine acts.Connects rest own proper = told_line turn machine acts.Connects rest own proper refl
 act_read turn machine (acts.Deed deed) rest own proper = log_read turn (deed_text deed) rest own (inner_deed deed) ∙ ap (own_behind [] rest) (told_deed deed own proper)
 act_read turn machine (acts.Drive side on) rest own proper = refl
+act_read turn machine (acts.Signals signal on) rest own proper = told_line turn machine (acts.Signals signal on) rest own proper refl
 act_read turn machine (acts.Marks id quality) rest own proper = told_line turn machine (acts.Marks id quality) rest own proper refl
 act_read turn machine (acts.Inserts id) rest own proper = told_line turn machine (acts.Inserts id) rest own proper (ap (λ i. own_act own (acts.Inserts i)) (behind_number machine id proper))
 act_read turn machine (acts.Removes id) rest own proper = told_line turn machine (acts.Removes id) rest own proper (ap (λ i. own_act own (acts.Removes i)) (behind_number machine id proper))
 act_read turn machine (acts.Replaces old new) rest own proper = told_line turn machine (acts.Replaces old new) rest own proper (told_replaced machine old new own proper.0 proper.1)
 act_read turn machine (acts.Sets (settings.Will side true)) rest own proper = told_line turn machine (acts.Sets (settings.Will side true)) rest own proper refl
 act_read turn machine (acts.Sets (settings.Will side false)) rest own proper = told_line turn machine (acts.Sets (settings.Will side false)) rest own proper refl
+act_read turn machine (acts.Sets (settings.Level line on)) rest own proper = told_line turn machine (acts.Sets (settings.Level line on)) rest own proper refl
 
 acts_read : (turn machine : ℕ) (told : List Act) (rest : List ℕ) (own : Own) → AllByRecursion IsProperAct told → own_behind [] (lines_of turn machine told ++ rest) own ≡ own_behind [] rest (own_after own told)
 acts_read turn machine [] rest own proper = refl

@@ -199,6 +199,9 @@ asked_rest (Ok (lines.Go side)) rules moment s t log does = input_rest (may_of s
 asked_rest (Ok lines.Shutdown) rules moment s t log does = input_rest (may_of s.node inputs.Shutdown) rules moment _ _ s t log does
 asked_rest (Ok lines.Tick) rules moment s t log does = input_rest (may_of s.node inputs.Tick) rules moment _ _ s t log does
 asked_rest (Ok (lines.Fault side)) rules moment s t log does = input_rest (may_of s.node (inputs.Fault side)) rules moment _ _ s t log does
+asked_rest (Ok (lines.Signal line on)) rules moment s t log does = input_rest (may_of s.node (inputs.Level line on)) rules moment _ _ s t log does
+asked_rest (Ok lines.Forecast) rules moment s t log does = input_rest (may_of s.node inputs.Forecast) rules moment _ _ s t log does
+asked_rest (Ok (lines.Query barcode)) rules moment s t log does = input_rest (may_of s.node (inputs.Query barcode)) rules moment _ _ s t log does
 asked_rest (Ok (lines.Sense sensed)) rules moment s t log does = input_rest (may_of s.node inputs.Nothing) rules moment _ _ s t log does
 
 keeps_rest : (long : Bool) (front : List ℕ) (s t : RunState) (log : List ℕ) → KeepsFront long front s t log → SameRest s t

@@ -17,13 +17,15 @@ use Rattle.hermes_horizontal.specs.declared.message.Horizontal.{Horizontal}
 use Rattle.hermes_horizontal.specs.declared.message.Horizontal.TheVariants as bodies
 use Rattle.hermes_horizontal.specs.declared.message.Ping.{Ping}
 use Rattle.hermes_horizontal.specs.declared.message.Ping.TheVariants as pings
+use Rattle.smema_bridge.specs.declared.line.SegmentLine.{SegmentLine}
+use Rattle.smema_bridge.specs.declared.line.SegmentLine.TheVariants as segments
 use Rattle.line_world.specs.Moves.{no_text as move_no_text}
 use Rattle.line_world.specs.declared.moves.MoveNo.{MoveNo}
 use Rattle.line_world.specs.declared.moves.MoveNo.TheVariants as moves
 use Rattle.line_script.specs.Words.{why_text}
 use Rattle.line_script.specs.declared.line.LineWhy.{LineWhy}
 use Rattle.line_script.specs.declared.line.LineWhy.TheVariants as whys
-use Rattle.line_report.specs.Texts.{act_text, at_side, byte_in_line, event_text, id_or_none, in_line, mark_of, no_text, numbered, of_board, ping_text, quality_text, reason_text, setting_text, side_text, transfer_text, what_text, will_word}
+use Rattle.line_report.specs.Texts.{act_text, at_side, byte_in_line, event_text, id_or_none, in_line, line_word, mark_of, no_text, numbered, of_board, ping_text, quality_text, reason_text, setting_text, side_text, signal_word, switch_word, switched, transfer_text, what_text, will_word}
 use Rattle.line_report.specs.declared.happening.Reason.{Reason}
 use Rattle.line_report.specs.declared.happening.Reason.TheVariants as reasons
 use Rattle.node_core.specs.declared.act.Act.{Act}
@@ -32,6 +34,8 @@ use Rattle.node_core.specs.declared.act.Deed.{Deed}
 use Rattle.node_core.specs.declared.act.Deed.TheVariants as deeds
 use Rattle.node_core.specs.declared.act.Setting.{Setting}
 use Rattle.node_core.specs.declared.act.Setting.TheVariants as settings
+use Rattle.node_core.specs.declared.act.Signal.{Signal}
+use Rattle.node_core.specs.declared.act.Signal.TheVariants as signals
 use Rattle.node_core.specs.declared.input.No.{No}
 use Rattle.node_core.specs.declared.input.No.TheVariants as nos
 use Rattle.node_run.specs.Account.{IsProperAct}
@@ -67,11 +71,31 @@ inner_word : (on : Bool) → inner (will_word on)
 inner_word true = refl
 inner_word false = refl
 
+inner_switch : (on : Bool) → inner (switch_word on)
+inner_switch true = refl
+inner_switch false = refl
+
+inner_line : (line : SegmentLine) → inner (line_word line)
+inner_line segments.Ready = refl
+inner_line segments.Available = refl
+inner_line segments.Failed = refl
+
+inner_signal : (signal : Signal) → inner (signal_word signal)
+inner_signal signals.EntryAvailable = refl
+inner_signal signals.EntryFailed = refl
+inner_signal signals.ExitReady = refl
+
 inner_numbered : (word : List ℕ) (number : ℕ) → inner word → inner (numbered word number)
 inner_numbered word number w = spaced word (decimal number) w (inner_decimal number)
 
 pub inner_board : (word : List ℕ) (number id : ℕ) → inner word → inner (of_board word number id)
 inner_board word number id w = spaced (numbered word number) (id_text id) (inner_numbered word number w) (inner_id id)
+
+inner_switched : (word : List ℕ) (machine : ℕ) (signal : List ℕ) (on : Bool) → inner word → inner signal
+    → inner (switched word machine signal on)
+inner_switched word machine signal on w s =
+    spaced (numbered word machine ++ codes " " ++ signal) (switch_word on)
+    (spaced (numbered word machine) signal (inner_numbered word machine w) s) (inner_switch on)
 
 inner_at_side : (word : List ℕ) (machine : ℕ) (side : Side) → inner word → inner (at_side word machine side)
 inner_at_side word machine side w = spaced (numbered word machine) (side_text side) (inner_numbered word machine w) (inner_side side)
@@ -129,6 +153,7 @@ inner_in_line (b ∷ bytes) = join is_inner (byte_in_line b) (in_line bytes) (in
 
 inner_setting : (machine : ℕ) (setting : Setting) → inner (setting_text machine setting)
 inner_setting machine (settings.Will side on) = inner_at_side (will_word on) machine side (inner_word on)
+inner_setting machine (settings.Level line on) = inner_switched (codes "level") machine (line_word line) on refl (inner_line line)
 
 -- an act that is no deed and no drive
 pub inner_act : (machine : ℕ) (act : Act) → IsProperAct act → inner (act_text machine act)
@@ -148,6 +173,8 @@ inner_act machine (acts.Deed (deeds.Starts id)) proper = inner_board (codes "sta
 inner_act machine (acts.Deed (deeds.Settles id)) proper = inner_board (codes "settles") (machine - 1) id refl
 inner_act machine (acts.Deed (deeds.Drops id)) proper = inner_board (codes "drops") (machine - 1) id refl
 inner_act machine (acts.Drive side on) proper = refl
+inner_act machine (acts.Signals signal on) proper =
+    inner_switched (codes "signals") machine (signal_word signal) on refl (inner_signal signal)
 inner_act machine (acts.Marks id quality) proper = spaced (of_board (codes "mark") machine id) (quality_text quality) (inner_board (codes "mark") machine id refl) (inner_quality quality)
 inner_act machine (acts.Inserts id) proper = inner_board (codes "insert") machine id refl
 inner_act machine (acts.Removes id) proper = inner_board (codes "remove") machine id refl
@@ -189,6 +216,11 @@ inner_no nos.Connected = refl
 inner_no nos.IntakeUnsettled = refl
 inner_no nos.NotConnected = refl
 inner_no nos.NoHandover = refl
+inner_no nos.Bridge = refl
+inner_no nos.NotABridge = refl
+inner_no nos.NotStanding = refl
+inner_no nos.NotSupported = refl
+inner_no nos.NothingKept = refl
 
 inner_move : (why : MoveNo) → inner (move_no_text why)
 inner_move moves.NoGap = refl
@@ -211,5 +243,4 @@ inner_reason reasons.NoNeighbour = refl
 inner_reason reasons.NothingInFlight = refl
 inner_reason reasons.NothingToRead = refl
 inner_reason reasons.Standing = refl
-inner_reason reasons.NotStanding = refl
 inner_reason reasons.TextInFlight = refl

@@ -1,5 +1,5 @@
 -- What a machine owns follows from its log.
-use Rattle.std.proofs.Common.{◌≡◌, ◌∙◌, sym, subst, ap, refl, ℕ, ℤ, pos, Bool, true, false, List, [], ◌++◌, Option, None, Some, Result, Ok, Err, append-nil}
+use Rattle.std.proofs.Common.{◌≡◌, ◌∙◌, sym, subst, ap, refl, ℕ, ℤ, Bool, true, false, List, [], ◌++◌, Option, None, Some, Result, Ok, Err, append-nil}
 use Rattle.line_base.specs.declared.states.Side.TheVariants.{Entry, Exit}
 use Rattle.board_record.specs.declared.sensed.Sensed.{Sensed}
 use Rattle.line_outside.specs.Given.{Given}
@@ -19,7 +19,7 @@ use Rattle.handover_out.specs.State as outlets
 use Rattle.handover_in.specs.State as intakes
 use Rattle.node_core.proofs.Lasting.{owns_after}
 use Rattle.node_core.specs.May.{may_of, may_do}
-use Rattle.node_core.specs.Node.{NodeState, desk_of}
+use Rattle.node_core.specs.Node.{NodeState}
 use Rattle.node_core.specs.Own.{own_of, own_after}
 use Rattle.node_core.specs.Sides.{is_open}
 use Rattle.node_core.specs.Step.{Steps}
@@ -51,7 +51,7 @@ pub data Part (number : ℕ) (s t : RunState) (log : List ℕ) : Type 0 where
   steps : (turn : ℕ) → (acts : List Act) → AreProper acts → log ≡ lines_of turn number acts → own_of t.node.lane.body ≡ own_after (own_of s.node.lane.body) acts → Part number s t log
 
 steps_own : (s t : NodeState) (sensed : List Sensed) (input : Input) (moment : ℤ) (told : List Act) → may_of s input ≡ may_do → Steps s sensed input moment t told → own_of t.lane.body ≡ own_after (own_of s.lane.body) told
-steps_own s t sensed input moment told may made = owns_after s s.spent (desk_of s (pos 0)) (desk_of s moment) s.maker t.maker s.lane t.lane sensed input moment told refl may refl made.lane
+steps_own s t sensed input moment told may made = owns_after s t sensed input moment told may made
 
 step_part : (number : ℕ) (rules : Rules) (moment : ℤ) (sensed : List Sensed) (input : Input) (from s t : RunState) (log : List ℕ)
     → from.node ≡ s.node → may_of s.node input ≡ may_do → rules.number ≡ number → TakesStep rules moment sensed input from t log → Part number s t log
@@ -199,6 +199,12 @@ asked_part (Ok (lines.Go side)) rules moment s t log does = input_part (may_of s
 asked_part (Ok lines.Shutdown) rules moment s t log does = input_part (may_of s.node inputs.Shutdown) rules moment _ inputs.Shutdown s t log refl does
 asked_part (Ok lines.Tick) rules moment s t log does = input_part (may_of s.node inputs.Tick) rules moment _ inputs.Tick s t log refl does
 asked_part (Ok (lines.Fault side)) rules moment s t log does = input_part (may_of s.node (inputs.Fault side)) rules moment _ (inputs.Fault side) s t log refl does
+asked_part (Ok (lines.Signal line on)) rules moment s t log does =
+    input_part (may_of s.node (inputs.Level line on)) rules moment _ (inputs.Level line on) s t log refl does
+asked_part (Ok lines.Forecast) rules moment s t log does =
+    input_part (may_of s.node inputs.Forecast) rules moment _ inputs.Forecast s t log refl does
+asked_part (Ok (lines.Query barcode)) rules moment s t log does =
+    input_part (may_of s.node (inputs.Query barcode)) rules moment _ (inputs.Query barcode) s t log refl does
 asked_part (Ok (lines.Sense sensed)) rules moment s t log does = input_part (may_of s.node inputs.Nothing) rules moment _ inputs.Nothing s t log refl does
 
 -- a part from a state with the same machine

@@ -62,6 +62,9 @@ input_of (lines.Hold side) = inputs.Will side false
 input_of (lines.Go side) = inputs.Will side true
 input_of lines.Shutdown = inputs.Shutdown
 input_of lines.Tick = inputs.Tick
+input_of (lines.Signal line on) = inputs.Level line on
+input_of lines.Forecast = inputs.Forecast
+input_of (lines.Query barcode) = inputs.Query barcode
 input_of (lines.Fault side) = inputs.Fault side
 input_of line = inputs.Nothing
 

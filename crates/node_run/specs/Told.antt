@@ -1,5 +1,5 @@
 -- What a run did with what its ports, its clock and its log tell.
-use Rattle.std.specs.Prelude.{◌≡◌, ◌≤◌, ℕ, ℤ, false, List, Option, None, Some}
+use Rattle.std.specs.Prelude.{◌≡◌, ◌≤◌, ℕ, ℤ, List, Option, None, Some}
 use Rattle.line_outside.specs.Faults.{Rose}
 use Rattle.line_outside.specs.Given.{Given}
 use Rattle.node_core.specs.Node.{new_node}
@@ -22,7 +22,7 @@ profile_of settings = record {
   lane = settings.identity.lane;
   capacity = settings.places.capacity;
   used = settings.places.used;
-  bridge = false;
+  bridge = settings.bridge;
 }
 
 -- where the clock tells its moment, how a run from a state ends

@@ -223,6 +223,9 @@ fn input_of(asked: PanelLine) -> Input<'static>
         PanelLine::Go { side } => Input::Will(side, true),
         PanelLine::Shutdown => Input::Shutdown,
         PanelLine::Tick => Input::Tick,
+        PanelLine::Signal { line, on } => Input::Level(line, on),
+        PanelLine::Forecast => Input::Forecast,
+        PanelLine::Query { barcode } => Input::Query(barcode),
         PanelLine::Fault { side } => Input::Fault(side),
         PanelLine::Blank
         | PanelLine::Connect

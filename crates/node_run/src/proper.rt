@@ -36,6 +36,7 @@ fn act_is_proper(act: &Act)
         | Act::Notices(_)
         | Act::Connects
         | Act::Drive(_, _)
+        | Act::Signals(_, _)
         | Act::Marks(_, _)
         | Act::Sets(_) => {}
     }

@@ -78,6 +78,7 @@ fn new_run(alloc: Global, settings: Settings) -> Result<Run, Memory>
     let Settings {
         identity,
         places,
+        bridge,
         connections,
         turns,
     } = settings;
@@ -92,7 +93,7 @@ fn new_run(alloc: Global, settings: Settings) -> Result<Run, Memory>
         machine: identity.machine_id,
         capacity: places.capacity,
         used: places.used,
-        bridge: false,
+        bridge,
     };
     let node = Node::new(alloc, profile)?;
     Ok(Run::new(alloc, rules, node))

@@ -1,5 +1,5 @@
 -- What a settings file says, or the first refusal.
-use Rattle.std.specs.Prelude.{◌≡◌, ◌+◌, ◌||◌, ◌&&◌, ℕ, Bool, true, List, Option, None, Some, Result, Ok, Err, codes, length, nat_lt, unwrap_or, if◌then◌else◌}
+use Rattle.std.specs.Prelude.{◌≡◌, ◌+◌, ◌||◌, ◌&&◌, ℕ, Bool, true, false, List, Option, None, Some, Result, Ok, Err, codes, length, nat_lt, unwrap_or, if◌then◌else◌}
 use Rattle.std.specs.Str.{bytes_eq, is_utf8}
 use Rattle.line_base.specs.Results.{then_ok, mapped_ok}
 use Rattle.line_outside.specs.declared.way.Address.{Address}
@@ -81,6 +81,22 @@ connections_of lane ms = then_ok (upstream_of ms) (λ upstream. then_ok (downstr
 abbrev pub turns_of : Members → Result ℕ Refusal
 turns_of ms = named keys.Turns (required (number_as 1 1000000000000) (get_member (codes "turns") ms))
 
+-- ---- how a key is told
+
+abbrev pub key_text : ConfigKey → List ℕ
+key_text keys.Document = codes "the document"
+key_text keys.Number = codes "number"
+key_text keys.MachineId = codes "machine_id"
+key_text keys.Lane = codes "lane"
+key_text keys.Capacity = codes "capacity"
+key_text keys.Used = codes "used"
+key_text keys.Bridge = codes "bridge"
+key_text keys.Upstream = codes "upstream"
+key_text keys.DownstreamPort = codes "downstream_port"
+key_text keys.PanelPort = codes "panel_port"
+key_text keys.Turns = codes "turns"
+key_text keys.Unknown = codes "a key"
+
 -- ---- keys of unknown names
 
 abbrev pub is_known_of_machine : List ℕ → Bool
@@ -103,15 +119,21 @@ known_turns ms turns = if are_known ms then Ok turns else Err (refusal keys.Unkn
 abbrev pub known_turns_of : Members → Result ℕ Refusal
 known_turns_of ms = then_ok (turns_of ms) (known_turns ms)
 
-abbrev pub made_settings : Identity → Places → Connections → ℕ → Settings
-made_settings identity places connections turns = record { identity = identity; places = places; connections = connections; turns = turns }
+abbrev pub made_settings : Identity → Places → Option Bool → Connections → ℕ → Settings
+made_settings identity places bridge connections turns = record {
+  identity = identity;
+  places = places;
+  bridge = unwrap_or bridge false;
+  connections = connections;
+  turns = turns;
+}
 
 -- WHAT A DOCUMENT SAYS: its settings, or the refusal of the first key that is refused, in the order of the table; an
 -- unknown key last
 abbrev pub settings_of : Members → Result Settings Refusal
 settings_of ms =
     then_ok (identity_of ms) (λ identity. then_ok (places_of ms) (λ places. then_ok (bridge_of ms) (λ bridge. then_ok (connections_of identity.lane ms) (λ connections.
-    mapped_ok (made_settings identity places connections) (known_turns_of ms)))))
+    mapped_ok (made_settings identity places bridge connections) (known_turns_of ms)))))
 
 -- the document that bytes are, if they are TOML in UTF-8
 abbrev pub document_of : List ℕ → Option Members

@@ -1,5 +1,5 @@
 -- The values of settings, and why they are refused.
-use Rattle.std.specs.Prelude.{◌&&◌, ℕ, ℤ, pos, negsuc, Bool, true, false, List, Option, None, Some, Result, Ok, Err, length, nat_le, if◌then◌else◌}
+use Rattle.std.specs.Prelude.{◌&&◌, ℕ, ℤ, pos, negsuc, Bool, List, Option, None, Some, Result, Ok, Err, length, nat_le, if◌then◌else◌}
 use Rattle.std.specs.List.{list_all}
 use Rattle.std.specs.Str.{is_utf8, chars}
 use Rattle.line_base.specs.Text.{is_allowed_char}
@@ -44,10 +44,9 @@ abbrev pub address_as : Data → Result Address ConfigWhy
 address_as (string bytes) = address_from (address_of bytes)
 address_as _ = Err whys.WrongKind
 
--- whether the body is a segment with signals: none can be one yet
+-- whether the body is a segment with signals
 abbrev pub bridge_as : Data → Result Bool ConfigWhy
-bridge_as (boolean true) = Err whys.OutOfRange
-bridge_as (boolean false) = Ok false
+bridge_as (boolean bridge) = Ok bridge
 bridge_as _ = Err whys.WrongKind
 
 -- ---- a value at a key

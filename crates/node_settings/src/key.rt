@@ -64,6 +64,11 @@ impl From<Memory> for SettingsError {
 }
 
 impl fmt::Display for ConfigKey {
+    ghost use Rattle.std.specs.Prelude.{Some};
+    ghost use Rattle.node_settings.specs.Settings.{key_text};
+
+    ghost output = { λ key. Some (key_text key) };
+
     fn fmt<W: fmt::Write>(&self, f: &mut fmt::Formatter<W>) -> fmt::Result {
         match self {
             ConfigKey::Document => f.write_str("the document"),

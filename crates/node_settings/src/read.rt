@@ -47,12 +47,13 @@ fn settings_of(alloc: Global, table: &Table) -> Result<Settings, SettingsError>
 {
     let identity = identity_of(alloc, table)?;
     let places = places_of(table)?;
-    let _bridge = optional_bridge_at(table, "bridge")?;
+    let bridge = optional_bridge_at(table, "bridge")?;
     let connections = connections_of(table, identity.lane)?;
     let turns = turns_of(table)?;
     Ok(Settings {
         identity,
         places,
+        bridge: bridge.unwrap_or(false),
         connections,
         turns,
     })

@@ -6,6 +6,8 @@ use line_outside::Address;
 pub struct Settings {
     pub identity: Identity,
     pub places: Places,
+    /// Whether its body is a segment that speaks no Hermes, whose signals it bridges.
+    pub bridge: bool,
     pub connections: Connections,
     /// After how many turns it ends, 1 to 1,000,000,000,000.
     pub turns: u64,

@@ -148,7 +148,7 @@ fn address_as(value: &Value) -> Result<Address, ConfigWhy>
     }
 }
 
-/// Whether the body is a segment with signals, at a key which may be missing. None can be one yet.
+/// Whether the body is a segment with signals, at a key which may be missing.
 pub fn optional_bridge_at(table: &Table, key: &str) -> Result<Option<bool>, SettingsError>
     ensures { Reads (named keys.Bridge (optional bridge_as (get_member key.now (table_view table.now)))) result }
 {
@@ -165,8 +165,7 @@ fn bridge_as(value: &Value) -> Result<bool, ConfigWhy>
     ensures { result ≡ bridge_as (view value.now) }
 {
     match value.as_bool() {
-        Some(false) => Ok(false),
-        Some(true) => Err(ConfigWhy::OutOfRange),
+        Some(bridge) => Ok(bridge),
         None => Err(ConfigWhy::WrongKind),
     }
 }

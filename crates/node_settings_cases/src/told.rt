@@ -21,12 +21,13 @@ fn told_settings(alloc: Global, settings: &Settings) -> Result<String, AllocErro
     let lane = settings.identity.lane;
     let capacity = settings.places.capacity;
     let used = settings.places.used;
+    let body = if settings.bridge { " bridge" } else { "" };
     let upstream = told_address(alloc, settings.connections.upstream)?;
     let downstream = settings.connections.downstream_port;
     let panel = settings.connections.panel_port;
     let turns = settings.turns;
     format!(in alloc;
-        "{number} {id} {lane} {capacity} {used} {upstream} {downstream} {panel} {turns}"
+        "{number} {id} {lane} {capacity} {used}{body} {upstream} {downstream} {panel} {turns}"
     )
 }
 
