@@ -214,21 +214,88 @@ among [] first words all = none_among first words (is_later first) refl
 among (form ∷ rows) first words all = among_by form rows first words (bytes_eq first form.word) refl (all.0 words) (among rows first words all.1)
 
 all_fit : AllFit forms
-all_fit =
-    (by_values grammar.machine_form made_machine, (by_values grammar.bridge_form made_bridge,
-    (fit_insert, (fit_query, (by_values grammar.remove_form made_remove,
-    (by_values grammar.replace_form made_replace, (by_values grammar.mark_form made_mark,
-    (by_values grammar.hold_form made_hold, (by_values grammar.go_form made_go,
-    (by_values grammar.signal_form made_signal, (by_values grammar.connect_form made_connect,
-    (by_values grammar.flow_form made_flow, (by_values grammar.notice_form made_notice,
-    (by_values grammar.cut_form made_cut, (by_values grammar.spoil_form made_spoil,
-    (by_values grammar.forecast_form made_forecast, (by_values grammar.shutdown_form made_shutdown,
-    (by_values grammar.tick_form made_tick, (by_values grammar.fault_form made_fault,
-    (by_values grammar.lie_form made_lie, (by_values grammar.unseen_form made_unseen,
-    (by_values grammar.sense_form made_sense, (by_values grammar.begin_form made_begin,
-    (by_values grammar.left_form made_left, (by_values grammar.enter_form made_enter,
-    (by_values grammar.back_form made_back, (by_values grammar.hand_in_form made_hand_in,
-    (by_values grammar.take_form made_take, (by_values grammar.show_form made_show, tt)))))))))))))))))))))))))))))
+all_fit = (
+  by_values grammar.machine_form made_machine,
+  (
+    by_values grammar.bridge_form made_bridge,
+    (
+      fit_insert,
+      (
+        fit_query,
+        (
+          by_values grammar.remove_form made_remove,
+          (
+            by_values grammar.replace_form made_replace,
+            (
+              by_values grammar.mark_form made_mark,
+              (
+                by_values grammar.hold_form made_hold,
+                (
+                  by_values grammar.go_form made_go,
+                  (
+                    by_values grammar.signal_form made_signal,
+                    (
+                      by_values grammar.connect_form made_connect,
+                      (
+                        by_values grammar.flow_form made_flow,
+                        (
+                          by_values grammar.notice_form made_notice,
+                          (
+                            by_values grammar.cut_form made_cut,
+                            (
+                              by_values grammar.spoil_form made_spoil,
+                              (
+                                by_values grammar.forecast_form made_forecast,
+                                (
+                                  by_values grammar.shutdown_form made_shutdown,
+                                  (
+                                    by_values grammar.tick_form made_tick,
+                                    (
+                                      by_values grammar.fault_form made_fault,
+                                      (
+                                        by_values grammar.lie_form made_lie,
+                                        (
+                                          by_values grammar.unseen_form made_unseen,
+                                          (
+                                            by_values grammar.sense_form made_sense,
+                                            (
+                                              by_values grammar.begin_form made_begin,
+                                              (
+                                                by_values grammar.left_form made_left,
+                                                (
+                                                  by_values grammar.enter_form made_enter,
+                                                  (
+                                                    by_values grammar.back_form made_back,
+                                                    (
+                                                      by_values grammar.hand_in_form made_hand_in,
+                                                      (by_values grammar.take_form made_take, (by_values grammar.show_form made_show, tt)),
+                                                    ),
+                                                  ),
+                                                ),
+                                              ),
+                                            ),
+                                          ),
+                                        ),
+                                      ),
+                                    ),
+                                  ),
+                                ),
+                              ),
+                            ),
+                          ),
+                        ),
+                      ),
+                    ),
+                  ),
+                ),
+              ),
+            ),
+          ),
+        ),
+      ),
+    ),
+  ),
+)
 
 comment_by : (first : List ℕ) (words : List (List ℕ)) (is : Bool) → is ≡ is_comment first → Fit (line_of_words (first ∷ words))
 comment_by first words true is = rw (sym is) tt

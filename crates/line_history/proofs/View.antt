@@ -340,7 +340,7 @@ own_turn t number j input before start after told steps same theirs =
       event = event;
       theirs = theirs;
       body = ap (λ (n : NodeState). n.lane.body) next_is ∙ lane.body ∙ ap (λ (d : Done). d.body) did;
-      acts = ap (done_by (j + 1)) steps.told_is ∙ own_acts (is_second input) (j + 1) steps.acts (read_by (j + 1) start.world) 
+      acts = ap (done_by (j + 1)) steps.told_is ∙ own_acts (is_second input) (j + 1) steps.acts (read_by (j + 1) start.world)
           ∙ ap undriven steps.steps.told ∙ undriven_signals steps.steps.made node.bridge steps.next.lane.body ∙ ap undriven lane.told ∙ ap (λ (d : Done). undriven d.acts) did;
       unread = ap (λ (s : LineState). (machine_at s.world.floor (j + 1)).unread) steps.after_is ∙ none_unread (is_second input) (j + 1) steps.acts start.world;
     }

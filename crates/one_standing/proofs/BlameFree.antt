@@ -96,7 +96,7 @@ behind_service ready [] messages oldest is = absurd (false≢true is)
 behind_service ready (m ∷ sent) messages oldest is =
     let f : Front m.body (said sent) messages = front_of oldest in
     let later : ready_behind Entry (ready_after Entry ready m.body) f.rest ≡ true = elim (first_service ready m.body (down_words (bodies sent)) is) [
-      inl now ↦ behind_ready Entry (ready_after Entry ready m.body) f.rest now
+      | inl now ↦ behind_ready Entry (ready_after Entry ready m.body) f.rest now
       | inr there ↦ behind_service (ready_after Entry ready m.body) sent f.rest f.oldest there
     ] in
     ap (ready_behind Entry ready) f.is ∙ later
