@@ -1,4 +1,6 @@
 use Rattle.std.specs.Prelude.{ℕ, ◌≤◌, Option, Some, None}
+use Rattle.hermes_vertical.specs.declared.message.Question.{Question}
+use Rattle.hermes_vertical.specs.declared.message.Question.TheVariants as questions
 use Rattle.line_script.specs.declared.line.ScriptLine.{ScriptLine}
 use Rattle.line_script.specs.declared.line.ScriptLine.TheVariants as lines
 
@@ -11,6 +13,12 @@ pub record IsBetween (low high number : ℕ) : Type 0 where
 abbrev pub IsFlowCount : Option ℕ → Type 0
 IsFlowCount None = Unit {0}
 IsFlowCount (Some count) = IsBetween 1 65536 count
+
+-- a slot is spelled by at most nine digits
+abbrev pub IsQuestionWithin : Question → Type 0
+IsQuestionWithin (questions.Barcode barcode) = Unit {0}
+IsQuestionWithin (questions.Order order) = Unit {0}
+IsQuestionWithin (questions.Place magazine slot) = IsBetween 0 999999999 slot
 
 -- a line's numbers stand within the ranges of the grammar
 abbrev pub IsWithin : ScriptLine → Type 0
@@ -42,5 +50,8 @@ IsWithin (lines.Back gap) = IsBetween 1 63 gap
 IsWithin (lines.HandIn gap) = IsBetween 1 63 gap
 IsWithin (lines.Take gap) = IsBetween 1 63 gap
 IsWithin lines.Show = Unit {0}
+IsWithin (lines.Supervise machine) = IsBetween 1 64 machine
+IsWithin (lines.Ask machine question) = IsBetween 1 64 machine × IsQuestionWithin question
+IsWithin (lines.Answer machine query order) = IsBetween 1 64 machine × IsBetween 0 999999999999999 query
 IsWithin (lines.Forecast machine) = IsBetween 1 64 machine
 IsWithin (lines.Query machine barcode) = IsBetween 1 64 machine

@@ -10,10 +10,14 @@ use Rattle.line_base.specs.declared.states.Side.{Side}
 use Rattle.line_base.specs.declared.states.Side.TheVariants as sides
 use Rattle.board_record.specs.BoardId.{read_id}
 use Rattle.board_record.specs.declared.id.BadId.{BadId}
+use Rattle.hermes_vertical.specs.declared.message.Question.{Question}
+use Rattle.hermes_vertical.specs.declared.message.Question.TheVariants as questions
 use Rattle.smema_bridge.specs.declared.line.SegmentLine.{SegmentLine}
 use Rattle.smema_bridge.specs.declared.line.SegmentLine.TheVariants as signals
 use Rattle.line_script.specs.declared.line.LineWhy.{LineWhy}
 use Rattle.line_script.specs.declared.line.LineWhy.TheVariants as whys
+use Rattle.line_script.specs.declared.words.AskedBy.{AskedBy}
+use Rattle.line_script.specs.declared.words.AskedBy.TheVariants as bys
 use Rattle.line_script.specs.declared.line.LineError.{LineError}
 use Rattle.line_script.specs.declared.line.LineError.TheVariants as errors
 
@@ -77,6 +81,16 @@ switch_of word =
     if bytes_eq word (codes "on") then Ok true else
     (if bytes_eq word (codes "off") then Ok false else Err whys.BadWord)
 
+-- what a work order is asked for by, where a text is enough to say it
+abbrev pub asked_by_of : List ℕ → Result AskedBy LineWhy
+asked_by_of word =
+    if bytes_eq word (codes "barcode") then Ok bys.Barcode else
+    (if bytes_eq word (codes "order") then Ok bys.Order else Err whys.BadWord)
+
+abbrev pub question_of : AskedBy → List ℕ → Question
+question_of bys.Barcode text = questions.Barcode text
+question_of bys.Order text = questions.Order text
+
 -- what reading answers, unless memory ran out
 abbrev pub Reads : {A : Type 0} → Result A LineWhy → Result A LineError → Type 0
 Reads wanted (Ok value) = wanted ≡ Ok value
@@ -92,7 +106,6 @@ why_text whys.LongLine = codes "long line"
 why_text whys.TooManyLines = codes "too many lines"
 why_text whys.NotText = codes "not text"
 why_text whys.UnknownWord = codes "unknown word"
-why_text whys.NotYet = codes "not yet"
 why_text whys.WrongCount = codes "wrong count"
 why_text whys.BadNumber = codes "bad number"
 why_text whys.BadSide = codes "bad side"

@@ -3,12 +3,12 @@
 ghost use Rattle.std.specs.Prelude.{◌≡◌, IfOk, map};
 ghost use Rattle.line_script.specs.Ranges.{IsWithin};
 ghost use Rattle.line_script.specs.Words.{Reads};
-ghost use Rattle.line_script.specs.Grammar.{line_among, forms, board_forms, link_forms, machine_forms, floor_forms, report_forms, is_later};
+ghost use Rattle.line_script.specs.Grammar.{line_among, forms, board_forms, link_forms, machine_forms, floor_forms, report_forms};
 
 use crate::forms::{
-    back, begin, bridge, connect, cut, enter, fault, flow, forecast, go, hand_in, hold, insert,
-    left, lie, machine, mark, notice, query, refused, remove, replace, sense, show, shutdown,
-    signal, spoil, take, tick, unseen,
+    answer, ask, back, begin, bridge, connect, cut, enter, fault, flow, forecast, go, hand_in,
+    hold, insert, left, lie, machine, mark, notice, query, refused, remove, replace, sense, show,
+    shutdown, signal, spoil, supervise, take, tick, unseen,
 };
 use crate::line::{LineError, LineWhy, ScriptLine};
 use std::alloc::Global;
@@ -29,6 +29,12 @@ pub fn line_of(alloc: Global, first: &[u8], words: &[&[u8]]) -> Result<ScriptLin
     }
     if first == &b"query"[..] {
         return query(alloc, words);
+    }
+    if first == &b"ask"[..] {
+        return ask(alloc, words);
+    }
+    if first == &b"answer"[..] {
+        return answer(alloc, words);
     }
     refused(board_line(first, words))
 }
@@ -79,6 +85,9 @@ fn link_line(first: &[u8], words: &[&[u8]]) -> Result<ScriptLine, LineWhy>
     }
     if first == &b"forecast"[..] {
         return forecast(words);
+    }
+    if first == &b"supervise"[..] {
+        return supervise(words);
     }
     machine_line(first, words)
 }
@@ -140,14 +149,5 @@ fn report_line(first: &[u8], words: &[&[u8]]) -> Result<ScriptLine, LineWhy>
     if first == &b"show"[..] {
         return show(words);
     }
-    if is_later(first) {
-        return Err(LineWhy::NotYet);
-    }
     Err(LineWhy::UnknownWord)
-}
-
-fn is_later(first: &[u8]) -> bool
-    ensures { result ≡ is_later first.now }
-{
-    first == &b"supervise"[..] || first == &b"ask"[..] || first == &b"answer"[..]
 }

@@ -3,12 +3,16 @@
 ghost use Rattle.std.specs.Prelude.{◌≡◌, ◌≤◌, ℕ, IfOk, [], ◌∷◌, map};
 ghost use Rattle.line_script.specs.Ranges.{IsBetween, IsWithin};
 ghost use Rattle.line_script.specs.Words.{Reads};
-ghost use Rattle.line_script.specs.Grammar.{number, numeral, sided, side_word, machine_number, room_words, made_room, is_seen_at, lie_of, mapped_ok, then_ok, arguments_as, line_as, machine_form, bridge_form, insert_form, query_form, remove_form, replace_form, mark_form, hold_form, go_form, signal_form, connect_form, flow_form, notice_form, cut_form, spoil_form, forecast_form, shutdown_form, tick_form, fault_form, lie_form, unseen_form, sense_form, begin_form, left_form, enter_form, back_form, hand_in_form, take_form, show_form};
+ghost use Rattle.line_script.specs.Grammar.{number, numeral, sided, side_word, machine_number, room_words, made_room, is_seen_at, lie_of, mapped_ok, then_ok, arguments_as, line_as, machine_form, bridge_form, insert_form, query_form, ask_form, answer_form, remove_form, replace_form, mark_form, hold_form, go_form, signal_form, connect_form, flow_form, notice_form, cut_form, spoil_form, forecast_form, supervise_form, shutdown_form, tick_form, fault_form, lie_form, unseen_form, sense_form, begin_form, left_form, enter_form, back_form, hand_in_form, take_form, show_form};
 ghost use Rattle.line_script.specs.declared.line.ScriptLine.{ScriptLine as Line};
 
 use crate::line::{LineError, LineWhy, ScriptLine};
-use crate::words::{event, identity, literal, number, quality, segment_line, side, switch, token};
+use crate::words::{
+    asked_by, event, identity, literal, number, quality, question, segment_line, side, switch,
+    token,
+};
 use board_record::Sensed;
+use hermes_vertical::Question;
 use line_base::{SensorEvent, Side};
 use std::alloc::Global;
 
@@ -23,6 +27,12 @@ const MOST_CAPACITY: u64 = 1024;
 
 /// The most bytes that a flow of some bytes delivers.
 const MOST_FLOW: u64 = 65_536;
+
+/// The last slot of a magazine, of nine digits.
+const MOST_SLOT: u64 = 999_999_999;
+
+/// The last number that 15 digits spell.
+const MOST_QUERY: u64 = 999_999_999_999_999;
 
 /// The most ids that a machine may have made.
 const MOST_USED: u64 = 281_474_976_710_655;
@@ -146,6 +156,108 @@ fn query_barcode(alloc: Global, machine: &[u8], barcode: &[u8]) -> Result<Script
     };
     match token(alloc, barcode) {
         Ok(barcode) => Ok(ScriptLine::Query { machine, barcode }),
+        Err(error) => Err(error),
+    }
+}
+
+pub fn ask(alloc: Global, words: &[&[u8]]) -> Result<ScriptLine, LineError>
+    ensures answer { Reads (line_as ask_form (map (λ word. word.now) words.now)) result }
+    ensures within { IfOk result IsWithin }
+{
+    match words {
+        [machine, word, text] => ask_by(alloc, machine, word, text),
+        [machine, word, magazine, slot] => ask_place(alloc, machine, word, magazine, slot),
+        _ => Err(LineError::Refused(LineWhy::WrongCount)),
+    }
+}
+
+/// `ask m barcode w` and `ask m order w`.
+fn ask_by(alloc: Global, machine: &[u8], word: &[u8], text: &[u8]) -> Result<ScriptLine, LineError>
+    ensures answer { Reads (line_as ask_form (machine.now ∷ word.now ∷ text.now ∷ [])) result }
+    ensures within { IfOk result IsWithin }
+{
+    let machine = match number(machine, 1, MOST_MACHINES) {
+        Ok(machine) => machine as u32,
+        Err(why) => return Err(LineError::Refused(why)),
+    };
+    let by = match asked_by(word) {
+        Ok(by) => by,
+        Err(why) => return Err(LineError::Refused(why)),
+    };
+    match token(alloc, text) {
+        Ok(text) => Ok(ScriptLine::Ask {
+            machine,
+            question: question(by, text),
+        }),
+        Err(error) => Err(error),
+    }
+}
+
+/// `ask m place w s`.
+fn ask_place(
+    alloc: Global,
+    machine: &[u8],
+    word: &[u8],
+    magazine: &[u8],
+    slot: &[u8],
+) -> Result<ScriptLine, LineError>
+    ensures answer { Reads (line_as ask_form (machine.now ∷ word.now ∷ magazine.now ∷ slot.now ∷ [])) result }
+    ensures within { IfOk result IsWithin }
+{
+    let machine = match number(machine, 1, MOST_MACHINES) {
+        Ok(machine) => machine as u32,
+        Err(why) => return Err(LineError::Refused(why)),
+    };
+    if let Err(why) = literal(word, b"place") {
+        return Err(LineError::Refused(why));
+    }
+    let magazine = match token(alloc, magazine) {
+        Ok(magazine) => magazine,
+        Err(error) => return Err(error),
+    };
+    let slot = match number(slot, 0, MOST_SLOT) {
+        Ok(slot) => slot as u32,
+        Err(why) => return Err(LineError::Refused(why)),
+    };
+    Ok(ScriptLine::Ask {
+        machine,
+        question: Question::Place { magazine, slot },
+    })
+}
+
+pub fn answer(alloc: Global, words: &[&[u8]]) -> Result<ScriptLine, LineError>
+    ensures answer { Reads (line_as answer_form (map (λ word. word.now) words.now)) result }
+    ensures within { IfOk result IsWithin }
+{
+    match words {
+        [machine, query, order] => answer_with(alloc, machine, query, order),
+        _ => Err(LineError::Refused(LineWhy::WrongCount)),
+    }
+}
+
+fn answer_with(
+    alloc: Global,
+    machine: &[u8],
+    query: &[u8],
+    order: &[u8],
+) -> Result<ScriptLine, LineError>
+    ensures answer { Reads (line_as answer_form (machine.now ∷ query.now ∷ order.now ∷ [])) result }
+    ensures within { IfOk result IsWithin }
+{
+    let machine = match number(machine, 1, MOST_MACHINES) {
+        Ok(machine) => machine as u32,
+        Err(why) => return Err(LineError::Refused(why)),
+    };
+    let query = match number(query, 0, MOST_QUERY) {
+        Ok(query) => query,
+        Err(why) => return Err(LineError::Refused(why)),
+    };
+    match token(alloc, order) {
+        Ok(order) => Ok(ScriptLine::Answer {
+            machine,
+            query,
+            order,
+        }),
         Err(error) => Err(error),
     }
 }
@@ -306,6 +418,14 @@ pub fn forecast(words: &[&[u8]]) -> Result<ScriptLine, LineWhy>
 {
     let machine = only_number(words, MOST_MACHINES)?;
     Ok(ScriptLine::Forecast { machine })
+}
+
+pub fn supervise(words: &[&[u8]]) -> Result<ScriptLine, LineWhy>
+    ensures answer { result ≡ line_as supervise_form (map (λ word. word.now) words.now) }
+    ensures within { IfOk result IsWithin }
+{
+    let machine = only_number(words, MOST_MACHINES)?;
+    Ok(ScriptLine::Supervise { machine })
 }
 
 pub fn shutdown(words: &[&[u8]]) -> Result<ScriptLine, LineWhy>

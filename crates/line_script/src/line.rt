@@ -1,4 +1,5 @@
 use board_record::{BoardId, Sensed};
+use hermes_vertical::Question;
 use line_base::{Quality, Side, Text};
 use smema_bridge::SegmentLine;
 use std::fmt;
@@ -134,6 +135,21 @@ pub enum ScriptLine {
     },
     /// What every machine keeps, in the report.
     Show,
+    /// A machine is supervised from now on.
+    Supervise {
+        machine: u32,
+    },
+    /// A machine asks its supervisor for a work order.
+    Ask {
+        machine: u32,
+        question: Question,
+    },
+    /// The supervisor answers the question of a machine that has this number.
+    Answer {
+        machine: u32,
+        query: u64,
+        order: Text,
+    },
     /// A machine tells its downstream neighbour which board will come.
     Forecast {
         machine: u32,
@@ -157,8 +173,6 @@ pub enum LineWhy {
     NotText,
     /// Its first word is no form's.
     UnknownWord,
-    /// Its first word is that of a form that isn't built yet.
-    NotYet,
     /// It has too few or too many words.
     WrongCount,
     BadNumber,
@@ -179,7 +193,6 @@ impl fmt::Display for LineWhy {
             LineWhy::TooManyLines => f.write_str("too many lines"),
             LineWhy::NotText => f.write_str("not text"),
             LineWhy::UnknownWord => f.write_str("unknown word"),
-            LineWhy::NotYet => f.write_str("not yet"),
             LineWhy::WrongCount => f.write_str("wrong count"),
             LineWhy::BadNumber => f.write_str("bad number"),
             LineWhy::BadSide => f.write_str("bad side"),

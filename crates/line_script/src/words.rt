@@ -3,10 +3,11 @@
 ghost use Rattle.std.specs.Prelude.{◌≡◌, IfOk, map};
 ghost use Rattle.std.specs.List.{list_all};
 ghost use Rattle.line_script.specs.Ranges.{IsBetween};
-ghost use Rattle.line_script.specs.Words.{is_blank, is_text_byte, number_in, words_of, ReadsToken, identity_of, literal_of, side_of, quality_of, event_of, segment_line_of, switch_of};
+ghost use Rattle.line_script.specs.Words.{is_blank, is_text_byte, number_in, words_of, ReadsToken, identity_of, literal_of, side_of, quality_of, event_of, segment_line_of, switch_of, asked_by_of, question_of};
 
 use crate::line::{LineError, LineWhy};
 use board_record::BoardId;
+use hermes_vertical::Question;
 use line_base::{Quality, SensorEvent, Side, Text, TextError, digits_value, is_digits};
 use smema_bridge::SegmentLine;
 use std::alloc::{AllocError, Global};
@@ -16,6 +17,15 @@ const MOST_TOKEN_BYTES: usize = 64;
 
 /// The most digits of a number.
 const MOST_DIGITS: usize = 15;
+
+/// What a work order is asked for by, where a text is enough to say it.
+#[derive(Clone, Copy, Debug, PartialEq, Eq)]
+pub enum AskedBy {
+    /// A board's barcode.
+    Barcode,
+    /// The order's id.
+    Order,
+}
 
 /// Whether a byte parts words.
 pub fn is_blank(byte: u8) -> bool
@@ -156,6 +166,29 @@ pub fn switch(word: &[u8]) -> Result<bool, LineWhy>
         return Ok(false);
     }
     Err(LineWhy::BadWord)
+}
+
+/// What a work order is asked for by: `barcode` or `order`. `BadWord` else.
+pub fn asked_by(word: &[u8]) -> Result<AskedBy, LineWhy>
+    ensures { result ≡ asked_by_of word.now }
+{
+    if word == &b"barcode"[..] {
+        return Ok(AskedBy::Barcode);
+    }
+    if word == &b"order"[..] {
+        return Ok(AskedBy::Order);
+    }
+    Err(LineWhy::BadWord)
+}
+
+/// The question that asks so for a text.
+pub fn question(by: AskedBy, text: Text) -> Question
+    ensures { result ≡ question_of by text }
+{
+    match by {
+        AskedBy::Barcode => Question::Barcode(text),
+        AskedBy::Order => Question::Order(text),
+    }
 }
 
 /// A text of at most 64 bytes. `BadWord` where the word is longer.

@@ -4,6 +4,7 @@
 mod spelled;
 
 use crate::spelled::spell;
+use hermes_vertical::Question;
 use line_base::{Quality, SensorEvent, Side};
 use line_script::{ScriptLine, read_line};
 use smema_bridge::SegmentLine;
@@ -114,7 +115,38 @@ fn tell_link(line: &ScriptLine, to: &mut Vec<u8>) -> io::Result<()> {
             write!(to, "query {machine}")?;
             tell_barcode(barcode.bytes(), to)
         }
+        _ => tell_supervised(line, to),
+    }
+}
+
+/// Appends what a line of a supervised machine asks for.
+fn tell_supervised(line: &ScriptLine, to: &mut Vec<u8>) -> io::Result<()> {
+    match line {
+        ScriptLine::Supervise { machine } => write!(to, "supervise {machine}"),
+        ScriptLine::Ask { machine, question } => {
+            write!(to, "ask {machine}")?;
+            tell_question(question, to)
+        }
+        ScriptLine::Answer {
+            machine,
+            query,
+            order,
+        } => {
+            write!(to, "answer {machine} {query}")?;
+            tell_text("order", order.bytes(), to)
+        }
         _ => Ok(()),
+    }
+}
+
+fn tell_question(question: &Question, to: &mut Vec<u8>) -> io::Result<()> {
+    match question {
+        Question::Barcode(barcode) => tell_barcode(barcode.bytes(), to),
+        Question::Order(order) => tell_text("order", order.bytes(), to),
+        Question::Place { magazine, slot } => {
+            tell_text("place", magazine.bytes(), to)?;
+            write!(to, " slot {slot}")
+        }
     }
 }
 
@@ -157,6 +189,10 @@ fn signal_word(line: SegmentLine) -> &'static str {
 }
 
 fn tell_barcode(barcode: &[u8], to: &mut Vec<u8>) -> io::Result<()> {
-    write!(to, " barcode ")?;
-    Ok(to.extend_from_slice(barcode)?)
+    tell_text("barcode", barcode, to)
+}
+
+fn tell_text(word: &str, text: &[u8], to: &mut Vec<u8>) -> io::Result<()> {
+    write!(to, " {word} ")?;
+    Ok(to.extend_from_slice(text)?)
 }

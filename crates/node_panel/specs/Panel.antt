@@ -1,5 +1,5 @@
 -- The lines of a machine's panel: those of a script without their machine, and `end`.
-use Rattle.std.specs.Prelude.{◌==◌, ◌||◌, ℕ, Bool, false, List, [], ◌∷◌, Some, None, Result, Ok, Err, codes, length, nat_lt, if◌then◌else◌}
+use Rattle.std.specs.Prelude.{◌==◌, ℕ, Bool, false, List, [], ◌∷◌, Some, None, Result, Ok, Err, codes, length, nat_lt, if◌then◌else◌}
 use Rattle.std.specs.List.{list_all}
 use Rattle.std.specs.Str.{bytes_eq}
 use Rattle.line_base.specs.Results.{then_ok, mapped_ok}
@@ -9,7 +9,8 @@ use Rattle.line_base.specs.declared.states.Quality.{Quality}
 use Rattle.line_base.specs.declared.states.Quality.TheVariants as qualities
 use Rattle.line_base.specs.declared.states.SensorEvent.{SensorEvent}
 use Rattle.line_base.specs.declared.states.SensorEvent.TheVariants as sensors
-use Rattle.line_script.specs.Words.{words_of, is_text_byte, identity_of, token_of, segment_line_of, switch_of}
+use Rattle.hermes_vertical.specs.declared.message.Question.TheVariants as questions
+use Rattle.line_script.specs.Words.{words_of, is_text_byte, number_in, literal_of, identity_of, token_of, segment_line_of, switch_of, asked_by_of, question_of}
 use Rattle.line_script.specs.declared.line.LineWhy.{LineWhy}
 use Rattle.line_script.specs.declared.line.LineWhy.TheVariants as whys
 use Rattle.node_panel.specs.declared.line.PanelLine.{PanelLine}
@@ -86,13 +87,24 @@ query_of [] = Err whys.WrongCount
 query_of (barcode ∷ []) = mapped_ok lines.Query (token_of barcode)
 query_of (barcode ∷ other ∷ words) = Err whys.WrongCount
 
--- the first word of the form that isn't built yet
-abbrev pub is_later : List ℕ → Bool
-is_later first = bytes_eq first (codes "ask")
+-- a question by one text, and by a place: a magazine and a slot of it
+abbrev pub text_asked : List ℕ → List ℕ → Result PanelLine LineWhy
+text_asked word text =
+    then_ok (asked_by_of word) (λ by. mapped_ok (λ text. lines.Ask (question_of by text)) (token_of text))
 
--- THE TABLE: `insert [barcode]`, `query barcode`, `remove id`, `replace id`, `mark id quality`, `hold side`, `go side`,
--- `fault side`, `sense side event`, `signal ready|available|failed on|off`, `connect`, `shutdown`, `tick`, `forecast`,
--- `show`, `end`
+abbrev pub place_asked : List ℕ → List ℕ → List ℕ → Result PanelLine LineWhy
+place_asked word magazine slot =
+    then_ok (literal_of (codes "place") word) (λ place. then_ok (token_of magazine)
+    (λ magazine. mapped_ok (λ slot. lines.Ask (questions.Place magazine slot)) (number_in 0 999999999 slot)))
+
+abbrev pub ask_of : List (List ℕ) → Result PanelLine LineWhy
+ask_of (word ∷ text ∷ []) = text_asked word text
+ask_of (word ∷ magazine ∷ slot ∷ []) = place_asked word magazine slot
+ask_of _ = Err whys.WrongCount
+
+-- THE TABLE: `insert [barcode]`, `query barcode`, `ask barcode|order w`, `ask place w s`, `remove id`, `replace id`,
+-- `mark id quality`, `hold side`, `go side`, `fault side`, `sense side event`, `signal ready|available|failed on|off`,
+-- `connect`, `shutdown`, `tick`, `forecast`, `show`, `end`
 abbrev pub asked_of_connections : List ℕ → List (List ℕ) → Result PanelLine LineWhy
 asked_of_connections first words =
     if bytes_eq first (codes "connect") then bare lines.Connect words else
@@ -100,8 +112,7 @@ asked_of_connections first words =
     (if bytes_eq first (codes "tick") then bare lines.Tick words else
     (if bytes_eq first (codes "forecast") then bare lines.Forecast words else
     (if bytes_eq first (codes "show") then bare lines.Show words else
-    (if bytes_eq first (codes "end") then bare lines.End words else
-    (if is_later first then Err whys.NotYet else Err whys.UnknownWord))))))
+    (if bytes_eq first (codes "end") then bare lines.End words else Err whys.UnknownWord)))))
 
 abbrev pub asked_of_sides : List ℕ → List (List ℕ) → Result PanelLine LineWhy
 asked_of_sides first words =
@@ -115,9 +126,10 @@ abbrev pub asked_of : List ℕ → List (List ℕ) → Result PanelLine LineWhy
 asked_of first words =
     if bytes_eq first (codes "insert") then insert_of words else
     (if bytes_eq first (codes "query") then query_of words else
+    (if bytes_eq first (codes "ask") then ask_of words else
     (if bytes_eq first (codes "remove") then with_id lines.Remove words else
     (if bytes_eq first (codes "replace") then with_id lines.Replace words else
-    (if bytes_eq first (codes "mark") then mark_of words else asked_of_sides first words))))
+    (if bytes_eq first (codes "mark") then mark_of words else asked_of_sides first words)))))
 
 -- a line whose first word begins with `#` is a comment
 abbrev pub is_comment : List ℕ → Bool

@@ -2,15 +2,19 @@
 
 ghost use Rattle.std.specs.Prelude.{◌≡◌, map};
 ghost use Rattle.line_script.specs.Words.{Reads};
-ghost use Rattle.node_panel.specs.Panel.{insert_of, with_id, with_side, mark_of, sense_of, signal_of, query_of, bare, asked_of, asked_of_sides, asked_of_connections, is_later};
+ghost use Rattle.node_panel.specs.Panel.{insert_of, with_id, with_side, mark_of, sense_of, signal_of, query_of, text_asked, place_asked, ask_of, bare, asked_of, asked_of_sides, asked_of_connections};
 ghost use Rattle.node_panel.specs.declared.line.PanelLine.TheVariants as lines;
 
 use crate::line::PanelLine;
 use crate::words::{event_of, id_of, quality_of, side_of};
 use board_record::Sensed;
-use line_script::words::{segment_line, switch, token};
+use hermes_vertical::Question;
+use line_script::words::{asked_by, literal, number, question, segment_line, switch, token};
 use line_script::{LineError, LineWhy};
 use std::alloc::Global;
+
+/// The last slot of a magazine, of nine digits.
+const MOST_SLOT: u64 = 999_999_999;
 
 /// The line that a first word and those behind it ask for.
 pub fn asked_of(alloc: Global, first: &[u8], words: &[&[u8]]) -> Result<PanelLine, LineError>
@@ -21,6 +25,9 @@ pub fn asked_of(alloc: Global, first: &[u8], words: &[&[u8]]) -> Result<PanelLin
     }
     if first == &b"query"[..] {
         return query(alloc, words);
+    }
+    if first == &b"ask"[..] {
+        return ask(alloc, words);
     }
     if first == &b"remove"[..] {
         return refused(remove(words));
@@ -85,16 +92,7 @@ fn asked_of_connections(first: &[u8], words: &[&[u8]]) -> Result<PanelLine, Line
     if first == &b"end"[..] {
         return bare(PanelLine::End, words);
     }
-    if is_later(first) {
-        return Err(LineWhy::NotYet);
-    }
     Err(LineWhy::UnknownWord)
-}
-
-fn is_later(first: &[u8]) -> bool
-    ensures { result ≡ is_later first.now }
-{
-    first == &b"ask"[..]
 }
 
 fn bare(line: PanelLine, words: &[&[u8]]) -> Result<PanelLine, LineWhy>
@@ -131,6 +129,57 @@ fn query(alloc: Global, words: &[&[u8]]) -> Result<PanelLine, LineError>
         },
         _ => Err(LineError::Refused(LineWhy::WrongCount)),
     }
+}
+
+fn ask(alloc: Global, words: &[&[u8]]) -> Result<PanelLine, LineError>
+    ensures { Reads (ask_of (map (λ word. word.now) words.now)) result }
+{
+    match words {
+        [word, text] => ask_by(alloc, word, text),
+        [word, magazine, slot] => ask_place(alloc, word, magazine, slot),
+        _ => Err(LineError::Refused(LineWhy::WrongCount)),
+    }
+}
+
+/// `ask barcode w` and `ask order w`.
+fn ask_by(alloc: Global, word: &[u8], text: &[u8]) -> Result<PanelLine, LineError>
+    ensures { Reads (text_asked word.now text.now) result }
+{
+    let by = match asked_by(word) {
+        Ok(by) => by,
+        Err(why) => return Err(LineError::Refused(why)),
+    };
+    match token(alloc, text) {
+        Ok(text) => Ok(PanelLine::Ask {
+            question: question(by, text),
+        }),
+        Err(error) => Err(error),
+    }
+}
+
+/// `ask place w s`.
+fn ask_place(
+    alloc: Global,
+    word: &[u8],
+    magazine: &[u8],
+    slot: &[u8],
+) -> Result<PanelLine, LineError>
+    ensures { Reads (place_asked word.now magazine.now slot.now) result }
+{
+    if let Err(why) = literal(word, b"place") {
+        return Err(LineError::Refused(why));
+    }
+    let magazine = match token(alloc, magazine) {
+        Ok(magazine) => magazine,
+        Err(error) => return Err(error),
+    };
+    let slot = match number(slot, 0, MOST_SLOT) {
+        Ok(slot) => slot as u32,
+        Err(why) => return Err(LineError::Refused(why)),
+    };
+    Ok(PanelLine::Ask {
+        question: Question::Place { magazine, slot },
+    })
 }
 
 fn remove(words: &[&[u8]]) -> Result<PanelLine, LineWhy>

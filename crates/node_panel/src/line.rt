@@ -1,4 +1,5 @@
 use board_record::{BoardId, Sensed};
+use hermes_vertical::Question;
 use line_base::{Quality, Side, Text};
 use smema_bridge::SegmentLine;
 
@@ -35,6 +36,8 @@ pub enum PanelLine {
     Forecast,
     /// The upstream neighbour is asked for the board with this top barcode.
     Query { barcode: Text },
+    /// The supervisor is asked for a work order.
+    Ask { question: Question },
     /// What the machine keeps and holds.
     Show,
     /// The end of the run.

@@ -1,4 +1,5 @@
 use board_record::BoardId;
+use hermes_vertical::Question;
 use line_base::{Quality, SensorEvent, Side, Text};
 use line_script::LineError;
 use node_panel::PanelLine;
@@ -25,6 +26,7 @@ fn told_line(alloc: Global, line: &PanelLine) -> Result<String, AllocError> {
         PanelLine::Sense { sensed } => told_sense(alloc, sensed.side, sensed.event),
         PanelLine::Signal { line, on } => format!(in alloc; "signal {line:?} {on}"),
         PanelLine::Query { barcode } => told_text(alloc, "query", barcode),
+        PanelLine::Ask { question } => told_question(alloc, question),
         line => String::from_str(alloc, bare_word(line)),
     }
 }
@@ -52,6 +54,17 @@ fn told_insert(alloc: Global, barcode: &Option<Text>) -> Result<String, AllocErr
 fn told_text(alloc: Global, word: &str, barcode: &Text) -> Result<String, AllocError> {
     let text = str::from_utf8(barcode.bytes()).unwrap_or("no text");
     format!(in alloc; "{word} {text}")
+}
+
+fn told_question(alloc: Global, question: &Question) -> Result<String, AllocError> {
+    match question {
+        Question::Barcode(barcode) => told_text(alloc, "ask barcode", barcode),
+        Question::Order(order) => told_text(alloc, "ask order", order),
+        Question::Place { magazine, slot } => {
+            let text = str::from_utf8(magazine.bytes()).unwrap_or("no text");
+            format!(in alloc; "ask place {text} slot {slot}")
+        }
+    }
 }
 
 fn told_board(alloc: Global, word: &str, id: BoardId) -> Result<String, AllocError> {
