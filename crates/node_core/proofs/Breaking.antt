@@ -33,7 +33,8 @@ use Rattle.node_core.specs.Announces.{announces}
 use Rattle.node_core.specs.Connect.{if_open}
 use Rattle.node_core.specs.Words.{word_did, all_heard}
 use Rattle.node_core.specs.Event.{Words}
-use Rattle.node_core.specs.Step.{machine_step}
+use Rattle.node_core.specs.Step.{machine_step, plain_step}
+use Rattle.node_core.specs.Supervising.{telling}
 use Rattle.node_core.specs.Breaking.{has_half_row, has_row, text_unless, breach_of, broken_step, heard_before, BreaksOff}
 use Rattle.node_core.proofs.Opened.{breach_closes}
 use Rattle.node_core.proofs.Hearing.{closed-hears, open-hears}
@@ -98,10 +99,12 @@ heard_append : (desk : Desk) (side : Side) (front rest : List Word) (body : Body
 heard_append desk side [] rest body = refl
 heard_append desk side (w ∷ ws) rest body = then_is (is_open side body) desk side (word_did desk side w body) ws rest body refl (heard_append desk side ws rest (word_did desk side w body).body)
 
-pub broken : (desk : Desk) (unread : List Sensed) (side : Side) (front : List Word) (word : Word) (others : List Word) (text : List ℕ) (body : Body)
+-- without what the supervisor is told
+plain_broken : (desk : Desk) (unread : List Sensed) (side : Side) (front : List Word) (word : Word) (others : List Word) (text : List ℕ) (body : Body)
     → is_open side (heard_before desk unread side front body) ≡ true → breach_of desk side word (heard_before desk unread side front body) ≡ Some text
-    → machine_step desk unread (Words side (front ++ word ∷ others)) body ≡ broken_step desk unread side front text body
-broken desk unread side front word others text body opened is =
+    → plain_step desk unread (Words side (front ++ word ∷ others)) body
+    ≡ and_then (and_then (all_read desk unread body) (all_heard desk side front)) (λ at. and_then (breaches desk side text at) (announces desk))
+plain_broken desk unread side front word others text body opened is =
     let read = all_read desk unread body in
     let before = all_heard desk side front read.body in
     let b = breaches desk side text before.body in
@@ -110,6 +113,12 @@ broken desk unread side front word others text body opened is =
     (heard_append desk side front (word ∷ others) read.body ∙ ap (λ (d : Done). record { body = d.body; acts = before.acts ++ d.acts }) (breaks_all desk side word others text before.body opened is))
     ∙ ap (λ (xs : List Act). record { body = told.body; acts = read.acts ++ xs }) (append_assoc before.acts b.acts told.acts)
     ∙ ap (λ (xs : List Act). record { body = told.body; acts = xs }) (sym (append_assoc read.acts before.acts (b.acts ++ told.acts)))
+
+pub broken : (desk : Desk) (unread : List Sensed) (side : Side) (front : List Word) (word : Word) (others : List Word) (text : List ℕ) (body : Body)
+    → is_open side (heard_before desk unread side front body) ≡ true → breach_of desk side word (heard_before desk unread side front body) ≡ Some text
+    → machine_step desk unread (Words side (front ++ word ∷ others)) body ≡ broken_step desk unread side front text body
+broken desk unread side front word others text body opened is =
+    ap (λ (d : Done). telling desk body d) (plain_broken desk unread side front word others text body opened is)
 
 pub breaks_off : (desk : Desk) (unread : List Sensed) (side : Side) (all : List Word) (before after : Body) (made own now : List Act)
     → after ≡ (machine_step desk unread (Words side all) before).body → made ≡ (machine_step desk unread (Words side all) before).acts → now ≡ made ++ own → BreaksOff desk unread side all before after own now

@@ -3,15 +3,20 @@ use Rattle.std.proofs.Common.{◌≡◌, true, false, [], ◌∷◌, Some, None,
 use Rattle.std.specs.Prelude.{codes, decimal}
 use Rattle.line_base.specs.declared.states.Side.TheVariants.{Entry, Exit}
 use Rattle.line_base.specs.declared.states.Role.TheVariants.{Upstream, Downstream}
-use Rattle.line_base.specs.declared.states.SensorEvent.TheVariants.{Begun, Left}
-use Rattle.line_base.specs.declared.states.Transfer.TheVariants.{NotStarted, Complete}
+use Rattle.line_base.specs.declared.states.SensorEvent.TheVariants.{Begun, Left, Back, Taken}
+use Rattle.line_base.specs.declared.states.Transfer.TheVariants.{NotStarted, Incomplete, Complete}
 use Rattle.line_base.specs.declared.states.Severity.TheVariants as severity
+use Rattle.line_base.specs.declared.states.Quality.TheVariants as quality
+use Rattle.line_base.specs.declared.states.Seen.TheVariants as seen
 use Rattle.board_record.specs.declared.record.Record.{Record}
 use Rattle.board_record.specs.Record.{plain_record}
 use Rattle.hermes_horizontal.specs.declared.message.Message.{Message}
 use Rattle.hermes_horizontal.specs.declared.message.Horizontal.{Horizontal}
 use Rattle.hermes_horizontal.specs.declared.message.Horizontal.TheVariants as bodies
 use Rattle.hermes_horizontal.specs.declared.message.Ping.TheVariants as pings
+use Rattle.hermes_vertical.specs.declared.message.Passing.TheVariants.{ByHand}
+use Rattle.hermes_vertical.specs.declared.message.Question.TheVariants as question
+use Rattle.hermes_vertical.specs.declared.message.Vertical.TheVariants as vertical
 use Rattle.session_core.specs.declared.state.SessionState.TheVariants.{Standing}
 use Rattle.session_core.specs.End.{at_rest, in_state}
 use Rattle.handover_out.specs.declared.phase.Phase.TheVariants as out_phase
@@ -19,11 +24,13 @@ use Rattle.handover_in.specs.declared.phase.Phase.TheVariants as in_phase
 use Rattle.node_core.specs.declared.act.Act.{Act}
 use Rattle.node_core.specs.declared.act.Act.TheVariants as acts
 use Rattle.node_core.specs.declared.act.Deed.TheVariants as deeds
+use Rattle.node_core.specs.declared.act.Setting.TheVariants as settings
 use Rattle.node_core.specs.declared.word.Word.TheVariants.{Says, Wrong}
 use Rattle.node_core.specs.Desk.{Desk}
 use Rattle.node_core.specs.declared.lane.Body.{Body}
 use Rattle.node_core.specs.Told.{service_of, notification}
-use Rattle.node_core.specs.Event.{Nothing, Connect, Second, Words, Tick, Insert}
+use Rattle.node_core.specs.Event.{Nothing, Connect, Second, Words, Tick, Insert, Supervised}
+use Rattle.node_core.specs.Supervising.{Ask, Supervise, arrives, departs, tells_supervisor}
 use Rattle.node_core.specs.Node.{new_body}
 use Rattle.node_core.specs.Step.{machine_step}
 
@@ -35,7 +42,11 @@ said what = record { stamp = None; body = what }
 
 -- a machine of four places
 abbrev of_four : Desk → Desk
-of_four d = record d { capacity = 4 }
+of_four d = record d { capacity = 4; supervised = false }
+
+-- and one that is supervised
+abbrev watched : Desk → Desk
+watched d = record d { capacity = 4; supervised = true; asked = 2 }
 
 abbrev sends_in : Desk → Horizontal → Act
 sends_in d what = acts.Sends Entry (record { stamp = Some d.moment; body = what })
@@ -103,3 +114,30 @@ asks d = refl
 inserts : (d : Desk) → (machine_step (of_four d) [] (Insert 9 None) (record upper { kept = []; outlet = record upper.outlet { offered = None } })).acts
     ≡ acts.Inserts 9 ∷ sends_out d (bodies.BoardAvailable (plain_record 9 d.name None)) ∷ []
 inserts d = refl
+
+-- its supervisor is told of it just behind
+tells : (d : Desk) → (machine_step (watched d) [] (Insert 9 None) (record upper { kept = []; outlet = record upper.outlet { offered = None } })).acts
+    ≡ acts.Inserts 9 ∷ arrives d ByHand 9 ∷ sends_out d (bodies.BoardAvailable (plain_record 9 d.name None)) ∷ []
+tells d = refl
+
+-- a board that was taken out of the intake has departed, before the transport is said to have stopped
+taken : (d : Desk) → (machine_step (watched d) (record { side = Entry; event = Begun } ∷ record { side = Entry; event = Taken } ∷ []) Nothing (record lower { intake = record lower.intake { phase = in_phase.Taking board seen.NotStarted true; ready = false } })).acts
+    ≡ acts.Reads Entry Begun ∷ acts.Reads Entry Taken ∷ acts.Deed (deeds.Drops 7) ∷ departs d ByHand 7
+    ∷ sends_in d (bodies.StopTransport Incomplete 7) ∷ acts.Drive Entry false ∷ sends_in d (bodies.MachineReady quality.Unknown) ∷ []
+taken d = refl
+
+-- a board that went back is dropped, and nothing was told of it
+back : (d : Desk) → (machine_step (watched d) (record { side = Entry; event = Back } ∷ []) (Words Entry (Says (said (bodies.TransportFinished NotStarted 7)) ∷ [])) (record lower { intake = record lower.intake { phase = in_phase.Taking board seen.Incomplete false; ready = false } })).acts
+    ≡ acts.Reads Entry Back ∷ acts.Hears Entry (said (bodies.TransportFinished NotStarted 7)) ∷ acts.Deed (deeds.Drops 7)
+    ∷ sends_in d (bodies.StopTransport NotStarted 7) ∷ acts.Drive Entry false ∷ sends_in d (bodies.MachineReady quality.Unknown) ∷ []
+back d = refl
+
+-- a question has the next number
+asks_order : (d : Desk) → (machine_step (watched d) [] (Supervised (Ask (question.Barcode (codes "A")))) new_body).acts
+    ≡ tells_supervisor d (vertical.QueryWorkOrderInfo 3 (question.Barcode (codes "A"))) ∷ []
+asks_order d = refl
+
+-- from the step on in which a machine is supervised it tells what it does behind that
+first_told : (d : Desk) → (machine_step (of_four d) (record { side = Exit; event = Begun } ∷ record { side = Exit; event = Left } ∷ []) (Supervised (Supervise true)) (record upper { kept = []; outlet = record { phase = out_phase.Moving board false; offered = None; touched = Some 7; ready = false } })).acts
+    ≡ acts.Reads Exit Begun ∷ acts.Reads Exit Left ∷ acts.Deed (deeds.Leaves 7) ∷ sends_out d (bodies.TransportFinished Complete 7) ∷ acts.Drive Exit false ∷ acts.Sets (settings.Supervise true) ∷ []
+first_told d = refl

@@ -1,6 +1,6 @@
 -- What holds of a machine between its steps lasts.
 use Rattle.std.proofs.Common.{◌≡◌, ◌∙◌, ◌<◌, ◌++◌, ℕ, ℤ, pos, Bool, true, false, List, Option, Some, None, Result, Ok, Err, refl, sym, ap, subst, arith, not}
-use Rattle.std.specs.Prelude.{nat_lt}
+use Rattle.std.specs.Prelude.{◌==◌, ◌||◌, ◌≢◌, length, nat_lt}
 use Rattle.std.proofs.lemmas.Bool.Decides.{nat_tests}
 use Rattle.board_record.specs.Maker.{Maker, next_id}
 use Rattle.board_record.specs.declared.maker.IdsUsedUp.{IdsUsedUp}
@@ -23,6 +23,9 @@ use Rattle.node_core.specs.Reads.{all_read}
 use Rattle.node_core.specs.Bridge.{with_level_will, failed_front, IsWillingBy, IsWilling}
 use Rattle.node_core.specs.Signals.{signalled, after_level, levels_told, levels_settled, levels_after}
 use Rattle.node_core.specs.Forecasts.{forecasts_after}
+use Rattle.node_core.specs.Supervising.{HasNumber, orders_after, supervised_after}
+use Rattle.supervisory_core.specs.Orders.{is_full, unanswered}
+use Rattle.supervisory_core.specs.declared.order.Order.{Order}
 use Rattle.node_core.specs.Event.{Event, Insert, Replace, Level, with_new, event_of, event_did}
 use Rattle.node_core.specs.Step.{StepsLane, Steps, machine_step}
 use Rattle.node_core.specs.Breaking.{BreaksOffAt, IsBrokenOff}
@@ -72,16 +75,34 @@ may_fits s _ words may = tt
 -- ---- from the fields of a machine to its value
 
 -- a machine by its fields; of the desk the levels of a bridge are seen
-abbrev pub seen_as : Bool → Desk → Maker → Lane → List Info → NodeState
-seen_as spent desk maker lane forecasts = record { spent = spent; name = desk.name; number = desk.lane; capacity = desk.capacity; maker = maker; lane = lane; bridge = desk.bridge; forecasts = forecasts }
+abbrev pub seen_as : Bool → Desk → Maker → Lane → List Info → List Order → NodeState
+seen_as spent desk maker lane forecasts orders = record {
+  spent = spent;
+  name = desk.name;
+  number = desk.lane;
+  capacity = desk.capacity;
+  maker = maker;
+  lane = lane;
+  bridge = desk.bridge;
+  forecasts = forecasts;
+  supervised = desk.supervised;
+  orders = orders;
+}
 
 -- the parts of a step, put together
-pub steps_after : (s : NodeState) (spent : Bool) (desk timed settled : Desk) (maker new_maker : Maker) (old new : Lane) (forecasts later : List Info) (unread : List Sensed) (input : Input) (moment : ℤ) (told after : Option BridgeLevels) (made acts : List Act)
-    → seen_as spent desk maker old forecasts ≡ s → timed ≡ record desk { moment = moment } → told ≡ levels_told input timed.bridge → StepsLane timed unread input maker new_maker old new made
-    → after ≡ levels_settled new.body told → acts ≡ made ++ signalled told new.body → settled ≡ record timed { bridge = after } → later ≡ forecasts_after forecasts acts
-    → Steps s unread input moment (seen_as false settled new_maker new later) acts
-steps_after s spent desk timed settled maker new_maker old new forecasts later unread input moment told after made acts view is_timed is_told lane is_after is_acts is_settled is_later =
-    let P : NodeState → Type 0 = λ n. Steps n unread input moment (seen_as false settled new_maker new later) acts in
+pub steps_after : (s : NodeState) (spent : Bool) (desk timed settled : Desk) (maker new_maker : Maker) (old new : Lane)
+    (forecasts later : List Info) (orders noted : List Order) (unread : List Sensed) (input : Input) (moment : ℤ)
+    (told after : Option BridgeLevels) (made acts : List Act)
+    → seen_as spent desk maker old forecasts orders ≡ s
+    → timed ≡ record desk { moment = moment; asked = length orders }
+    → told ≡ levels_told input timed.bridge → StepsLane timed unread input maker new_maker old new made
+    → after ≡ levels_settled new.body told → acts ≡ made ++ signalled told new.body
+    → settled ≡ record timed { bridge = after; supervised = supervised_after input timed.supervised }
+    → later ≡ forecasts_after forecasts acts → noted ≡ orders_after input orders
+    → Steps s unread input moment (seen_as false settled new_maker new later noted) acts
+steps_after s spent desk timed settled maker new_maker old new forecasts later orders noted unread input moment told after
+    made acts view is_timed is_told lane is_after is_acts is_settled is_later is_noted =
+    let P : NodeState → Type 0 = λ n. Steps n unread input moment (seen_as false settled new_maker new later noted) acts in
     let told_before : told ≡ levels_told input desk.bridge = is_told ∙ ap (λ (d : Desk). levels_told input d.bridge) is_timed in
     subst P view (record {
       made = made;
@@ -89,10 +110,32 @@ steps_after s spent desk timed settled maker new_maker old new forecasts later u
       told = is_acts ∙ ap (λ (b : Option BridgeLevels). made ++ signalled b new.body) told_before ∙ ap (λ (xs : List Act). made ++ xs) (told_signals input desk.bridge new.body);
       bridge = ap (λ (d : Desk). d.bridge) is_settled ∙ is_after ∙ ap (levels_settled new.body) told_before;
       forecasts = is_later;
+      supervised = ap (λ (d : Desk). d.supervised) is_settled ∙ ap (λ (d : Desk). supervised_after input d.supervised) is_timed;
+      orders = is_noted;
       name = ap (λ (d : Desk). d.name) is_settled ∙ ap (λ (d : Desk). d.name) is_timed;
       number = ap (λ (d : Desk). d.lane) is_settled ∙ ap (λ (d : Desk). d.lane) is_timed;
       capacity = ap (λ (d : Desk). d.capacity) is_settled ∙ ap (λ (d : Desk). d.capacity) is_timed;
     })
+
+-- ---- a question has a number
+
+no_err : (why : No) → Err why ≡ may_do → ⊥
+no_err why is = cc
+
+numbered_if : (most : Bool) (asked : ℕ) (other : No) → no_if (most || (asked == 18446744073709551615)) other may_do ≡ may_do
+    → asked ≢ 18446744073709551615
+numbered_if true asked other may = cc
+numbered_if false asked other may = λ same. absurd (no_err other (ap (λ (n : ℕ). no_if (n == 18446744073709551615) other may_do) (sym same) ∙ may))
+
+numbered_by : (orders : List Order) (why other : No) (supervised : Bool)
+    → no_if (not supervised) why (no_if (is_full orders) other may_do) ≡ may_do → length orders ≢ 18446744073709551615
+numbered_by orders why other true may = numbered_if (unanswered orders == 256) (length orders) other may
+numbered_by orders why other false may = cc
+
+pub numbered : (s : NodeState) (input : Input) (desk : Desk) → may_of s input ≡ may_do → desk.asked ≡ length s.orders
+    → HasNumber input desk
+numbered s (inputs.Ask question) desk may is = λ same. numbered_by s.orders _ _ s.supervised may (sym is ∙ same)
+numbered s _ desk may is = tt
 
 -- ---- what a step keeps
 

@@ -46,12 +46,15 @@ use Rattle.node_core.specs.Information.{forecasts, asks_for}
 use Rattle.node_core.specs.Places.{used, place_for, has_place}
 use Rattle.node_core.specs.Announces.{is_free, is_intake_free, is_front, revokes_now, revoke_by, revoke, unreadies_now, unready_by, unready, offers_now, offer_by, offer, readies_now, ready_by, ready, starts_now, start_by, start, announces}
 use Rattle.node_core.specs.Words.{word_did}
-use Rattle.node_core.specs.Event.{Event, Nothing, Connect, Accepted, Second, Words, Notice, Tick, Shutdown, Fault, Will, Level, Insert, Remove, Replace, Mark, Forecast, Query, event_did}
-use Rattle.node_core.specs.Step.{machine_step}
+use Rattle.node_core.specs.Event.{Event, Nothing, Connect, Accepted, Second, Words, Notice, Tick, Shutdown, Fault, Will, Level, Insert, Remove, Replace, Mark, Forecast, Query, Supervised, event_did}
+use Rattle.node_core.specs.Supervising.{Supervision, Supervise, Ask, Answer, supervises, watch_of, with_tells}
+use Rattle.node_core.specs.declared.supervising.Watch.{Watch}
+use Rattle.node_core.specs.Step.{machine_step, plain_step}
 use Rattle.node_core.specs.Own.{Own, own_act, own_after, own_of, ids_of, without_id, with_id_instead}
 use Rattle.node_core.specs.Sound.{IsSound}
 use Rattle.node_core.proofs.Offers.{Offers, offers_none, offers_front, OffersOf, to_offers, from_offers, front_offers, settled_offers, nothing_offered}
 use Rattle.node_core.proofs.HalfRows.{offer_offers, offer_places, offer_owns, in_places, in_row_places, in_row_owns}
+use Rattle.node_core.proofs.Telling.{beside}
 use Rattle.node_core.proofs.Keeping.{Keeps, SameParts, SameWills, keeps_still, keeps_told, keeps_behind, keeps_both, own_append, at_outlet_keeps, at_intake_keeps, ended_keeps, session_keeps, heard_keeps, word_keeps, if_keeps}
 
 -- ---- what the loop over a piece needs
@@ -238,6 +241,11 @@ forecasts_keep most desk (Some board) body = keeps_told most body _ (λ own. ref
 asks_keeps : (most : ℕ) (desk : Desk) (barcode : List ℕ) (body : Body) → Keeps most body (asks_for desk barcode body)
 asks_keeps most desk barcode body = keeps_told most body _ (λ own. refl)
 
+supervises_keeps : (most : ℕ) (desk : Desk) (what : Supervision) (body : Body) → Keeps most body (supervises desk what body)
+supervises_keeps most desk (Supervise on) body = keeps_told most body _ (λ own. refl)
+supervises_keeps most desk (Ask question) body = keeps_told most body _ (λ own. refl)
+supervises_keeps most desk (Answer query order) body = keeps_told most body _ (λ own. refl)
+
 -- a board is put in only where there is a place
 abbrev pub HasPlaceFor : ℕ → Event → Body → Type 0
 HasPlaceFor most (Insert id barcode) body = used body < most
@@ -261,6 +269,7 @@ event_keeps most desk (Replace old new) body fits = replaces_keeps most desk old
 event_keeps most desk (Mark id quality) body fits = marks_keeps most id quality body
 event_keeps most desk Forecast body fits = loosely most body _ (forecasts_keep most desk (slice_get body.kept 0) body)
 event_keeps most desk (Query barcode) body fits = loosely most body _ (asks_keeps most desk barcode body)
+event_keeps most desk (Supervised what) body fits = loosely most body _ (supervises_keeps most desk what body)
 
 -- ---- the will
 
@@ -296,6 +305,7 @@ event_wills desk (Replace old new) body no_will = kept_wills (is_kept old body.k
 event_wills desk (Mark id quality) body no_will = kept_wills (is_kept id body.kept) (with_mark id quality body.kept) (acts.Marks id quality) body
 event_wills desk Forecast body no_will = record { entry = refl; exit = refl }
 event_wills desk (Query barcode) body no_will = record { entry = refl; exit = refl }
+event_wills desk (Supervised what) body no_will = record { entry = refl; exit = refl }
 
 -- ---- the announcements
 
@@ -519,8 +529,9 @@ step_sound desk unread event body fits sound =
       places = told.places (met.places (read.places sound.places));
     }
 
-pub step_owns : (desk : Desk) (unread : List Seen) (event : Event) (body : Body) → HasPlaceFor desk.capacity event body → own_after (own_of body) (machine_step desk unread event body).acts ≡ own_of (machine_step desk unread event body).body
-step_owns desk unread event body fits =
+-- of the acts without what the supervisor is told
+plain_owns : (desk : Desk) (unread : List Seen) (event : Event) (body : Body) → HasPlaceFor desk.capacity event body → own_after (own_of body) (plain_step desk unread event body).acts ≡ own_of (plain_step desk unread event body).body
+plain_owns desk unread event body fits =
     let read = all_read desk unread body in
     let met = event_did desk event read.body in
     let told = announces desk met.body in
@@ -529,6 +540,17 @@ step_owns desk unread event body fits =
     ∙ own_append (own_of read.body) met.acts told.acts
     ∙ ap (λ (own : Own). own_after own told.acts) (event_keeps desk.capacity desk event read.body (read_fits desk.capacity desk unread event body fits)).owns
     ∙ (announces_keeps desk met.body).owns
+
+-- which doesn't change what is owned
+tells_owns : (desk : Desk) (watch : Watch) (own : Own) (made : List Act) → own_after own (with_tells desk watch made) ≡ own_after own made
+tells_owns desk watch own made =
+    beside (λ told plain. (mine : Own) → own_after mine told ≡ own_after mine plain) (λ mine. refl)
+    (λ act told plain h mine. h (own_act mine act)) (λ message told plain h mine. h mine) desk watch made own
+
+pub step_owns : (desk : Desk) (unread : List Seen) (event : Event) (body : Body) → HasPlaceFor desk.capacity event body → own_after (own_of body) (machine_step desk unread event body).acts ≡ own_of (machine_step desk unread event body).body
+step_owns desk unread event body fits =
+    tells_owns desk (watch_of desk body) (own_of body) (plain_step desk unread event body).acts
+    ∙ plain_owns desk unread event body fits
 
 -- reading leaves the parts as they are
 pub read_exit : (desk : Desk) (unread : List Seen) (body : Body) → (all_read desk unread body).body.exit.session.role ≡ body.exit.session.role

@@ -23,7 +23,8 @@ use Rattle.node_core.specs.Reads.{all_read}
 use Rattle.node_core.specs.Announces.{revoke_by, revokes_now, revoke, unready_by, unreadies_now, unready, offer_by, offers_now, offer, ready_by, readies_now, ready, start_by, starts_now, announces}
 use Rattle.node_core.specs.Words.{AreWords, HearsPiece}
 use Rattle.node_core.specs.Event.{Event, Words, event_of, event_did}
-use Rattle.node_core.specs.Step.{machine_step, entry_after, exit_after, Brings, StepsLane, DoesInput, MeetsInput}
+use Rattle.node_core.specs.Supervising.{watch_of, with_tells}
+use Rattle.node_core.specs.Step.{plain_step, entry_after, exit_after, Brings, StepsLane, DoesInput, MeetsInput}
 
 -- ---- the announcements leave the connections as they are
 
@@ -71,8 +72,8 @@ announces_open desk at body =
 -- ---- reading, the input, the announcements
 
 record Joins (desk : Desk) (unread : List Sensed) (event : Event) (start last : Body) (acts : List Act) : Type 0 where
-  body : last ≡ (machine_step desk unread event start).body
-  told : acts ≡ (machine_step desk unread event start).acts
+  body : last ≡ (plain_step desk unread event start).body
+  told : acts ≡ (plain_step desk unread event start).acts
 
 joins : (desk : Desk) (unread : List Sensed) (event : Event) (body one two three : Body) (acts1 acts2 acts3 : List Act)
     → one ≡ (all_read desk unread body).body → acts1 ≡ [] ++ (all_read desk unread body).acts
@@ -92,15 +93,16 @@ joins desk unread event body one two three acts1 acts2 acts3 is1 said1 is2 said2
 still_words : (old piece new : List ℕ) (a b : Bool) (words : List Word) → b ≡ a → AreWords old piece new a words → AreWords old piece new b words
 still_words old piece new a b words same are = record { first = are.first; all = λ opened. are.all (sym same ∙ opened) }
 
-did : (desk : Desk) (unread : List Sensed) (input : Input) (maker new_maker : Maker) (old two : Lane) (b1 b3 : Body) (acts1 acts2 acts3 : List Act)
+did : (desk : Desk) (unread : List Sensed) (input : Input) (maker new_maker : Maker) (old two : Lane) (b1 b3 : Body) (acts1 acts2 acts3 now : List Act)
     → b1 ≡ (all_read desk unread old.body).body → acts1 ≡ [] ++ (all_read desk unread old.body).acts
     → DoesInput desk maker new_maker input (record old { body = b1 }) two acts1 acts2
     → (two.entry_bytes ≡ entry_after input old.entry_bytes → two.exit_bytes ≡ exit_after input old.exit_bytes → Brings input old (record two { body = b3 }) [])
     → b3 ≡ (announces desk two.body).body → acts3 ≡ acts2 ++ (announces desk two.body).acts
-    → StepsLane desk unread input maker new_maker old (record two { body = b3 }) acts3
-did desk unread input maker new_maker old two b1 b3 acts1 acts2 acts3 is1 said1 does brings is3 said3 =
+    → now ≡ with_tells desk (watch_of desk old.body) acts3
+    → StepsLane desk unread input maker new_maker old (record two { body = b3 }) now
+did desk unread input maker new_maker old two b1 b3 acts1 acts2 acts3 now is1 said1 does brings is3 said3 says =
     let all = joins desk unread (event_of maker input []) old.body b1 two.body b3 acts1 acts2 acts3 is1 said1 does.body does.acts is3 said3 in
-    record { words = []; brings = brings does.entry does.exit; body = all.body; told = all.told; made = does.made }
+    record { words = []; brings = brings does.entry does.exit; body = all.body; told = says ∙ ap (with_tells desk (watch_of desk old.body)) all.told; made = does.made }
 
 heard : (desk : Desk) (unread : List Sensed) (side : Side) (piece old_bytes new_bytes : List ℕ) (body b1 b2 b3 : Body) (acts1 acts2 acts3 : List Act)
     → b1 ≡ (all_read desk unread body).body → acts1 ≡ [] ++ (all_read desk unread body).acts
@@ -112,18 +114,19 @@ heard desk unread side piece old_bytes new_bytes body b1 b2 b3 acts1 acts2 acts3
   joins desk unread (Words side h.words) body b1 b2 b3 acts1 acts2 acts3 is1 said1 h.body h.acts is3 said3,
 )
 
-pub steps_lane : (desk : Desk) (unread : List Sensed) (input : Input) (maker new_maker : Maker) (old two : Lane) (b1 b3 : Body) (acts1 acts2 acts3 : List Act)
+pub steps_lane : (desk : Desk) (unread : List Sensed) (input : Input) (maker new_maker : Maker) (old two : Lane) (b1 b3 : Body) (acts1 acts2 acts3 now : List Act)
     → b1 ≡ (all_read desk unread old.body).body → acts1 ≡ [] ++ (all_read desk unread old.body).acts
     → MeetsInput desk maker new_maker input (record old { body = b1 }) two acts1 acts2
     → b3 ≡ (announces desk two.body).body → acts3 ≡ acts2 ++ (announces desk two.body).acts
-    → StepsLane desk unread input maker new_maker old (record two { body = b3 }) acts3
-steps_lane desk unread (inputs.Bytes Entry piece) maker new_maker old two b1 b3 acts1 acts2 acts3 is1 said1 meets is3 said3 =
+    → now ≡ with_tells desk (watch_of desk old.body) acts3
+    → StepsLane desk unread input maker new_maker old (record two { body = b3 }) now
+steps_lane desk unread (inputs.Bytes Entry piece) maker new_maker old two b1 b3 acts1 acts2 acts3 now is1 said1 meets is3 said3 says =
     let h = meets.0.0 in
     let all = heard desk unread Entry piece.now old.entry_bytes two.entry_bytes old.body b1 two.body b3 acts1 acts2 acts3 is1 said1 h is3 said3 in
-    record { words = h.words; brings = (all.0, meets.0.1); body = all.1.body; told = all.1.told; made = meets.1 }
-steps_lane desk unread (inputs.Bytes Exit piece) maker new_maker old two b1 b3 acts1 acts2 acts3 is1 said1 meets is3 said3 =
+    record { words = h.words; brings = (all.0, meets.0.1); body = all.1.body; told = says ∙ ap (with_tells desk (watch_of desk old.body)) all.1.told; made = meets.1 }
+steps_lane desk unread (inputs.Bytes Exit piece) maker new_maker old two b1 b3 acts1 acts2 acts3 now is1 said1 meets is3 said3 says =
     let h = meets.0.0 in
     let all = heard desk unread Exit piece.now old.exit_bytes two.exit_bytes old.body b1 two.body b3 acts1 acts2 acts3 is1 said1 h is3 said3 in
-    record { words = h.words; brings = (all.0, meets.0.1); body = all.1.body; told = all.1.told; made = meets.1 }
-steps_lane desk unread inputs.Connect maker new_maker old two b1 b3 acts1 acts2 acts3 is1 said1 meets is3 said3 = did desk unread inputs.Connect maker new_maker old two b1 b3 acts1 acts2 acts3 is1 said1 meets (λ a b. (a, b)) is3 said3
-steps_lane desk unread input maker new_maker old two b1 b3 acts1 acts2 acts3 is1 said1 meets is3 said3 = did desk unread input maker new_maker old two b1 b3 acts1 acts2 acts3 is1 said1 meets (λ a b. (a, b)) is3 said3
+    record { words = h.words; brings = (all.0, meets.0.1); body = all.1.body; told = says ∙ ap (with_tells desk (watch_of desk old.body)) all.1.told; made = meets.1 }
+steps_lane desk unread inputs.Connect maker new_maker old two b1 b3 acts1 acts2 acts3 now is1 said1 meets is3 said3 says = did desk unread inputs.Connect maker new_maker old two b1 b3 acts1 acts2 acts3 now is1 said1 meets (λ a b. (a, b)) is3 said3 says
+steps_lane desk unread input maker new_maker old two b1 b3 acts1 acts2 acts3 now is1 said1 meets is3 said3 says = did desk unread input maker new_maker old two b1 b3 acts1 acts2 acts3 now is1 said1 meets (λ a b. (a, b)) is3 said3 says

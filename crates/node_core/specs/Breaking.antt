@@ -26,6 +26,7 @@ use Rattle.node_core.specs.Words.{all_heard}
 use Rattle.node_core.specs.Signals.{signalled}
 use Rattle.node_core.specs.Node.{NodeState, desk_of}
 use Rattle.node_core.specs.Step.{Brings}
+use Rattle.node_core.specs.Supervising.{telling}
 
 -- a message that the session passes on has a row in the table of the half
 abbrev pub has_half_row : Desk → Side → Option Action → Body → Bool
@@ -47,9 +48,12 @@ breach_of desk side (words.Wrong text) body = Some text
 breach_of desk side (words.Says message) body = text_unless (has_row desk side (session_row (session_at side body) (heard message.body (is_some (held body.outlet)))) body) (unexpected (kind_of message.body))
 
 -- the unread events, the words before a breach, the breach with its Notification, its close and what follows of it, and
--- the announcements
+-- the announcements; and behind each act what the supervisor is told of it
 abbrev pub broken_step : Desk → List Sensed → Side → List Word → List ℕ → Body → Done
-broken_step desk unread side front text body = and_then (and_then (all_read desk unread body) (all_heard desk side front)) (λ at. and_then (breaches desk side text at) (announces desk))
+broken_step desk unread side front text body =
+    telling desk body
+    (and_then (and_then (all_read desk unread body) (all_heard desk side front))
+    (λ at. and_then (breaches desk side text at) (announces desk)))
 
 -- the first words of a step
 abbrev pub heard_before : Desk → List Sensed → Side → List Word → Body → Body

@@ -18,6 +18,7 @@ use Rattle.node_core.specs.Boards.{inserts, removes, replaces, marks, faults, wi
 use Rattle.node_core.specs.Bridge.{sets_level}
 use Rattle.node_core.specs.Information.{forecasts_front, asks_for}
 use Rattle.node_core.specs.Words.{all_heard}
+use Rattle.node_core.specs.Supervising.{Supervision, Supervise, Ask, Answer, supervises}
 
 pub data Event : Type 0 where
   Nothing : Event
@@ -37,6 +38,7 @@ pub data Event : Type 0 where
   Mark : ℕ → Quality → Event
   Forecast : Event
   Query : List ℕ → Event
+  Supervised : Supervision → Event
 
 -- with a new id, if there is one
 abbrev pub with_new : Result ℕ IdsUsedUp → (ℕ → Event) → Event
@@ -62,6 +64,9 @@ event_of maker (inputs.Replace id) words = with_new (next_id maker) (Replace id)
 event_of maker (inputs.Mark id quality) words = Mark id quality
 event_of maker inputs.Forecast words = Forecast
 event_of maker (inputs.Query barcode) words = Query barcode
+event_of maker (inputs.Supervise on) words = Supervised (Supervise on)
+event_of maker (inputs.Ask question) words = Supervised (Ask question)
+event_of maker (inputs.Answer query order) words = Supervised (Answer query order)
 
 -- the id maker after an input
 abbrev pub maker_after : Input → Maker → Maker
@@ -88,3 +93,4 @@ event_did desk (Replace old new) body = replaces desk old new body
 event_did desk (Mark id quality) body = marks id quality body
 event_did desk Forecast body = forecasts_front desk body
 event_did desk (Query barcode) body = asks_for desk barcode body
+event_did desk (Supervised what) body = supervises desk what body

@@ -13,6 +13,7 @@ pub mod Places
 pub mod Announces
 pub mod Bridge
 pub mod Words
+pub mod Supervising
 pub mod Event
 pub mod Signals
 pub mod Forecasts

@@ -21,6 +21,9 @@ use Rattle.node_core.specs.Places.{has_place}
 use Rattle.node_core.specs.Announces.{is_intake_free}
 use Rattle.node_core.specs.Boards.{is_kept}
 use Rattle.node_core.specs.Node.{NodeState, desk_of}
+use Rattle.supervisory_core.specs.declared.error.AnswerError.{AnswerError}
+use Rattle.supervisory_core.specs.declared.error.AnswerError.TheVariants as answer_errors
+use Rattle.supervisory_core.specs.Orders.{is_full, answer_of}
 
 -- refused for this reason where the test passes, and else as what follows says
 abbrev pub no_if : Bool → No → Result (Unit {0}) No → Result (Unit {0}) No
@@ -99,6 +102,21 @@ may_query body =
     no_if (not (is_standing Entry body)) no.NotStanding
     (no_if (not (session_at Entry body).peer.query) no.NotSupported may_do)
 
+abbrev pub may_supervise : Bool → NodeState → Result (Unit {0}) No
+may_supervise on s = no_if (same_bool s.supervised on) no.Same may_do
+
+abbrev pub may_ask : NodeState → Result (Unit {0}) No
+may_ask s = no_if (not s.supervised) no.NotSupervised (no_if (is_full s.orders) no.QueriesFull may_do)
+
+-- what the book of work orders has against an answer
+abbrev pub no_answer : Result (Unit {0}) AnswerError → Result (Unit {0}) No
+no_answer (Ok _) = may_do
+no_answer (Err (answer_errors.Unknown query)) = Err no.UnknownQuery
+no_answer (Err (answer_errors.Answered query)) = Err (no.Answered query)
+
+abbrev pub may_answer : ℕ → NodeState → Result (Unit {0}) No
+may_answer query s = no_if (not s.supervised) no.NotSupervised (no_answer (answer_of s.orders query))
+
 abbrev pub may_insert : NodeState → Result (Unit {0}) No
 may_insert s = no_if (not (is_intake_free s.lane.body)) no.IntakeOpen (no_if (not (has_place (desk_of s (pos 0)) s.lane.body)) no.Full (no_if (is_used_up s.maker.used) no.IdsUsedUp may_do))
 
@@ -123,3 +141,6 @@ may_of s (inputs.Replace id) = may_replace id s
 may_of s (inputs.Mark id quality) = may_mark id s.lane.body
 may_of s inputs.Forecast = may_forecast s.lane.body
 may_of s (inputs.Query barcode) = may_query s.lane.body
+may_of s (inputs.Supervise on) = may_supervise on s
+may_of s (inputs.Ask question) = may_ask s
+may_of s (inputs.Answer query order) = may_answer query s

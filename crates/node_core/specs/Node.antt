@@ -1,6 +1,6 @@
--- A machine: whether it is spent, what it knows of itself, its id maker, its lane, the levels of a bridge, and the
--- forecasts of the machine upstream.
-use Rattle.std.specs.Prelude.{ℕ, ℤ, Bool, true, false, not, List, [], Option, Some, None}
+-- A machine: whether it is spent, what it knows of itself, its id maker, its lane, the levels of a bridge, the forecasts
+-- of the machine upstream, whether it is supervised, and the work orders that it asked for.
+use Rattle.std.specs.Prelude.{ℕ, ℤ, Bool, true, false, not, List, [], Option, Some, None, length}
 use Rattle.line_base.specs.declared.states.Role.TheVariants.{Upstream, Downstream}
 use Rattle.board_record.specs.Maker.{Maker}
 use Rattle.hermes_horizontal.specs.declared.message.Info.{Info}
@@ -9,6 +9,7 @@ use Rattle.handover_out.specs.State as outlet
 use Rattle.handover_in.specs.State as intake
 use Rattle.smema_bridge.specs.Levels.{BridgeLevels}
 use Rattle.smema_bridge.specs.Calls.{bridge_off}
+use Rattle.supervisory_core.specs.declared.order.Order.{Order}
 use Rattle.node_core.specs.Desk.{Desk}
 use Rattle.node_core.specs.declared.lane.Body.{Body}
 use Rattle.node_core.specs.declared.lane.Lane.{Lane}
@@ -23,6 +24,8 @@ pub record NodeState : Type 0 where
   pub lane : Lane
   pub bridge : Option BridgeLevels
   pub forecasts : List Info
+  pub supervised : Bool
+  pub orders : List Order
 
 -- what it knows of itself at a moment
 abbrev pub desk_of : NodeState → ℤ → Desk
@@ -32,6 +35,8 @@ desk_of s moment = record {
   capacity = s.capacity;
   moment = moment;
   bridge = s.bridge;
+  supervised = s.supervised;
+  asked = length s.orders;
 }
 
 -- nothing is kept, and no session has a connection. A machine is willing on both sides, and a bridge on none, as no
@@ -65,4 +70,6 @@ new_node profile = record {
   lane = record { body = first_body profile.bridge; entry_bytes = []; exit_bytes = [] };
   bridge = first_levels profile.bridge;
   forecasts = [];
+  supervised = false;
+  orders = [];
 }

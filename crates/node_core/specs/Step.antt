@@ -19,12 +19,18 @@ use Rattle.node_core.specs.Words.{AreWords, HearsPiece}
 use Rattle.node_core.specs.Event.{Event, event_of, event_did, maker_after}
 use Rattle.node_core.specs.Signals.{signalled, levels_after}
 use Rattle.node_core.specs.Forecasts.{forecasts_after}
+use Rattle.node_core.specs.Supervising.{telling, supervised_after, orders_after}
 use Rattle.node_core.specs.Node.{NodeState, desk_of}
 
--- the unread events in order, the input, the announcements. A bridge's own signals come behind them, and don't change
+-- the unread events in order, the input, the announcements
+abbrev pub plain_step : Desk → List Sensed → Event → Body → Done
+plain_step desk unread event body =
+    and_then (all_read desk unread body) (λ one. and_then (event_did desk event one) (announces desk))
+
+-- and just behind each act what the supervisor is told of it. A bridge's own signals come behind them, and don't change
 -- the body
 abbrev pub machine_step : Desk → List Sensed → Event → Body → Done
-machine_step desk unread event body = and_then (all_read desk unread body) (λ one. and_then (event_did desk event one) (announces desk))
+machine_step desk unread event body = telling desk body (plain_step desk unread event body)
 
 -- the undelivered bytes of the entry after an input that is no bytes: a connection begins with none
 abbrev pub entry_after : Input → List ℕ → List ℕ
@@ -58,6 +64,8 @@ pub record Steps (s : NodeState) (unread : List Sensed) (input : Input) (moment 
   pub told : acts ≡ made ++ signalled s.bridge t.lane.body
   pub bridge : t.bridge ≡ levels_after input t.lane.body s.bridge
   pub forecasts : t.forecasts ≡ forecasts_after s.forecasts acts
+  pub supervised : t.supervised ≡ supervised_after input s.supervised
+  pub orders : t.orders ≡ orders_after input s.orders
   pub name : t.name ≡ s.name
   pub number : t.number ≡ s.number
   pub capacity : t.capacity ≡ s.capacity

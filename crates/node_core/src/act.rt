@@ -2,6 +2,7 @@ ghost use Rattle.std.specs.Prelude.{◌≡◌, [], ◌∷◌, ◌++◌, OnOk};
 
 use board_record::BoardId;
 use hermes_horizontal::Message;
+use hermes_vertical::VerticalMessage;
 use line_base::{Memory, Quality, SensorEvent, Side, Text};
 use smema_bridge::SegmentLine;
 use std::alloc::Global;
@@ -38,6 +39,10 @@ pub enum Act {
     Removes(BoardId),
     /// A board, the first, was replaced by hand by another, the second.
     Replaces(BoardId, BoardId),
+    /// A supervisor, if there is one, is told of a board or asked for a work order.
+    Tells(VerticalMessage),
+    /// The question of this number is answered by this work order.
+    Answered(u64, Text),
     /// It was told otherwise.
     Sets(Setting),
 }
@@ -81,6 +86,8 @@ pub enum Setting {
     Will(Side, bool),
     /// The level of this signal of its segment.
     Level(SegmentLine, bool),
+    /// Whether a supervisor is told of its boards, and may be asked for work orders.
+    Supervise(bool),
 }
 
 /// The acts of a step, in their order. It is seen as their list.
@@ -114,6 +121,13 @@ impl Outputs {
     {
         self.acts.push(act)?;
         Ok(())
+    }
+
+    /// The acts, in their order, to be moved.
+    pub(crate) fn into_list(self) -> Vec<Act>
+        ensures { result.items ≡ self }
+    {
+        self.acts
     }
 
     /// The acts, in their order.

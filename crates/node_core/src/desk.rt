@@ -1,12 +1,12 @@
-ghost use Rattle.std.specs.Prelude.{◌≡◌};
+ghost use Rattle.std.specs.Prelude.{◌≡◌, false};
 
 use line_base::{Moment, Text};
 use smema_bridge::Bridge;
 use std::alloc::Global;
 use std::marker::Model;
 
-/// What a machine knows of itself in a step: its id text, the number of its lane, its capacity, the moment, and, of a
-/// bridge, the levels of its signals.
+/// What a machine knows of itself in a step: its id text, the number of its lane, its capacity, the moment, of a bridge the
+/// levels of its signals, whether it is supervised, and how many questions it has asked its supervisor.
 #[derive(Drop)]
 pub struct Desk {
     alloc: Global,
@@ -15,6 +15,8 @@ pub struct Desk {
     capacity: u32,
     moment: Moment,
     bridge: Option<Bridge>,
+    supervised: bool,
+    asked: u64,
 }
 
 impl Model for Desk {
@@ -22,7 +24,7 @@ impl Model for Desk {
 
     ghost Value = { Desk };
 
-    ghost view = { λ desk. record { name = desk.name; lane = desk.lane; capacity = desk.capacity; moment = desk.moment; bridge = desk.bridge } };
+    ghost view = { λ desk. record { name = desk.name; lane = desk.lane; capacity = desk.capacity; moment = desk.moment; bridge = desk.bridge; supervised = desk.supervised; asked = desk.asked } };
 }
 
 impl Desk {
@@ -34,7 +36,7 @@ impl Desk {
         moment: Moment,
         bridge: Option<Bridge>,
     ) -> Desk
-        ensures { result ≡ record { name = name; lane = lane; capacity = capacity; moment = moment; bridge = bridge } }
+        ensures { result ≡ record { name = name; lane = lane; capacity = capacity; moment = moment; bridge = bridge; supervised = false; asked = 0 } }
     {
         Desk {
             alloc,
@@ -43,6 +45,8 @@ impl Desk {
             capacity,
             moment,
             bridge,
+            supervised: false,
+            asked: 0,
         }
     }
 
@@ -91,5 +95,31 @@ impl Desk {
         ensures { self.new ≡ record self.old { bridge = bridge } }
     {
         self.bridge = bridge;
+    }
+
+    /// Whether the machine is supervised.
+    pub(crate) fn supervised(&self) -> bool
+        ensures { result ≡ self.now.supervised }
+    {
+        self.supervised
+    }
+
+    pub(crate) fn set_supervised(&mut self, supervised: bool)
+        ensures { self.new ≡ record self.old { supervised = supervised } }
+    {
+        self.supervised = supervised;
+    }
+
+    /// How many questions the machine has asked its supervisor.
+    pub(crate) fn asked(&self) -> u64
+        ensures { result ≡ self.now.asked }
+    {
+        self.asked
+    }
+
+    pub(crate) fn set_asked(&mut self, asked: u64)
+        ensures { self.new ≡ record self.old { asked = asked } }
+    {
+        self.asked = asked;
     }
 }

@@ -1,4 +1,5 @@
 use board_record::BoardId;
+use hermes_vertical::Question;
 use line_base::{Quality, Side, Text};
 use smema_bridge::SegmentLine;
 use thiserror::Error;
@@ -40,6 +41,12 @@ pub enum Input<'a> {
     Forecast,
     /// The upstream neighbour is asked for the board with this barcode on its top side.
     Query(Text),
+    /// From now on the machine is supervised, or not.
+    Supervise(bool),
+    /// The supervisor is asked for a work order.
+    Ask(Question),
+    /// The supervisor answers the question of this number by this work order.
+    Answer { query: u64, order: Text },
 }
 
 /// Why an input may not be given.
@@ -90,4 +97,16 @@ pub enum No {
     /// The machine keeps no board.
     #[error("nothing kept")]
     NothingKept,
+    /// The machine is not supervised.
+    #[error("not supervised")]
+    NotSupervised,
+    /// As many questions for work orders have no answer as may wait for one.
+    #[error("queries full")]
+    QueriesFull,
+    /// No question of this number was asked.
+    #[error("unknown query")]
+    UnknownQuery,
+    /// The question of this number was answered before.
+    #[error("answered")]
+    Answered(u64),
 }

@@ -27,6 +27,7 @@ mod reads;
 mod session;
 mod shelf;
 mod step;
+mod supervising;
 mod word;
 
 pub use act::{Act, Deed, Outputs, Setting, Signal};

@@ -1,6 +1,6 @@
 ghost use Rattle.std.specs.Prelude.{◌≡◌, not};
 ghost use Rattle.smema_bridge.specs.Segment.{level_of};
-ghost use Rattle.node_core.specs.May.{is_handing_over, is_used_up, may_of, may_connect, may_accept, may_reach, may_reach_any, may_fault, may_will, may_level, may_insert, may_remove, may_replace, may_mark, may_forecast, may_query};
+ghost use Rattle.node_core.specs.May.{is_handing_over, is_used_up, may_of, may_connect, may_accept, may_reach, may_reach_any, may_fault, may_will, may_level, may_insert, may_remove, may_replace, may_mark, may_forecast, may_query, may_supervise, may_ask, may_answer};
 
 use crate::input::{Input, No};
 use crate::lane::Body;
@@ -10,6 +10,7 @@ use handover_in::InPhase;
 use handover_out::OutPhase;
 use line_base::Side;
 use smema_bridge::{Bridge, SegmentLine};
+use supervisory_core::AnswerError;
 
 /// How many ids a machine can make.
 const MOST_IDS: u64 = 0xFFFF_FFFF_FFFF;
@@ -154,7 +155,8 @@ impl Node {
     /// `Shutdown` of both sides: `NotConnected`. `Fault`: `NoHandover`. `Will`: `Bridge`, `Same`. `Level`:
     /// `NotABridge`, `Same`. `Insert`: `IntakeOpen`, `Full`, `IdsUsedUp`. `Remove`: `NotKept`. `Replace`: `NotKept`,
     /// `IdsUsedUp`. `Mark`: `NotKept`, `Offered`. `Forecast`: `NotStanding`, `NotSupported`, `NothingKept`. `Query`:
-    /// `NotStanding`, `NotSupported`. It takes no memory.
+    /// `NotStanding`, `NotSupported`. `Supervise`: `Same`. `Ask`: `NotSupervised`, `QueriesFull`. `Answer`:
+    /// `NotSupervised`, `UnknownQuery`, `Answered` with the number of the query. It takes no memory.
     pub fn may(&self, input: &Input<'_>) -> Result<(), No>
         ensures { result ≡ may_of self.now input.now }
     {
@@ -176,6 +178,9 @@ impl Node {
             Input::Mark(id, _) => self.lane.body.may_mark(*id),
             Input::Forecast => self.lane.body.may_forecast(),
             Input::Query(_) => self.lane.body.may_query(),
+            Input::Supervise(on) => self.may_supervise(*on),
+            Input::Ask(_) => self.may_ask(),
+            Input::Answer { query, .. } => self.may_answer(*query),
         }
     }
 
@@ -195,6 +200,40 @@ impl Node {
             return Err(No::Same);
         }
         Ok(())
+    }
+
+    fn may_supervise(&self, on: bool) -> Result<(), No>
+        ensures { result ≡ may_supervise on self.now }
+    {
+        if self.desk.supervised() == on {
+            return Err(No::Same);
+        }
+        Ok(())
+    }
+
+    fn may_ask(&self) -> Result<(), No>
+        ensures { result ≡ may_ask self.now }
+    {
+        if !self.desk.supervised() {
+            return Err(No::NotSupervised);
+        }
+        if self.orders.is_full() {
+            return Err(No::QueriesFull);
+        }
+        Ok(())
+    }
+
+    fn may_answer(&self, query: u64) -> Result<(), No>
+        ensures { result ≡ may_answer query self.now }
+    {
+        if !self.desk.supervised() {
+            return Err(No::NotSupervised);
+        }
+        match self.orders.may_answer(query) {
+            Ok(()) => Ok(()),
+            Err(AnswerError::Unknown(_)) => Err(No::UnknownQuery),
+            Err(AnswerError::Answered(query)) => Err(No::Answered(query)),
+        }
     }
 
     fn may_insert(&self) -> Result<(), No>

@@ -1,5 +1,7 @@
 ghost use Rattle.std.specs.Prelude.{◌≡◌, ◌≤◌, ◌<◌, ◌^◌, true, false, Ok, IsErr, OnErr, IfOk, is_some, length};
+ghost use Rattle.std.specs.Option.{option_copied};
 ghost use Rattle.forecast_query.specs.Forecasts.{most_forecasts};
+ghost use Rattle.supervisory_core.specs.Orders.{answer_to};
 ghost use Rattle.node_core.specs.Bridge.{IsWilling};
 ghost use Rattle.node_core.specs.Sides.{session_at, is_open};
 ghost use Rattle.node_core.specs.Node.{NodeState, first_body, new_node};
@@ -19,21 +21,23 @@ use crate::input::Input;
 use crate::lane::{Body, End, Lane};
 use crate::profile::NodeProfile;
 use crate::shelf::Shelf;
+use crate::supervising::{note_orders, supervised_after};
 use board_record::{IdMaker, Record, Sensed};
 use forecast_query::Forecasts;
 use handover_in::Intake;
 use handover_out::Outlet;
 use hermes_horizontal::Info;
 use hermes_stream::Cutter;
-use line_base::{Memory, Moment, Role, Side};
+use line_base::{Memory, Moment, Role, Side, Text};
 use session_core::Session;
 use std::alloc::Global;
 use std::marker::Model;
+use supervisory_core::OrderBook;
 
 /// One machine of a board line.
 ///
-/// It is seen as what it knows of itself, its id maker, its lane, the levels of a bridge, and the forecasts of the machine
-/// upstream. After `Memory` it is spent: what it has done by then is not told, and each later step answers `Memory`.
+/// It is seen as what it knows of itself, its id maker, its lane, the levels of a bridge, the forecasts of the machine
+/// upstream, whether it is supervised, and the work orders that it asked for. After `Memory` it is spent: what it has done by then is not told, and each later step answers `Memory`.
 #[derive(Drop)]
 pub struct Node {
     pub(crate) spent: bool,
@@ -41,6 +45,7 @@ pub struct Node {
     pub(crate) maker: IdMaker,
     pub(crate) lane: Lane,
     pub(crate) forecasts: Forecasts,
+    pub(crate) orders: OrderBook,
 }
 
 impl Model for Node {
@@ -51,7 +56,7 @@ impl Model for Node {
 
     ghost Value = { NodeState };
 
-    ghost view = { λ n. record { spent = n.spent; name = n.desk.name; number = n.desk.lane; capacity = n.desk.capacity; maker = n.maker; lane = n.lane; bridge = n.desk.bridge; forecasts = n.forecasts } };
+    ghost view = { λ n. record { spent = n.spent; name = n.desk.name; number = n.desk.lane; capacity = n.desk.capacity; maker = n.maker; lane = n.lane; bridge = n.desk.bridge; forecasts = n.forecasts; supervised = n.desk.supervised; orders = n.orders } };
 
     ghost invariant = { λ n. n.spent ≡ false → IsSound n.desk.capacity n.lane.body × IsWilling n.desk.bridge n.lane.body };
 }
@@ -104,6 +109,7 @@ impl Node {
                 exit_bytes,
             },
             forecasts: Forecasts::new(alloc),
+            orders: OrderBook::new(alloc),
         })
     }
 
@@ -135,10 +141,14 @@ impl Node {
         }
         self.spent = true;
         self.desk.set_moment(moment);
+        self.desk.set_asked(self.orders.asked());
         let told = after_input(self.desk.bridge(), &input);
+        let supervised = supervised_after(self.desk.supervised(), &input);
+        note_orders(self.desk.alloc(), &mut self.orders, &input)?;
         let mut acts = self.lane.step(&self.desk, &mut self.maker, sensed, input)?;
         let bridge = signal(told, &self.lane.body, &mut acts)?;
         self.desk.set_bridge(bridge);
+        self.desk.set_supervised(supervised);
         note_forecasts(self.desk.alloc(), acts.list(), &mut self.forecasts)?;
         self.spent = false;
         Ok(acts)
@@ -190,6 +200,20 @@ impl Node {
         ensures bounded { length self.now.forecasts ≤ most_forecasts }
     {
         self.forecasts.list()
+    }
+
+    /// Whether it is supervised.
+    pub fn is_supervised(&self) -> bool
+        ensures { result ≡ self.now.supervised }
+    {
+        self.desk.supervised()
+    }
+
+    /// The answer to the question of this number. `None` exactly where that question was not asked or not answered.
+    pub fn kept_answer(&self, query: u64) -> Option<&Text>
+        ensures { option_copied result ≡ answer_to self.now.orders query }
+    {
+        self.orders.kept_answer(query)
     }
 
     /// How a side stands, in the standard's words.

@@ -5,12 +5,14 @@ ghost use Rattle.node_core.specs.declared.input.Input.TheVariants as inputs;
 ghost use Rattle.node_core.specs.Halves.{OffersFront};
 ghost use Rattle.node_core.specs.Event.{Connect, Accepted, event_did};
 ghost use Rattle.node_core.specs.Step.{DoesInput, HearsBytes, MeetsInput, StepsLane};
+ghost use Rattle.node_core.specs.Supervising.{HasNumber};
 
-use crate::act::{Act, Outputs};
+use crate::act::{Act, Outputs, Setting};
 use crate::desk::Desk;
 use crate::input::Input;
 use crate::lane::Lane;
 use crate::piece::hear_piece;
+use crate::supervising::{Watch, ask, with_tells};
 use board_record::{BoardId, IdMaker, Sensed};
 use line_base::{Memory, Side, Text};
 
@@ -101,6 +103,7 @@ impl Lane {
     ) -> Result<(), Memory>
         requires offers { OffersFront self.old.body }
         requires upstream { self.old.body.exit.session.role ≡ Upstream }
+        requires numbered { HasNumber input desk.now }
         ensures { OnOk result (MeetsInput desk.now maker.old maker.new input.entry self.old self.new to.old to.new) }
     {
         match input {
@@ -121,10 +124,14 @@ impl Lane {
             Input::Mark(id, quality) => self.body.mark(id, quality, to),
             Input::Forecast => self.body.forecast_front(desk, to),
             Input::Query(barcode) => self.body.ask_for(desk, barcode, to),
+            Input::Supervise(on) => to.push(Act::Sets(Setting::Supervise(on))),
+            Input::Ask(question) => ask(desk, question, to),
+            Input::Answer { query, order } => to.push(Act::Answered(query, order)),
         }
     }
 
-    /// A step: the unread events in order, the input, the announcements.
+    /// A step: the unread events in order, the input, the announcements; and behind each act what the supervisor is told
+    /// of it.
     pub(crate) fn step(
         &mut self,
         desk: &Desk,
@@ -134,12 +141,15 @@ impl Lane {
     ) -> Result<Outputs, Memory>
         requires offers { OffersFront self.old.body }
         requires upstream { self.old.body.exit.session.role ≡ Upstream }
+        requires numbered { HasNumber input desk.now }
         ensures { IfOk result (StepsLane desk.now unread.now input.entry maker.old maker.new self.old self.new) }
     {
+        let watch = Watch::of(desk, &self.body);
         let mut acts = Outputs::new(desk.alloc());
         self.body.read_all(desk, unread, &mut acts)?;
         self.meet(desk, maker, input, &mut acts)?;
         self.body.announce(desk, &mut acts)?;
-        Ok(acts)
+        let told = with_tells(desk, watch, acts)?;
+        Ok(told)
     }
 }

@@ -2,6 +2,7 @@
 
 use crate::ids::id_of;
 use crate::messages;
+use hermes_vertical::Question;
 use line_base::{Memory, Quality, Side, Text};
 use node_core::{Input, SegmentLine};
 use std::alloc::Global;
@@ -41,8 +42,30 @@ fn plain_input<'a>(alloc: Global, word: &str) -> Result<Input<'a>, Memory> {
         "shutdown" => Ok(Input::Shutdown),
         "insert" => insertion(alloc),
         "forecast" => Ok(Input::Forecast),
-        "ask" => question(alloc),
-        _ => sided_input(word),
+        "ask" => query(alloc),
+        "supervise.on" => Ok(Input::Supervise(true)),
+        "supervise.off" => Ok(Input::Supervise(false)),
+        "ask.barcode" => Ok(Input::Ask(Question::Barcode(Text::plain(alloc, b"PCB7")?))),
+        "ask.order" => Ok(Input::Ask(Question::Order(Text::plain(alloc, b"WO-12")?))),
+        "ask.place" => place(alloc),
+        _ => answered_input(alloc, word),
+    }
+}
+
+fn place<'a>(alloc: Global) -> Result<Input<'a>, Memory> {
+    let magazine = Text::plain(alloc, b"A")?;
+    Ok(Input::Ask(Question::Place { magazine, slot: 3 }))
+}
+
+/// `answer:3` answers the question of number 3.
+fn answered_input<'a>(alloc: Global, word: &str) -> Result<Input<'a>, Memory> {
+    match word.strip_prefix("answer:") {
+        Some(query) => {
+            let order = Text::plain(alloc, b"WO-12")?;
+            let query = query.parse().unwrap_or(0);
+            Ok(Input::Answer { query, order })
+        }
+        None => sided_input(word),
     }
 }
 
@@ -51,7 +74,7 @@ fn insertion<'a>(alloc: Global) -> Result<Input<'a>, Memory> {
     Ok(Input::Insert(Some(barcode)))
 }
 
-fn question<'a>(alloc: Global) -> Result<Input<'a>, Memory> {
+fn query<'a>(alloc: Global) -> Result<Input<'a>, Memory> {
     let barcode = Text::plain(alloc, b"PCB7")?;
     Ok(Input::Query(barcode))
 }

@@ -40,8 +40,18 @@ fn meet_either(
     match word.split_once(';') {
         Some(("1", step)) => meet(alloc, first, step, to),
         Some(("2", step)) => meet(alloc, second, step, to),
+        Some(("1*255", step)) => meet_often(alloc, first, step),
         _ => Ok(()),
     }
+}
+
+fn meet_often(alloc: Global, node: &mut Node, step: &str) -> io::Result<()> {
+    let mut untold = Vec::new(alloc);
+    for _ in 0..255 {
+        meet(alloc, node, step, &mut untold)?;
+        untold.clear();
+    }
+    Ok(())
 }
 
 /// A step of a machine: its sensor events, each with a `,` behind it, and then its input.

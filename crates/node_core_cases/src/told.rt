@@ -3,6 +3,7 @@
 use crate::ids;
 use board_record::BoardId;
 use hermes_horizontal::{Horizontal, Info, Ping};
+use hermes_vertical::{Passage, Question, Vertical};
 use line_base::{Memory, Quality, Side, Text, Transfer};
 use node_core::{Act, Deed, Node, Outputs, SegmentLine, Setting, Signal};
 use std::io;
@@ -69,7 +70,62 @@ fn tell_by_hand(act: &Act, to: &mut Vec<u8>) -> io::Result<()> {
             let quality = quality_of(*quality);
             write!(to, " {quality}")
         }
+        _ => tell_supervised(act, to),
+    }
+}
+
+fn tell_supervised(act: &Act, to: &mut Vec<u8>) -> io::Result<()> {
+    match act {
+        Act::Sets(Setting::Supervise(on)) => {
+            let on = level_of(*on);
+            write!(to, "supervise {on}")
+        }
+        Act::Tells(message) => tell_supervisor(&message.body, to),
+        Act::Answered(query, order) => {
+            write!(to, "answered {query}")?;
+            tell_text(order, to)
+        }
         _ => Ok(()),
+    }
+}
+
+/// What a supervisor is told or asked.
+fn tell_supervisor(body: &Vertical, to: &mut Vec<u8>) -> io::Result<()> {
+    match body {
+        Vertical::BoardArrived(passage) => tell_passage("arrived", passage, to),
+        Vertical::BoardDeparted(passage) => tell_passage("departed", passage, to),
+        Vertical::QueryWorkOrderInfo { query, question } => {
+            write!(to, "asks {query}")?;
+            tell_question(question, to)
+        }
+        _ => Ok(()),
+    }
+}
+
+fn tell_passage(what: &str, passage: &Passage, to: &mut Vec<u8>) -> io::Result<()> {
+    let how = passage.how;
+    write!(to, "tells {what} {how:?}")?;
+    tell_id(passage.id, to)?;
+    tell_text(&passage.machine, to)?;
+    let lane = passage.lane;
+    write!(to, " {lane}")
+}
+
+fn tell_question(question: &Question, to: &mut Vec<u8>) -> io::Result<()> {
+    match question {
+        Question::Barcode(barcode) => {
+            write!(to, " barcode")?;
+            tell_text(barcode, to)
+        }
+        Question::Order(order) => {
+            write!(to, " order")?;
+            tell_text(order, to)
+        }
+        Question::Place { magazine, slot } => {
+            write!(to, " place")?;
+            tell_text(magazine, to)?;
+            write!(to, " {slot}")
+        }
     }
 }
 
@@ -237,7 +293,7 @@ fn tell_end(state: Transfer, id: BoardId, to: &mut Vec<u8>) -> io::Result<()> {
     ids::tell(id, to)
 }
 
-/// Appends what a machine keeps, how its sides stand, and what it was told ahead.
+/// Appends what a machine keeps, how its sides stand, what it was told ahead, and whether it is supervised.
 pub fn stands(node: &Node, to: &mut Vec<u8>) -> io::Result<()> {
     write!(to, " || kept")?;
     for board in node.kept() {
@@ -251,7 +307,22 @@ pub fn stands(node: &Node, to: &mut Vec<u8>) -> io::Result<()> {
     let entry = node.state(Side::Entry);
     let exit = node.state(Side::Exit);
     write!(to, "; {entry:?}; {exit:?}")?;
-    tell_forecasts(node.forecasts(), to)
+    tell_forecasts(node.forecasts(), to)?;
+    tell_supervision(node, to)
+}
+
+/// Whether it is supervised, and the answer to its first question.
+fn tell_supervision(node: &Node, to: &mut Vec<u8>) -> io::Result<()> {
+    if node.is_supervised() {
+        write!(to, "; supervised")?;
+    }
+    match node.kept_answer(1) {
+        Some(order) => {
+            write!(to, "; answer 1")?;
+            tell_text(order, to)
+        }
+        None => Ok(()),
+    }
 }
 
 /// How many forecasts are kept, and the products of the first and the last.

@@ -117,7 +117,8 @@ impl OrderBook {
         self.orders.as_slice()
     }
 
-    fn is_full(&self) -> bool
+    /// Whether no further question is taken: 256 questions have no answer, or the last number is 2^64 - 1.
+    pub fn is_full(&self) -> bool
         ensures { result ≡ is_full self.now }
     {
         self.waiting == MOST_OPEN || self.asked() == u64::MAX
@@ -143,8 +144,8 @@ impl OrderBook {
         }
     }
 
-    /// Whether the question of this number waits for an answer.
-    fn may_answer(&self, query: u64) -> Result<(), AnswerError>
+    /// Whether the question of this number waits for an answer; else what `answer` would answer.
+    pub fn may_answer(&self, query: u64) -> Result<(), AnswerError>
         ensures { result ≡ answer_of self.now query }
     {
         match self.numbered(query) {

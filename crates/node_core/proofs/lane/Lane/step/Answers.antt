@@ -1,6 +1,8 @@
-use Rattle.std.proofs.Common.{◌∙◌, sym, ap, subst}
+use Rattle.std.proofs.Common.{◌≡◌, ◌∙◌, sym, ap, subst}
 use Rattle.node_core.specs.declared.lane.Body.{Body}
 use Rattle.node_core.specs.Halves.{OffersFront}
+use Rattle.node_core.specs.declared.supervising.Watch.{Watch}
+use Rattle.node_core.specs.Supervising.{watch_of, with_tells}
 use Rattle.node_core.proofs.Sound.{read_offers, read_exit}
 use Rattle.node_core.proofs.Stepping.{steps_lane}
 use Rattle.node_core.proofs.lane.Lane.step.Goals as goal
@@ -12,5 +14,10 @@ pub meet-requires-clause-upstream : goal.meet-requires-clause-upstream
 meet-requires-clause-upstream c = ap (λ (b : Body). b.exit.session.role) c.in_ok-read_all.ensures.body ∙ read_exit c.args.desk.now c.args.unread.now c.args.self.now.body ∙ c.requires.upstream
 
 pub returns : goal.returns
-returns c = steps_lane c.args.desk.now c.args.unread.now c.args.input c.args.maker.now c.meet.new.maker c.args.self.now c.meet.new.self c.read_all.new.self c.announce.new.self c.read_all.new.to c.meet.new.to c.announce.new.to
+returns c =
+    let watched : c.in_ok-told.told ≡ with_tells c.args.desk.now (watch_of c.args.desk.now c.args.self.now.body) c.announce.new.to =
+    c.in_ok-told.ensures ∙ ap (λ (w : Watch). with_tells c.args.desk.now w c.announce.new.to) c.of-watch.ensures in
+    steps_lane c.args.desk.now c.args.unread.now c.args.input c.args.maker.now c.meet.new.maker c.args.self.now c.meet.new.self c.read_all.new.self c.announce.new.self c.read_all.new.to c.meet.new.to c.announce.new.to
+    c.in_ok-told.told
     c.in_ok-read_all.ensures.body (rw c.new-acts.ensures at c.in_ok-read_all.ensures.acts) c.in_ok-meet.ensures c.in_ok-announce.ensures.body c.in_ok-announce.ensures.acts
+    watched
