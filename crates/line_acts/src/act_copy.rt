@@ -23,6 +23,8 @@ pub fn copy_of(alloc: Global, act: &Act) -> Result<Act, Memory>
         Act::Inserts(id) => Ok(Act::Inserts(*id)),
         Act::Removes(id) => Ok(Act::Removes(*id)),
         Act::Replaces(old, new) => Ok(Act::Replaces(*old, *new)),
+        Act::Tells(message) => Ok(Act::Tells(message.copy(alloc)?)),
+        Act::Answered(query, order) => Ok(Act::Answered(*query, order.copy(alloc)?)),
         Act::Sets(setting) => Ok(Act::Sets(*setting)),
     }
 }

@@ -7,26 +7,17 @@ use Rattle.line_script.specs.declared.line.ScriptLine.{ScriptLine}
 use Rattle.line_report.specs.declared.happening.Happening.{Happening}
 use Rattle.line_step.specs.Lies.{has_lie}
 use Rattle.line_step.specs.Lines.{LineSteps}
-use Rattle.line_step.specs.Runs.{IsRun, Point, state_behind}
+use Rattle.line_step.specs.Runs.{IsRun, Point, state_behind, all_told}
 use Rattle.line_step.specs.State.{LineState, no_line}
 use Rattle.line_step.proofs.Vouching.{lies_remembered}
-use Rattle.line_openings.specs.Announced.{all_told}
 use Rattle.one_standing.specs.Blame.{AreBlamesTrue, IsBlameTrue, NoFalseBlame}
 use Rattle.one_standing.specs.Contents.{AreContentsKept, ContentsAreKept, IsMarked, KeepsContents}
 use Rattle.one_standing.specs.Reached.{IsReached}
 use Rattle.one_standing.specs.Standing.{IsFitLine}
-use Rattle.one_standing.proofs.Reaching.{behind_more, lines_more, run_more}
+use Rattle.one_standing.proofs.Reaching.{behind_more, lines_more, run_more, fit_more, length_more}
 use Rattle.line_engine.specs.Blames.{BlamesNext}
 use Rattle.line_engine.specs.Indexed.{Entries}
 use Rattle.line_engine.proofs.Keeping.{Step, as_seen}
-
-fit_more : (asked : List ScriptLine) (line : ScriptLine) → AllByRecursion IsFitLine asked → IsFitLine line → AllByRecursion IsFitLine (asked ++ line ∷ [])
-fit_more [] line fit one = (one, tt)
-fit_more (first ∷ asked) line fit one = (fit.0, fit_more asked line fit.1 one)
-
-length_more : (asked : List ScriptLine) (line : ScriptLine) → length (asked ++ line ∷ []) ≡ length asked + 1
-length_more [] line = refl
-length_more (first ∷ asked) line = let rest = length_more asked line in omega (arith, rest)
 
 -- as many lines were counted as the run has
 lines_run : (s : LineState) (asked : List ScriptLine) (points : List Point) → IsRun s asked points → (state_behind s points).lines ≡ s.lines + length asked

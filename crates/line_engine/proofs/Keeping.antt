@@ -3,11 +3,11 @@ use Rattle.std.proofs.Common.{Bool, List, None, ap, append-nil, append_assoc, fa
 use Rattle.line_script.specs.declared.line.ScriptLine.{ScriptLine}
 use Rattle.line_report.specs.declared.happening.Happening.{Happening}
 use Rattle.line_step.specs.Lines.{LineSteps}
-use Rattle.line_step.specs.Runs.{Point}
+use Rattle.line_step.specs.Runs.{Point, all_told}
 use Rattle.line_step.specs.State.{LineState, no_line, owned}
 use Rattle.line_step.specs.Together.{IsLineTogether}
 use Rattle.line_step.proofs.Keeps.{keeps_together, none_together}
-use Rattle.line_openings.specs.Announced.{OpensAsAnnounced, OpensWhenAnnounced, all_told}
+use Rattle.line_openings.specs.Announced.{OpensAsAnnounced, OpensWhenAnnounced}
 use Rattle.one_standing.specs.Reached.{CustodyAlong, FollowsLine, IdsAlong, IsReached, LedgerAlong, StandsAlong}
 use Rattle.one_standing.specs.Standing.{IsFitLine}
 use Rattle.one_standing.proofs.Reaching.{none_reached, reached_more, run_more}

@@ -1,4 +1,5 @@
 pub mod Along
+pub mod Answered
 pub mod Backwards
 pub mod Behind
 pub mod Counted

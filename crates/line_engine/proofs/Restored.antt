@@ -157,3 +157,6 @@ restores number (lines.Unseen machine side) before after told d = inl (unless 0 
 restores number lines.Show before after told d = inl (unchanged 0 0 before before after _ told refl d)
 restores number (lines.Forecast machine) before after told d = inl (unless machine machine _ before after told _ (one_step number machine _ before before after told refl) d)
 restores number (lines.Query machine _) before after told d = inl (unless machine machine _ before after told _ (one_step number machine _ before before after told refl) d)
+restores number (lines.Supervise machine) before after told d = inl (unless machine machine _ before after told _ (one_step number machine _ before before after told refl) d)
+restores number (lines.Ask machine _) before after told d = inl (unless machine machine _ before after told _ (one_step number machine _ before before after told refl) d)
+restores number (lines.Answer machine _ _) before after told d = inl (unless machine machine _ before after told _ (one_step number machine _ before before after told refl) d)

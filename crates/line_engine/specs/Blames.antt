@@ -3,9 +3,8 @@ use Rattle.std.specs.Prelude.{List, ◌≡◌}
 use Rattle.std.specs.List.{AllByRecursion}
 use Rattle.line_script.specs.declared.line.ScriptLine.{ScriptLine}
 use Rattle.line_report.specs.declared.happening.Happening.{Happening}
-use Rattle.line_step.specs.Runs.{IsRun, Point, state_behind}
+use Rattle.line_step.specs.Runs.{IsRun, Point, state_behind, all_told}
 use Rattle.line_step.specs.State.{LineState, no_line}
-use Rattle.line_openings.specs.Announced.{all_told}
 use Rattle.one_standing.specs.Blame.{IsBlameTrue}
 use Rattle.one_standing.specs.Standing.{IsFitLine}
 

@@ -24,6 +24,8 @@ is_given (lines.Tick machine) = true
 is_given (lines.Fault machine side) = true
 is_given (lines.Forecast machine) = true
 is_given (lines.Query machine barcode) = true
+is_given (lines.Supervise machine) = true
+is_given (lines.Ask machine question) = true
 is_given _ = false
 
 -- what is told of one machine more, which is a bridge or none

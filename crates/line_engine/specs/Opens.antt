@@ -2,9 +2,9 @@
 use Rattle.std.specs.Prelude.{List, ℕ, ◌++◌, ◌≡◌}
 use Rattle.line_script.specs.declared.line.ScriptLine.{ScriptLine}
 use Rattle.line_report.specs.declared.happening.Happening.{Happening}
-use Rattle.line_step.specs.Runs.{IsRun, Point, state_behind}
+use Rattle.line_step.specs.Runs.{IsRun, Point, state_behind, all_told}
 use Rattle.line_step.specs.State.{LineState, no_line}
-use Rattle.line_openings.specs.Announced.{OpensAsAnnounced, all_told}
+use Rattle.line_openings.specs.Announced.{OpensAsAnnounced}
 
 -- what a line tells, behind what was told in any run that led to the state before it: over all of it each machine opens as
 -- announced

@@ -30,6 +30,9 @@ last_stepped (lines.Fault machine side) = machine
 last_stepped (lines.Sense machine) = machine
 last_stepped (lines.Forecast machine) = machine
 last_stepped (lines.Query machine barcode) = machine
+last_stepped (lines.Supervise machine) = machine
+last_stepped (lines.Ask machine question) = machine
+last_stepped (lines.Answer machine query order) = machine
 last_stepped _ = 0
 
 abbrev pub first_stepped : ScriptLine → ℕ

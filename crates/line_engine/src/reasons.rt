@@ -1,17 +1,20 @@
 //! Why a line of the script does nothing: the first reason that holds, on the state before the line.
 
-ghost use Rattle.std.specs.Prelude.{◌≡◌};
+ghost use Rattle.std.specs.Prelude.{◌≡◌, IfOk};
 ghost use Rattle.node_core.specs.declared.input.Input.TheVariants as inputs;
 ghost use Rattle.node_core.specs.May.{may_of};
-ghost use Rattle.line_step.specs.Reasons.{behind_own, has_link, has_neighbour, may_add, may_connect, may_cut, may_do, may_flow, may_give, may_lie, may_notice, may_remove, may_replace, may_sense, may_spoil, may_unseen};
+ghost use Rattle.line_step.specs.Reasons.{behind_own, has_link, has_neighbour, if_there, may_add, may_connect, may_cut, may_do, may_flow, may_give, may_lie, may_notice, may_remove, may_replace, may_sense, may_spoil, may_unseen, with_word, word_kept};
+ghost use Rattle.line_step.specs.State.{machine_in};
 ghost use Rattle.line_step.specs.Together.{IsLineTogether};
+ghost use Rattle.supervisory_core.specs.Orders.{answer_to};
 
 use crate::state::State;
 use board_record::BoardId;
-use line_base::Side;
+use line_base::{Memory, Side, Text};
 use line_report::Reason;
 use line_world::MoveNo;
 use node_core::{Input, No, Node};
+use std::alloc::Global;
 
 /// The most machines of a line.
 const MOST_MACHINES: usize = 64;
@@ -23,6 +26,30 @@ fn own(may: Result<(), No>) -> Result<(), Reason>
     match may {
         Ok(()) => Ok(()),
         Err(no) => Err(Reason::Node(no)),
+    }
+}
+
+/// The same of an answer to a question. Where that was answered before, the reason has the word that answers it.
+fn with_word(alloc: Global, node: &Node, may: Result<(), No>) -> Result<Result<(), Reason>, Memory>
+    ensures { IfOk result (λ told. told ≡ with_word node.now may) }
+{
+    match may {
+        Ok(()) => Ok(Ok(())),
+        Err(No::Answered(query)) => {
+            let word = word_kept(alloc, node, query)?;
+            Ok(Err(Reason::Answered(word)))
+        }
+        Err(no) => Ok(Err(Reason::Node(no))),
+    }
+}
+
+/// The word that answers a machine's question; none where it has no answer.
+fn word_kept(alloc: Global, node: &Node, query: u64) -> Result<Text, Memory>
+    ensures { IfOk result (λ word. word ≡ word_kept (answer_to node.now.orders query)) }
+{
+    match node.kept_answer(query) {
+        Some(word) => word.copy(alloc),
+        None => Text::plain(alloc, b""),
     }
 }
 
@@ -85,6 +112,21 @@ impl State {
         match self.machine(machine) {
             None => Err(Reason::NoSuchMachine),
             Some(node) => own(node.may(input)),
+        }
+    }
+
+    /// Of an answer to a question: `NoSuchMachine`, and then the machine's own reasons, but `Answered` with the work order
+    /// that the question was answered with.
+    pub(crate) fn may_answer(
+        &self,
+        machine: u32,
+        input: &Input<'_>,
+    ) -> Result<Result<(), Reason>, Memory>
+        ensures { IfOk result (λ may. may ≡ if_there (machine_in machine self.now) (λ node. with_word node (may_of node input.now))) }
+    {
+        match self.machine(machine) {
+            None => Ok(Err(Reason::NoSuchMachine)),
+            Some(node) => with_word(self.alloc, node, node.may(input)),
         }
     }
 

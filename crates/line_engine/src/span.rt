@@ -55,6 +55,9 @@ pub fn stepped(line: &ScriptLine) -> Span
         ScriptLine::Sense { machine } => Span::one(*machine),
         ScriptLine::Forecast { machine } => Span::one(*machine),
         ScriptLine::Query { machine, .. } => Span::one(*machine),
+        ScriptLine::Supervise { machine } => Span::one(*machine),
+        ScriptLine::Ask { machine, .. } => Span::one(*machine),
+        ScriptLine::Answer { machine, .. } => Span::one(*machine),
         _ => Span::one(0),
     }
 }

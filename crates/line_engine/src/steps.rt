@@ -6,7 +6,7 @@ ghost use Rattle.node_core.specs.declared.input.Input.TheVariants as inputs;
 ghost use Rattle.line_report.specs.declared.happening.Happening.TheVariants as happenings;
 ghost use Rattle.line_script.specs.Ranges.{IsWithin};
 ghost use Rattle.line_step.specs.Lines.{Becomes, Connects, Flows, LineDoes, Moves, Unless, cut_in, first_of, lied, spoil_told, spoiled, unseen, unvouched_told};
-ghost use Rattle.line_step.specs.Reasons.{may_add, may_connect, may_cut, may_do, may_flow, may_give, may_lie, may_notice, may_remove, may_replace, may_sense, may_spoil, may_unseen};
+ghost use Rattle.line_step.specs.Reasons.{may_add, may_answer, may_connect, may_cut, may_do, may_flow, may_give, may_lie, may_notice, may_remove, may_replace, may_sense, may_spoil, may_unseen};
 ghost use Rattle.line_step.specs.Shown.{shown};
 ghost use Rattle.line_step.specs.State.{one_more, profile_of};
 ghost use Rattle.line_step.specs.Steps.{MachineSteps};
@@ -16,6 +16,7 @@ ghost use Rattle.line_engine.specs.Given.{IsGiven, is_given, is_move, made_told}
 use crate::show::show_all;
 use crate::state::State;
 use board_record::{BoardId, Sensed};
+use hermes_vertical::Question;
 use line_acts::{link_of, tell_cut};
 use line_base::{Memory, Side, Text};
 use line_report::{Happened, Happening, Reason};
@@ -52,6 +53,11 @@ impl State {
             ScriptLine::Lie { machine, sensed } => self.lie(number, *machine, *sensed),
             ScriptLine::Unseen { machine, side } => self.unseen(number, *machine, *side),
             ScriptLine::Show => self.show(),
+            ScriptLine::Answer {
+                machine,
+                query,
+                order,
+            } => self.answer(number, *machine, *query, order),
             _ => self.do_given(number, line),
         }
     }
@@ -78,6 +84,8 @@ impl State {
             ScriptLine::Fault { machine, side } => self.fault(number, *machine, *side),
             ScriptLine::Forecast { machine } => self.give(number, *machine, Input::Forecast),
             ScriptLine::Query { machine, barcode } => self.query(number, *machine, barcode),
+            ScriptLine::Supervise { machine } => self.supervise(number, *machine),
+            ScriptLine::Ask { machine, question } => self.ask(number, *machine, question),
             _ => self.do_move(line),
         }
     }
@@ -234,6 +242,44 @@ impl State {
         ensures { IfOk result (λ told. Unless (may_give machine (inputs.Fault side) self.old) self.old self.new told (MachineSteps number machine (inputs.Fault side) self.old self.new told)) }
     {
         self.give(number, machine, Input::Fault(side))
+    }
+
+    /// A machine is supervised from now on.
+    fn supervise(&mut self, number: u64, machine: u32) -> Result<Happened, Memory>
+        requires few { number ≤ 1000000 }
+        requires together { IsLineTogether self.old }
+        ensures { IfOk result (λ told. Unless (may_give machine (inputs.Supervise true) self.old) self.old self.new told (MachineSteps number machine (inputs.Supervise true) self.old self.new told)) }
+    {
+        self.give(number, machine, Input::Supervise(true))
+    }
+
+    /// A machine asks its supervisor for a work order.
+    fn ask(&mut self, number: u64, machine: u32, question: &Question) -> Result<Happened, Memory>
+        requires few { number ≤ 1000000 }
+        requires together { IsLineTogether self.old }
+        ensures { IfOk result (λ told. Unless (may_give machine (inputs.Ask question.now) self.old) self.old self.new told (MachineSteps number machine (inputs.Ask question.now) self.old self.new told)) }
+    {
+        let question = question.copy(self.alloc)?;
+        self.give(number, machine, Input::Ask(question))
+    }
+
+    /// The supervisor answers a machine's question of this number. The reason against a second answer has the first.
+    #[tactic(auto, using(crate::proofs::Answered::answer_given))]
+    fn answer(
+        &mut self,
+        number: u64,
+        machine: u32,
+        query: u64,
+        order: &Text,
+    ) -> Result<Happened, Memory>
+        requires few { number ≤ 1000000 }
+        requires together { IsLineTogether self.old }
+        ensures { IfOk result (λ told. Unless (may_answer machine query order.now self.old) self.old self.new told (MachineSteps number machine (inputs.Answer query order.now) self.old self.new told)) }
+    {
+        let order = order.copy(self.alloc)?;
+        let input = Input::Answer { query, order };
+        let may = self.may_answer(machine, &input)?;
+        self.step_unless(may, number, machine, input)
     }
 
     fn sense(&mut self, number: u64, machine: u32) -> Result<Happened, Memory>

@@ -14,6 +14,12 @@ use Rattle.hermes_horizontal.specs.declared.message.Horizontal.{Horizontal}
 use Rattle.hermes_horizontal.specs.declared.message.Horizontal.TheVariants as bodies
 use Rattle.hermes_horizontal.specs.declared.message.Ping.{Ping}
 use Rattle.hermes_horizontal.specs.declared.message.Ping.TheVariants as pings
+use Rattle.hermes_vertical.specs.Parts.{name_of as vertical_name_of}
+use Rattle.hermes_vertical.specs.declared.message.Passage.{Passage}
+use Rattle.hermes_vertical.specs.declared.message.Passing.{Passing}
+use Rattle.hermes_vertical.specs.declared.message.Passing.TheVariants as passings
+use Rattle.hermes_vertical.specs.declared.message.Vertical.{Vertical}
+use Rattle.hermes_vertical.specs.declared.message.Vertical.TheVariants as vertical
 use Rattle.smema_bridge.specs.declared.line.SegmentLine.{SegmentLine}
 use Rattle.smema_bridge.specs.declared.line.SegmentLine.TheVariants as lines
 use Rattle.line_world.specs.Moves.{move_word, no_text as move_no_text}
@@ -33,6 +39,15 @@ use Rattle.line_report.specs.declared.happening.Reason.{Reason}
 use Rattle.line_report.specs.declared.happening.Reason.TheVariants as reasons
 use Rattle.line_report.specs.declared.summary.Summary.{Summary}
 
+-- ---- texts of others
+
+-- a text within a line: an end of a line in it is written as in an element, so that no text makes a line of its own
+abbrev pub byte_in_line : ℕ → List ℕ
+byte_in_line byte = if byte == 10 then codes "&#10;" else (if byte == 13 then codes "&#13;" else byte ∷ [])
+
+abbrev pub in_line : List ℕ → List ℕ
+in_line text = flat_map byte_in_line text
+
 -- ---- reasons
 
 abbrev pub no_text : No → List ℕ
@@ -51,6 +66,10 @@ no_text nos.NotABridge = codes "not a bridge"
 no_text nos.NotStanding = codes "not standing"
 no_text nos.NotSupported = codes "not supported"
 no_text nos.NothingKept = codes "nothing kept"
+no_text nos.NotSupervised = codes "not supervised"
+no_text nos.QueriesFull = codes "queries full"
+no_text nos.UnknownQuery = codes "unknown query"
+no_text (nos.Answered query) = codes "answered"
 
 abbrev pub reason_text : Reason → List ℕ
 reason_text (reasons.Node why) = no_text why
@@ -63,6 +82,7 @@ reason_text reasons.NothingInFlight = codes "nothing in flight"
 reason_text reasons.NothingToRead = codes "nothing to read"
 reason_text reasons.Standing = codes "standing"
 reason_text reasons.TextInFlight = codes "text in flight"
+reason_text (reasons.Answered word) = codes "answered " ++ in_line word
 
 -- ---- words
 
@@ -136,13 +156,6 @@ deed_text machine (deeds.Starts id) = of_board (codes "starts") (machine - 1) id
 deed_text machine (deeds.Settles id) = of_board (codes "settles") (machine - 1) id
 deed_text machine (deeds.Drops id) = of_board (codes "drops") (machine - 1) id
 
--- a text within a line: an end of a line in it is written as in an element, so that no text makes a line of its own
-abbrev pub byte_in_line : ℕ → List ℕ
-byte_in_line byte = if byte == 10 then codes "&#10;" else (if byte == 13 then codes "&#13;" else byte ∷ [])
-
-abbrev pub in_line : List ℕ → List ℕ
-in_line text = flat_map byte_in_line text
-
 abbrev pub will_word : Bool → List ℕ
 will_word true = codes "go"
 will_word false = codes "hold"
@@ -169,6 +182,25 @@ switched word machine signal on = numbered word machine ++ codes " " ++ signal +
 abbrev pub setting_text : ℕ → Setting → List ℕ
 setting_text machine (settings.Will side on) = at_side (will_word on) machine side
 setting_text machine (settings.Level line on) = switched (codes "level") machine (line_word line) on
+setting_text machine (settings.Supervise on) = numbered (codes "supervise") machine ++ codes " " ++ switch_word on
+
+-- how a board came or went, by its number in the standard's channel
+abbrev pub passing_text : Passing → List ℕ
+passing_text passings.Transferred = codes "1"
+passing_text passings.Loaded = codes "2"
+passing_text passings.ByHand = codes "3"
+
+-- a machine's number, whether a board came or went, and which
+abbrev pub passed_text : ℕ → List ℕ → Passage → List ℕ
+passed_text machine word passage =
+    numbered (codes "tells") machine ++ codes " " ++ word ++ codes " " ++ id_text passage.id ++ codes " " ++ passing_text passage.how
+
+-- what a supervisor is told of a board, or asked by a number; a machine tells it nothing else
+abbrev pub told_text : ℕ → Vertical → List ℕ
+told_text machine (vertical.BoardArrived passage) = passed_text machine (codes "arrived") passage
+told_text machine (vertical.BoardDeparted passage) = passed_text machine (codes "departed") passage
+told_text machine (vertical.QueryWorkOrderInfo query question) = numbered (numbered (codes "asks") machine) query
+told_text machine body = numbered (codes "tells") machine ++ codes " " ++ vertical_name_of body
 
 -- a drive has no text: no happening is one
 abbrev pub act_text : ℕ → Act → List ℕ
@@ -186,6 +218,9 @@ act_text machine (acts.Marks id quality) = of_board (codes "mark") machine id ++
 act_text machine (acts.Inserts id) = of_board (codes "insert") machine id
 act_text machine (acts.Removes id) = of_board (codes "remove") machine id
 act_text machine (acts.Replaces old new) = of_board (codes "replace") machine old ++ codes " " ++ id_text new
+act_text machine (acts.Tells message) = told_text machine message.body
+act_text machine (acts.Answered query order) =
+    numbered (numbered (codes "answered") machine) query ++ codes " " ++ in_line order
 act_text machine (acts.Sets setting) = setting_text machine setting
 
 -- ---- happenings

@@ -42,9 +42,7 @@ impl Happened {
         ensures told { OnOk result (self.new ≡ self.old ++ happening ∷ []) }
         ensures unchanged { OnErr result (self.new ≡ self.old) }
     {
-        match self.list.push(happening) {
-            Ok(()) => Ok(()),
-            Err(_) => Err(Memory),
-        }
+        self.list.push(happening)?;
+        Ok(())
     }
 }

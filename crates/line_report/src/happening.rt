@@ -1,15 +1,13 @@
 ghost use Rattle.std.specs.Prelude.{◌≡◌};
-ghost use Rattle.line_report.specs.Texts.{no_text as no_words, reason_text};
+ghost use Rattle.line_report.specs.Texts.{no_text as no_words};
 
 use board_record::{BoardId, Sensed};
-use line_base::{Quality, Side};
+use line_base::{Quality, Side, Text};
 use line_world::{Move, MoveNo};
 use node_core::{Act, No};
-use std::fmt;
-use thiserror::Error;
 
 /// Why a line of a script does nothing.
-#[derive(Clone, Copy, Debug, PartialEq, Eq, Error)]
+#[derive(Debug, PartialEq, Eq, Drop)]
 pub enum Reason {
     /// The machine's own reason.
     Node(No),
@@ -31,6 +29,8 @@ pub enum Reason {
     Standing,
     /// Bytes are on their way to that side.
     TextInFlight,
+    /// The question was answered before, by this work order.
+    Answered(Text),
 }
 
 /// One thing that a line of a script does. Each is one line of the report.
@@ -106,37 +106,8 @@ pub enum Happening {
     },
 }
 
-impl Reason {
-    /// The reason in words.
-    pub fn text(self) -> &'static str
-        ensures { result.now ≡ reason_text self }
-    {
-        match self {
-            Reason::Node(no) => no_text(no),
-            Reason::Move(no) => no.text(),
-            Reason::NoSuchMachine => "no such machine",
-            Reason::LineFull => "line full",
-            Reason::NotHere => "not here",
-            Reason::NoNeighbour => "no neighbour",
-            Reason::NothingInFlight => "nothing in flight",
-            Reason::NothingToRead => "nothing to read",
-            Reason::Standing => "standing",
-            Reason::TextInFlight => "text in flight",
-        }
-    }
-}
-
-impl fmt::Display for Reason {
-    ghost use Rattle.std.specs.Prelude.{Some};
-
-    ghost output = { λ reason. Some (reason_text reason) };
-
-    fn fmt<W: fmt::Write>(&self, f: &mut fmt::Formatter<W>) -> fmt::Result {
-        f.write_str(self.text())
-    }
-}
-
-fn no_text(no: No) -> &'static str
+/// A machine's own reason in words.
+pub(crate) fn no_text(no: No) -> &'static str
     ensures { result.now ≡ no_words no }
 {
     match no {
@@ -155,5 +126,9 @@ fn no_text(no: No) -> &'static str
         No::NotStanding => "not standing",
         No::NotSupported => "not supported",
         No::NothingKept => "nothing kept",
+        No::NotSupervised => "not supervised",
+        No::QueriesFull => "queries full",
+        No::UnknownQuery => "unknown query",
+        No::Answered(_) => "answered",
     }
 }

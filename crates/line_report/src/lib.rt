@@ -14,5 +14,5 @@ mod words;
 pub use happened::Happened;
 pub use happening::{Happening, Reason};
 pub use summary::{Summary, write_summary};
-pub use texts::{write_act, write_happening};
+pub use texts::{write_act, write_happening, write_reason};
 pub use words::{quality_word, side_word};

@@ -3,17 +3,19 @@
 
 ghost use Rattle.std.specs.Prelude.{◌≡◌, ◌++◌, OnOk, codes};
 ghost use Rattle.hermes_element.specs.Standing.{StillStands};
+ghost use Rattle.hermes_vertical.specs.Parts.{name_of};
 ghost use Rattle.line_report.specs.declared.happening.Happening.TheVariants as happenings;
-ghost use Rattle.line_report.specs.Texts.{act_text, at_side, between_text, deed_text, entry, happening_text, mark_of, numbered, of_board, setting_text, switched, what_text};
+ghost use Rattle.line_report.specs.Texts.{act_text, at_side, between_text, deed_text, entry, happening_text, mark_of, numbered, of_board, passed_text, reason_text, setting_text, switched, told_text, what_text};
 
 use crate::bytes::{append, append_digits, append_id, append_in_line, append_number, append_word};
-use crate::happening::Happening;
+use crate::happening::{Happening, Reason, no_text};
 use crate::words::{
-    event_word, line_word, ping_mark, quality_word, side_word, signal_word, switch_word,
-    transfer_mark, will_word,
+    event_word, line_word, passing_word, ping_mark, quality_word, side_word, signal_word,
+    switch_word, transfer_mark, will_word,
 };
 use board_record::BoardId;
 use hermes_horizontal::Horizontal;
+use hermes_vertical::{Passage, Vertical};
 use line_base::{Memory, Side};
 use node_core::{Act, Deed, Setting};
 
@@ -51,7 +53,7 @@ fn write_what(what: &Happening, to: &mut Vec<u8>) -> Result<(), Memory>
         Happening::Unvouched => append(b"unvouched", to),
         Happening::No(reason) => {
             append(b"no: ", to)?;
-            append(reason.text().as_bytes(), to)
+            write_reason(reason, to)
         }
         Happening::Shown {
             machine,
@@ -67,6 +69,30 @@ fn write_what(what: &Happening, to: &mut Vec<u8>) -> Result<(), Memory>
         Happening::Gone { id } => {
             append(b"gone", to)?;
             append_id(*id, to)
+        }
+    }
+}
+
+/// Appends a reason in words. `Memory` where there is no room for them: what stood in the text still stands then, and maybe
+/// a part of the words behind it.
+pub fn write_reason(reason: &Reason, to: &mut Vec<u8>) -> Result<(), Memory>
+    ensures kept { StillStands to.old.items to.new.items }
+    ensures written { OnOk result (to.new.items ≡ to.old.items ++ reason_text reason.now) }
+{
+    match reason {
+        Reason::Node(no) => append(no_text(*no).as_bytes(), to),
+        Reason::Move(no) => append(no.text().as_bytes(), to),
+        Reason::NoSuchMachine => append(b"no such machine", to),
+        Reason::LineFull => append(b"line full", to),
+        Reason::NotHere => append(b"not here", to),
+        Reason::NoNeighbour => append(b"no neighbour", to),
+        Reason::NothingInFlight => append(b"nothing in flight", to),
+        Reason::NothingToRead => append(b"nothing to read", to),
+        Reason::Standing => append(b"standing", to),
+        Reason::TextInFlight => append(b"text in flight", to),
+        Reason::Answered(word) => {
+            append(b"answered ", to)?;
+            append_in_line(word.bytes(), to)
         }
     }
 }
@@ -181,8 +207,57 @@ pub fn write_act(machine: u32, act: &Act, to: &mut Vec<u8>) -> Result<(), Memory
             write_board("replace", machine, *old, to)?;
             append_id(*new, to)
         }
+        Act::Tells(message) => write_told(machine, &message.body, to),
+        Act::Answered(query, order) => {
+            write_query("answered", machine, *query, to)?;
+            append(b" ", to)?;
+            append_in_line(order.bytes(), to)
+        }
         Act::Sets(setting) => write_setting(machine, *setting, to),
     }
+}
+
+/// What a supervisor is told of a board, or asked.
+fn write_told(machine: u32, body: &Vertical, to: &mut Vec<u8>) -> Result<(), Memory>
+    ensures kept { StillStands to.old.items to.new.items }
+    ensures written { OnOk result (to.new.items ≡ to.old.items ++ told_text machine body.now) }
+{
+    match body {
+        Vertical::BoardArrived(passage) => write_passed(machine, "arrived", passage, to),
+        Vertical::BoardDeparted(passage) => write_passed(machine, "departed", passage, to),
+        Vertical::QueryWorkOrderInfo { query, .. } => write_query("asks", machine, *query, to),
+        _ => write_named(machine, body, to),
+    }
+}
+
+/// A message to a supervisor, by its name.
+fn write_named(machine: u32, body: &Vertical, to: &mut Vec<u8>) -> Result<(), Memory>
+    ensures kept { StillStands to.old.items to.new.items }
+    ensures written { OnOk result (to.new.items ≡ to.old.items ++ (numbered (codes "tells") machine ++ codes " " ++ name_of body.now)) }
+{
+    write_numbered("tells", machine, to)?;
+    append(b" ", to)?;
+    append(body.name(), to)
+}
+
+/// A board came or went, which one, and how.
+fn write_passed(machine: u32, word: &str, passage: &Passage, to: &mut Vec<u8>) -> Result<(), Memory>
+    ensures kept { StillStands to.old.items to.new.items }
+    ensures written { OnOk result (to.new.items ≡ to.old.items ++ passed_text machine word.now passage.now) }
+{
+    write_numbered("tells", machine, to)?;
+    append_word(word, to)?;
+    append_id(passage.id, to)?;
+    append_word(passing_word(passage.how), to)
+}
+
+/// A word, a machine's number, and that of a question.
+fn write_query(word: &str, machine: u32, query: u64, to: &mut Vec<u8>) -> Result<(), Memory>
+    ensures kept { StillStands to.old.items to.new.items }
+    ensures written { OnOk result (to.new.items ≡ to.old.items ++ numbered (numbered word.now machine) query) }
+{
+    write_numbered(word, machine, to)?;
+    append_number(query, to)
 }
 
 fn write_setting(machine: u32, setting: Setting, to: &mut Vec<u8>) -> Result<(), Memory>
@@ -192,6 +267,10 @@ fn write_setting(machine: u32, setting: Setting, to: &mut Vec<u8>) -> Result<(),
     match setting {
         Setting::Will(side, on) => write_side(will_word(on), machine, side, to),
         Setting::Level(line, on) => write_switched("level", machine, line_word(line), on, to),
+        Setting::Supervise(on) => {
+            write_numbered("supervise", machine, to)?;
+            append_word(switch_word(on), to)
+        }
     }
 }
 

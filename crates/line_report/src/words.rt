@@ -1,9 +1,10 @@
 //! The words of the report.
 
 ghost use Rattle.std.specs.Prelude.{◌≡◌};
-ghost use Rattle.line_report.specs.Texts.{event_text, ping_text, line_word, quality_text, side_text, signal_word, switch_word, transfer_text, will_word};
+ghost use Rattle.line_report.specs.Texts.{event_text, passing_text, ping_text, line_word, quality_text, side_text, signal_word, switch_word, transfer_text, will_word};
 
 use hermes_horizontal::Ping;
+use hermes_vertical::Passing;
 use line_base::{Quality, SensorEvent, Side, Transfer};
 use node_core::Signal;
 use smema_bridge::SegmentLine;
@@ -75,6 +76,17 @@ pub fn signal_word(signal: Signal) -> &'static str
         Signal::EntryAvailable => "entry-available",
         Signal::EntryFailed => "entry-failed",
         Signal::ExitReady => "exit-ready",
+    }
+}
+
+/// How a board came or went, by its number in the supervisory channel.
+pub fn passing_word(how: Passing) -> &'static str
+    ensures { result.now ≡ passing_text how }
+{
+    match how {
+        Passing::Transferred => "1",
+        Passing::Loaded => "2",
+        Passing::ByHand => "3",
     }
 }
 

@@ -2,6 +2,7 @@
 
 use crate::values::{event_of, id_of, line_of, parted, quality_of, side_of, signal_of};
 use hermes_horizontal::{Message, MessageError, read_horizontal};
+use hermes_vertical::{Vertical, VerticalMessage, read_vertical};
 use line_base::{Memory, Side, Text};
 use node_core::{Act, Deed, Setting};
 use std::alloc::Global;
@@ -13,7 +14,10 @@ pub fn act_of(alloc: Global, words: &str) -> Result<Act, Memory> {
         "Hears" => Ok(Act::Hears(side_of(first), message_of(alloc, second)?)),
         "Sends" => Ok(Act::Sends(side_of(first), message_of(alloc, second)?)),
         "Breaches" => Ok(Act::Breaches(side_of(first), text_of(alloc, second)?)),
+        "Tells" => Ok(Act::Tells(told_of(alloc, about)?)),
+        "Answered" => answered_of(alloc, about),
         "Connects" => Ok(Act::Connects),
+        "Supervise" => Ok(Act::Sets(Setting::Supervise(first == "on"))),
         "Level" => Ok(Act::Sets(Setting::Level(line_of(first), second == "on"))),
         "Signals" => Ok(Act::Signals(signal_of(first), second == "on")),
         _ => Ok(sided_of(what, first, second)),
@@ -26,6 +30,31 @@ fn message_of(alloc: Global, spelled: &str) -> Result<Message, Memory> {
         Ok(message) => Ok(message),
         Err(MessageError::Refused { .. }) => Err(Memory),
         Err(MessageError::Memory) => Err(Memory),
+    }
+}
+
+/// The message to a supervisor, or from it, that a case spells.
+fn told_of(alloc: Global, spelled: &str) -> Result<VerticalMessage, Memory> {
+    match read_vertical(alloc, spelled.as_bytes()) {
+        Ok(message) => Ok(message),
+        Err(MessageError::Refused { .. }) => Err(Memory),
+        Err(MessageError::Memory) => Err(Memory),
+    }
+}
+
+/// The act that takes the answer which a case spells.
+fn answered_of(alloc: Global, spelled: &str) -> Result<Act, Memory> {
+    match told_of(alloc, spelled)?.body {
+        Vertical::SendWorkOrderInfo { query, order, .. } => Ok(Act::Answered(query, order)),
+        _ => Err(Memory),
+    }
+}
+
+/// The work order of the answer that a case spells.
+pub fn order_of(alloc: Global, spelled: &str) -> Result<Text, Memory> {
+    match told_of(alloc, spelled)?.body {
+        Vertical::SendWorkOrderInfo { order, .. } => Ok(order),
+        _ => Err(Memory),
     }
 }
 

@@ -12,7 +12,7 @@ use std::alloc::Global;
 pub fn happening_of(alloc: Global, what: &str, about: &str) -> Result<Happening, Memory> {
     match what {
         "Done" => done_of(alloc, about),
-        "No" => Ok(Happening::No(reason_of(about))),
+        "No" => Ok(Happening::No(reason_of(alloc, about)?)),
         "Unvouched" => Ok(Happening::Unvouched),
         _ => Ok(numbered_of(what, about)),
     }

@@ -1,10 +1,23 @@
 //! The reasons of the cases, by their words.
 
+use crate::acts::order_of;
+use crate::values::parted;
+use line_base::Memory;
 use line_report::Reason;
 use line_world::MoveNo;
 use node_core::No;
+use std::alloc::Global;
 
-pub fn reason_of(word: &str) -> Reason {
+/// The reason of a word. Behind `Answered` the answer that was there before may be spelled.
+pub fn reason_of(alloc: Global, words: &str) -> Result<Reason, Memory> {
+    match parted(words) {
+        ("Answered", "") => Ok(Reason::Node(No::Answered(1))),
+        ("Answered", spelled) => Ok(Reason::Answered(order_of(alloc, spelled)?)),
+        _ => Ok(line_reason_of(words)),
+    }
+}
+
+fn line_reason_of(word: &str) -> Reason {
     match word {
         "NoSuchMachine" => Reason::NoSuchMachine,
         "LineFull" => Reason::LineFull,
@@ -43,6 +56,9 @@ fn no_of(word: &str) -> Option<No> {
         "NotStanding" => No::NotStanding,
         "NotSupported" => No::NotSupported,
         "NothingKept" => No::NothingKept,
+        "NotSupervised" => No::NotSupervised,
+        "QueriesFull" => No::QueriesFull,
+        "UnknownQuery" => No::UnknownQuery,
         _ => return None,
     })
 }

@@ -74,3 +74,13 @@ returns-clause-contents c = λ none. rw (← c.self.view_is) (step_contents (ste
 
 pub returns-clause-blame : goal.returns-clause-blame
 returns-clause-blame c = λ none. rw (← c.self.view_is) (step_blames (step_of (goal.at.returns-clause-blame c).After-unspent-2) c.a_breach_is_told_only_behind_a_spoiled_text.ensures c.self.inside.spent c.if-self.false none)
+
+pub returns-clause-answers : goal.returns-clause-answers
+returns-clause-answers c =
+    rw (← c.self.view_is)
+    (c.each_line_answers_once.ensures c.args.number c.args.line.now
+    (record c.self.inside.state { spent = c.self.inside.spent })
+    (record c.count.new.self { spent = false }) c.follow.new.told
+    (steps_as c.args.number c.args.line.now c.self.inside.state c.count.new.self c.follow.new.told
+    c.self.inside.spent false c.unspent.ensures c.unspent-2.ensures c.if-self.false refl
+    (step_of (goal.at.returns-clause-answers c).After-unspent-2).steps))
