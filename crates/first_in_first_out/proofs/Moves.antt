@@ -222,6 +222,9 @@ does_tells number (lines.Unseen m side) before next told does =
 does_tells number lines.Show before next told does = becomes_tells (Moved before next) before next (shown before) told does (shown_tells (Moved before next) 1 before.machines)
 does_tells number (lines.Forecast m) before next told does = given_tells (Moved before next) _ number m inputs.Forecast before next told does
 does_tells number (lines.Query m barcode) before next told does = given_tells (Moved before next) _ number m (inputs.Query barcode) before next told does
+does_tells number (lines.Supervise m) before next told does = given_tells (Moved before next) _ number m (inputs.Supervise true) before next told does
+does_tells number (lines.Ask m question) before next told does = given_tells (Moved before next) _ number m (inputs.Ask question) before next told does
+does_tells number (lines.Answer m query order) before next told does = given_tells (Moved before next) _ number m (inputs.Answer query order) before next told does
 
 -- EACH LINE
 pub line_moved : (number : ℕ) (line : ScriptLine) (before after : LineState) (told : List Happening) (gap : ℕ) (step : Move)

@@ -8,7 +8,7 @@ use Rattle.line_report.specs.declared.happening.Happening.{Happening}
 use Rattle.line_report.specs.declared.happening.Happening.TheVariants as happenings
 use Rattle.node_core.specs.Done.{Done}
 use Rattle.node_core.specs.Own.{one_of, own_of}
-use Rattle.node_core.specs.Step.{machine_step}
+use Rattle.node_core.specs.Step.{plain_step}
 use Rattle.node_core.specs.declared.act.Act.{Act}
 use Rattle.node_core.specs.declared.act.Act.TheVariants as acts
 use Rattle.node_core.specs.declared.act.Deed.TheVariants as deeds
@@ -42,6 +42,7 @@ use Rattle.first_in_first_out.proofs.Queue.{AreFirst, Queues, after_both, did_qu
 looked_at : (order : List ℕ) (act : Act) → order_with order act ≡ order_after order (told_of_act act)
 looked_at order (acts.Drive side on) = refl
 looked_at order (acts.Signals signal on) = refl
+looked_at order (acts.Tells message) = refl
 looked_at order _ = refl
 
 order_one : (machine : ℕ) (order : List ℕ) (h : Happening) → order_by machine order h ≡ order_after order (done_act machine h)
@@ -76,6 +77,7 @@ undriven_queues : {end : List ℕ} (order : List ℕ) (told : List Act) → Queu
 undriven_queues order [] k = k
 undriven_queues order (acts.Drive side on ∷ told) k = undriven_queues order told (record { leads = k.leads; firsts = k.firsts.1 })
 undriven_queues order (acts.Signals signal on ∷ told) k = undriven_queues order told (record { leads = k.leads; firsts = k.firsts.1 })
+undriven_queues order (acts.Tells message ∷ told) k = undriven_queues order told (record { leads = k.leads; firsts = k.firsts.1 })
 undriven_queues order (act ∷ told) k =
     let later = undriven_queues (order_with order act) told (record { leads = k.leads; firsts = k.firsts.1 }) in
     record { leads = later.leads; firsts = (k.firsts.0, later.firsts) }
@@ -89,7 +91,7 @@ turn_queues t j before after told different (is_still same none) =
     subst (λ (x : List Act). Queues (held_and_kept before (j + 1)) x (held_and_kept after (j + 1))) (sym none) still
 turn_queues t j before after told different (has_stepped s) =
     let body : Machine = (node_at before (j + 1)).lane.body in
-    let d : Done = machine_step s.desk (unread_by (j + 1) before.world) s.event body in
+    let d : Done = plain_step s.desk (unread_by (j + 1) before.world) s.event body in
     let does : Did Any (own_of body) d.acts (own_of d.body) = step_did s.desk (unread_by (j + 1) before.world) s.event body (any_new s.event) in
     let queues : Queues (queue_of (own_of body)) d.acts (queue_of (own_of d.body)) = did_queues does different in
     let all : Queues (queue_of (own_of body)) (undriven d.acts) (queue_of (own_of d.body)) = undriven_queues (queue_of (own_of body)) d.acts queues in

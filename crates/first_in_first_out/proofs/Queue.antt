@@ -1,5 +1,5 @@
 -- What a machine owns is its order, act by act: the outlet's id in front of those that are kept.
-use Rattle.std.proofs.Common.{Bool, List, None, Option, Some, [], ap, append_assoc, eq-eqb, eqb-true, false, refl, slice_get, subst, sym, true, ℕ, ◌&&◌, ◌++◌, ◌==◌, ◌∙◌, ◌∷◌, ◌≡◌}
+use Rattle.std.proofs.Common.{Bool, List, None, Option, Some, [], ap, append_assoc, eq-eqb, eqb-true, false, refl, slice_get, subst, sym, true, ℕ, ◌++◌, ◌==◌, ◌∙◌, ◌∷◌, ◌≡◌}
 use Rattle.node_core.specs.Own.{Own, one_of, with_id_instead, without_id}
 use Rattle.node_core.specs.declared.act.Act.{Act}
 use Rattle.node_core.specs.declared.act.Act.TheVariants as acts
@@ -8,7 +8,7 @@ use Rattle.standings.specs.Ledger.{are_different}
 use Rattle.standings.specs.Marks.{has_id}
 use Rattle.one_standing.proofs.LedgerSteps.{all_of, dropped_ids, none_either, settled_ids}
 use Rattle.one_standing.proofs.LedgerTurns.{different_first, different_rest}
-use Rattle.one_standing.proofs.LedgerWalk.{Announces, Did, Hand, Walk, are_silent, did, hand_inserts, hand_removes, hand_replaces, hand_walks, is_silent, says_last, says_more, says_start, walk_drops, walk_end, walk_leaves, walk_loses, walk_on, walk_opens, walk_returns, walk_settles}
+use Rattle.one_standing.proofs.LedgerWalk.{Announces, Did, Hand, Walk, are_silent, did, hand_inserts, hand_removes, hand_replaces, hand_walks, is_silent, says_last, says_more, says_start, walk_drops, walk_end, walk_leaves, walk_loses, walk_on, walk_opens, walk_returns, walk_settles, and_one, and_two}
 use Rattle.first_in_first_out.specs.Order.{order_with}
 
 -- ---- the order behind some acts
@@ -66,14 +66,6 @@ silent_told (acts.Inserts id) told is k = not_so is
 silent_told (acts.Removes id) told is k = not_so is
 silent_told (acts.Replaces old new) told is k = not_so is
 silent_told _ told is k = record { leads = k.leads; firsts = (tt, k.firsts) }
-
-and_one : (a b : Bool) → (a && b) ≡ true → a ≡ true
-and_one true b is = refl
-and_one false b is = is
-
-and_two : (a b : Bool) → (a && b) ≡ true → b ≡ true
-and_two true b is = is
-and_two false b is = not_so is
 
 all_silent : (order : List ℕ) (told : List Act) → are_silent told ≡ true → Queues order told order
 all_silent order [] is = none_told order

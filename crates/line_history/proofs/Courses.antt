@@ -22,7 +22,7 @@ use Rattle.node_core.specs.Event.{Event, event_of, with_new}
 use Rattle.node_core.specs.Event as events
 use Rattle.node_core.specs.May as own
 use Rattle.node_core.specs.Node.{NodeState, desk_of}
-use Rattle.node_core.specs.Step.{machine_step}
+use Rattle.node_core.specs.Step.{plain_step}
 use Rattle.node_core.specs.declared.act.Act.{Act}
 use Rattle.node_core.specs.declared.input.Input.{Input}
 use Rattle.node_core.specs.declared.input.Input.TheVariants as inputs
@@ -42,7 +42,7 @@ use Rattle.line_step.proofs.Numbers.{machine_set_own, machine_within, same_or_no
 use Rattle.one_standing.proofs.Mirroring.{node_there}
 use Rattle.line_history.proofs.OfferingStep.{IsNoHand}
 use Rattle.line_history.proofs.OfferingWhole.{IsMarkable}
-use Rattle.line_history.proofs.View.{apart_of, arrived_stand, connecting_stand, cut_none, done_append, done_by, more_body, move_still, none_join, other_acts, own_acts, same_machines, shown_none, standings_none, undriven, undriven_signals, unvouched_none, unwilled}
+use Rattle.line_history.proofs.View.{apart_of, arrived_stand, connecting_stand, cut_none, done_append, done_by, more_body, move_still, none_join, other_acts, own_acts, same_machines, shown_none, standings_none, undriven, undriven_signals, undriven_step, unvouched_none, unwilled}
 
 -- the line changes boards of this machine by hand, or tells it of a level of its segment, which may mark one
 abbrev pub IsByHand : ℕ → ScriptLine → Type 0
@@ -62,8 +62,8 @@ pub record Acted (j : ℕ) (line : ScriptLine) (before after : LineState) (told 
   pub desk : Desk
   pub event : Event
   pub befalls : Befalls (j + 1) line (node_at before (j + 1)).lane.body.outlet.touched event
-  pub body : (node_at after (j + 1)).lane.body ≡ (machine_step desk (unread_by (j + 1) before.world) event (node_at before (j + 1)).lane.body).body
-  pub acts : done_by (j + 1) told ≡ undriven (machine_step desk (unread_by (j + 1) before.world) event (node_at before (j + 1)).lane.body).acts
+  pub body : (node_at after (j + 1)).lane.body ≡ (plain_step desk (unread_by (j + 1) before.world) event (node_at before (j + 1)).lane.body).body
+  pub acts : done_by (j + 1) told ≡ undriven (plain_step desk (unread_by (j + 1) before.world) event (node_at before (j + 1)).lane.body).acts
 
 pub data Course (j : ℕ) (line : ScriptLine) (before after : LineState) (told : List Happening) : Type 0 where
   rests : unwilled (node_at after (j + 1)).lane.body ≡ unwilled (node_at before (j + 1)).lane.body → done_by (j + 1) told ≡ [] → Course j line before after told
@@ -80,7 +80,7 @@ own_course line number j input before start after told steps same befalls =
     let node_is : node_at before (j + 1) ≡ node = sym (ap (λ (s : Stand). s.node) same) ∙ node_there (j + 1) start node steps.there in
     let unread_is : unread_by (j + 1) before.world ≡ unread_by (j + 1) start.world = sym (ap (λ (s : Stand). s.place.unread) same) in
     let next_is : node_at after (j + 1) ≡ steps.next = node_there (j + 1) after steps.next (ap (machine_in (j + 1)) steps.after_is ∙ machine_set_own (j + 1) start node steps.next steps.there) in
-    let D : List Sensed → NodeState → Done = λ us n. machine_step desk us event n.lane.body in
+    let D : List Sensed → NodeState → Done = λ us n. plain_step desk us event n.lane.body in
     let did : D (unread_by (j + 1) start.world) node ≡ D (unread_by (j + 1) before.world) (node_at before (j + 1)) = rw (unread_is, node_is) refl in
     record {
       desk = desk;
@@ -88,7 +88,8 @@ own_course line number j input before start after told steps same befalls =
       befalls = befalls;
       body = ap (λ (n : NodeState). n.lane.body) next_is ∙ lane.body ∙ ap (λ (d : Done). d.body) did;
       acts = ap (done_by (j + 1)) steps.told_is ∙ own_acts (is_second input) (j + 1) steps.acts (read_by (j + 1) start.world)
-          ∙ ap undriven steps.steps.told ∙ undriven_signals steps.steps.made node.bridge steps.next.lane.body ∙ ap undriven lane.told ∙ ap (λ (d : Done). undriven d.acts) did;
+          ∙ ap undriven steps.steps.told ∙ undriven_signals steps.steps.made node.bridge steps.next.lane.body ∙ ap undriven lane.told
+          ∙ undriven_step desk (unread_by (j + 1) start.world) event node.lane.body ∙ ap (λ (d : Done). undriven d.acts) did;
     }
 
 -- another machine's step
@@ -125,6 +126,9 @@ no_hand maker (inputs.Will side on) words plain = tt
 no_hand maker (inputs.Level line on) words plain = absurd plain
 no_hand maker inputs.Forecast words plain = tt
 no_hand maker (inputs.Query barcode) words plain = tt
+no_hand maker (inputs.Supervise on) words plain = tt
+no_hand maker (inputs.Ask question) words plain = tt
+no_hand maker (inputs.Answer query order) words plain = tt
 
 new_markable : (touched : Option ℕ) (found : Result ℕ IdsUsedUp) (event : ℕ → Event) → ((id : ℕ) → IsMarkable (event id) touched) → IsMarkable (with_new found event) touched
 new_markable touched (Ok id) event all = all id
@@ -286,6 +290,9 @@ does_course number (lines.Signal machine line on) before after told does j =
     (λ can steps. hand_course (lines.Signal machine line on) number j machine (inputs.Level line on) before after told (same_or_not (j + 1) machine) (λ is. is) (λ node words there. tt) steps)
 does_course number (lines.Forecast machine) before after told does j = given_course (lines.Forecast machine) _ number j machine inputs.Forecast before after told tt does
 does_course number (lines.Query machine barcode) before after told does j = given_course (lines.Query machine barcode) _ number j machine (inputs.Query barcode) before after told tt does
+does_course number (lines.Supervise machine) before after told does j = given_course (lines.Supervise machine) _ number j machine (inputs.Supervise true) before after told tt does
+does_course number (lines.Ask machine question) before after told does j = given_course (lines.Ask machine question) _ number j machine (inputs.Ask question) before after told tt does
+does_course number (lines.Answer machine query order) before after told does j = given_course (lines.Answer machine query order) _ number j machine (inputs.Answer query order) before after told tt does
 does_course number (lines.Connect machine) before after told does j = unless_course (lines.Connect machine) (may_connect machine before) j before after told (Connects number machine before after told) does (λ can steps. connects_course (lines.Connect machine) number j machine before after told steps)
 does_course number (lines.Flow machine side count) before after told does j =
     unless_course (lines.Flow machine side count) (may_flow machine side before) j before after told (Flows number machine side count before after told) does (λ can flows. flow_course (lines.Flow machine side count) number j machine side count before after told (same_or_not (j + 1) machine) flows)

@@ -20,6 +20,7 @@ use Rattle.line_step.specs.Steps.{read_by}
 use Rattle.line_step.specs.World.{WorldParts, end_of, link_at, link_of, with_link}
 use Rattle.line_step.proofs.Floors.{gap_other, gap_own, gap_past, gaps_stay, place_other, place_own, places_stay}
 use Rattle.line_step.proofs.Numbers.{floor_stays, number_past, same_or_not}
+use Rattle.one_standing.proofs.LedgerWalk.{and_one, and_two}
 
 -- ---- what lies in the gaps
 
@@ -83,6 +84,8 @@ act_lies second machine (acts.Breaches side text) world gap = refl
 act_lies second machine acts.Connects world gap = refl
 act_lies second machine (acts.Marks id quality) world gap = refl
 act_lies second machine (acts.Signals signal on) world gap = refl
+act_lies second machine (acts.Tells message) world gap = refl
+act_lies second machine (acts.Answered query order) world gap = refl
 act_lies second machine (acts.Sets setting) world gap = refl
 
 pub acts_lies : (second : Bool) (machine : ℕ) (told : List Act) (world : WorldParts) (gap : ℕ) → (gap_at (acts_did second machine told world).world.floor gap).lies ≡ (gap_at world.floor gap).lies
@@ -141,6 +144,8 @@ act_unread second machine (acts.Breaches side text) world other = refl
 act_unread second machine acts.Connects world other = refl
 act_unread second machine (acts.Marks id quality) world other = refl
 act_unread second machine (acts.Signals signal on) world other = refl
+act_unread second machine (acts.Tells message) world other = refl
+act_unread second machine (acts.Answered query order) world other = refl
 act_unread second machine (acts.Sets setting) world other = refl
 
 acts_unread : (second : Bool) (machine : ℕ) (told : List Act) (world : WorldParts) (other : ℕ) → (machine_at (acts_did second machine told world).world.floor other).unread ≡ (machine_at world.floor other).unread
@@ -227,15 +232,9 @@ act_lists x second machine (acts.Breaches side text) world other new lies = lies
 act_lists x second machine acts.Connects world other new lies = lies
 act_lists x second machine (acts.Marks id quality) world other new lies = lies
 act_lists x second machine (acts.Signals signal on) world other new lies = lies
+act_lists x second machine (acts.Tells message) world other new lies = lies
+act_lists x second machine (acts.Answered query order) world other new lies = lies
 act_lists x second machine (acts.Sets setting) world other new lies = lies
-
-and_one : (a b : Bool) → (a && b) ≡ true → a ≡ true
-and_one true b is = refl
-and_one false b is = is
-
-and_two : (a b : Bool) → (a && b) ≡ true → b ≡ true
-and_two true b is = is
-and_two false b is = absurd (let no_way : false ≡ true = is in cc)
 
 pub acts_lists : (x : ℕ) (second : Bool) (machine : ℕ) (told : List Act) (world : WorldParts) (other : ℕ) → make_not x told ≡ true → Lies x (machine_at (acts_did second machine told world).world.floor other).boards → Lies x (machine_at world.floor other).boards
 acts_lists x second machine [] world other new lies = lies

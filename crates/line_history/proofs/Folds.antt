@@ -10,6 +10,7 @@ use Rattle.node_core.specs.declared.act.Act.{Act}
 use Rattle.node_core.specs.declared.act.Act.TheVariants as acts
 use Rattle.node_core.specs.declared.act.Deed.TheVariants as deeds
 use Rattle.custody.specs.LookBack.{IsSaid as IsSaidSince, Since, just_started}
+use Rattle.one_standing.proofs.LedgerWalk.{and_one, and_two}
 
 -- ---- the fold
 
@@ -95,14 +96,6 @@ aside_same h (acts.Notices Entry) is = no_way is
 aside_same h (acts.Deed (deeds.Starts id)) is = no_way is
 aside_same h (acts.Deed (deeds.Settles id)) is = no_way is
 aside_same h _ is = (refl, refl)
-
-and_one : (a b : Bool) → (a && b) ≡ true → a ≡ true
-and_one true b is = refl
-and_one false b is = is
-
-and_two : (a b : Bool) → (a && b) ≡ true → b ≡ true
-and_two true b is = is
-and_two false b is = no_way is
 
 pub aside_heard : (h : Hearing) (told : List Act) → are_aside told ≡ true → heard_all h told ≡ h
 aside_heard h [] is = refl

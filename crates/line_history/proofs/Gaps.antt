@@ -171,6 +171,7 @@ one_act : (gap machine : ℕ) (act : Act) → gap_deed gap (happenings.Done mach
 one_act gap machine (acts.Deed deed) = one_deed deed machine gap (machine == gap) (machine == gap + 1) refl refl
 one_act gap machine (acts.Drive side on) = no_acts (machine == gap) (machine == gap + 1)
 one_act gap machine (acts.Signals signal on) = no_acts (machine == gap) (machine == gap + 1)
+one_act gap machine (acts.Tells message) = no_acts (machine == gap) (machine == gap + 1)
 one_act gap machine act = no_deed act (machine == gap) (machine == gap + 1) refl refl
 
 one_happening : (gap : ℕ) (h : Happening) → gap_deed gap h ≡ above_deeds (done_act gap h) ++ below_deeds (done_act (gap + 1) h)
@@ -455,6 +456,7 @@ owned_did (did read met told walk hand says) =
 owned_told : {o : Option ℕ} (act : Act) (rest : List Act) → is_dropping act ≡ false → Owned (open_act o act) rest → Owned o (told_of_act act ++ rest)
 owned_told (acts.Drive side on) rest plain more = more
 owned_told (acts.Signals signal on) rest plain more = more
+owned_told (acts.Tells message) rest plain more = more
 owned_told act rest plain more = owned_on plain more
 
 pub owned_undriven : {o : Option ℕ} {told : List Act} → Owned o told → Owned o (undriven told)

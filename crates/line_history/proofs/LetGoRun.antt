@@ -13,7 +13,7 @@ use Rattle.handover_in.specs.declared.phase.Phase.{Phase as In}
 use Rattle.handover_in.specs.declared.phase.Phase.TheVariants as inn
 use Rattle.handover_in.specs.State.{InState, board_of_phase as held_in}
 use Rattle.node_core.specs.Reads.{all_read}
-use Rattle.node_core.specs.Step.{machine_step}
+use Rattle.node_core.specs.Step.{plain_step}
 use Rattle.node_core.specs.declared.act.Act.{Act}
 use Rattle.node_core.specs.declared.act.Act.TheVariants as acts
 use Rattle.node_core.specs.declared.act.Deed.TheVariants as deeds
@@ -98,6 +98,7 @@ or_false false b = refl
 undriven_one : (act : Act) (b : Bool) → (tells_leaving (told_of_act act) || b) ≡ (leaves_now act || b)
 undriven_one (acts.Drive side on) b = refl
 undriven_one (acts.Signals signal on) b = refl
+undriven_one (acts.Tells message) b = refl
 undriven_one act b = or_false (leaves_now act) b
 
 undriven_leaving : (told : List Act) → tells_leaving (undriven told) ≡ tells_leaving told
@@ -213,7 +214,7 @@ step_leaving t j before after told st s =
     let i : InState = (node_at before (j + 1)).lane.body.intake in
     let know = knowing i i.phase refl in
     let does : StepDoes (IsInAt j before) know.0 s.desk (unread_by (j + 1) before.world) s.event (node_at before (j + 1)).lane.body = stepped_does t j know.0 before after told st know.1 s in
-    leaving_is (j + 1) told ∙ ap tells_leaving s.acts ∙ undriven_leaving (machine_step s.desk (unread_by (j + 1) before.world) s.event (node_at before (j + 1)).lane.body).acts ∙ does.leaves
+    leaving_is (j + 1) told ∙ ap tells_leaving s.acts ∙ undriven_leaving (plain_step s.desk (unread_by (j + 1) before.world) s.event (node_at before (j + 1)).lane.body).acts ∙ does.leaves
 
 no_way : {X : Type 0} → false ≡ true → X
 no_way is = cc
@@ -264,7 +265,7 @@ below_took j t before after told r st (has_stepped s) taken =
     let i : InState = (node_at before (j + 1 + 1)).lane.body.intake in
     let know = knowing i i.phase refl in
     let does = (stepped_does t (j + 1) know.0 before after told st know.1 s).does in
-    let now : held_in (machine_step s.desk (unread_by (j + 1 + 1) before.world) s.event (node_at before (j + 1 + 1)).lane.body).body.intake.phase ≡ Some r = ap (λ (b : Machine). held_in b.intake.phase) (sym s.body) ∙ taken in
+    let now : held_in (plain_step s.desk (unread_by (j + 1 + 1) before.world) s.event (node_at before (j + 1 + 1)).lane.body).body.intake.phase ≡ Some r = ap (λ (b : Machine). held_in b.intake.phase) (sym s.body) ∙ taken in
     elim (does.comes r now) [ inl was ↦ inl was | inr started ↦ inr (subst (λ (b : Machine). IsJustStarted b.intake.phase) (sym s.body) started, s.unread) ]
 
 line_follows_by : (j : ℕ) (last : Option Record) (t t2 : Trace) (before after : LineState) (told : List Happening) (r : Record) → Stands t before → Stands t2 after → Goes before after told → AllFollow before (j + 1) last → ((m : ℕ) → Turn m t before after told) → Kind before after told

@@ -9,7 +9,7 @@ use Rattle.handover_out.specs.declared.phase.Phase.{Phase as Out}
 use Rattle.handover_in.specs.State.{board_of_phase as held_in}
 use Rattle.node_core.specs.Done.{Done}
 use Rattle.node_core.specs.Event.{Event, Mark}
-use Rattle.node_core.specs.Step.{machine_step}
+use Rattle.node_core.specs.Step.{plain_step}
 use Rattle.node_core.specs.declared.act.Act.{Act}
 use Rattle.node_core.specs.declared.act.Act.TheVariants as acts
 use Rattle.node_core.specs.declared.act.Deed.TheVariants as deeds
@@ -50,6 +50,7 @@ use Rattle.line_history.proofs.View.{done_act, done_append, done_by, told_of_act
 undriven_act : (act : Act) (o : Offering) → offers_acts (told_of_act act) o ≡ offers_act act o
 undriven_act (acts.Drive side on) o = refl
 undriven_act (acts.Signals signal on) o = refl
+undriven_act (acts.Tells message) o = refl
 undriven_act act o = refl
 
 offers_happening_is : (m : ℕ) (h : Happening) (o : Offering) → offers_happening m h o ≡ offers_acts (done_act m h) o
@@ -76,6 +77,7 @@ or_none false = refl
 hand_act : (act : Act) → are_hand (told_of_act act) ≡ is_hand act
 hand_act (acts.Drive side on) = refl
 hand_act (acts.Signals signal on) = refl
+hand_act (acts.Tells message) = refl
 hand_act act = sym (or_none (is_hand act))
 
 hand_happening : (m : ℕ) (h : Happening) → is_hand_at m h ≡ are_hand (done_act m h)
@@ -115,7 +117,7 @@ still_act (acts.Deed (deeds.Starts other)) ids is = is
 still_act (acts.Deed (deeds.Drops other)) ids is = is
 still_act _ ids is = is
 
-still_among : {id : ℕ} (told : List Act) (ids : List ℕ) → IsAmong id ids → IsAmong id (settles_acts told ids)
+pub still_among : {id : ℕ} (told : List Act) (ids : List ℕ) → IsAmong id ids → IsAmong id (settles_acts told ids)
 still_among [] ids is = is
 still_among (act ∷ told) ids is = still_among told (settles_act act ids) (still_act act ids is)
 
@@ -139,6 +141,7 @@ undriven_takes (act ∷ told) (told_first takes_out) = told_first takes_out
 undriven_takes (act ∷ told) (told_first takes_instead) = told_first takes_instead
 undriven_takes (acts.Drive side on ∷ told) (told_later later) = undriven_takes told later
 undriven_takes (acts.Signals signal on ∷ told) (told_later later) = undriven_takes told later
+undriven_takes (acts.Tells message ∷ told) (told_later later) = undriven_takes told later
 undriven_takes (act ∷ told) (told_later later) = more (told_of_act act) (undriven_takes told later) where
   more : {P : Act → Type 0} (a : List Act) {b : List Act} → HasAct P b → HasAct P (a ++ b)
   more [] is = is
@@ -157,6 +160,7 @@ later_by h t = record { act = t.act; takes = t.takes; told_is = told_then t.told
 looked_at : {P : Act → Type 0} (act : Act) (rest : List Act) → HasAct P (told_of_act act ++ rest) → HasAct P (act ∷ rest)
 looked_at (acts.Drive side on) rest has = told_later has
 looked_at (acts.Signals signal on) rest has = told_later has
+looked_at (acts.Tells message) rest has = told_later has
 looked_at act rest has = has
 
 takes_told : {x : ℕ} (machine : ℕ) (told : List Happening) → HasAct (TakesOut x) (done_by machine told) → IsToldBy machine x told
@@ -228,7 +232,7 @@ markable (by_hand here free) = free
 
 acted_offers : (t t2 : Trace) (j : ℕ) (line : ScriptLine) (before after : LineState) (told : List Happening) (o : Offering) → Stands t before → Stands t2 after → Goes before after told → IsAsOf (node_at before (j + 1)).lane.body o → Acted j line before after told → IsAsOf (node_at after (j + 1)).lane.body (offers_told (j + 1) told o)
 acted_offers t t2 j line before after told o st st2 goes h a =
-    let d : Done = machine_step a.desk (unread_by (j + 1) before.world) a.event (node_at before (j + 1)).lane.body in
+    let d : Done = plain_step a.desk (unread_by (j + 1) before.world) a.event (node_at before (j + 1)).lane.body in
     let told_is : offers_told (j + 1) told o ≡ offers_acts d.acts o = offers_told_is (j + 1) told o ∙ (ap (λ (x : List Act). offers_acts x o) a.acts ∙ undriven_offers d.acts o) in
     elim (step_offers a.desk (unread_by (j + 1) before.world) a.event (node_at before (j + 1)).lane.body (scene_at t before j) o (markable a.befalls) h) [
       | offers_so so ↦ subst (λ (b : Body). IsAsOf b (offers_told (j + 1) told o)) (sym a.body) (subst (λ (x : Offering). IsAsOf d.body x) (sym told_is) so)
@@ -276,7 +280,7 @@ acted_kept : (j id : ℕ) (line : ScriptLine) (before after : LineState) (told :
     → IsAmong id (settles_acts (done_by (j + 1) told) []) → tells_hand (j + 1) told ≡ false → Course j line before after told → IsLast board (node_at after (j + 1)).lane.body.kept
 acted_kept j id line before after told o board h taken among none (rests same nothing) = elim (subst (λ (x : List Act). IsAmong id (settles_acts x [])) nothing among) [ ]
 acted_kept j id line before after told o board h taken among none (has_acted a) =
-    let d : Done = machine_step a.desk (unread_by (j + 1) before.world) a.event (node_at before (j + 1)).lane.body in
+    let d : Done = plain_step a.desk (unread_by (j + 1) before.world) a.event (node_at before (j + 1)).lane.body in
     let hands : are_hand d.acts ≡ false = sym (undriven_hand d.acts) ∙ (ap are_hand (sym a.acts) ∙ (sym (hand_told (j + 1) told) ∙ none)) in
     let found : IsAmong id (settles_acts d.acts []) = subst (λ (x : List ℕ). IsAmong id x) (ap (λ (x : List Act). settles_acts x []) a.acts ∙ undriven_settles d.acts []) among in
     let settles : StepSettles id (node_at before (j + 1)).lane.body d = step_settles a.desk (unread_by (j + 1) before.world) a.event (node_at before (j + 1)).lane.body o id h hands found in
@@ -317,7 +321,7 @@ line_keeps_last number j id line before after told o steps no_hand among = by (l
   by : Course j line before after told → (r : Record) × (r.id ≡ id) × (held_in (node_at before (j + 1)).lane.body.intake.phase ≡ Some r) × IsLast r (node_at after (j + 1)).lane.body.kept
   by (rests same nothing) = elim (subst (λ (x : List Act). IsAmong id (settles_acts x [])) nothing among) [ ]
   by (has_acted a) =
-      let d : Done = machine_step a.desk (unread_by (j + 1) before.world) a.event (node_at before (j + 1)).lane.body in
+      let d : Done = plain_step a.desk (unread_by (j + 1) before.world) a.event (node_at before (j + 1)).lane.body in
       let plain : IsNoHand a.event = elim a.befalls [ plainly p ↦ p | by_hand here free ↦ absurd (no_hand here) ] in
       let found : IsAmong id (settles_acts d.acts []) = subst (λ (x : List ℕ). IsAmong id x) (ap (λ (x : List Act). settles_acts x []) a.acts ∙ undriven_settles d.acts []) among in
       let settles : StepSettles id (node_at before (j + 1)).lane.body d =

@@ -48,7 +48,8 @@ use Rattle.node_core.specs.Connect.{if_open, opens, notices, ticks, shuts_down}
 use Rattle.node_core.specs.Boards.{faults, wills}
 use Rattle.node_core.specs.Bridge.{tells_level}
 use Rattle.node_core.specs.Information.{asks_for, forecasts}
-use Rattle.node_core.specs.Event.{Event, Nothing, Connect, Accepted, Second, Words, Notice, Tick, Shutdown, Fault, Will, Level, Insert, Remove, Replace, Mark, Forecast, Query, event_did}
+use Rattle.node_core.specs.Supervising.{Supervision, Supervise, Ask, Answer, supervises}
+use Rattle.node_core.specs.Event.{Event, Nothing, Connect, Accepted, Second, Words, Notice, Tick, Shutdown, Fault, Will, Level, Insert, Remove, Replace, Mark, Forecast, Query, Supervised, event_did}
 use Rattle.node_core.proofs.HalfRows.{IsNoStart, IsPlain}
 use Rattle.line_history.proofs.Offering.{Holds, offers_acts, Quiet, Walks, at_intake_walks, at_outlet_walks, intake_walks, outlet_walks, quiet_both, settling_by, start_behind, start_offers, start_quiet, walks_behind, walks_both, walks_session, walks_still, walks_told}
 
@@ -228,6 +229,12 @@ forecasts_walks desk (Some board) body = walks_told body (forecasts desk (Some b
 asks_walks : (desk : Desk) (barcode : List ℕ) (body : Body) → Walks body (asks_for desk barcode body)
 asks_walks desk barcode body = walks_told body (asks_for desk barcode body).acts (record { offers = λ o. refl; settles = λ ids. refl; hands = refl })
 
+-- what the supervisor asks and says
+supervised_walks : (desk : Desk) (what : Supervision) (body : Body) → Walks body (supervises desk what body)
+supervised_walks desk (Supervise on) body = walks_told body (supervises desk (Supervise on) body).acts (record { offers = λ o. refl; settles = λ ids. refl; hands = refl })
+supervised_walks desk (Ask question) body = walks_told body (supervises desk (Ask question) body).acts (record { offers = λ o. refl; settles = λ ids. refl; hands = refl })
+supervised_walks desk (Answer query order) body = walks_told body (supervises desk (Answer query order) body).acts (record { offers = λ o. refl; settles = λ ids. refl; hands = refl })
+
 -- an event that is no change by hand. A level may be one, where it says that the front board is a failed one
 abbrev pub IsNoHand : Event → Type 0
 IsNoHand (Level line on) = ⊥
@@ -257,3 +264,4 @@ event_walks desk (Replace old new) body plain = absurd plain
 event_walks desk (Mark id quality) body plain = absurd plain
 event_walks desk Forecast body plain = forecasts_walks desk (slice_get body.kept 0) body
 event_walks desk (Query barcode) body plain = asks_walks desk barcode body
+event_walks desk (Supervised what) body plain = supervised_walks desk what body

@@ -29,10 +29,10 @@ use Rattle.node_core.specs.Boards.{if_kept, is_kept, with_instead, with_kept, wi
 use Rattle.node_core.specs.Bridge.{failed_front, fails, sets_level, tells_level}
 use Rattle.node_core.specs.Desk.{Desk}
 use Rattle.node_core.specs.Done.{Done, and_then, stays}
-use Rattle.node_core.specs.Event.{Event, Nothing, Connect, Accepted, Second, Words, Notice, Tick, Shutdown, Fault, Will, Level, Insert, Remove, Replace, Mark, Forecast, Query, event_did}
+use Rattle.node_core.specs.Event.{Event, Nothing, Connect, Accepted, Second, Words, Notice, Tick, Shutdown, Fault, Will, Level, Insert, Remove, Replace, Mark, Forecast, Query, Supervised, event_did}
 use Rattle.node_core.specs.Halves.{given_back, intake_row_did, outlet_row_did}
 use Rattle.node_core.specs.Reads.{all_read, reads, saw}
-use Rattle.node_core.specs.Step.{machine_step}
+use Rattle.node_core.specs.Step.{plain_step}
 use Rattle.node_core.specs.Told.{out_told}
 use Rattle.node_core.specs.declared.act.Act.{Act}
 use Rattle.node_core.specs.declared.act.Act.TheVariants as acts
@@ -297,6 +297,7 @@ event_hand desk (Will side on) body o plain h = by_walk body o _ (event_walks de
 event_hand desk (Level line on) body o plain h = sets_hand desk line on body o h
 event_hand desk Forecast body o plain h = by_walk body o _ (event_walks desk Forecast body tt) h
 event_hand desk (Query barcode) body o plain h = by_walk body o _ (event_walks desk (Query barcode) body tt) h
+event_hand desk (Supervised what) body o plain h = by_walk body o _ (event_walks desk (Supervised what) body tt) h
 
 -- ---- reading leaves what is offered
 
@@ -335,6 +336,7 @@ markable_read desk unread (Will side on) body c plain = tt
 markable_read desk unread (Level line on) body c plain = tt
 markable_read desk unread Forecast body c plain = tt
 markable_read desk unread (Query barcode) body c plain = tt
+markable_read desk unread (Supervised what) body c plain = tt
 markable_read desk unread (Insert id barcode) body c plain = tt
 markable_read desk unread (Remove id) body c plain = tt
 markable_read desk unread (Replace old new) body c plain = tt
@@ -346,7 +348,7 @@ pub data StepOffers (o : Offering) (body : Body) (d : Done) : Type 0 where
   offers_so : AsOffered d.body.outlet.phase d.body.outlet.offered d.body.outlet.touched d.body.kept (offers_acts d.acts o) → StepOffers o body d
   offers_lost : (x : ℕ) → body.outlet.offered ≡ Some x → HasAct (TakesOut x) d.acts → Kept x d.body.kept → StepOffers o body d
 
-pub step_offers : (desk : Desk) (unread : List Seen) (event : Event) (body : Body) (c : Scene) (o : Offering) → IsMarkable event body.outlet.touched → AsOffered body.outlet.phase body.outlet.offered body.outlet.touched body.kept o → StepOffers o body (machine_step desk unread event body)
+pub step_offers : (desk : Desk) (unread : List Seen) (event : Event) (body : Body) (c : Scene) (o : Offering) → IsMarkable event body.outlet.touched → AsOffered body.outlet.phase body.outlet.offered body.outlet.touched body.kept o → StepOffers o body (plain_step desk unread event body)
 step_offers desk unread event body c o plain h =
     let read : Done = all_read desk unread body in
     let met : Done = event_did desk event read.body in
@@ -401,6 +403,7 @@ quiet_event desk (Will side on) body none = event_walks desk (Will side on) body
 quiet_event desk (Level line on) body none = sets_rest desk line on body none
 quiet_event desk Forecast body none = event_walks desk Forecast body tt
 quiet_event desk (Query barcode) body none = event_walks desk (Query barcode) body tt
+quiet_event desk (Supervised what) body none = event_walks desk (Supervised what) body tt
 
 pub record StepSettles (id : ℕ) (body : Body) (d : Done) : Type 0 where
   pub board : Record
@@ -425,8 +428,8 @@ or_two : (a b : Bool) → (a || b) ≡ false → b ≡ false
 or_two false b is = is
 or_two true b is = absurd (let no : true ≡ false = is in cc)
 
-pub step_settles : (desk : Desk) (unread : List Seen) (event : Event) (body : Body) (o : Offering) (id : ℕ) → AsOffered body.outlet.phase body.outlet.offered body.outlet.touched body.kept o → are_hand (machine_step desk unread event body).acts ≡ false
-    → IsAmong id (settles_acts (machine_step desk unread event body).acts []) → StepSettles id body (machine_step desk unread event body)
+pub step_settles : (desk : Desk) (unread : List Seen) (event : Event) (body : Body) (o : Offering) (id : ℕ) → AsOffered body.outlet.phase body.outlet.offered body.outlet.touched body.kept o → are_hand (plain_step desk unread event body).acts ≡ false
+    → IsAmong id (settles_acts (plain_step desk unread event body).acts []) → StepSettles id body (plain_step desk unread event body)
 step_settles desk unread event body o id h none among =
     let read : Done = all_read desk unread body in
     let met : Done = event_did desk event read.body in
@@ -442,7 +445,7 @@ step_settles desk unread event body o id h none among =
     let found = settled_is id both.settles (subst (λ (xs : List ℕ). IsAmong id xs) ids among) in
     record { board = found.0; named = found.1; held = found.2; kept = subst (λ (ks : List Record). IsLast found.0 ks) (sym rest.kept) found.3 }
 
-pub step_hands : (desk : Desk) (unread : List Seen) (event : Event) (body : Body) → IsNoHand event → are_hand (machine_step desk unread event body).acts ≡ false
+pub step_hands : (desk : Desk) (unread : List Seen) (event : Event) (body : Body) → IsNoHand event → are_hand (plain_step desk unread event body).acts ≡ false
 step_hands desk unread event body plain =
     let read : Done = all_read desk unread body in
     let met : Done = event_did desk event read.body in

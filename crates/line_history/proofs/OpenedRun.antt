@@ -23,7 +23,7 @@ use Rattle.handover_in.specs.declared.phase.Phase.TheVariants as inn
 use Rattle.node_core.specs.Done.{Done}
 use Rattle.node_core.specs.Own.{id_of}
 use Rattle.node_core.specs.Sides.{is_open}
-use Rattle.node_core.specs.Step.{machine_step}
+use Rattle.node_core.specs.Step.{plain_step}
 use Rattle.node_core.specs.declared.act.Act.{Act}
 use Rattle.node_core.specs.declared.act.Act.TheVariants as acts
 use Rattle.node_core.specs.declared.act.Deed.{Deed}
@@ -320,14 +320,14 @@ stepped_settles t k s after told st d start (flies_held r one phase stale) some 
     let body : Machine = (node_at s (k + 1)).lane.body in
     let h : Hearing = record { named = Some r.id; since = just_started } in
     let knows : Knows h body.intake = fresh_knows body.intake.phase body.intake r refl phase in
-    let did : Done = machine_step d.desk (unread_by (k + 1) s.world) d.event body in
+    let did : Done = plain_step d.desk (unread_by (k + 1) s.world) d.event body in
     let quiet : list_any is_settle did.acts ≡ false =
     unsaid_settles (stepped_does t k h s after told st knows d).does.orderly (step_still d.desk (unread_by (k + 1) s.world) d.event body (still_event d.event (scene_at t s k) d.theirs stale)) (refl, refl) in
     ap (λ (l : List Act). list_any is_settle l) d.acts ∙ settle_undriven did.acts quiet
 stepped_settles t k s after told st d start (flies_alone x one idle) some =
     let body : Machine = (node_at s (k + 1)).lane.body in
     let knows : Knows none_heard body.intake = idle_knows body.intake idle in
-    let did : Done = machine_step d.desk (unread_by (k + 1) s.world) d.event body in
+    let did : Done = plain_step d.desk (unread_by (k + 1) s.world) d.event body in
     let none : list_any is_start did.acts ≡ false = start_undriven did.acts (sym (ap (λ (l : List Act). list_any is_start l) d.acts) ∙ start) in
     ap (λ (l : List Act). list_any is_settle l) d.acts ∙ settle_undriven did.acts (unnamed_settles (stepped_does t k none_heard s after told st knows d).does.orderly none refl)
 

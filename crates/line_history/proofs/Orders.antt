@@ -40,14 +40,15 @@ use Rattle.node_core.specs.Bridge.{failed_front, fails, tells_level}
 use Rattle.node_core.specs.Connect.{if_open, notices, opens, shuts_down, ticks}
 use Rattle.node_core.specs.Desk.{Desk}
 use Rattle.node_core.specs.Done.{Done, and_then, behind, stays}
-use Rattle.node_core.specs.Event.{Accepted, Connect, Event, Fault, Forecast, Insert, Level, Mark, Nothing, Notice, Query, Remove, Replace, Second, Shutdown, Tick, Will, Words, event_did}
+use Rattle.node_core.specs.Supervising.{Supervision, Supervise, Ask, Answer, supervises}
+use Rattle.node_core.specs.Event.{Accepted, Connect, Event, Fault, Forecast, Insert, Level, Mark, Nothing, Notice, Query, Remove, Replace, Second, Shutdown, Supervised, Tick, Will, Words, event_did}
 use Rattle.node_core.specs.Halves.{OffersFront, at_intake, at_outlet, behind_opening, ended, half_closed, intake_row_did, opening_board, outlet_row_did}
 use Rattle.node_core.specs.Hears.{entry_took, entry_word, exit_took, exit_word, hears, intake_took, outlet_took, passed, rowed, taken}
 use Rattle.node_core.specs.Information.{forecasts}
 use Rattle.node_core.specs.Reads.{all_read, reads, saw}
 use Rattle.node_core.specs.Session.{action_did, actions_did, breaches, maybe_did, session_did}
 use Rattle.node_core.specs.Sides.{is_open, session_at, with_session}
-use Rattle.node_core.specs.Step.{machine_step}
+use Rattle.node_core.specs.Step.{plain_step}
 use Rattle.node_core.specs.Told.{drives, in_told, out_told}
 use Rattle.node_core.specs.Words.{all_heard, word_did}
 use Rattle.node_core.specs.declared.act.Act.{Act}
@@ -467,6 +468,12 @@ forecasts_plain : (desk : Desk) (front : Option Record) → are_plain (forecasts
 forecasts_plain desk None = refl
 forecasts_plain desk (Some board) = refl
 
+-- what the supervisor asks and says
+supervised_orders : {words : List Word} (desk : Desk) (what : Supervision) (body : Body) → Orders false words (supervises desk what body).acts
+supervised_orders desk (Supervise on) body = orders_on refl orders_end
+supervised_orders desk (Ask question) body = orders_on refl orders_end
+supervised_orders desk (Answer query order) body = orders_on refl orders_end
+
 event_orders : (desk : Desk) (event : Event) (body : Body) → OffersFront body → Orders false (exit_words event) (event_did desk event body).acts
 event_orders desk Nothing body front = orders_end
 event_orders desk Connect body front = orders_on refl (plain_orders (opens desk Entry body).acts (session_plain desk Entry (session_row (session_at Entry body) opened) body))
@@ -488,12 +495,13 @@ event_orders desk (Level line on) body front =
     orders_on refl (plain_orders (fails (failed_front desk.bridge line on one) one).acts (fails_plain (failed_front desk.bridge line on one) one))
 event_orders desk Forecast body front = plain_orders (forecasts desk (slice_get body.kept 0)) (forecasts_plain desk (slice_get body.kept 0))
 event_orders desk (Query barcode) body front = orders_on refl orders_end
+event_orders desk (Supervised what) body front = supervised_orders desk what body
 event_orders desk (Insert id barcode) body front = orders_on refl orders_end
 event_orders desk (Remove id) body front = plain_orders (event_did desk (Remove id) body).acts (kept_plain (is_kept id body.kept) _ body (acts.Removes id) refl)
 event_orders desk (Replace old new) body front = plain_orders (event_did desk (Replace old new) body).acts (kept_plain (is_kept old body.kept) _ body (acts.Replaces old new) refl)
 event_orders desk (Mark id quality) body front = plain_orders (event_did desk (Mark id quality) body).acts (kept_plain (is_kept id body.kept) _ body (acts.Marks id quality) refl)
 
-pub step_orders : (desk : Desk) (unread : List Sensed) (event : Event) (body : Body) → OffersFront body → Orders true (exit_words event) (machine_step desk unread event body).acts
+pub step_orders : (desk : Desk) (unread : List Sensed) (event : Event) (body : Body) → OffersFront body → Orders true (exit_words event) (plain_step desk unread event body).acts
 step_orders desk unread event body front =
     let one = all_read desk unread body in
     let two = event_did desk event one.body in

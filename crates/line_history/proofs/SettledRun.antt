@@ -6,7 +6,7 @@ use Rattle.board_record.specs.declared.record.Record.{Record}
 use Rattle.line_script.specs.declared.line.ScriptLine.{ScriptLine}
 use Rattle.line_world.specs.FloorPlan.{machine_at}
 use Rattle.node_core.specs.Done.{Done}
-use Rattle.node_core.specs.Step.{machine_step}
+use Rattle.node_core.specs.Step.{plain_step}
 use Rattle.node_core.specs.declared.act.Act.{Act}
 use Rattle.node_core.specs.declared.act.Act.TheVariants as acts
 use Rattle.node_core.specs.declared.act.Deed.TheVariants as deeds
@@ -15,7 +15,7 @@ use Rattle.line_report.specs.declared.happening.Happening.{Happening}
 use Rattle.line_report.specs.declared.happening.Happening.TheVariants as happenings
 use Rattle.line_step.specs.Lines.{LineSteps}
 use Rattle.line_step.specs.Numbered.{node_at}
-use Rattle.line_step.specs.Runs.{IsRun, Point}
+use Rattle.line_step.specs.Runs.{IsRun, Point, all_told}
 use Rattle.line_step.specs.State.{LineState, no_line}
 use Rattle.line_step.specs.Steps.{unread_by}
 use Rattle.one_standing.specs.Carried.{Trace}
@@ -25,7 +25,7 @@ use Rattle.one_standing.proofs.Carrying.{SaysAlone}
 use Rattle.one_standing.proofs.HandSteps.{good_node}
 use Rattle.one_standing.proofs.LineForms.{ConnectsBear}
 use Rattle.one_standing.proofs.LineRun.{AreStood, Stood, none_stood, run_stood}
-use Rattle.line_history.specs.Settled.{BoardsSettleWhenSaid, all_told, entry_act, entry_acts, is_at_entry}
+use Rattle.line_history.specs.Settled.{BoardsSettleWhenSaid, entry_act, entry_acts, is_at_entry}
 use Rattle.line_history.proofs.Folds.{Hearing, Orderly, ends, goes_on, heard_act, heard_all, none_heard, orderly_both, settles_so}
 use Rattle.line_history.proofs.Halves.{Knows}
 use Rattle.line_history.proofs.Said.{is_said_of, said_then}
@@ -47,6 +47,7 @@ entry_append (act ∷ a) b = ap (λ (x : List Act). cond (is_at_entry act) (act 
 entry_undriven_one : (act : Act) → entry_of (told_of_act act) ≡ entry_of (act ∷ [])
 entry_undriven_one (acts.Drive side on) = refl
 entry_undriven_one (acts.Signals signal on) = refl
+entry_undriven_one (acts.Tells message) = refl
 entry_undriven_one _ = refl
 
 entry_one : (act : Act) (same : Bool) → cond (same && is_at_entry act) (act ∷ []) [] ≡ entry_of (cond same (told_of_act act) [])
@@ -121,7 +122,7 @@ turn_told t j h before after told st k (is_still same none) =
       knows = subst (λ (x : List Act). Knows (heard_all h x) (node_at after (j + 1)).lane.body.intake) (sym nothing) (subst (λ (b : Machine). Knows h b.intake) (sym same) k);
     }
 turn_told t j h before after told st k (has_stepped s) =
-    let d : Done = machine_step s.desk (unread_by (j + 1) before.world) s.event (node_at before (j + 1)).lane.body in
+    let d : Done = plain_step s.desk (unread_by (j + 1) before.world) s.event (node_at before (j + 1)).lane.body in
     let does : Does (IsInAt j before) h (node_at before (j + 1)).lane.body d = (stepped_does t j h before after told st k s).does in
     let all : entry_acts (j + 1) told ≡ entry_of d.acts = entry_is (j + 1) told ∙ ap entry_of s.acts ∙ entry_undriven d.acts in
     record {

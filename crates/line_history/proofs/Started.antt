@@ -1,12 +1,12 @@
 -- What an intake holds was started last, and it is not over: by what a machine owns, act by act.
-use Rattle.std.proofs.Common.{Bool, List, None, Option, Some, [], ap, arith, false, inl, inr, refl, suc, sym, take, true, zero, ℕ, ◌&&◌, ◌++◌, ◌+◌, ◌∙◌, ◌∷◌, ◌≡◌, ◌⊎◌}
+use Rattle.std.proofs.Common.{Bool, List, None, Option, Some, [], ap, arith, false, inl, inr, refl, suc, sym, take, true, zero, ℕ, ◌++◌, ◌+◌, ◌∙◌, ◌∷◌, ◌≡◌, ◌⊎◌}
 use Rattle.std.specs.Prelude.{cond}
 use Rattle.std.specs.List.{list_any}
 use Rattle.line_script.specs.declared.line.ScriptLine.{ScriptLine}
 use Rattle.node_core.specs.Done.{Done}
-use Rattle.node_core.specs.Event.{Accepted, Connect, Event, Fault, Forecast, Insert, Level, Mark, Nothing, Notice, Query, Remove, Replace, Second, Shutdown, Tick, Will, Words}
+use Rattle.node_core.specs.Event.{Accepted, Connect, Event, Fault, Forecast, Insert, Level, Mark, Nothing, Notice, Query, Remove, Replace, Second, Shutdown, Supervised, Tick, Will, Words}
 use Rattle.node_core.specs.Own.{Own, id_of, own_of}
-use Rattle.node_core.specs.Step.{machine_step}
+use Rattle.node_core.specs.Step.{plain_step}
 use Rattle.node_core.specs.declared.act.Act.{Act}
 use Rattle.node_core.specs.declared.act.Act.TheVariants as acts
 use Rattle.node_core.specs.declared.act.Deed.TheVariants as deeds
@@ -18,7 +18,7 @@ use Rattle.line_step.specs.State.{LineState, no_line}
 use Rattle.line_step.specs.Steps.{unread_by}
 use Rattle.one_standing.specs.Carried.{Trace}
 use Rattle.one_standing.proofs.Carrying.{SaysAlone}
-use Rattle.one_standing.proofs.LedgerWalk.{Announces, Did, Hand, IsNewFor, Walk, are_silent, did, hand_inserts, hand_removes, hand_replaces, hand_walks, is_silent, says_last, says_more, says_start, step_did, walk_drops, walk_end, walk_leaves, walk_loses, walk_on, walk_opens, walk_returns, walk_settles}
+use Rattle.one_standing.proofs.LedgerWalk.{Announces, Did, Hand, IsNewFor, Walk, are_silent, did, hand_inserts, hand_removes, hand_replaces, hand_walks, is_silent, says_last, says_more, says_start, step_did, walk_drops, walk_end, walk_leaves, walk_loses, walk_on, walk_opens, walk_returns, walk_settles, and_one, and_two}
 use Rattle.one_standing.proofs.LineForms.{ConnectsBear}
 use Rattle.one_standing.proofs.LineRun.{AreStood, Stood, none_stood, run_stood}
 use Rattle.line_history.specs.Settled.{entry_acts, is_at_entry, is_start, starts}
@@ -56,14 +56,6 @@ silent_open o (acts.Deed (deeds.Starts id)) is = not_so is
 silent_open o (acts.Deed (deeds.Settles id)) is = not_so is
 silent_open o (acts.Deed (deeds.Drops id)) is = not_so is
 silent_open o _ is = refl
-
-and_one : (a b : Bool) → (a && b) ≡ true → a ≡ true
-and_one true b is = refl
-and_one false b is = is
-
-and_two : (a b : Bool) → (a && b) ≡ true → b ≡ true
-and_two true b is = is
-and_two false b is = not_so is
 
 pub silent_all : (o : Option ℕ) (told : List Act) → are_silent told ≡ true → open_all o told ≡ o
 silent_all o [] is = refl
@@ -118,6 +110,7 @@ any_new (Replace old new) = tt
 any_new (Mark id quality) = tt
 any_new Forecast = tt
 any_new (Query barcode) = tt
+any_new (Supervised what) = tt
 
 -- ---- of the entry's acts alone
 
@@ -149,7 +142,7 @@ turn_open t j before after told (is_still same none) =
     ap (λ (x : List Act). open_all (taking_at before (j + 1)) x) (entry_is (j + 1) told ∙ ap entry_of none) ∙ ap (λ (b : Machine). (own_of b).taking) (sym same)
 turn_open t j before after told (has_stepped s) =
     let body : Machine = (node_at before (j + 1)).lane.body in
-    let d : Done = machine_step s.desk (unread_by (j + 1) before.world) s.event body in
+    let d : Done = plain_step s.desk (unread_by (j + 1) before.world) s.event body in
     let does : Did Any (own_of body) d.acts (own_of d.body) = step_did s.desk (unread_by (j + 1) before.world) s.event body (any_new s.event) in
     ap (λ (x : List Act). open_all (taking_at before (j + 1)) x) (entry_is (j + 1) told ∙ ap entry_of s.acts ∙ entry_undriven d.acts)
     ∙ entry_open (taking_at before (j + 1)) d.acts ∙ did_open does ∙ ap (λ (b : Machine). (own_of b).taking) (sym s.body)
@@ -193,6 +186,8 @@ open_by o (acts.Inserts other) told id (inr both) = inr both
 open_by o (acts.Removes other) told id (inr both) = inr both
 open_by o (acts.Replaces was now) told id (inr both) = inr both
 open_by o (acts.Signals signal on) told id (inr both) = inr both
+open_by o (acts.Tells message) told id (inr both) = inr both
+open_by o (acts.Answered query order) told id (inr both) = inr both
 open_by o (acts.Sets setting) told id (inr both) = inr both
 
 open_last : (o : Option ℕ) (told : List Act) (id : ℕ) → open_all o told ≡ Some id → Open o told id

@@ -1,5 +1,5 @@
 -- A whole step of a machine: what befalls it, its announcements, and what of it the report tells of its entry.
-use Rattle.std.proofs.Common.{Bool, List, None, Option, Some, [], ap, false, inl, inr, refl, subst, sym, true, ℕ, ◌&&◌, ◌++◌, ◌||◌, ◌∙◌, ◌∷◌, ◌≡◌, ◌⊎◌}
+use Rattle.std.proofs.Common.{Bool, List, None, Option, Some, [], ap, false, inl, inr, refl, subst, sym, true, ℕ, ◌++◌, ◌||◌, ◌∙◌, ◌∷◌, ◌≡◌, ◌⊎◌}
 use Rattle.std.specs.Prelude.{slice_get}
 use Rattle.std.specs.List.{list_any}
 use Rattle.std.proofs.lemmas.List.Folds.{list_any-append}
@@ -27,12 +27,13 @@ use Rattle.node_core.specs.Bridge.{failed_front, fails, sets_level, tells_level}
 use Rattle.node_core.specs.Connect.{opens, shuts_down, ticks}
 use Rattle.node_core.specs.Desk.{Desk}
 use Rattle.node_core.specs.Done.{Done, and_then, done}
-use Rattle.node_core.specs.Event.{Accepted, Connect, Event, Fault, Forecast, Insert, Level, Mark, Nothing, Notice, Query, Remove, Replace, Second, Shutdown, Tick, Will, Words, event_did}
+use Rattle.node_core.specs.Supervising.{Supervision, Supervise, Ask, Answer, supervises}
+use Rattle.node_core.specs.Event.{Accepted, Connect, Event, Fault, Forecast, Insert, Level, Mark, Nothing, Notice, Query, Remove, Replace, Second, Shutdown, Supervised, Tick, Will, Words, event_did}
 use Rattle.node_core.specs.Halves.{OffersFront, intake_row_did}
 use Rattle.node_core.specs.Information.{asks_for, forecasts}
 use Rattle.node_core.specs.Reads.{all_read}
 use Rattle.node_core.specs.Sides.{is_open, session_at}
-use Rattle.node_core.specs.Step.{machine_step}
+use Rattle.node_core.specs.Step.{plain_step}
 use Rattle.node_core.specs.Told.{in_told}
 use Rattle.node_core.specs.declared.act.Act.{Act}
 use Rattle.node_core.specs.declared.act.Act.TheVariants as acts
@@ -50,6 +51,7 @@ use Rattle.line_history.proofs.Folds.{Hearing, Orderly, are_inner, ends, goes_on
 use Rattle.line_history.proofs.Halves.{Knows, Tells, Works, outlet_works, silent_works, tells_aside, works_aside, works_behind, works_both, works_still}
 use Rattle.line_history.proofs.Hearing.{notices_work, session_works}
 use Rattle.line_history.proofs.Telling.{Makes, all_read_tell, makes_then, words_work}
+use Rattle.one_standing.proofs.LedgerWalk.{and_one, and_two}
 
 -- ---- no board is said to have left
 
@@ -70,14 +72,6 @@ one_inner (acts.Deed (deeds.Starts id)) is = refl
 one_inner (acts.Deed (deeds.Settles id)) is = refl
 one_inner (acts.Deed (deeds.Drops id)) is = refl
 one_inner _ is = refl
-
-and_one : (a b : Bool) → (a && b) ≡ true → a ≡ true
-and_one true b is = refl
-and_one false b is = is
-
-and_two : (a b : Bool) → (a && b) ≡ true → b ≡ true
-and_two true b is = is
-and_two false b is = absurd (let no_way : false ≡ true = is in cc)
 
 either_not : (a b : Bool) → a ≡ false → b ≡ false → (a || b) ≡ false
 either_not false b one two = two
@@ -132,6 +126,12 @@ abbrev pub AreTheirs : Event → Scene → Type 0
 AreTheirs (Words side words) c = AreOldest words (unheard side c)
 AreTheirs _ c = Unit {0}
 
+-- what the supervisor asks and says
+supervised_work : {P : ℕ → Type 0} {h : Hearing} (desk : Desk) (what : Supervision) (body : Machine) → Knows h body.intake → Works P h body (supervises desk what body)
+supervised_work desk (Supervise on) body k = works_aside body (supervises desk (Supervise on) body) k refl refl refl
+supervised_work desk (Ask question) body k = works_aside body (supervises desk (Ask question) body) k refl refl refl
+supervised_work desk (Answer query order) body k = works_aside body (supervises desk (Answer query order) body) k refl refl refl
+
 event_meets : {P : ℕ → Type 0} {h : Hearing} {afar : Afar} {above : List Record} {ga gb : Ghost} (desk : Desk) (event : Event) (body : Machine) (c : Scene) → AreTheirs event c → OffersOf body → Good afar above [] ga gb body c → Knows h body.intake → Makes P body c
     → Meets P h body (event_did desk event body)
 event_meets desk Nothing body c theirs offers g k makes = met_work (works_still body k)
@@ -158,6 +158,7 @@ event_meets desk (Replace old new) body c theirs offers g k makes = hand_meets (
 event_meets desk (Mark id quality) body c theirs offers g k makes = hand_meets (is_kept id body.kept) body _ (acts.Marks id quality) (tells_aside body _ k refl refl) refl k
 event_meets desk Forecast body c theirs offers g k makes = met_work (forecasts_work desk (slice_get body.kept 0) body k)
 event_meets desk (Query barcode) body c theirs offers g k makes = met_work (works_aside body (asks_for desk barcode body) k refl refl refl)
+event_meets desk (Supervised what) body c theirs offers g k makes = met_work (supervised_work desk what body k)
 
 -- ---- the announcements: the last one may be a start
 
@@ -260,11 +261,12 @@ heard_still desk unread (Replace old new) body c theirs = tt
 heard_still desk unread (Mark id quality) body c theirs = tt
 heard_still desk unread Forecast body c theirs = tt
 heard_still desk unread (Query barcode) body c theirs = tt
+heard_still desk unread (Supervised what) body c theirs = tt
 
 -- what the whole step does, and that a board is said to have left in it where the machine reads its events
 pub record StepDoes (P : ℕ → Type 0) (h : Hearing) (desk : Desk) (unread : List Sensed) (event : Event) (body : Machine) : Type 0 where
-  pub does : Does P h body (machine_step desk unread event body)
-  pub leaves : tells_leaving (machine_step desk unread event body).acts ≡ tells_leaving (all_read desk unread body).acts
+  pub does : Does P h body (plain_step desk unread event body)
+  pub leaves : tells_leaving (plain_step desk unread event body).acts ≡ tells_leaving (all_read desk unread body).acts
 
 or_neither : (a b c : Bool) → b ≡ false → c ≡ false → (a || (b || c)) ≡ a
 or_neither true b c one two = refl

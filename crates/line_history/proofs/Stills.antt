@@ -16,7 +16,8 @@ use Rattle.node_core.specs.Hears.{hears}
 use Rattle.node_core.specs.Reads.{all_read}
 use Rattle.node_core.specs.Session.{breaches}
 use Rattle.node_core.specs.Sides.{is_open}
-use Rattle.node_core.specs.Step.{machine_step}
+use Rattle.node_core.specs.Step.{plain_step}
+use Rattle.node_core.specs.Supervising.{watch_of}
 use Rattle.node_core.specs.Words.{all_heard}
 use Rattle.node_core.specs.declared.act.Act.{Act}
 use Rattle.node_core.specs.declared.act.Act.TheVariants as acts
@@ -34,12 +35,13 @@ use Rattle.machine_custody.proofs.Quiet.{AllActs, acts_more, acts_none}
 use Rattle.link_messages.proofs.SayingWords.{closed_behind}
 use Rattle.one_standing.proofs.CarryingSides.{heard_in}
 use Rattle.one_standing.proofs.Counting.{IsOne, hears_one, one_breach, one_heard, step_hears_none}
-use Rattle.one_standing.proofs.CountingQuiet.{IsDeaf, announces_deaf, breaches_deaf, read_deaf}
+use Rattle.one_standing.proofs.CountingQuiet.{IsDeaf, announces_deaf, breaches_deaf, read_deaf, tells_unheard}
 use Rattle.one_standing.proofs.FactsBlame.{Front, front_of}
 use Rattle.line_history.specs.Settled.{is_start}
 use Rattle.line_history.proofs.Folds.{Hearing, Orderly, ends, goes_on, heard_act, settles_not, settles_so, since_message}
 use Rattle.line_history.proofs.Gaps.{is_settle}
 use Rattle.line_history.proofs.Stepping.{AreTheirs}
+use Rattle.one_standing.proofs.LedgerWalk.{and_one, and_two}
 
 -- ---- acts in which neither the end of a transport nor a description is heard at the entry
 
@@ -59,14 +61,6 @@ are_still (act ∷ told) = is_still act && are_still told
 and_both : (a b : Bool) → a ≡ true → b ≡ true → (a && b) ≡ true
 and_both true b one two = two
 and_both false b one two = one
-
-and_one : (a b : Bool) → (a && b) ≡ true → a ≡ true
-and_one true b is = refl
-and_one false b is = is
-
-and_two : (a b : Bool) → (a && b) ≡ true → b ≡ true
-and_two true b is = is
-and_two false b is = absurd (false≢true is)
 
 still_append : (a b : List Act) → are_still a ≡ true → are_still b ≡ true → are_still (a ++ b) ≡ true
 still_append [] b one two = two
@@ -119,12 +113,13 @@ abbrev pub StillEvent : Event → Type 0
 StillEvent (Words Entry words) = AreStillWords words
 StillEvent _ = Unit {0}
 
-pub step_still : (desk : Desk) (unread : List Sensed) (event : Event) (body : Body) → StillEvent event → are_still (machine_step desk unread event body).acts ≡ true
+pub step_still : (desk : Desk) (unread : List Sensed) (event : Event) (body : Body) → StillEvent event → are_still (plain_step desk unread event body).acts ≡ true
 step_still desk unread (Words Entry words) body all =
     let one = all_read desk unread body in
     let two = all_heard desk Entry words one.body in
     still_append one.acts (two.acts ++ (announces desk two.body).acts) (deaf_still (read_deaf desk unread body)) (still_append two.acts (announces desk two.body).acts (words_still desk words one.body all) (deaf_still (announces_deaf desk two.body)))
-step_still desk unread event body all = none_still (machine_step desk unread event body).acts (step_hears_none Entry desk unread event body refl)
+step_still desk unread event body all = none_still (plain_step desk unread event body).acts
+    (sym (tells_unheard Entry desk (watch_of desk body) (plain_step desk unread event body).acts) ∙ step_hears_none Entry desk unread event body refl)
 
 -- ---- old offers alone
 

@@ -1,6 +1,6 @@
 -- A step of a machine that stands in the relation of its links: what settles in it was said, and is what the intake held
 -- before the step.
-use Rattle.std.proofs.Common.{Bool, List, None, Option, Some, [], ap, append-nil, false, refl, subst, sym, true, ℕ, ◌&&◌, ◌++◌, ◌∙◌, ◌∷◌, ◌≡◌}
+use Rattle.std.proofs.Common.{Bool, List, None, Option, Some, [], ap, append-nil, false, refl, subst, sym, true, ℕ, ◌++◌, ◌∙◌, ◌∷◌, ◌≡◌}
 use Rattle.std.specs.Prelude.{is_some, map}
 use Rattle.line_base.specs.declared.states.Role.TheVariants.{Downstream, Upstream}
 use Rattle.line_base.specs.declared.states.SensorEvent.{SensorEvent}
@@ -67,6 +67,7 @@ use Rattle.machine_custody.proofs.Rows.{at_entry_good, at_exit_good, unheard_abo
 use Rattle.line_history.proofs.Folds.{Hearing, are_inner, ends, goes_on, heard_act, is_inner, since_message}
 use Rattle.line_history.proofs.Halves.{Knows, Sure, Tells, Works, intake_tells, keeps_held, out_aside, recalls, tells_aside, tells_behind, tells_both, tells_still, works_both, works_still}
 use Rattle.line_history.proofs.Hearing.{breaches_work, finished_since, described_taken, entry_taken, exit_taken, works_session}
+use Rattle.one_standing.proofs.LedgerWalk.{and_one, and_two}
 
 -- ---- what a board that settles is
 
@@ -236,14 +237,6 @@ met_list (acts.Notices Exit) c is = refl
 met_list (acts.Drive Entry on) c is = refl
 met_list (acts.Drive Exit on) c is = refl
 met_list _ c is = refl
-
-and_one : (a b : Bool) → (a && b) ≡ true → a ≡ true
-and_one true b is = refl
-and_one false b is = is
-
-and_two : (a b : Bool) → (a && b) ≡ true → b ≡ true
-and_two true b is = is
-and_two false b is = absurd (let no_way : false ≡ true = is in cc)
 
 met_lists : (told : List Act) (c : Scene) → are_inner told ≡ true → (all_met told c).boards ≡ c.boards
 met_lists [] c is = refl

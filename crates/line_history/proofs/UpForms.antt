@@ -25,13 +25,16 @@ use Rattle.line_world.specs.declared.moves.Move.TheVariants as moves
 use Rattle.line_world.specs.declared.moves.MoveNo.{MoveNo}
 use Rattle.smema_bridge.specs.Levels.{BridgeLevels}
 use Rattle.line_report.specs.declared.happening.Happening.{Happening}
+use Rattle.node_core.specs.Desk.{Desk}
+use Rattle.node_core.specs.Done.{Done}
 use Rattle.node_core.specs.Event.{Event, event_of, with_new}
 use Rattle.node_core.specs.Event as events
 use Rattle.node_core.specs.Halves.{OffersFront}
 use Rattle.node_core.specs.Node.{NodeState, desk_of}
 use Rattle.node_core.specs.Sides.{is_open}
 use Rattle.node_core.specs.Signals.{signalled}
-use Rattle.node_core.specs.Step.{exit_after}
+use Rattle.node_core.specs.Step.{exit_after, plain_step}
+use Rattle.node_core.specs.Supervising.{watch_of, with_tells}
 use Rattle.node_core.specs.Words.{AreWords}
 use Rattle.node_core.specs.declared.act.Act.{Act}
 use Rattle.node_core.specs.declared.act.Act.TheVariants as acts
@@ -39,8 +42,10 @@ use Rattle.node_core.specs.declared.act.Signal.{Signal}
 use Rattle.node_core.specs.declared.input.Input.{Input}
 use Rattle.node_core.specs.declared.input.Input.TheVariants as inputs
 use Rattle.node_core.specs.declared.lane.Body.{Body}
+use Rattle.node_core.specs.declared.supervising.Watch.{Watch}
 use Rattle.node_core.specs.declared.word.Word.{Word}
 use Rattle.node_core.proofs.Signalling.{signals_pass}
+use Rattle.node_core.proofs.Telling.{tells_pass}
 use Rattle.custody.specs.Bytes.{Flows as FlowsAs, Spoiled, texts_of}
 use Rattle.custody.proofs.Spoils.{puts_a_nul}
 use Rattle.custody.proofs.Texts.{nothing_flows}
@@ -63,8 +68,8 @@ use Rattle.one_standing.specs.Standing.{IsFitLine}
 use Rattle.one_standing.specs.Stands.{Stands}
 use Rattle.one_standing.specs.Waits.{AreWaiting}
 use Rattle.one_standing.proofs.Behind.{fit_machine}
-use Rattle.one_standing.proofs.BlameJoins.{same_exit}
-use Rattle.one_standing.proofs.BlameLines.{more_same}
+use Rattle.one_standing.proofs.BlameJoins.{same_exit, whole_connecting}
+use Rattle.one_standing.proofs.BlameLines.{more_same, met_quiet}
 use Rattle.one_standing.proofs.BlameSteps.{NewBytes, acts_fit, heard_good, is_bytes, new_bytes, others_stay, quiet_fit}
 use Rattle.one_standing.proofs.Carrying.{SaysAlone}
 use Rattle.one_standing.proofs.Counting.{is_wrong_first}
@@ -78,17 +83,18 @@ use Rattle.one_standing.proofs.MirroringPlain.{is_plain_input}
 use Rattle.one_standing.proofs.Plain.{node_next}
 use Rattle.one_standing.proofs.RestMore.{no_link_at}
 use Rattle.one_standing.proofs.SpoilingLine.{spoil_needs}
-use Rattle.one_standing.proofs.WholeLinks.{CanSpoil, can_spoil, steps as whole_steps, whole_arrival, whole_connect, whole_links}
+use Rattle.one_standing.proofs.WholeLinks.{CanSpoil, can_spoil, steps as whole_steps, whole_arrival, whole_links}
 use Rattle.line_history.specs.Settled.{is_start}
 use Rattle.line_history.proofs.LinkUp.{Up, UpOn, acts_up, are_silent, at_set, is_silent, on_cut, on_limit, starts_of, up_any, up_off, up_over, up_spoiled, up_whole}
 use Rattle.line_history.proofs.Orders.{Orders, exit_words, is_plain, orders_end, orders_hears, orders_on, orders_opens, orders_refuses, orders_starts, step_orders}
-use Rattle.line_history.proofs.View.{done_append, done_by, other_acts, own_acts, cut_none, shown_none, standings_none, told_of_act, undriven, undriven_signals, unvouched_none}
+use Rattle.line_history.proofs.View.{done_append, done_by, other_acts, own_acts, cut_none, shown_none, standings_none, told_of_act, undriven, undriven_signals, undriven_step, unvouched_none}
 
 -- ---- what is told of acts
 
 plain_told : {words : List Word} (act : Act) (rest : List Act) → is_plain act ≡ true → Orders true words rest → Orders true words (told_of_act act ++ rest)
 plain_told (acts.Drive side on) rest plain more = more
 plain_told (acts.Signals signal on) rest plain more = more
+plain_told (acts.Tells message) rest plain more = more
 plain_told act rest plain more = orders_on plain more
 
 pub orders_undriven : {words : List Word} {told : List Act} → Orders true words told → Orders true words (undriven told)
@@ -150,6 +156,11 @@ silent_last (act ∷ front) signal on = ap (λ (b : Bool). is_silent act && b) (
 silent_signals : (made : List Act) (bridge : Option BridgeLevels) (body : Body) → are_silent (made ++ signalled bridge body) ≡ are_silent made
 silent_signals made bridge body = signals_pass are_silent silent_last made bridge body
 
+-- nor does what the supervisor is told
+pub silent_tells : (desk : Desk) (watch : Watch) (made : List Act) → are_silent (with_tells desk watch made) ≡ are_silent made
+silent_tells desk watch made =
+    tells_pass are_silent (λ act told plain h. ap (λ (b : Bool). is_silent act && b) h) (λ message told. refl) desk watch made
+
 -- ---- a step of a machine
 
 own_done : (number m : ℕ) (input : Input) (start after : LineState) (told : List Happening) → (steps : MachineSteps number m input start after told) → done_by m told ≡ undriven steps.steps.made
@@ -160,14 +171,23 @@ own_done number m input start after told steps =
 other_done : (k number m : ℕ) (input : Input) (start after : LineState) (told : List Happening) → MachineSteps number m input start after told → k ≢ m → done_by k told ≡ []
 other_done k number m input start after told steps apart = ap (done_by k) steps.told_is ∙ other_acts (is_second input) k m steps.acts (read_by m start.world) apart
 
-acts_orders : (number m : ℕ) (input : Input) (start after : LineState) (told : List Happening) → (steps : MachineSteps number m input start after told) → OffersFront steps.node.lane.body → Orders true (exit_words (event_of steps.node.maker input steps.steps.lane.words)) steps.steps.made
+-- what it did but for what the supervisor is told
+abbrev plain_did : {number m : ℕ} {input : Input} {start after : LineState} {told : List Happening} → MachineSteps number m input start after told → Done
+plain_did {number = number} {m = m} {input = input} {start = start} steps =
+    plain_step (desk_of steps.node (moment_of number)) (unread_by m start.world) (event_of steps.node.maker input steps.steps.lane.words) steps.node.lane.body
+
+own_plain : (number m : ℕ) (input : Input) (start after : LineState) (told : List Happening) → (steps : MachineSteps number m input start after told) → done_by m told ≡ undriven (plain_did steps).acts
+own_plain number m input start after told steps =
+    own_done number m input start after told steps ∙ ap undriven steps.steps.lane.told
+    ∙ undriven_step (desk_of steps.node (moment_of number)) (unread_by m start.world) (event_of steps.node.maker input steps.steps.lane.words) steps.node.lane.body
+
+acts_orders : (number m : ℕ) (input : Input) (start after : LineState) (told : List Happening) → (steps : MachineSteps number m input start after told) → OffersFront steps.node.lane.body → Orders true (exit_words (event_of steps.node.maker input steps.steps.lane.words)) (plain_did steps).acts
 acts_orders number m input start after told steps front =
-    subst (λ (l : List Act). Orders true (exit_words (event_of steps.node.maker input steps.steps.lane.words)) l) (sym steps.steps.lane.told)
-    (step_orders (desk_of steps.node (moment_of number)) (unread_by m start.world) (event_of steps.node.maker input steps.steps.lane.words) steps.node.lane.body front)
+    step_orders (desk_of steps.node (moment_of number)) (unread_by m start.world) (event_of steps.node.maker input steps.steps.lane.words) steps.node.lane.body front
 
 own_orders : (number m : ℕ) (input : Input) (start after : LineState) (told : List Happening) → (steps : MachineSteps number m input start after told) → OffersFront steps.node.lane.body → Orders true (exit_words (event_of steps.node.maker input steps.steps.lane.words)) (done_by m told)
 own_orders number m input start after told steps front =
-    subst (λ (l : List Act). Orders true (exit_words (event_of steps.node.maker input steps.steps.lane.words)) l) (sym (own_done number m input start after told steps)) (orders_undriven (acts_orders number m input start after told steps front))
+    subst (λ (l : List Act). Orders true (exit_words (event_of steps.node.maker input steps.steps.lane.words)) l) (sym (own_plain number m input start after told steps)) (orders_undriven (acts_orders number m input start after told steps front))
 
 new_none : (found : Result ℕ IdsUsedUp) (event : ℕ → Event) → ((id : ℕ) → exit_words (event id) ≡ []) → exit_words (with_new found event) ≡ []
 new_none (Ok id) event all = all id
@@ -214,11 +234,16 @@ silent_at k number m input start after told all steps is =
     let counted : 1 ≤ m = (machine_within m start steps.node steps.there).0 in
     let same : k + 1 ≡ m = omega (arith, counted, is) in
     subst (λ (n : ℕ). (list_any is_start (done_by n told) ≡ true) ⊎ (are_silent steps.acts ≡ true)) (sym same)
-    (subst (λ (l : List Act). (list_any is_start l ≡ true) ⊎ (are_silent steps.acts ≡ true)) (sym (own_done number m input start after told steps)) (behind (silent_or (acts_orders number m input start after told steps (own_front number m input start after told all steps)))))
+    (subst (λ (l : List Act). (list_any is_start l ≡ true) ⊎ (are_silent steps.acts ≡ true)) (sym (own_plain number m input start after told steps)) (behind (silent_or (acts_orders number m input start after told steps (own_front number m input start after told all steps)))))
   where
-    behind : (list_any is_start (undriven steps.steps.made) ≡ true) ⊎ (are_silent steps.steps.made ≡ true) → (list_any is_start (undriven steps.steps.made) ≡ true) ⊎ (are_silent steps.acts ≡ true)
+    desk : Desk
+    desk = desk_of steps.node (moment_of number)
+
+    behind : (list_any is_start (undriven (plain_did steps).acts) ≡ true) ⊎ (are_silent (plain_did steps).acts ≡ true) → (list_any is_start (undriven (plain_did steps).acts) ≡ true) ⊎ (are_silent steps.acts ≡ true)
     behind (inl any) = inl any
-    behind (inr silent) = inr (ap are_silent steps.steps.told ∙ silent_signals steps.steps.made steps.node.bridge steps.next.lane.body ∙ silent)
+    behind (inr silent) =
+        inr (ap are_silent steps.steps.told ∙ silent_signals steps.steps.made steps.node.bridge steps.next.lane.body ∙ ap are_silent steps.steps.lane.told
+        ∙ silent_tells desk (watch_of desk steps.node.lane.body) (plain_did steps).acts ∙ silent)
 
 step_up : {Any : Type 0} {ids : List ℕ} {waiting : List ℕ} → SaysAlone → (k number m : ℕ) (input : Input) (start after : LineState) (told : List Happening) (steps : MachineSteps number m input start after told) → AreFitActs steps.acts
     → (k ≡ m - 1 → Any ⊎ (are_silent steps.acts ≡ true)) → AreWholeLinks start → UpOn Any ids waiting (link_at k start.world) → UpOn Any ids waiting (link_at k after.world)
@@ -531,9 +556,6 @@ join_orders k number m input before between next earlier later told j = subst (�
     by (inr apart) =
         subst (λ (l : List Act). Orders true [] (l ++ done_by k later)) (sym (other_done k number m inputs.Connect (connecting m before) between earlier j.first apart)) (no_orders k number (m - 1) input between next later j.then (not_up input j.quiet) j.second)
 
-whole_connecting : (m : ℕ) (before : LineState) → AreWholeLinks before → AreWholeLinks (connecting m before)
-whole_connecting m before whole = whole_links (m - 1) (after_connect (link_at (m - 1) before.world)) before.world whole (whole_connect (link_at (m - 1) before.world) (whole (m - 1)))
-
 join_up : {ids : List ℕ} {waiting : List ℕ} → SaysAlone → (k number m : ℕ) (input : Input) (t : Trace) (before between next : LineState) (earlier later told : List Happening) → number ≤ 1000000 → Stands t before → (j : Joins number m input before between next earlier later told)
     → UpOn (Starting k told) ids waiting (link_at k (connecting m before).world) → UpOn (Starting k told) ids waiting (link_at k next.world)
 join_up alone k number m input t before between next earlier later told few st j start =
@@ -620,10 +642,6 @@ join_own : SaysAlone → (number m : ℕ) (found : Option ℕ) (t : Trace) (befo
 join_own alone number m None t before between next earlier later told above few st one two is = join_first alone number m t before between next earlier later told above few st (record { quiet = refl; fits = tt; first = one; second = two; told_is = is; all = offers_all t before st; then = above_then number m t before between earlier st one })
 join_own alone number m (Some other) t before between next earlier later told above few st one two is = join_second alone number m other t before between next earlier later told above few st (record { quiet = refl; fits = tt; first = one; second = two; told_is = is; all = offers_all t before st; then = above_then number m t before between earlier st one })
 
-met_quiet : (on : Connected) → is_bytes (met on) ≡ false
-met_quiet connections.Accepted = refl
-met_quiet connections.Second = refl
-
 met_fits : (on : Connected) → IsFitInput (met on)
 met_fits connections.Accepted = tt
 met_fits connections.Second = tt
@@ -679,6 +697,9 @@ does_next alone k number (lines.Go m side) t before next told few fit st waits d
 does_next alone k number (lines.Signal m line on) t before next told few fit st waits does = given_next alone _ k number m (inputs.Level line on) t before next told refl tt few st does
 does_next alone k number (lines.Forecast m) t before next told few fit st waits does = given_next alone _ k number m inputs.Forecast t before next told refl tt few st does
 does_next alone k number (lines.Query m barcode) t before next told few fit st waits does = given_next alone _ k number m (inputs.Query barcode) t before next told refl fit few st does
+does_next alone k number (lines.Supervise m) t before next told few fit st waits does = given_next alone _ k number m (inputs.Supervise true) t before next told refl tt few st does
+does_next alone k number (lines.Ask m question) t before next told few fit st waits does = given_next alone _ k number m (inputs.Ask question) t before next told refl tt few st does
+does_next alone k number (lines.Answer m query order) t before next told few fit st waits does = given_next alone _ k number m (inputs.Answer query order) t before next told refl tt few st does
 does_next alone k number (lines.Connect m) t before next told few fit st waits does = unless_next _ k t before next told _ st does (λ may done. connect_next alone k number m t before next told (same_or_not k (m - 1)) few st done)
 does_next alone k number (lines.Flow m side count) t before next told few fit st waits does = unless_next _ k t before next told _ st does (λ may done. flow_next alone k number m side count t before next told may few st done)
 does_next alone k number (lines.Notice m side) t before next told few fit st waits does = given_next alone _ k number m (inputs.Notice side) t before next told refl tt few st does

@@ -37,15 +37,18 @@ use Rattle.node_core.specs.Node.{NodeState, desk_of, new_node}
 use Rattle.node_core.specs.Own.{own_of}
 use Rattle.node_core.specs.Sides.{is_open}
 use Rattle.node_core.specs.Signals.{signalled}
-use Rattle.node_core.specs.Step.{machine_step}
+use Rattle.node_core.specs.Step.{machine_step, plain_step}
+use Rattle.node_core.specs.Supervising.{watch_of, with_tells}
 use Rattle.node_core.specs.Words.{AreWords}
 use Rattle.node_core.specs.declared.act.Act.{Act}
 use Rattle.node_core.specs.declared.act.Act.TheVariants as acts
 use Rattle.node_core.specs.declared.input.Input.{Input}
 use Rattle.node_core.specs.declared.input.Input.TheVariants as inputs
 use Rattle.node_core.specs.declared.lane.Body.{Body as Machine}
+use Rattle.node_core.specs.declared.supervising.Watch.{Watch}
 use Rattle.node_core.specs.declared.word.Word.{Word}
 use Rattle.node_core.proofs.Signalling.{signals_pass}
+use Rattle.node_core.proofs.Telling.{tells_pass}
 use Rattle.line_report.specs.declared.happening.Happening.{Happening}
 use Rattle.line_report.specs.declared.happening.Happening.TheVariants as happenings
 use Rattle.standings.specs.Told.{told_of}
@@ -77,10 +80,12 @@ use Rattle.line_history.proofs.Stepping.{AreTheirs}
 
 -- ---- the acts of one machine among all that is told
 
--- an act as it is looked at: the switching of a drive is not told, and a bridge's own signals say nothing of boards
+-- an act as it is looked at: the switching of a drive is not told, and a bridge's own signals say nothing of boards, nor
+-- does what the supervisor is told
 abbrev pub told_of_act : Act → List Act
 told_of_act (acts.Drive side on) = []
 told_of_act (acts.Signals signal on) = []
+told_of_act (acts.Tells message) = []
 told_of_act act = act ∷ []
 
 abbrev pub done_act : ℕ → Happening → List Act
@@ -134,6 +139,8 @@ own_act second k (acts.Inserts id) world = own_first k (acts.Inserts id) [] refl
 own_act second k (acts.Removes id) world = own_first k (acts.Removes id) [] refl
 own_act second k (acts.Replaces was now) world = own_first k (acts.Replaces was now) [] refl
 own_act second k (acts.Signals signal on) world = own_first k (acts.Signals signal on) [] refl
+own_act second k (acts.Tells message) world = own_first k (acts.Tells message) [] refl
+own_act second k (acts.Answered query order) world = own_first k (acts.Answered query order) [] refl
 own_act second k (acts.Sets setting) world = own_first k (acts.Sets setting) [] refl
 
 pub own_acts : (second : Bool) (k : ℕ) (told : List Act) (world : WorldParts) → done_by k (acts_did second k told world).told ≡ undriven told
@@ -151,6 +158,15 @@ undriven_append (act ∷ a) b = ap (λ (x : List Act). told_of_act act ++ x) (un
 pub undriven_signals : (made : List Act) (bridge : Option BridgeLevels) (body : Machine) → undriven (made ++ signalled bridge body) ≡ undriven made
 undriven_signals made bridge body =
     signals_pass undriven (λ front signal on. undriven_append front (acts.Signals signal on ∷ []) ∙ append-nil (undriven front)) made bridge body
+
+-- nor is what the supervisor is told
+pub undriven_tells : (desk : Desk) (watch : Watch) (made : List Act) → undriven (with_tells desk watch made) ≡ undriven made
+undriven_tells desk watch made =
+    tells_pass undriven (λ act told plain h. ap (λ (x : List Act). told_of_act act ++ x) h) (λ message told. refl) desk watch made
+
+pub undriven_step : (desk : Desk) (unread : List Sensed) (event : Event) (body : Machine)
+    → undriven (machine_step desk unread event body).acts ≡ undriven (plain_step desk unread event body).acts
+undriven_step desk unread event body = undriven_tells desk (watch_of desk body) (plain_step desk unread event body).acts
 
 -- ---- the acts of another machine
 
@@ -179,6 +195,8 @@ other_act second k machine (acts.Inserts id) world apart = other_first k machine
 other_act second k machine (acts.Removes id) world apart = other_first k machine (acts.Removes id) [] apart refl
 other_act second k machine (acts.Replaces was now) world apart = other_first k machine (acts.Replaces was now) [] apart refl
 other_act second k machine (acts.Signals signal on) world apart = other_first k machine (acts.Signals signal on) [] apart refl
+other_act second k machine (acts.Tells message) world apart = other_first k machine (acts.Tells message) [] apart refl
+other_act second k machine (acts.Answered query order) world apart = other_first k machine (acts.Answered query order) [] apart refl
 other_act second k machine (acts.Sets setting) world apart = other_first k machine (acts.Sets setting) [] apart refl
 
 pub other_acts : (second : Bool) (k machine : ℕ) (told : List Act) (world : WorldParts) → k ≢ machine → done_by k (acts_did second machine told world).told ≡ []
@@ -302,6 +320,9 @@ plain_theirs c maker (inputs.Remove id) words none = tt
 plain_theirs c maker (inputs.Mark id quality) words none = tt
 plain_theirs c maker inputs.Forecast words none = tt
 plain_theirs c maker (inputs.Query barcode) words none = tt
+plain_theirs c maker (inputs.Supervise on) words none = tt
+plain_theirs c maker (inputs.Ask question) words none = tt
+plain_theirs c maker (inputs.Answer query order) words none = tt
 
 -- ---- the turn of a machine
 
@@ -314,8 +335,8 @@ pub record Stepped (j : ℕ) (t : Trace) (before after : LineState) (told : List
   pub desk : Desk
   pub event : Event
   pub theirs : AreTheirs event (scene_at t before j)
-  pub body : (node_at after (j + 1)).lane.body ≡ (machine_step desk (unread_by (j + 1) before.world) event (node_at before (j + 1)).lane.body).body
-  pub acts : done_by (j + 1) told ≡ undriven (machine_step desk (unread_by (j + 1) before.world) event (node_at before (j + 1)).lane.body).acts
+  pub body : (node_at after (j + 1)).lane.body ≡ (plain_step desk (unread_by (j + 1) before.world) event (node_at before (j + 1)).lane.body).body
+  pub acts : done_by (j + 1) told ≡ undriven (plain_step desk (unread_by (j + 1) before.world) event (node_at before (j + 1)).lane.body).acts
   pub unread : (machine_at after.world.floor (j + 1)).unread ≡ []
 
 pub data Turn (j : ℕ) (t : Trace) (before after : LineState) (told : List Happening) : Type 0 where
@@ -333,7 +354,7 @@ own_turn t number j input before start after told steps same theirs =
     let node_is : node_at before (j + 1) ≡ node = sym (ap (λ (s : Stand). s.node) same) ∙ node_there (j + 1) start node steps.there in
     let unread_is : unread_by (j + 1) before.world ≡ unread_by (j + 1) start.world = sym (ap (λ (s : Stand). s.place.unread) same) in
     let next_is : node_at after (j + 1) ≡ steps.next = node_there (j + 1) after steps.next (ap (machine_in (j + 1)) steps.after_is ∙ machine_set_own (j + 1) start node steps.next steps.there) in
-    let D : List Sensed → NodeState → Done = λ us n. machine_step desk us event n.lane.body in
+    let D : List Sensed → NodeState → Done = λ us n. plain_step desk us event n.lane.body in
     let did : D (unread_by (j + 1) start.world) node ≡ D (unread_by (j + 1) before.world) (node_at before (j + 1)) = rw (unread_is, node_is) refl in
     record {
       desk = desk;
@@ -341,7 +362,8 @@ own_turn t number j input before start after told steps same theirs =
       theirs = theirs;
       body = ap (λ (n : NodeState). n.lane.body) next_is ∙ lane.body ∙ ap (λ (d : Done). d.body) did;
       acts = ap (done_by (j + 1)) steps.told_is ∙ own_acts (is_second input) (j + 1) steps.acts (read_by (j + 1) start.world)
-          ∙ ap undriven steps.steps.told ∙ undriven_signals steps.steps.made node.bridge steps.next.lane.body ∙ ap undriven lane.told ∙ ap (λ (d : Done). undriven d.acts) did;
+          ∙ ap undriven steps.steps.told ∙ undriven_signals steps.steps.made node.bridge steps.next.lane.body ∙ ap undriven lane.told
+          ∙ undriven_step desk (unread_by (j + 1) start.world) event node.lane.body ∙ ap (λ (d : Done). undriven d.acts) did;
       unread = ap (λ (s : LineState). (machine_at s.world.floor (j + 1)).unread) steps.after_is ∙ none_unread (is_second input) (j + 1) steps.acts start.world;
     }
 
@@ -503,6 +525,9 @@ does_turn alone t number (lines.Go machine side) before after told st does j = g
 does_turn alone t number (lines.Signal machine line on) before after told st does j = given_turn _ t number j machine (inputs.Level line on) before after told tt does
 does_turn alone t number (lines.Forecast machine) before after told st does j = given_turn _ t number j machine (inputs.Forecast) before after told tt does
 does_turn alone t number (lines.Query machine barcode) before after told st does j = given_turn _ t number j machine (inputs.Query barcode) before after told tt does
+does_turn alone t number (lines.Supervise machine) before after told st does j = given_turn _ t number j machine (inputs.Supervise true) before after told tt does
+does_turn alone t number (lines.Ask machine question) before after told st does j = given_turn _ t number j machine (inputs.Ask question) before after told tt does
+does_turn alone t number (lines.Answer machine query order) before after told st does j = given_turn _ t number j machine (inputs.Answer query order) before after told tt does
 does_turn alone t number (lines.Connect machine) before after told st does j = unless_turn (may_connect machine before) j t before after told (Connects number machine before after told) does (λ can steps. connects_turn t number j machine before after told steps)
 does_turn alone t number (lines.Flow machine side count) before after told st does j =
     unless_turn (may_flow machine side before) j t before after told (Flows number machine side count before after told) does (λ can flows. flow_turn alone t number j machine side count before after told st can (same_or_not (j + 1) machine) flows)
@@ -655,6 +680,9 @@ does_kind number (lines.Go machine side) before after told does = given_kind _ n
 does_kind number (lines.Signal machine line on) before after told does = given_kind _ number machine (inputs.Level line on) before after told does
 does_kind number (lines.Forecast machine) before after told does = given_kind _ number machine (inputs.Forecast) before after told does
 does_kind number (lines.Query machine barcode) before after told does = given_kind _ number machine (inputs.Query barcode) before after told does
+does_kind number (lines.Supervise machine) before after told does = given_kind _ number machine (inputs.Supervise true) before after told does
+does_kind number (lines.Ask machine question) before after told does = given_kind _ number machine (inputs.Ask question) before after told does
+does_kind number (lines.Answer machine query order) before after told does = given_kind _ number machine (inputs.Answer query order) before after told does
 does_kind number (lines.Connect machine) before after told does = unless_kind (may_connect machine before) before after told (Connects number machine before after told) does (connects_kind number machine before after told)
 does_kind number (lines.Flow machine side count) before after told does = unless_kind (may_flow machine side before) before after told (Flows number machine side count before after told) does (flows_kind number machine side count before after told)
 does_kind number (lines.Notice machine side) before after told does = given_kind _ number machine (inputs.Notice side) before after told does

@@ -15,7 +15,7 @@ use Rattle.line_script.specs.declared.line.ScriptLine.{ScriptLine}
 use Rattle.line_report.specs.declared.happening.Happening.{Happening}
 use Rattle.line_report.specs.declared.happening.Happening.TheVariants as happenings
 use Rattle.line_step.specs.Lies.{has_lie}
-use Rattle.line_step.specs.Runs.{IsRun, Point}
+use Rattle.line_step.specs.Runs.{IsRun, Point, all_told}
 use Rattle.line_step.specs.State.{no_line}
 use Rattle.one_standing.specs.Standing.{IsFitLine}
 
@@ -95,11 +95,6 @@ pub record IsSaid (id : ℕ) (told : List Act) : Type 0 where
 -- wherever a machine settles a board, it was said
 abbrev pub SettlesWhenSaid : ℕ → List Happening → Type 0
 SettlesWhenSaid machine told = (earlier later : List Act) (id : ℕ) → entry_acts machine told ≡ earlier ++ settles id ∷ later → IsSaid id earlier
-
--- all that happens in a run, in its order
-abbrev pub all_told : List Point → List Happening
-all_told [] = []
-all_told (point ∷ points) = point.told ++ all_told points
 
 -- THE LAW: it holds of the machine behind each gap over every script, up to the first line that told what was not so, or
 -- let a board come or go unseen

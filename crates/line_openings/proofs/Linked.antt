@@ -52,7 +52,7 @@ use Rattle.node_core.specs.Reads.{all_read, reads, saw}
 use Rattle.node_core.specs.Boards.{faults, if_kept, is_kept, wills, with_kept}
 use Rattle.node_core.specs.Bridge.{failed_front, fails, sets_level, tells_level}
 use Rattle.node_core.specs.Announces.{announces, offer, offer_by, offers_now, readies_now, ready, ready_by, revoke, revoke_by, revokes_now, start_by, starts_now, unready, unready_by, unreadies_now}
-use Rattle.node_core.specs.Event.{Event, Nothing, Connect, Accepted, Second, Words, Notice, Tick, Shutdown, Fault, Will, Level, Insert, Remove, Replace, Mark, Forecast, Query, event_did}
+use Rattle.node_core.specs.Event.{Event, Nothing, Connect, Accepted, Second, Words, Notice, Tick, Shutdown, Fault, Will, Level, Insert, Remove, Replace, Mark, Forecast, Query, Supervised, event_did}
 use Rattle.node_core.specs.Step.{machine_step}
 
 -- the neighbour is ready though a handover is open
@@ -361,6 +361,7 @@ event_linked desk (Replace old new) body h = by_test (is_kept old body.kept) bod
 event_linked desk (Mark id quality) body h = by_test (is_kept id body.kept) body _ _ h
 event_linked desk Forecast body h = h
 event_linked desk (Query barcode) body h = h
+event_linked desk (Supervised what) body h = h
 
 -- ---- the announcements, and the step
 

@@ -1,6 +1,6 @@
 -- A list of acts in which each start that is heard is answered at once: by the opening where board and place are announced
 -- by then, and by a refusal where they are not.
-use Rattle.std.proofs.Common.{◌≡◌, ◌∙◌, ◌++◌, ◌==◌, ◌&&◌, ℕ, Bool, true, false, List, [], ◌∷◌, Option, Some, None, refl, not}
+use Rattle.std.proofs.Common.{◌≡◌, ◌∙◌, ◌++◌, ◌==◌, ◌&&◌, ℕ, Bool, true, false, List, [], ◌∷◌, Option, Some, None, refl, not, sym, subst, if◌then◌else◌}
 use Rattle.std.specs.Prelude.{get_or}
 use Rattle.std.proofs.lemmas.Bool.{and_parts}
 use Rattle.line_base.specs.declared.states.Side.TheVariants.{Exit}
@@ -10,6 +10,10 @@ use Rattle.hermes_horizontal.specs.declared.message.Horizontal.TheVariants as bo
 use Rattle.node_core.specs.declared.act.Act.{Act}
 use Rattle.node_core.specs.declared.act.Act.TheVariants as acts
 use Rattle.node_core.specs.declared.act.Deed.TheVariants as deeds
+use Rattle.node_core.specs.declared.supervising.Watch.{Watch}
+use Rattle.node_core.specs.Desk.{Desk}
+use Rattle.node_core.specs.Supervising.{watch_after, with_tells}
+use Rattle.node_core.proofs.Telling.{beside, just_behind}
 use Rattle.line_openings.proofs.Folds.{offered_act, offered_from, offered_append, ready_act, ready_from, ready_append}
 
 abbrev pub is_start : Horizontal → Bool
@@ -57,6 +61,43 @@ and_both false b one two = one
 pub plain_append : (a b : List Act) → are_plain a ≡ true → are_plain b ≡ true → are_plain (a ++ b) ≡ true
 plain_append [] b one two = two
 plain_append (x ∷ xs) b one two = let both = and_parts (is_plain x) (are_plain xs) one in and_both (is_plain x) (are_plain (xs ++ b)) both.0 (plain_append xs b both.1 two)
+
+-- ---- what the supervisor is told says nothing of the exit
+
+pub tells_offered : (desk : Desk) (watch : Watch) (made : List Act) (o : Option ℕ) → offered_from o (with_tells desk watch made) ≡ offered_from o made
+tells_offered desk watch made =
+    beside (λ told plain. (o : Option ℕ) → offered_from o told ≡ offered_from o plain) (λ o. refl)
+    (λ act told plain h o. h (offered_act o act)) (λ message told plain h o. h o) desk watch made
+
+pub tells_ready : (desk : Desk) (watch : Watch) (made : List Act) (r : Bool) → ready_from r (with_tells desk watch made) ≡ ready_from r made
+tells_ready desk watch made =
+    beside (λ told plain. (r : Bool) → ready_from r told ≡ ready_from r plain) (λ r. refl)
+    (λ act told plain h r. h (ready_act r act)) (λ message told plain h r. h r) desk watch made
+
+none_told : (test : Bool) → ◌≡◌ {A = List Act} (if test then [] else []) []
+none_told true = refl
+none_told false = refl
+
+-- no message comes between a start and its answer
+answered_at_once : (o : Option ℕ) (r supervised : Bool) (first second : Act) (told : List Act) → Orderly o r (first ∷ second ∷ told)
+    → Orderly o r (first ∷ ((if supervised then [] else []) ++ second ∷ ((if supervised then [] else []) ++ told)))
+answered_at_once o r supervised first second told h =
+    subst (λ (none : List Act). Orderly o r (first ∷ (none ++ second ∷ (none ++ told)))) (sym (none_told supervised)) h
+
+pub tells_orderly : {o : Option ℕ} {r : Bool} {made : List Act} (desk : Desk) (watch : Watch) → Orderly o r made → Orderly o r (with_tells desk watch made)
+tells_orderly desk watch ends = ends
+tells_orderly {o = o} {r = r} desk watch (goes_on {act = act} {told = others} plain more) =
+    goes_on plain (just_behind (λ (told : List Act). Orderly (offered_act o act) (ready_act r act) told) (λ message told h. goes_on refl h) desk watch act _
+    (tells_orderly desk (watch_after watch act) more))
+tells_orderly desk watch (is_opened {id = id} {message = message} {told = others} start more) =
+    answered_at_once (Some id) true watch.supervised (acts.Hears Exit message) (acts.Deed (deeds.Opens id)) (with_tells desk watch others)
+    (is_opened start (tells_orderly desk watch more))
+tells_orderly {o = o} desk watch (is_refused {id = id} {message = message} {told = others} start apart more) =
+    answered_at_once o true watch.supervised (acts.Hears Exit message) (acts.Deed (deeds.Refuses id)) (with_tells desk watch others)
+    (is_refused start apart (tells_orderly desk watch more))
+tells_orderly {o = o} {r = r} desk watch (is_broken {text = text} {told = others} place more) =
+    is_broken place (just_behind (λ (told : List Act). Orderly o r told) (λ message told h. goes_on refl h) desk watch (acts.Breaches Exit text) _
+    (tells_orderly desk watch more))
 
 -- ---- acts that say nothing of the exit
 

@@ -45,9 +45,9 @@ use Rattle.line_step.specs.Steps.{MachineSteps, is_second, moment_of, read_by, u
 use Rattle.line_step.specs.Reasons.{May, behind_own, if_there, may_add, may_connect, may_cut, may_do, may_flow, may_give, may_lie, may_spoil, may_unseen}
 use Rattle.line_step.specs.Shown.{ascending, between_shown, ids_marked, kept_shown, shown, shown_from, standing_told, standings_told, taken_below}
 use Rattle.line_step.specs.Lines.{Becomes, Connects, Flows, LineDoes, LineSteps, Moves, Unless, arrived, connecting, cut_in, lied, met, move_told, moved, spoil_told, spoiled, unseen, unvouched_told}
-use Rattle.line_step.specs.Runs.{Point, IsRun}
+use Rattle.line_step.specs.Runs.{Point, IsRun, all_told}
 use Rattle.line_step.proofs.Numbers.{machine_set_other, machine_set_own, machine_within, same_or_not}
-use Rattle.line_openings.specs.Announced.{OpensWhenAnnounced, all_told, exit_acts}
+use Rattle.line_openings.specs.Announced.{OpensWhenAnnounced, exit_acts}
 use Rattle.line_openings.proofs.Folds.{exit_append, offered_append, offered_from, ready_append, ready_from}
 use Rattle.line_openings.proofs.Happenings.{Told, opens_as_announced, told_apart, told_both}
 use Rattle.line_openings.proofs.Orderly.{AreSilent, Orderly, orderly_both, plain_orderly, silent_both, silent_none}
@@ -315,6 +315,9 @@ does_goes number k (lines.Go machine side) o r before after told h does = given 
 does_goes number k (lines.Signal machine line on) o r before after told h does = given _ number k machine (inputs.Level line on) o r before after told tt h does
 does_goes number k (lines.Forecast machine) o r before after told h does = given _ number k machine (inputs.Forecast) o r before after told tt h does
 does_goes number k (lines.Query machine barcode) o r before after told h does = given _ number k machine (inputs.Query barcode) o r before after told tt h does
+does_goes number k (lines.Supervise machine) o r before after told h does = given _ number k machine (inputs.Supervise true) o r before after told tt h does
+does_goes number k (lines.Ask machine question) o r before after told h does = given _ number k machine (inputs.Ask question) o r before after told tt h does
+does_goes number k (lines.Answer machine query order) o r before after told h does = given _ number k machine (inputs.Answer query order) o r before after told tt h does
 does_goes number k (lines.Connect machine) o r before after told h does = unless (may_connect machine before) k o r before after told (Connects number machine before after told) h (connects_goes number k machine o r before after told h) does
 does_goes number k (lines.Flow machine side count) o r before after told h does = unless (may_flow machine side before) k o r before after told (Flows number machine side count before after told) h (flows_goes number k machine side count o r before after told h) does
 does_goes number k (lines.Notice machine side) o r before after told h does = given _ number k machine (inputs.Notice side) o r before after told tt h does

@@ -94,6 +94,8 @@ said_act second k (acts.Inserts id) world = said_first k (acts.Inserts id) [] re
 said_act second k (acts.Removes id) world = said_first k (acts.Removes id) [] refl
 said_act second k (acts.Replaces was now) world = said_first k (acts.Replaces was now) [] refl
 said_act second k (acts.Signals signal on) world = said_first k (acts.Signals signal on) [] refl
+said_act second k (acts.Tells message) world = said_first k (acts.Tells message) [] refl
+said_act second k (acts.Answered query order) world = said_first k (acts.Answered query order) [] refl
 said_act second k (acts.Sets setting) world = said_first k (acts.Sets setting) [] refl
 
 -- ---- the acts of a step of machine k
@@ -155,6 +157,8 @@ other_act second k machine (acts.Inserts id) world apart = other_first k machine
 other_act second k machine (acts.Removes id) world apart = other_first k machine (acts.Removes id) [] apart refl
 other_act second k machine (acts.Replaces was now) world apart = other_first k machine (acts.Replaces was now) [] apart refl
 other_act second k machine (acts.Signals signal on) world apart = other_first k machine (acts.Signals signal on) [] apart refl
+other_act second k machine (acts.Tells message) world apart = other_first k machine (acts.Tells message) [] apart refl
+other_act second k machine (acts.Answered query order) world apart = other_first k machine (acts.Answered query order) [] apart refl
 other_act second k machine (acts.Sets setting) world apart = other_first k machine (acts.Sets setting) [] apart refl
 
 pub other_acts : (second : Bool) (k machine : ℕ) (told : List Act) (world : WorldParts) → k ≢ machine → exit_acts k (acts_did second machine told world).told ≡ []

@@ -1,6 +1,6 @@
 -- What a step of a machine tells: each start that is heard in it is answered as it is announced, and what the outlet has
 -- after it is what the acts say. One lemma for each definition, in the order of the definitions.
-use Rattle.std.proofs.Common.{◌∙◌, ◌≡◌, ℕ, Bool, true, false, List, [], ◌∷◌, Option, Some, None, refl}
+use Rattle.std.proofs.Common.{◌∙◌, ◌≡◌, ℕ, Bool, true, false, List, [], ◌∷◌, Option, Some, None, refl, sym}
 use Rattle.std.specs.List.{AllByRecursion}
 use Rattle.std.specs.Prelude.{slice_get}
 use Rattle.line_base.specs.declared.states.Quality.TheVariants as qualities
@@ -20,7 +20,7 @@ use Rattle.node_core.specs.Desk.{Desk}
 use Rattle.node_core.specs.declared.act.Act.{Act}
 use Rattle.node_core.specs.declared.act.Act.TheVariants as acts
 use Rattle.node_core.specs.declared.lane.Body.{Body}
-use Rattle.node_core.specs.Done.{done, behind, and_then}
+use Rattle.node_core.specs.Done.{Done, done, behind, and_then}
 use Rattle.node_core.specs.Sides.{is_open, session_at}
 use Rattle.node_core.specs.Halves.{OffersFront, ended}
 use Rattle.node_core.specs.Reads.{all_read, reads, saw}
@@ -29,10 +29,11 @@ use Rattle.node_core.specs.Boards.{faults, if_kept, is_kept, wills, with_kept}
 use Rattle.node_core.specs.Bridge.{failed_front, fails, tells_level}
 use Rattle.node_core.specs.Information.{asks_for, forecasts}
 use Rattle.node_core.specs.Announces.{announces, offer, offer_by, offers_now, readies_now, ready, ready_by, revoke, revoke_by, revokes_now, start, start_by, starts_now, unready, unready_by, unreadies_now}
-use Rattle.node_core.specs.Event.{Event, Nothing, Connect, Accepted, Second, Words, Notice, Tick, Shutdown, Fault, Will, Level, Insert, Remove, Replace, Mark, Forecast, Query, event_did}
-use Rattle.node_core.specs.Step.{machine_step}
+use Rattle.node_core.specs.Event.{Event, Nothing, Connect, Accepted, Second, Words, Notice, Tick, Shutdown, Fault, Will, Level, Insert, Remove, Replace, Mark, Forecast, Query, Supervised, event_did}
+use Rattle.node_core.specs.Step.{machine_step, plain_step}
+use Rattle.node_core.specs.Supervising.{Supervision, Supervise, Ask, Answer, supervises, telling, watch_of}
 use Rattle.node_core.proofs.Sound.{read_exit, read_offers}
-use Rattle.line_openings.proofs.Orderly.{AreSilent}
+use Rattle.line_openings.proofs.Orderly.{AreSilent, tells_offered, tells_orderly, tells_ready}
 use Rattle.line_openings.proofs.Halves.{AreEnd, Tells, at_intake_tells, at_outlet_tells, offer_tells, same_outlet, tells_behind, tells_both, tells_silent, tells_still}
 use Rattle.line_openings.proofs.Linked.{Linked, all_read_linked}
 use Rattle.line_openings.proofs.Hearing.{CanHear, IsGood, ended_tells, heard_tell, if_tells, session_tells}
@@ -112,6 +113,12 @@ forecasts_tell desk (Some board) body = tells_silent body (done body (forecasts 
 asks_tell : (desk : Desk) (barcode : List ℕ) (body : Body) → Tells body (asks_for desk barcode body)
 asks_tell desk barcode body = tells_silent body (asks_for desk barcode body) (same_outlet body) (record { plain = refl; offered = λ o. refl; ready = λ r. refl })
 
+-- what the supervisor asks and says
+supervised_tell : (desk : Desk) (what : Supervision) (body : Body) → Tells body (supervises desk what body)
+supervised_tell desk (Supervise on) body = tells_silent body (supervises desk (Supervise on) body) (same_outlet body) (record { plain = refl; offered = λ o. refl; ready = λ r. refl })
+supervised_tell desk (Ask question) body = tells_silent body (supervises desk (Ask question) body) (same_outlet body) (record { plain = refl; offered = λ o. refl; ready = λ r. refl })
+supervised_tell desk (Answer query order) body = tells_silent body (supervises desk (Answer query order) body) (same_outlet body) (record { plain = refl; offered = λ o. refl; ready = λ r. refl })
+
 -- ---- the announcements
 
 revoke_tells : (desk : Desk) (test : Bool) (body : Body) → Tells body (revoke_by desk test body)
@@ -171,6 +178,7 @@ event_tells desk (Replace old new) body good can = where_kept (is_kept old body.
 event_tells desk (Mark id quality) body good can = where_kept (is_kept id body.kept) body _ (acts.Marks id quality) (record { plain = refl; offered = λ o. refl; ready = λ r. refl })
 event_tells desk Forecast body good can = forecasts_tell desk (slice_get body.kept 0) body
 event_tells desk (Query barcode) body good can = asks_tell desk barcode body
+event_tells desk (Supervised what) body good can = supervised_tell desk what body
 
 -- what a machine has between two steps
 pub record HearsWell (body : Body) : Type 0 where
@@ -178,10 +186,21 @@ pub record HearsWell (body : Body) : Type 0 where
   pub linked : Linked body
   pub role : body.exit.session.role ≡ Upstream
 
-pub step_tells : (desk : Desk) (unread : List Seen) (event : Event) (body : Body) → IsGoodEvent event → HearsWell body → Tells body (machine_step desk unread event body)
-step_tells desk unread event body good well =
+plain_tells : (desk : Desk) (unread : List Seen) (event : Event) (body : Body) → IsGoodEvent event → HearsWell body → Tells body (plain_step desk unread event body)
+plain_tells desk unread event body good well =
     let one = all_read desk unread body in
     let two = event_did desk event one.body in
     let can : (side : Side) → CanHear side one.body = λ side. record { front = read_offers desk unread body well.front; linked = all_read_linked desk unread body well.linked; role = read_exit desk unread body ∙ well.role } in
     tells_both body one (λ (b : Body). and_then (event_did desk event b) (announces desk)) (all_read_tell desk unread body)
     (tells_both one.body two (announces desk) (event_tells desk event one.body good can) (announces_tell desk two.body))
+
+-- and with what the supervisor is told of it
+pub telling_tells : (desk : Desk) (body : Body) (did : Done) → Tells body did → Tells body (telling desk body did)
+telling_tells desk body did t = record {
+  orderly = tells_orderly desk (watch_of desk body) t.orderly;
+  offered = t.offered ∙ sym (tells_offered desk (watch_of desk body) did.acts body.outlet.offered);
+  ready = t.ready ∙ sym (tells_ready desk (watch_of desk body) did.acts body.outlet.ready);
+}
+
+pub step_tells : (desk : Desk) (unread : List Seen) (event : Event) (body : Body) → IsGoodEvent event → HearsWell body → Tells body (machine_step desk unread event body)
+step_tells desk unread event body good well = telling_tells desk body (plain_step desk unread event body) (plain_tells desk unread event body good well)

@@ -24,7 +24,7 @@ use Rattle.line_report.specs.declared.happening.Happening.{Happening}
 use Rattle.line_report.specs.declared.happening.Happening.TheVariants as happenings
 use Rattle.line_step.specs.Acts.{is_exit}
 use Rattle.line_step.specs.State.{no_line}
-use Rattle.line_step.specs.Runs.{Point, IsRun}
+use Rattle.line_step.specs.Runs.{Point, IsRun, all_told}
 
 -- ---- the acts of a machine on its exit
 
@@ -173,11 +173,6 @@ pub record OpensAsAnnounced (k : ℕ) (told : List Happening) : Type 0 where
   pub in_place : (earlier later : List Happening) (message : Message) (id : ℕ) → message.body ≡ bodies.StartTransport id → told ≡ earlier ++ hears k message ∷ later → is_ready_by (exit_acts k earlier) ≡ true
   pub no_other : (earlier later : List Happening) (id : ℕ) → told ≡ earlier ++ opens k id ∷ later → IsAsked k id earlier
   pub no_place : (earlier later : List Happening) → told ≡ earlier ++ breaks_at_start k ∷ later → is_ready_by (exit_acts k earlier) ≡ false
-
--- all that happens in a run, in its order
-abbrev pub all_told : List Point → List Happening
-all_told [] = []
-all_told (point ∷ points) = point.told ++ all_told points
 
 -- THE LAW: it holds of each machine over every run, whatever connections are cut, closed or spoiled and whatever is told
 -- of the sensors

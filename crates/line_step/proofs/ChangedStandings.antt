@@ -189,6 +189,12 @@ line_stays id number (lines.Unseen machine side) before after told d = unless_st
 line_stays id number lines.Show before after told d = becomes_stays id before before after _ told refl d
 line_stays id number (lines.Forecast machine) before after told d = unless_stays id _ before after told _ (machine_stays id number machine _ before after told) d
 line_stays id number (lines.Query machine barcode) before after told d = unless_stays id _ before after told _ (machine_stays id number machine _ before after told) d
+line_stays id number (lines.Supervise machine) before after told d =
+    unless_stays id _ before after told _ (machine_stays id number machine _ before after told) d
+line_stays id number (lines.Ask machine question) before after told d =
+    unless_stays id _ before after told _ (machine_stays id number machine _ before after told) d
+line_stays id number (lines.Answer machine query order) before after told d =
+    unless_stays id _ before after told _ (machine_stays id number machine _ before after told) d
 
 -- ---- standings
 

@@ -63,8 +63,21 @@ use Rattle.line_step.specs.Lines.{Becomes, Connects, Flows, LineDoes, LineSteps,
 use Rattle.line_step.specs.Runs.{Point, IsRun}
 use Rattle.node_core.specs.Own.{own_of}
 use Rattle.node_core.specs.Signals.{signalled}
+use Rattle.node_core.specs.Step.{plain_step}
+use Rattle.node_core.specs.declared.supervising.Watch.{Watch}
+use Rattle.node_core.specs.Supervising.{
+  Supervise,
+  Ask,
+  Answer,
+  tells_behind,
+  watch_after,
+  watch_behind,
+  watch_of,
+  with_tells,
+}
 use Rattle.line_step.specs.FloorIds.{AllChange, ChangesBoards, IdsStay, IsFresh, IsNoneOf, KeepsIds, boards_of, handled_by, made_by}
-use Rattle.line_step.proofs.Hands.{AreQuiet, announces-quiet, both_shut-quiet, both_tick-quiet, faults-quiet, heard-quiet, marks-quiet, notices-quiet, opens-quiet, quiet-join, read-quiet, second-quiet, signals-quiet, levels-quiet, forecasts-quiet}
+use Rattle.line_step.proofs.Hands.{AreQuiet, announces-quiet, both_shut-quiet, both_tick-quiet, faults-quiet, heard-quiet, marks-quiet, notices-quiet, opens-quiet, quiet-join, read-quiet, second-quiet, signals-quiet, levels-quiet, forecasts-quiet, hands_with_tells, supervises-quiet, tells_behind-quiet}
+use Rattle.line_step.proofs.WithTells.{tells_append}
 use Rattle.line_step.proofs.Makers.{AreNumbered, IsOld, numbered-at, numbered-last, numbered-set, old-apart, old-last, old-new, old-set}
 use Rattle.line_step.proofs.OnFloor.{Handles, IsPlain, IsStill, LiesThere, SameBoards, acts-still, all-join, as_many_gaps, changes-changes, cut-still, handled-join, handles, lays-gains, lies-there_by, link-floor, made-join, quiet-acts, read-list, same-list, still-join, still-none, takes_off-loses, board-gains, front-loses}
 
@@ -287,6 +300,9 @@ maker-grown (inputs.Replace id) maker = grown_by (nat_le 281474976710655 maker.u
 maker-grown (inputs.Mark id quality) maker = record { machine = refl; used = omega arith }
 maker-grown inputs.Forecast maker = record { machine = refl; used = omega arith }
 maker-grown (inputs.Query barcode) maker = record { machine = refl; used = omega arith }
+maker-grown (inputs.Supervise on) maker = record { machine = refl; used = omega arith }
+maker-grown (inputs.Ask question) maker = record { machine = refl; used = omega arith }
+maker-grown (inputs.Answer query order) maker = record { machine = refl; used = omega arith }
 
 step-follows : (s : LineState) (machine : ℕ) (node next : NodeState) (at : IsAt s machine node) → AreNumbered 1 s.machines → IsGrown node.maker next.maker → Follows s.machines (slice_set s.machines (machine - 1) next)
 step-follows s machine node next at own grown =
@@ -297,8 +313,7 @@ step-follows s machine node next at own grown =
       olds = λ id old. old-set 1 s.machines at.place node next id at.found grown.used old;
     })
 
--- the acts of a step: those of the events that are read, those of the input, and those of the announcements and of a
--- bridge's own signals
+-- acts in three parts: those by hand, and before and behind them such as are not
 record Parts (told hand : List Act) : Type 0 where
   front : List Act
   back : List Act
@@ -313,23 +328,114 @@ abbrev hand_of : (number machine : ℕ) (input : Input) (before after : LineStat
 hand_of number machine input before after told steps =
     (event_did (desk_of steps.node (moment_of number)) (event_of steps.node.maker input steps.steps.lane.words) (body_read number machine input before after told steps)).acts
 
-parts-of : (number machine : ℕ) (input : Input) (before after : LineState) (told : List Happening) (steps : MachineSteps number machine input before after told) → Parts steps.acts (hand_of number machine input before after told steps)
+-- those of a step without what the supervisor is told and without a bridge's own signals: those of
+-- the events that are read, those of the input, and those of the announcements
+abbrev plain_of : (number machine : ℕ) (input : Input) (before after : LineState)
+    (told : List Happening) → MachineSteps number machine input before after told → List Act
+plain_of number machine input before after told steps =
+    (plain_step (desk_of steps.node (moment_of number)) (unread_by machine before.world)
+    (event_of steps.node.maker input steps.steps.lane.words) steps.node.lane.body).acts
+
+parts-of : (number machine : ℕ) (input : Input) (before after : LineState) (told : List Happening)
+    (steps : MachineSteps number machine input before after told)
+    → Parts (plain_of number machine input before after told steps)
+    (hand_of number machine input before after told steps)
 parts-of number machine input before after told steps =
     let desk = desk_of steps.node (moment_of number) in
     let unread = unread_by machine before.world in
     let read = all_read desk unread steps.node.lane.body in
-    let done = event_did desk (event_of steps.node.maker input steps.steps.lane.words) read.body in
-    let said = (announces desk done.body).acts in
-    let own = signalled steps.node.bridge steps.next.lane.body in
+    let did = event_did desk (event_of steps.node.maker input steps.steps.lane.words) read.body in
     record {
       front = read.acts;
-      back = said ++ own;
-      is =
-          steps.steps.told ∙ ap (λ (made : List Act). made ++ own) steps.steps.lane.told
-          ∙ append_assoc read.acts (done.acts ++ said) own ∙ ap (λ (told : List Act). read.acts ++ told) (append_assoc done.acts said own);
+      back = (announces desk did.body).acts;
+      is = refl;
       first = read-quiet desk unread steps.node.lane.body;
-      last = quiet-join said own (announces-quiet desk done.body) (signals-quiet steps.node.bridge steps.next.lane.body);
+      last = announces-quiet desk did.body;
     }
+
+-- with what the supervisor is told
+parts-told : (desk : Desk) (watch : Watch) (plain : List Act) (act : Act) → Parts plain (act ∷ [])
+    → Parts (with_tells desk watch plain) (act ∷ [])
+parts-told desk watch plain act parts =
+    let then_is = watch_behind watch parts.front in
+    let back = with_tells desk (watch_after then_is act) parts.back in
+    record {
+      front = with_tells desk watch parts.front;
+      back = tells_behind desk then_is act ++ back;
+      is =
+          ap (with_tells desk watch) parts.is
+          ∙ tells_append desk watch parts.front (act ∷ parts.back);
+      first = hands_with_tells desk watch parts.front parts.first;
+      last =
+          quiet-join (tells_behind desk then_is act) back (tells_behind-quiet desk then_is act)
+          (hands_with_tells desk (watch_after then_is act) parts.back parts.last);
+    }
+
+-- and with a bridge's own signals behind
+parts-behind : (told hand own : List Act) → Parts told hand → AreQuiet own
+    → Parts (told ++ own) hand
+parts-behind told hand own parts quiet = record {
+  front = parts.front;
+  back = parts.back ++ own;
+  is =
+      ap (λ (made : List Act). made ++ own) parts.is
+      ∙ append_assoc parts.front (hand ++ parts.back) own
+      ∙ ap (λ (rest : List Act). parts.front ++ rest) (append_assoc hand parts.back own);
+  first = parts.first;
+  last = quiet-join parts.back own parts.last quiet;
+}
+
+parts-quiet : (told hand : List Act) → Parts told hand → AreQuiet hand → AreQuiet told
+parts-quiet told hand parts quiet =
+    let P : List Act → Type 0 = λ acts. AreQuiet acts in
+    subst P (sym parts.is)
+    (quiet-join parts.front (hand ++ parts.back) parts.first
+    (quiet-join hand parts.back quiet parts.last))
+
+-- all acts of a step
+acts-are : (number machine : ℕ) (input : Input) (before after : LineState) (told : List Happening)
+    (steps : MachineSteps number machine input before after told)
+    → steps.acts ≡ with_tells (desk_of steps.node (moment_of number))
+    (watch_of (desk_of steps.node (moment_of number)) steps.node.lane.body)
+    (plain_of number machine input before after told steps)
+    ++ signalled steps.node.bridge steps.next.lane.body
+acts-are number machine input before after told steps =
+    let own = signalled steps.node.bridge steps.next.lane.body in
+    steps.steps.told ∙ ap (λ (made : List Act). made ++ own) steps.steps.lane.told
+
+-- none by hand
+acts-quiet : (number machine : ℕ) (input : Input) (before after : LineState)
+    (told : List Happening) (steps : MachineSteps number machine input before after told)
+    → AreQuiet (hand_of number machine input before after told steps) → AreQuiet steps.acts
+acts-quiet number machine input before after told steps quiet =
+    let desk = desk_of steps.node (moment_of number) in
+    let watch = watch_of desk steps.node.lane.body in
+    let plain = plain_of number machine input before after told steps in
+    let own = signalled steps.node.bridge steps.next.lane.body in
+    let parts = parts-of number machine input before after told steps in
+    let P : List Act → Type 0 = λ acts. AreQuiet acts in
+    subst P (sym (acts-are number machine input before after told steps))
+    (quiet-join (with_tells desk watch plain) own
+    (hands_with_tells desk watch plain
+    (parts-quiet plain (hand_of number machine input before after told steps) parts quiet))
+    (signals-quiet steps.node.bridge steps.next.lane.body))
+
+-- one by hand
+acts-one : (number machine : ℕ) (input : Input) (before after : LineState) (told : List Happening)
+    (steps : MachineSteps number machine input before after told) (act : Act)
+    → hand_of number machine input before after told steps ≡ act ∷ [] → Parts steps.acts (act ∷ [])
+acts-one number machine input before after told steps act one =
+    let desk = desk_of steps.node (moment_of number) in
+    let watch = watch_of desk steps.node.lane.body in
+    let plain = plain_of number machine input before after told steps in
+    let own = signalled steps.node.bridge steps.next.lane.body in
+    let P : List Act → Type 0 = λ hand. Parts plain hand in
+    let Q : List Act → Type 0 = λ acts. Parts acts (act ∷ []) in
+    let parts = subst P one (parts-of number machine input before after told steps) in
+    subst Q (sym (acts-are number machine input before after told steps))
+    (parts-behind (with_tells desk watch plain) (act ∷ []) own
+    (parts-told desk watch plain act parts)
+    (signals-quiet steps.node.bridge steps.next.lane.body))
 
 -- the floor before the acts is that of the line with the events read
 record Reaches (s : LineState) (floor : FloorPlan) : Type 0 where
@@ -380,11 +486,6 @@ quiet-goes number machine input before after told steps h quiet =
     finished number machine input before after told steps
     (still-goes before end (acts_did second machine steps.acts world).told h (step-follows before machine steps.node steps.next at h.own grown) (reaches.many ∙ sym (length-set before.machines (machine - 1) steps.next)) reaches.whole reaches.boards (acts-still second machine steps.acts world quiet))
 
-parts-quiet : (told hand : List Act) → Parts told hand → AreQuiet hand → AreQuiet told
-parts-quiet told hand parts quiet =
-    let P : List Act → Type 0 = λ acts. AreQuiet acts in
-    subst P (sym parts.is) (quiet-join parts.front (hand ++ parts.back) parts.first (quiet-join hand parts.back quiet parts.last))
-
 -- an input that is not of the hands that put boards in, take them out or change them
 abbrev IsHandless : Input → Type 0
 IsHandless (inputs.Insert barcode) = ⊥
@@ -410,11 +511,17 @@ event-quiet desk maker (inputs.Replace id) words body handless = absurd handless
 event-quiet desk maker (inputs.Mark id quality) words body handless = marks-quiet (is_kept id body.kept) _ body (acts.Marks id quality) tt
 event-quiet desk maker inputs.Forecast words body handless = forecasts-quiet desk (slice_get body.kept 0)
 event-quiet desk maker (inputs.Query barcode) words body handless = (tt, tt)
+event-quiet desk maker (inputs.Supervise on) words body handless =
+    supervises-quiet desk (Supervise on) body
+event-quiet desk maker (inputs.Ask question) words body handless =
+    supervises-quiet desk (Ask question) body
+event-quiet desk maker (inputs.Answer query order) words body handless =
+    supervises-quiet desk (Answer query order) body
 
 handless-goes : (number machine : ℕ) (input : Input) (before after : LineState) (told : List Happening) → IsHandless input → Holds before → MachineSteps number machine input before after told → Goes before after told
 handless-goes number machine input before after told handless h steps =
     quiet-goes number machine input before after told steps h
-    (parts-quiet steps.acts (hand_of number machine input before after told steps) (parts-of number machine input before after told steps)
+    (acts-quiet number machine input before after told steps
     (event-quiet (desk_of steps.node (moment_of number)) steps.node.maker input steps.steps.lane.words (body_read number machine input before after told steps) handless))
 
 -- ---- one act by hand
@@ -547,7 +654,8 @@ insert-goes (Err why) number machine barcode before after told steps is h =
     let f : Result ℕ IdsUsedUp → List Act = λ answer. (event_did desk (with_new answer (λ id. Insert id barcode)) body).acts in
     let none : hand ≡ [] = ap f is in
     let P : List Act → Type 0 = λ list. AreQuiet list in
-    quiet-goes number machine input before after told steps h (parts-quiet steps.acts hand (parts-of number machine input before after told steps) (subst P (sym none) tt))
+    quiet-goes number machine input before after told steps h
+    (acts-quiet number machine input before after told steps (subst P (sym none) tt))
 insert-goes (Ok id) number machine barcode before after told steps is h =
     let input = inputs.Insert barcode in
     let hand = hand_of number machine input before after told steps in
@@ -555,8 +663,7 @@ insert-goes (Ok id) number machine barcode before after told steps is h =
     let body = body_read number machine input before after told steps in
     let f : Result ℕ IdsUsedUp → List Act = λ answer. (event_did desk (with_new answer (λ id. Insert id barcode)) body).acts in
     let one : hand ≡ acts.Inserts id ∷ [] = ap f is in
-    let P : List Act → Type 0 = λ list. Parts steps.acts list in
-    let parts = subst P one (parts-of number machine input before after told steps) in
+    let parts = acts-one number machine input before after told steps (acts.Inserts id) one in
     let at = at-of before machine steps.node steps.there in
     let nodes = slice_set before.machines (machine - 1) steps.next in
     let grown = grown-of number machine input before after told steps in
@@ -597,15 +704,15 @@ remove-goes false number machine id before after told steps is here h =
     let f : Bool → List Act = λ kept. (if_kept kept (with_kept (without id body.kept) body) (acts.Removes id) body).acts in
     let none : hand ≡ [] = ap f is in
     let P : List Act → Type 0 = λ list. AreQuiet list in
-    quiet-goes number machine input before after told steps h (parts-quiet steps.acts hand (parts-of number machine input before after told steps) (subst P (sym none) tt))
+    quiet-goes number machine input before after told steps h
+    (acts-quiet number machine input before after told steps (subst P (sym none) tt))
 remove-goes true number machine id before after told steps is here h =
     let input = inputs.Remove id in
     let hand = hand_of number machine input before after told steps in
     let body = body_read number machine input before after told steps in
     let f : Bool → List Act = λ kept. (if_kept kept (with_kept (without id body.kept) body) (acts.Removes id) body).acts in
     let one : hand ≡ acts.Removes id ∷ [] = ap f is in
-    let P : List Act → Type 0 = λ list. Parts steps.acts list in
-    let parts = subst P one (parts-of number machine input before after told steps) in
+    let parts = acts-one number machine input before after told steps (acts.Removes id) one in
     let at = at-of before machine steps.node steps.there in
     let nodes = slice_set before.machines (machine - 1) steps.next in
     let follows = step-follows before machine steps.node steps.next at h.own (grown-of number machine input before after told steps) in
@@ -635,7 +742,8 @@ quiet-hand : (number machine : ℕ) (input : Input) (before after : LineState) (
 quiet-hand number machine input before after told steps none h =
     let hand = hand_of number machine input before after told steps in
     let P : List Act → Type 0 = λ list. AreQuiet list in
-    quiet-goes number machine input before after told steps h (parts-quiet steps.acts hand (parts-of number machine input before after told steps) (subst P (sym none) tt))
+    quiet-goes number machine input before after told steps h
+    (acts-quiet number machine input before after told steps (subst P (sym none) tt))
 
 replace-goes : (answer : Result ℕ IdsUsedUp) (kept : Bool) (number machine was : ℕ) (before after : LineState) (told : List Happening) (steps : MachineSteps number machine (inputs.Replace was) before after told) → next_id steps.node.maker ≡ answer → is_kept was (body_read number machine (inputs.Replace was) before after told steps).kept ≡ kept → is_here machine was before.world ≡ true → Holds before → Goes before after told
 replace-goes (Err why) kept number machine was before after told steps is stays here h =
@@ -662,8 +770,8 @@ replace-goes (Ok now) true number machine was before after told steps is stays h
     let g : Bool → List Act = λ kept. (if_kept kept (with_kept (with_instead was (plain_record now desk.name None) body.kept) body) (acts.Replaces was now) body).acts in
     let some : hand_of number machine input before after told steps ≡ (replaces desk was now body).acts = ap f is in
     let one : (replaces desk was now body).acts ≡ acts.Replaces was now ∷ [] = ap g stays in
-    let P : List Act → Type 0 = λ list. Parts steps.acts list in
-    let parts = subst P (some ∙ one) (parts-of number machine input before after told steps) in
+    let act = acts.Replaces was now in
+    let parts = acts-one number machine input before after told steps act (some ∙ one) in
     let at = at-of before machine steps.node steps.there in
     let nodes = slice_set before.machines (machine - 1) steps.next in
     let follows = step-follows before machine steps.node steps.next at h.own (grown-of number machine input before after told steps) in
@@ -908,6 +1016,12 @@ does-goes number (lines.Take gap) s after told h does = becomes-goes s _ after _
 does-goes number lines.Show s after told h does = becomes-goes s s after (shown s) told (stays-goes s s (shown s) h refl refl (shown-still 1 s.machines)) does
 does-goes number (lines.Forecast machine) s after told h does = given-goes _ number machine inputs.Forecast s after told tt h does
 does-goes number (lines.Query machine barcode) s after told h does = given-goes _ number machine (inputs.Query barcode) s after told tt h does
+does-goes number (lines.Supervise machine) s after told h does =
+    given-goes _ number machine (inputs.Supervise true) s after told tt h does
+does-goes number (lines.Ask machine question) s after told h does =
+    given-goes _ number machine (inputs.Ask question) s after told tt h does
+does-goes number (lines.Answer machine query order) s after told h does =
+    given-goes _ number machine (inputs.Answer query order) s after told tt h does
 
 -- EACH LINE STEP
 pub steps-goes : (number : ℕ) (line : ScriptLine) (s after : LineState) (told : List Happening) → Holds s → LineSteps number line s after told → Goes s after told

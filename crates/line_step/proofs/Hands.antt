@@ -1,12 +1,13 @@
 -- Which acts of a machine's step put a board on the floor, take one off or change one: none but that of the input itself.
 use Rattle.std.proofs.Common.{◌++◌, ℕ, Bool, true, false, List, [], ◌∷◌, Option, Some, None}
-use Rattle.std.specs.Prelude.{is_some, slice_get}
+use Rattle.std.specs.Prelude.{is_some, slice_get, if◌then◌else◌}
 use Rattle.std.specs.List.{AllByRecursion}
 use Rattle.line_base.specs.declared.states.Side.{Side}
 use Rattle.line_base.specs.declared.states.Side.TheVariants.{Entry, Exit}
 use Rattle.board_record.specs.declared.record.Record.{Record}
 use Rattle.board_record.specs.declared.sensed.Sensed.{Sensed}
 use Rattle.line_base.specs.declared.states.SensorEvent.{SensorEvent}
+use Rattle.line_base.specs.declared.states.Seen.{Seen}
 use Rattle.hermes_horizontal.specs.declared.message.Message.{Message}
 use Rattle.hermes_horizontal.specs.Parts.{kind_of}
 use Rattle.session_core.specs.declared.actions.Action.{Action}
@@ -55,9 +56,26 @@ use Rattle.node_core.specs.Announces.{revokes_now, revoke_by, revoke, unreadies_
 use Rattle.node_core.specs.Bridge.{failed_front, fails, sets_level, tells_level}
 use Rattle.node_core.specs.Information.{forecasts}
 use Rattle.node_core.specs.Signals.{signalled}
+use Rattle.node_core.specs.declared.act.Deed.{Deed}
+use Rattle.node_core.specs.declared.act.Deed.TheVariants as deeds
+use Rattle.node_core.specs.declared.supervising.Watch.{Watch}
+use Rattle.node_core.specs.Supervising.{
+  Supervision,
+  Supervise,
+  Ask,
+  Answer,
+  saw_taken,
+  supervises,
+  supervision_act,
+  tells_behind,
+  tells_deed,
+  tells_of,
+  with_tells,
+}
 use Rattle.smema_bridge.specs.Levels.{BridgeLevels}
 use Rattle.smema_bridge.specs.declared.line.SegmentLine.{SegmentLine}
 use Rattle.node_core.proofs.Signalling.{signals_all}
+use Rattle.node_core.proofs.Telling.{tells_all}
 
 abbrev pub IsQuiet : Act → Type 0
 IsQuiet (acts.Inserts id) = ⊥
@@ -276,6 +294,50 @@ forecasts-quiet desk (Some board) = (tt, tt)
 
 pub signals-quiet : (bridge : Option BridgeLevels) (body : Body) → AreQuiet (signalled bridge body)
 signals-quiet bridge body = signals_all AreQuiet tt (λ signal on. (tt, tt)) quiet-join bridge body
+
+-- ---- the supervisor
+
+pub hands_with_tells : (desk : Desk) (watch : Watch) (made : List Act) → AreQuiet made
+    → AreQuiet (with_tells desk watch made)
+hands_with_tells desk watch made quiet =
+    tells_all AreQuiet (λ act others all. all.1) (λ act told others all rest. (all.0, rest))
+    (λ message told rest. (tt, rest)) tt desk watch made quiet
+
+test-quiet : (test : Bool) (made : List Act) → AreQuiet made → AreQuiet (if test then made else [])
+test-quiet true made quiet = quiet
+test-quiet false made quiet = tt
+
+deed_tells-quiet : (desk : Desk) (seen : Option Seen) (deed : Deed)
+    → AreQuiet (tells_deed desk seen deed)
+deed_tells-quiet desk seen (deeds.Settles id) = (tt, tt)
+deed_tells-quiet desk seen (deeds.Leaves id) = (tt, tt)
+deed_tells-quiet desk seen (deeds.Loses id) = (tt, tt)
+deed_tells-quiet desk seen (deeds.Drops id) = test-quiet (saw_taken seen) _ (tt, tt)
+deed_tells-quiet desk seen _ = tt
+
+act_tells-quiet : (desk : Desk) (seen : Option Seen) (act : Act)
+    → AreQuiet (tells_of desk seen act)
+act_tells-quiet desk seen (acts.Inserts id) = (tt, tt)
+act_tells-quiet desk seen (acts.Removes id) = (tt, tt)
+act_tells-quiet desk seen (acts.Replaces was now) = (tt, (tt, tt))
+act_tells-quiet desk seen (acts.Deed deed) = deed_tells-quiet desk seen deed
+act_tells-quiet desk seen _ = tt
+
+-- what the supervisor is told behind any act
+pub tells_behind-quiet : (desk : Desk) (watch : Watch) (act : Act)
+    → AreQuiet (tells_behind desk watch act)
+tells_behind-quiet desk watch act =
+    test-quiet watch.supervised (tells_of desk watch.seen act)
+    (act_tells-quiet desk watch.seen act)
+
+pub supervision-quiet : (desk : Desk) (what : Supervision) → IsQuiet (supervision_act desk what)
+supervision-quiet desk (Supervise on) = tt
+supervision-quiet desk (Ask question) = tt
+supervision-quiet desk (Answer query order) = tt
+
+pub supervises-quiet : (desk : Desk) (what : Supervision) (body : Body)
+    → AreQuiet (supervises desk what body).acts
+supervises-quiet desk what body = (supervision-quiet desk what, tt)
 
 -- ---- the events that are read, and the announcements
 

@@ -309,6 +309,15 @@ line_does number (lines.Unseen machine side) before next told is = unless _ befo
 line_does number lines.Show before next told is = made before before next _ told is (does before before (keeps_still before))
 line_does number (lines.Forecast machine) before next told is = unless _ before next told _ is (λ may done. steps number machine inputs.Forecast before next told (λ at opened. refl) done)
 line_does number (lines.Query machine barcode) before next told is = unless _ before next told _ is (λ may done. steps number machine (inputs.Query barcode) before next told (λ at opened. refl) done)
+line_does number (lines.Supervise machine) before next told is =
+    unless _ before next told _ is (λ may done.
+    steps number machine (inputs.Supervise true) before next told (λ at opened. refl) done)
+line_does number (lines.Ask machine question) before next told is =
+    unless _ before next told _ is (λ may done.
+    steps number machine (inputs.Ask question) before next told (λ at opened. refl) done)
+line_does number (lines.Answer machine query order) before next told is =
+    unless _ before next told _ is (λ may done.
+    steps number machine (inputs.Answer query order) before next told (λ at opened. refl) done)
 
 pub lines_stay : (number : ℕ) (line : ScriptLine) (before next : LineState) (told : List Happening) → LineDoes number line before next told → next.lines ≡ before.lines
 lines_stay number line before next told is = (line_does number line before next told is).lines

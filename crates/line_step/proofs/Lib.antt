@@ -1,5 +1,7 @@
 pub mod Changing
 pub mod Nearby
+pub mod WithTells
+pub mod Answering
 pub mod Quiet
 pub mod Opening
 pub mod Numbers

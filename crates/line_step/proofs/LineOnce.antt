@@ -31,6 +31,8 @@ use Rattle.node_core.specs.Own.{own_of}
 use Rattle.node_core.specs.Places.{has_place}
 use Rattle.node_core.specs.Sides.{end_at}
 use Rattle.smema_bridge.specs.Levels.{BridgeLevels}
+use Rattle.supervisory_core.specs.declared.order.Order.{Order}
+use Rattle.supervisory_core.specs.Orders.{answer_of, answer_to, is_full}
 use Rattle.standings.specs.Marks.{Owned, marks_of}
 use Rattle.standings.specs.Told.{told_of}
 use Rattle.line_report.specs.declared.happening.Happening.{Happening}
@@ -42,7 +44,7 @@ use Rattle.line_step.specs.State.{LineState, machine_in, one_more, owned, owned_
 use Rattle.line_step.specs.Acts.{acts_did}
 use Rattle.line_step.specs.Steps.{MachineSteps, is_second, moment_of, read_by, unread_by}
 use Rattle.line_step.specs.Together.{is_linked}
-use Rattle.line_step.specs.Reasons.{May, behind_own, has_neighbour, if_there, is_dry_at, is_here, link_stands, may_add, may_connect, may_cut, may_do, may_flow, may_give, may_lie, may_notice, may_remove, may_replace, may_sense, may_spoil, may_unseen, is_bare, no_if}
+use Rattle.line_step.specs.Reasons.{May, behind_own, has_neighbour, if_there, is_dry_at, is_here, link_stands, may_add, may_answer, may_connect, may_cut, may_do, may_flow, may_give, may_lie, may_notice, may_remove, may_replace, may_sense, may_spoil, may_unseen, is_bare, no_if, with_word, word_kept}
 use Rattle.line_step.specs.Shown.{ascending, between_shown, ids_owned, kept_shown, shown, shown_from, standing_told, standings_told, taken_below}
 use Rattle.line_step.specs.Lines.{Becomes, Connects, Flows, LineDoes, LineSteps, Moves, Unless, arrived, connecting, cut_in, lied, met, move_told, moved, spoiled, unseen}
 use Rattle.line_step.specs.Runs.{Point, IsRun, state_behind, told_text}
@@ -69,7 +71,7 @@ pub record DoesOnce (s t : LineState) (told other : List Happening) : Type 0 whe
   pub same : other ≡ told
 
 alike-self : (a : NodeState) → AreAlike a a
-alike-self a = record { spent = refl; name = refl; number = refl; capacity = refl; maker = refl; bridge = refl; forecasts = refl; body = refl; entry = λ opened. refl; exit = λ opened. refl }
+alike-self a = record { spent = refl; name = refl; number = refl; capacity = refl; maker = refl; bridge = refl; forecasts = refl; supervised = refl; orders = refl; body = refl; entry = λ opened. refl; exit = λ opened. refl }
 
 length-alike : (xs ys : List NodeState) → AreAllAlike xs ys → length ys ≡ length xs
 length-alike [] [] all = refl
@@ -171,6 +173,20 @@ may-alike (inputs.Replace id) a b alike = may-replace id a b alike
 may-alike (inputs.Mark id quality) a b alike = ap (node.may_mark id) alike.body
 may-alike inputs.Forecast a b alike = ap node.may_forecast alike.body
 may-alike (inputs.Query barcode) a b alike = ap node.may_query alike.body
+may-alike (inputs.Supervise on) a b alike =
+    ap (λ (supervised : Bool). node.no_if (node.same_bool supervised on) no.Same node.may_do)
+    alike.supervised
+may-alike (inputs.Ask question) a b alike =
+    let f : Bool → List Order → Result (Unit {0}) No = λ supervised orders.
+    node.no_if (not supervised) no.NotSupervised
+    (node.no_if (is_full orders) no.QueriesFull node.may_do) in
+    ap (λ (supervised : Bool). f supervised b.orders) alike.supervised
+    ∙ ap (f a.supervised) alike.orders
+may-alike (inputs.Answer query order) a b alike =
+    let f : Bool → List Order → Result (Unit {0}) No = λ supervised orders.
+    node.no_if (not supervised) no.NotSupervised (node.no_answer (answer_of orders query)) in
+    ap (λ (supervised : Bool). f supervised b.orders) alike.supervised
+    ∙ ap (f a.supervised) alike.orders
 
 there-alike : (x y : Option NodeState) (f g : NodeState → May) → FoundAlike x y → ((a b : NodeState) → AreAlike a b → g b ≡ f a) → if_there y g ≡ if_there x f
 there-alike None None f g found same = refl
@@ -182,6 +198,25 @@ give-alike : (machine : ℕ) (input : Input) (s : LineState) (nodes : List NodeS
 give-alike machine input s nodes all =
     there-alike (machine_in machine s) (machine_in machine (like s nodes)) _ _ (found-alike machine s nodes all)
     (λ a b alike. ap (λ own. behind_own own may_do) (may-alike input a b alike))
+
+-- the reason against an answer, with the word that answers its question
+worded-alike : (own : Result (Unit {0}) No) (a b : NodeState) → AreAlike a b
+    → with_word b own ≡ with_word a own
+worded-alike (Ok _) a b alike = refl
+worded-alike (Err (no.Answered query)) a b alike =
+    ap (λ (orders : List Order). Err (reasons.Answered (word_kept (answer_to orders query))))
+    alike.orders
+worded-alike (Err _) a b alike = refl
+
+answer-alike : (machine query : ℕ) (order : List ℕ) (s : LineState) (nodes : List NodeState)
+    → AreAllAlike s.machines nodes
+    → may_answer machine query order (like s nodes) ≡ may_answer machine query order s
+answer-alike machine query order s nodes all =
+    there-alike (machine_in machine s) (machine_in machine (like s nodes)) _ _
+    (found-alike machine s nodes all)
+    (λ a b alike. (
+    let input = inputs.Answer query order in
+    ap (with_word b) (may-alike input a b alike) ∙ worded-alike (node.may_of a input) a b alike))
 
 remove-alike : (machine id : ℕ) (s : LineState) (nodes : List NodeState) → AreAllAlike s.machines nodes → may_remove machine id (like s nodes) ≡ may_remove machine id s
 remove-alike machine id s nodes all =
@@ -383,6 +418,16 @@ does-once law number (lines.Take gap) s after nodes after' told other all one tw
 does-once law number lines.Show s after nodes after' told other all one two = becomes-once s (like s nodes) after after' (shown s) (shown (like s nodes)) told other (stays-alike s nodes all) (shown-alike 1 s.machines nodes all) one two
 does-once law number (lines.Forecast machine) s after nodes after' told other all one two = given-once number machine inputs.Forecast s after nodes after' told other _ _ tt all (give-alike machine inputs.Forecast s nodes all) one two
 does-once law number (lines.Query machine barcode) s after nodes after' told other all one two = given-once number machine (inputs.Query barcode) s after nodes after' told other _ _ tt all (give-alike machine (inputs.Query barcode) s nodes all) one two
+does-once law number (lines.Supervise machine) s after nodes after' told other all one two =
+    given-once number machine (inputs.Supervise true) s after nodes after' told other _ _ tt all
+    (give-alike machine (inputs.Supervise true) s nodes all) one two
+does-once law number (lines.Ask machine question) s after nodes after' told other all one two =
+    given-once number machine (inputs.Ask question) s after nodes after' told other _ _ tt all
+    (give-alike machine (inputs.Ask question) s nodes all) one two
+does-once law number (lines.Answer machine query order) s after nodes after' told other all one two =
+    given-once number machine (inputs.Answer query order) s after nodes after' told other _ _ tt
+    all
+    (answer-alike machine query order s nodes all) one two
 
 -- the standings
 standings-once : (before before' next next' : LineState) → owned before' ≡ owned before → owned next' ≡ owned next → standings_told before' next' ≡ standings_told before next

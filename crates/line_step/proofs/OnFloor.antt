@@ -100,6 +100,9 @@ quiet-act second machine (acts.Inserts id) world quiet = absurd quiet
 quiet-act second machine (acts.Removes id) world quiet = absurd quiet
 quiet-act second machine (acts.Replaces was now) world quiet = absurd quiet
 quiet-act second machine (acts.Sets setting) world quiet = same-still world.floor world.floor refl
+quiet-act second machine (acts.Tells message) world quiet = same-still world.floor world.floor refl
+quiet-act second machine (acts.Answered query order) world quiet =
+    same-still world.floor world.floor refl
 quiet-act second machine (acts.Signals signal on) world quiet = same-still world.floor world.floor refl
 
 pub quiet-acts : (second : Bool) (machine : ℕ) (told : List Act) (world : WorldParts) → AreQuiet told → SameBoards world.floor (acts_did second machine told world).world.floor
@@ -160,6 +163,10 @@ act-still machine (acts.Deed deed) quiet = record { change = λ boards. (boards,
 act-still machine (acts.Drive side on) quiet = record { change = λ boards. (boards, refl, refl); made = refl; handled = refl }
 act-still machine (acts.Marks id quality) quiet = record { change = λ boards. (boards, refl, refl); made = refl; handled = refl }
 act-still machine (acts.Sets setting) quiet = record { change = λ boards. (boards, refl, refl); made = refl; handled = refl }
+act-still machine (acts.Tells message) quiet =
+    record { change = λ boards. (boards, refl, refl); made = refl; handled = refl }
+act-still machine (acts.Answered query order) quiet =
+    record { change = λ boards. (boards, refl, refl); made = refl; handled = refl }
 act-still machine (acts.Signals signal on) quiet = record { change = λ boards. (boards, refl, refl); made = refl; handled = refl }
 
 sent-still : (answers : Bool) (machine : ℕ) (side : Side) (message : Message) (world : WorldParts) → IsStill (sent_by answers machine side message world).told
@@ -185,6 +192,10 @@ told-still second machine acts.Connects world quiet = act-still machine acts.Con
 told-still second machine (acts.Deed deed) world quiet = act-still machine (acts.Deed deed) tt
 told-still second machine (acts.Marks id quality) world quiet = act-still machine (acts.Marks id quality) tt
 told-still second machine (acts.Sets setting) world quiet = act-still machine (acts.Sets setting) tt
+told-still second machine (acts.Tells message) world quiet =
+    act-still machine (acts.Tells message) tt
+told-still second machine (acts.Answered query order) world quiet =
+    act-still machine (acts.Answered query order) tt
 told-still second machine (acts.Signals signal on) world quiet = act-still machine (acts.Signals signal on) tt
 
 pub acts-still : (second : Bool) (machine : ℕ) (told : List Act) (world : WorldParts) → AreQuiet told → IsStill (acts_did second machine told world).told

@@ -24,6 +24,7 @@ use Rattle.node_core.specs.Step.{Brings, Steps, machine_step, entry_after, exit_
 use Rattle.node_core.specs.Words.{AreAll, AreFirst, Means, all_heard, all_more, all_none, first_more, first_none, first_too_long, word_did, too_long}
 use Rattle.node_core.specs.Signals.{signalled, levels_after}
 use Rattle.node_core.specs.Forecasts.{forecasts_after}
+use Rattle.node_core.specs.Supervising.{orders_after, supervised_after, telling}
 use Rattle.smema_bridge.specs.Levels.{BridgeLevels}
 use Rattle.hermes_stream.specs.Frames.{frames_of}
 use Rattle.line_step.specs.Opened.{open_after, open_act, closed_at, opened_by}
@@ -124,6 +125,8 @@ pub record AreAlike (a b : NodeState) : Type 0 where
   pub maker : b.maker ≡ a.maker
   pub bridge : b.bridge ≡ a.bridge
   pub forecasts : b.forecasts ≡ a.forecasts
+  pub supervised : b.supervised ≡ a.supervised
+  pub orders : b.orders ≡ a.orders
   pub body : b.lane.body ≡ a.lane.body
   pub entry : is_open Entry a.lane.body ≡ true → b.lane.entry_bytes ≡ a.lane.entry_bytes
   pub exit : is_open Exit a.lane.body ≡ true → b.lane.exit_bytes ≡ a.lane.exit_bytes
@@ -150,6 +153,8 @@ closed-act side (acts.Inserts id) = refl
 closed-act side (acts.Removes id) = refl
 closed-act side (acts.Replaces was now) = refl
 closed-act side (acts.Sets setting) = refl
+closed-act side (acts.Tells message) = refl
+closed-act side (acts.Answered query order) = refl
 closed-act side (acts.Signals signal on) = refl
 
 closed-stays : (side : Side) (told : List Act) → open_after side false told ≡ false
@@ -172,7 +177,7 @@ pub record StepsOnce (a b : NodeState) (told other : List Act) : Type 0 where
   pub same : other ≡ told
 
 pub desk-same : (a b : NodeState) (moment : ℤ) → AreAlike a b → desk_of b moment ≡ desk_of a moment
-desk-same a b moment alike = rw (alike.name, alike.number, alike.capacity, alike.bridge) refl
+desk-same a b moment alike = rw (alike.name, alike.number, alike.capacity, alike.bridge, alike.supervised, alike.orders) refl
 
 -- an input that is no bytes
 abbrev pub IsDry : Input → Type 0
@@ -197,6 +202,9 @@ event-dry maker (inputs.Replace id) one other dry = refl
 event-dry maker (inputs.Mark id quality) one other dry = refl
 event-dry maker inputs.Forecast one other dry = refl
 event-dry maker (inputs.Query barcode) one other dry = refl
+event-dry maker (inputs.Supervise on) one other dry = refl
+event-dry maker (inputs.Ask question) one other dry = refl
+event-dry maker (inputs.Answer query order) one other dry = refl
 
 brings-dry : (input : Input) (old new : Lane) (words : List Word) → IsDry input → Brings input old new words → (new.entry_bytes ≡ entry_after input old.entry_bytes) × (new.exit_bytes ≡ exit_after input old.exit_bytes)
 brings-dry inputs.Nothing old new words dry brings = brings
@@ -216,6 +224,9 @@ brings-dry (inputs.Replace id) old new words dry brings = brings
 brings-dry (inputs.Mark id quality) old new words dry brings = brings
 brings-dry inputs.Forecast old new words dry brings = brings
 brings-dry (inputs.Query barcode) old new words dry brings = brings
+brings-dry (inputs.Supervise on) old new words dry brings = brings
+brings-dry (inputs.Ask question) old new words dry brings = brings
+brings-dry (inputs.Answer query order) old new words dry brings = brings
 
 entry-same : (input : Input) (was : Bool) (x y : List ℕ) → (opened_by input Entry was ≡ was → y ≡ x) → entry_after input y ≡ entry_after input x
 entry-same inputs.Nothing was x y kept = kept refl
@@ -235,6 +246,9 @@ entry-same (inputs.Replace id) was x y kept = kept refl
 entry-same (inputs.Mark id quality) was x y kept = kept refl
 entry-same inputs.Forecast was x y kept = kept refl
 entry-same (inputs.Query barcode) was x y kept = kept refl
+entry-same (inputs.Supervise on) was x y kept = kept refl
+entry-same (inputs.Ask question) was x y kept = kept refl
+entry-same (inputs.Answer query order) was x y kept = kept refl
 
 exit-same : (input : Input) (was : Bool) (x y : List ℕ) → (opened_by input Exit was ≡ was → y ≡ x) → exit_after input y ≡ exit_after input x
 exit-same inputs.Nothing was x y kept = kept refl
@@ -254,6 +268,9 @@ exit-same (inputs.Replace id) was x y kept = kept refl
 exit-same (inputs.Mark id quality) was x y kept = kept refl
 exit-same inputs.Forecast was x y kept = kept refl
 exit-same (inputs.Query barcode) was x y kept = kept refl
+exit-same (inputs.Supervise on) was x y kept = kept refl
+exit-same (inputs.Ask question) was x y kept = kept refl
+exit-same (inputs.Answer query order) was x y kept = kept refl
 
 -- what a step leaves behind its lane, where the lanes end alike
 record EndsOnce (a' b' : NodeState) (told other : List Act) : Type 0 where
@@ -306,6 +323,9 @@ steps-dry a b a' b' unread input moment told other alike dry one two fine good =
         maker = two.lane.made ∙ ap (maker_after input) alike.maker ∙ sym one.lane.made;
         bridge = ends.bridge;
         forecasts = ends.forecasts;
+        supervised =
+            two.supervised ∙ ap (supervised_after input) alike.supervised ∙ sym one.supervised;
+        orders = two.orders ∙ ap (orders_after input) alike.orders ∙ sym one.orders;
         body = body;
         entry = λ opened. yours.0 ∙ entry-same input (is_open Entry a.lane.body) a.lane.entry_bytes b.lane.entry_bytes (λ stays_so. alike.entry (was-open a a' unread input moment told Entry one stays_so opened)) ∙ sym mine.0;
         exit = λ opened. yours.1 ∙ exit-same input (is_open Exit a.lane.body) a.lane.exit_bytes b.lane.exit_bytes (λ stays_so. alike.exit (was-open a a' unread input moment told Exit one stays_so opened)) ∙ sym mine.1;
@@ -355,7 +375,8 @@ hears-once law side a b a' b' unread moment told other one two mine yours left r
     let heard = all_heard desk side one read.body in
     let same : machine_step (desk_of b moment) unread (Words side two) b.lane.body ≡ machine_step desk unread (Words side two) a.lane.body =
     ap (λ d. machine_step d unread (Words side two) b.lane.body) (desk-same a b moment alike) ∙ ap (machine_step desk unread (Words side two)) alike.body in
-    let f : Done → Done = λ d. and_then read (λ _. and_then d (announces desk)) in
+    let f : Done → Done =
+    λ d. telling desk a.lane.body (and_then read (λ _. and_then d (announces desk))) in
     let opened_read = (all_read_leaves side desk unread a.lane.body).same in
     let opened_end : (words : List Word) → is_open side (machine_step desk unread (Words side words) a.lane.body).body ≡ is_open side (all_heard desk side words read.body).body =
     λ words. (announces_leave side desk (all_heard desk side words read.body).body).same in
@@ -387,6 +408,8 @@ steps-bytes law Entry a b a' b' unread piece other_piece moment told other alike
         maker = two.lane.made ∙ alike.maker ∙ sym one.lane.made;
         bridge = ends.bridge;
         forecasts = ends.forecasts;
+        supervised = two.supervised ∙ alike.supervised ∙ sym one.supervised;
+        orders = two.orders ∙ alike.orders ∙ sym one.orders;
         body = heard.body;
         entry = heard.bytes;
         exit = λ opened. yours.1 ∙ alike.exit (was-open a a' unread (inputs.Bytes Entry piece) moment told Exit one refl opened) ∙ sym mine.1;
@@ -410,6 +433,8 @@ steps-bytes law Exit a b a' b' unread piece other_piece moment told other alike 
         maker = two.lane.made ∙ alike.maker ∙ sym one.lane.made;
         bridge = ends.bridge;
         forecasts = ends.forecasts;
+        supervised = two.supervised ∙ alike.supervised ∙ sym one.supervised;
+        orders = two.orders ∙ alike.orders ∙ sym one.orders;
         body = heard.body;
         entry = λ opened. yours.1 ∙ alike.entry (was-open a a' unread (inputs.Bytes Exit piece) moment told Entry one refl opened) ∙ sym mine.1;
         exit = heard.bytes;

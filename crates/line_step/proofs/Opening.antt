@@ -53,13 +53,14 @@ use Rattle.node_core.specs.Connect.{if_open, opens, meets_second, notices, ticks
 use Rattle.node_core.specs.Boards.{is_kept, without, with_instead, with_mark, faults, wills}
 use Rattle.node_core.specs.Reads.{all_read}
 use Rattle.node_core.specs.Announces.{announces}
-use Rattle.node_core.specs.Event.{Event, Nothing, Connect, Accepted, Second, Words, Notice, Tick, Shutdown, Fault, Will, Level, Insert, Remove, Replace, Mark, Forecast, Query, event_of, event_did, with_new}
+use Rattle.node_core.specs.Event.{Event, Nothing, Connect, Accepted, Second, Words, Notice, Tick, Shutdown, Fault, Will, Level, Insert, Remove, Replace, Mark, Forecast, Query, Supervised, event_of, event_did, with_new}
 use Rattle.node_core.specs.Node.{NodeState, desk_of}
-use Rattle.node_core.specs.Step.{Steps, machine_step}
+use Rattle.node_core.specs.Step.{Steps, machine_step, plain_step}
+use Rattle.node_core.specs.Supervising.{supervises, watch_of}
 use Rattle.node_core.specs.Bridge.{sets_level}
 use Rattle.node_core.specs.Information.{forecasts_front, asks_for}
 use Rattle.line_step.specs.Opened.{closed_at, open_after, opened_by}
-use Rattle.line_step.proofs.Quiet.{IsQuiet, Leaves, open_append, open_signalled, leaves_still, leaves_told, half_closed_leaves, at_intake_leaves, outlet_leaves, intake_leaves, all_read_leaves, announces_leave, kept_leaves, if_kept_leaves, faults_leave, wills_leave, levels_leave, forecasts_leave, asks_leave}
+use Rattle.line_step.proofs.Quiet.{IsQuiet, Leaves, open_append, open_signalled, open_with_tells, leaves_still, leaves_told, half_closed_leaves, at_intake_leaves, outlet_leaves, intake_leaves, all_read_leaves, announces_leave, kept_leaves, if_kept_leaves, faults_leave, wills_leave, levels_leave, forecasts_leave, asks_leave, supervises_leaves}
 
 -- ---- what follows its acts
 
@@ -386,12 +387,16 @@ event_meets at desk (Replace old new) body = met at (Replace old new) body _ (λ
 event_meets at desk (Mark id quality) body = met at (Mark id quality) body _ (λ o. refl) (left at body _ (if_kept_leaves at (is_kept id body.kept) body (with_mark id quality body.kept) (acts.Marks id quality) (λ o. refl)))
 event_meets at desk Forecast body = met at Forecast body (forecasts_front desk body) (λ o. refl) (left at body (forecasts_front desk body) (forecasts_leave at desk body))
 event_meets at desk (Query barcode) body = met at (Query barcode) body (asks_for desk barcode body) (λ o. refl) (left at body (asks_for desk barcode body) (asks_leave at desk barcode body))
+event_meets at desk (Supervised what) body =
+    met at (Supervised what) body (supervises desk what body) (λ o. refl)
+    (left at body (supervises desk what body) (supervises_leaves at desk what body))
 
 -- ---- a step
 
 -- what is read before the event and announced behind it ends no connection
-step_meets : (at : Side) (desk : Desk) (unread : List Seen) (event : Event) (body : Body) → Meets at event body (machine_step desk unread event body)
-step_meets at desk unread event body =
+plain_step_meets : (at : Side) (desk : Desk) (unread : List Seen) (event : Event) (body : Body)
+    → Meets at event body (plain_step desk unread event body)
+plain_step_meets at desk unread event body =
     let read = all_read desk unread body in
     let meets = event_did desk event read.body in
     let says = announces desk meets.body in
@@ -401,6 +406,17 @@ step_meets at desk unread event body =
     let one : open_after at o (read.acts ++ (meets.acts ++ says.acts)) ≡ open_after at o (meets.acts ++ says.acts) = open_append at o read.acts (meets.acts ++ says.acts) ∙ ap (λ (p : Bool). open_after at p (meets.acts ++ says.acts)) (first.quiet o) in
     let two : open_after at o (meets.acts ++ says.acts) ≡ open_after at o meets.acts = open_append at o meets.acts says.acts ∙ last.quiet (open_after at o meets.acts) in
     record { by_acts = last.same ∙ (event_meets at desk event read.body).by_acts ∙ ap (λ (p : Bool). open_after at (opened_event event at p) meets.acts) first.same ∙ sym two ∙ sym one }
+
+step_meets : (at : Side) (desk : Desk) (unread : List Seen) (event : Event) (body : Body)
+    → Meets at event body (machine_step desk unread event body)
+step_meets at desk unread event body =
+    let plain = plain_step desk unread event body in
+    let o = opened_event event at (is_open at body) in
+    record {
+      by_acts =
+          (plain_step_meets at desk unread event body).by_acts
+          ∙ sym (open_with_tells at o desk (watch_of desk body) plain.acts);
+    }
 
 -- ---- an input is an event
 

@@ -32,10 +32,21 @@ use Rattle.node_core.specs.Announces.{revoke_by, revokes_now, revoke, unready_by
 use Rattle.node_core.specs.Bridge.{failed_front, fails, sets_level, tells_level}
 use Rattle.node_core.specs.Information.{forecasts, forecasts_front, asks_for}
 use Rattle.node_core.specs.Signals.{signalled}
+use Rattle.node_core.specs.declared.supervising.Watch.{Watch}
+use Rattle.node_core.specs.Supervising.{
+  Supervision,
+  Supervise,
+  Ask,
+  Answer,
+  supervises,
+  supervision_act,
+  with_tells,
+}
 use Rattle.smema_bridge.specs.declared.line.SegmentLine.{SegmentLine}
 use Rattle.smema_bridge.specs.declared.line.SegmentLine.TheVariants.{Ready, Available, Failed}
 use Rattle.smema_bridge.specs.Levels.{BridgeLevels}
 use Rattle.node_core.proofs.Signalling.{signals_all}
+use Rattle.node_core.proofs.Telling.{beside}
 use Rattle.line_step.specs.Opened.{open_act, open_after}
 
 pub open_append : (at : Side) (opened : Bool) (a b : List Act) → open_after at opened (a ++ b) ≡ open_after at (open_after at opened a) b
@@ -200,6 +211,33 @@ forecasts_leave at desk body =
 
 pub asks_leave : (at : Side) (desk : Desk) (barcode : List ℕ) (body : Body) → Leaves at body (asks_for desk barcode body)
 asks_leave at desk barcode body = record { same = refl; quiet = λ opened. refl }
+
+-- ---- the supervisor
+
+-- what is told to the supervisor ends no connection
+pub open_with_tells : (at : Side) (opened : Bool) (desk : Desk) (watch : Watch) (made : List Act)
+    → open_after at opened (with_tells desk watch made) ≡ open_after at opened made
+open_with_tells at opened desk watch made =
+    beside (λ told plain. (o : Bool) → open_after at o told ≡ open_after at o plain) (λ o. refl)
+    (λ act told plain same o. same (open_act at o act))
+    (λ message told plain same o. same o) desk watch made opened
+
+pub quiet_with_tells : (at : Side) (desk : Desk) (watch : Watch) (made : List Act)
+    → IsQuiet at made → IsQuiet at (with_tells desk watch made)
+quiet_with_tells at desk watch made quiet opened =
+    open_with_tells at opened desk watch made ∙ quiet opened
+
+-- nor does what it says, and what it is asked
+pub supervision_ends_none : (at : Side) (desk : Desk) (what : Supervision)
+    → IsQuiet at (supervision_act desk what ∷ [])
+supervision_ends_none at desk (Supervise on) opened = refl
+supervision_ends_none at desk (Ask question) opened = refl
+supervision_ends_none at desk (Answer query order) opened = refl
+
+pub supervises_leaves : (at : Side) (desk : Desk) (what : Supervision) (body : Body)
+    → Leaves at body (supervises desk what body)
+supervises_leaves at desk what body =
+    leaves_told at body (supervision_act desk what ∷ []) (supervision_ends_none at desk what)
 
 -- ---- the announcements
 

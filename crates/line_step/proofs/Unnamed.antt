@@ -58,14 +58,40 @@ use Rattle.node_core.specs.Reads.{saw, reads, all_read}
 use Rattle.node_core.specs.Connect.{if_open, opens, notices, ticks, shuts_down}
 use Rattle.node_core.specs.Boards.{without, with_instead, with_mark, is_kept, if_kept, removes, replaces, marks, inserts, faults, wills}
 use Rattle.node_core.specs.Announces.{revokes_now, revoke_by, revoke, unreadies_now, unready_by, unready, offers_now, offer_by, offer, readies_now, ready_by, ready, starts_now, start_by, start, announces}
-use Rattle.node_core.specs.Event.{Event, Nothing, Connect, Accepted, Second, Words, Notice, Tick, Shutdown, Fault, Will, Level, Insert, Remove, Replace, Mark, Forecast, Query, event_did}
-use Rattle.node_core.specs.Step.{machine_step}
+use Rattle.node_core.specs.Event.{Event, Nothing, Connect, Accepted, Second, Words, Notice, Tick, Shutdown, Fault, Will, Level, Insert, Remove, Replace, Mark, Forecast, Query, Supervised, event_did}
+use Rattle.node_core.specs.Step.{machine_step, plain_step}
+use Rattle.node_core.specs.declared.supervising.Watch.{Watch}
+use Rattle.node_core.specs.Supervising.{
+  Supervision,
+  Supervise,
+  Ask,
+  Answer,
+  supervision_act,
+  watch_of,
+  with_tells,
+}
+use Rattle.node_core.proofs.Telling.{tells_pass}
 use Rattle.node_core.specs.Own.{Own, own_by, own_of, ids_of, id_of}
 use Rattle.node_core.specs.Bridge.{failed_front, fails, sets_level, tells_level}
 use Rattle.smema_bridge.specs.declared.line.SegmentLine.{SegmentLine}
 use Rattle.smema_bridge.specs.declared.line.SegmentLine.TheVariants.{Ready, Available, Failed}
 use Rattle.standings.specs.Marks.{has_id, is_held}
 use Rattle.line_step.specs.Named.{ids_of_act}
+
+-- ---- what the supervisor is told, what it is asked and what it says name no board
+
+pub ids_with_tells : (desk : Desk) (watch : Watch) (made : List Act)
+    → flat_map ids_of_act (with_tells desk watch made) ≡ flat_map ids_of_act made
+ids_with_tells desk watch made =
+    tells_pass (flat_map ids_of_act)
+    (λ act told plain same. ap (λ (ids : List ℕ). ids_of_act act ++ ids) same)
+    (λ message told. refl) desk watch made
+
+pub supervision_names_none : (desk : Desk) (what : Supervision)
+    → ids_of_act (supervision_act desk what) ≡ []
+supervision_names_none desk (Supervise on) = refl
+supervision_names_none desk (Ask question) = refl
+supervision_names_none desk (Answer query order) = refl
 
 -- ---- an id in the three places
 
@@ -452,6 +478,7 @@ event_spares id desk (Replace old new) body = replaces_spares id desk old new bo
 event_spares id desk (Mark other quality) body = marks_spares id other quality body
 event_spares id desk Forecast body = spares_told id body _
 event_spares id desk (Query barcode) body = spares_told id body _
+event_spares id desk (Supervised what) body = spares_told id body _
 
 -- ---- the announcements
 
@@ -489,9 +516,24 @@ announces_spares id desk body =
 
 -- ---- the step
 
-pub step_spares : (id : ℕ) (desk : Desk) (unread : List Seen) (event : Event) (body : Body) → Spares id body (machine_step desk unread event body)
-step_spares id desk unread event body =
+plain_step_spares : (id : ℕ) (desk : Desk) (unread : List Seen) (event : Event) (body : Body)
+    → Spares id body (plain_step desk unread event body)
+plain_step_spares id desk unread event body =
     let one = (all_read desk unread body).body in
     let two = (event_did desk event one).body in
-    spares_both id body (all_read desk unread body) (λ (b : Body). and_then (event_did desk event b) (announces desk)) (all_read_spares id desk unread body)
-    (spares_both id one (event_did desk event one) (announces desk) (event_spares id desk event one) (announces_spares id desk two))
+    spares_both id body (all_read desk unread body)
+    (λ (b : Body). and_then (event_did desk event b) (announces desk))
+    (all_read_spares id desk unread body)
+    (spares_both id one (event_did desk event one) (announces desk)
+    (event_spares id desk event one)
+    (announces_spares id desk two))
+
+pub step_spares : (id : ℕ) (desk : Desk) (unread : List Seen) (event : Event) (body : Body)
+    → Spares id body (machine_step desk unread event body)
+step_spares id desk unread event body =
+    let plain = plain_step desk unread event body in
+    let named = ids_with_tells desk (watch_of desk body) plain.acts in
+    record {
+      same = λ none.
+          (plain_step_spares id desk unread event body).same (ap (has_id id) (sym named) ∙ none);
+    }

@@ -74,6 +74,8 @@ act-honest second machine (acts.Inserts id) world = refl
 act-honest second machine (acts.Removes id) world = refl
 act-honest second machine (acts.Replaces was now) world = refl
 act-honest second machine (acts.Sets setting) world = refl
+act-honest second machine (acts.Tells message) world = refl
+act-honest second machine (acts.Answered query order) world = refl
 
 acts-honest : (second : Bool) (machine : ℕ) (told : List Act) (world : WorldParts) → tells_lie (acts_did second machine told world).told ≡ false
 acts-honest second machine [] world = refl
@@ -215,6 +217,12 @@ does-remember number (lines.Take gap) before after told does = move gap moves.Ta
 does-remember number lines.Show before after told does = becomes before before after (shown_from 1 before.machines) told (honest before before (shown_from 1 before.machines) refl (shown-honest 1 before.machines)) does
 does-remember number (lines.Forecast which) before after told does = given _ number which _ before after told does
 does-remember number (lines.Query which barcode) before after told does = given _ number which _ before after told does
+does-remember number (lines.Supervise which) before after told does =
+    given _ number which _ before after told does
+does-remember number (lines.Ask which question) before after told does =
+    given _ number which _ before after told does
+does-remember number (lines.Answer which query order) before after told does =
+    given _ number which _ before after told does
 
 lie-behind : (a b : List Happening) → tells_lie b ≡ false → tells_lie (a ++ b) ≡ tells_lie a
 lie-behind [] b none = none

@@ -20,7 +20,7 @@ use Rattle.line_step.specs.World.{end_of, link_at, link_of, piece_for, with_floo
 use Rattle.line_step.specs.State.{LineState, one_more, with_world}
 use Rattle.line_step.specs.Acts.{cut_told}
 use Rattle.line_step.specs.Steps.{MachineSteps, StepsTwice}
-use Rattle.line_step.specs.Reasons.{May, may_add, may_connect, may_cut, may_flow, may_give, may_lie, may_notice, may_remove, may_replace, may_sense, may_spoil, may_unseen}
+use Rattle.line_step.specs.Reasons.{May, may_add, may_answer, may_connect, may_cut, may_flow, may_give, may_lie, may_notice, may_remove, may_replace, may_sense, may_spoil, may_unseen}
 use Rattle.line_step.specs.Shown.{shown, standings_told}
 use Rattle.line_report.specs.declared.happening.Happening.{Happening}
 use Rattle.line_report.specs.declared.happening.Happening.TheVariants as happenings
@@ -160,6 +160,15 @@ LineDoes number (lines.Forecast machine) before after told =
 LineDoes number (lines.Query machine barcode) before after told =
     Unless (may_give machine (inputs.Query barcode) before) before after told
     (MachineSteps number machine (inputs.Query barcode) before after told)
+LineDoes number (lines.Supervise machine) before after told =
+    Unless (may_give machine (inputs.Supervise true) before) before after told
+    (MachineSteps number machine (inputs.Supervise true) before after told)
+LineDoes number (lines.Ask machine question) before after told =
+    Unless (may_give machine (inputs.Ask question) before) before after told
+    (MachineSteps number machine (inputs.Ask question) before after told)
+LineDoes number (lines.Answer machine query order) before after told =
+    Unless (may_answer machine query order before) before after told
+    (MachineSteps number machine (inputs.Answer query order) before after told)
 
 -- ---- and the standings that changed
 

@@ -14,6 +14,7 @@ use Rattle.node_core.specs.declared.input.No.{No}
 use Rattle.node_core.specs.declared.input.No.TheVariants as nos
 use Rattle.node_core.specs.May.{may_of, may_reach}
 use Rattle.node_core.specs.Node.{NodeState}
+use Rattle.supervisory_core.specs.Orders.{answer_to}
 use Rattle.line_step.specs.World.{WorldParts, end_of, link_at, link_of}
 use Rattle.line_step.specs.State.{LineState, machine_in, most_machines}
 use Rattle.line_step.specs.Together.{is_linked}
@@ -93,6 +94,21 @@ may_add s = no_if (nat_le most_machines (length s.machines)) reasons.LineFull ma
 -- what a machine alone can tell
 abbrev pub may_give : ℕ → Input → LineState → May
 may_give machine input s = if_there (machine_in machine s) (λ node. behind_own (may_of node input) may_do)
+
+-- of a question that was answered before, the word that answers it is told with the reason
+abbrev pub word_kept : Option (List ℕ) → List ℕ
+word_kept None = []
+word_kept (Some word) = word
+
+abbrev pub with_word : NodeState → Result (Unit {0}) No → May
+with_word node (Ok _) = may_do
+with_word node (Err (nos.Answered query)) = Err (reasons.Answered (word_kept (answer_to node.orders query)))
+with_word node (Err why) = Err (reasons.Node why)
+
+-- a question is answered: not supervised, unknown query, answered
+abbrev pub may_answer : ℕ → ℕ → List ℕ → LineState → May
+may_answer machine query order s =
+    if_there (machine_in machine s) (λ node. with_word node (may_of node (inputs.Answer query order)))
 
 -- a board is taken out: not kept, not here
 abbrev pub may_remove : ℕ → ℕ → LineState → May

@@ -24,6 +24,11 @@ abbrev pub state_behind : LineState → List Point → LineState
 state_behind s [] = s
 state_behind s (point ∷ points) = state_behind point.after points
 
+-- all that happens in a run, in its order
+abbrev pub all_told : List Point → List Happening
+all_told [] = []
+all_told (point ∷ points) = point.told ++ all_told points
+
 -- what the report tells of them, each happening with the number of its script line
 abbrev pub told_text : ℕ → List Point → List ℕ
 told_text number [] = []

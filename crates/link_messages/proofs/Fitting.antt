@@ -17,11 +17,16 @@ use Rattle.hermes_horizontal.specs.declared.message.Horizontal.{Horizontal}
 use Rattle.hermes_horizontal.specs.declared.message.Horizontal.TheVariants as bodies
 use Rattle.hermes_horizontal.specs.declared.message.Message.{Message}
 use Rattle.hermes_horizontal.proofs.Refusals.{IsText_refusal}
+use Rattle.hermes_vertical.specs.declared.message.VerticalMessage.{VerticalMessage}
+use Rattle.node_core.specs.Desk.{Desk}
+use Rattle.node_core.specs.Supervising.{with_tells}
 use Rattle.node_core.specs.Words.{AreFirst, AreWords, IsWrong, first_more, first_none, first_too_long}
 use Rattle.node_core.specs.declared.act.Act.{Act}
 use Rattle.node_core.specs.declared.act.Act.TheVariants as acts
+use Rattle.node_core.specs.declared.supervising.Watch.{Watch}
 use Rattle.node_core.specs.declared.word.Word.{Word}
 use Rattle.node_core.specs.declared.word.Word.TheVariants.{Says, Wrong}
+use Rattle.node_core.proofs.Telling.{tells_pass}
 use Rattle.custody.proofs.Spoils.{nul_arrives}
 use Rattle.custody.specs.Bytes.{Flows, HasNul, Spoiled, texts_of}
 use Rattle.link_messages.specs.Fit.{AreFit, AreFitActs, AreFitWords, IsFit, IsFitAct, IsFitHeard, IsTextIf, more_fit, more_heard, more_said, none_fit, none_heard, none_said, sent_on, wrong_heard}
@@ -64,6 +69,25 @@ fit_sent side _ others one fit = fit
 pub sent_are_fit : (side : Side) (said : List Act) → AreFitActs said → AreFit (sent_on side said)
 sent_are_fit side [] none_said = none_fit
 sent_are_fit side (act ∷ others) (more_said one fit) = fit_sent side act others one (sent_are_fit side others fit)
+
+-- what the supervisor is told goes out on no link
+sent_both : (side : Side) (act : Act) (told made : List Act) → sent_on side told ≡ sent_on side made
+    → sent_on side (act ∷ told) ≡ sent_on side (act ∷ made)
+sent_both Entry (acts.Sends Entry message) told made same =
+    ap (λ (xs : List Message). message ∷ xs) same
+sent_both Exit (acts.Sends Exit message) told made same =
+    ap (λ (xs : List Message). message ∷ xs) same
+sent_both side _ told made same = same
+
+sent_past : (side : Side) (message : VerticalMessage) (told : List Act)
+    → sent_on side (acts.Tells message ∷ told) ≡ sent_on side told
+sent_past Entry message told = refl
+sent_past Exit message told = refl
+
+pub sent_tells : (side : Side) (desk : Desk) (watch : Watch) (made : List Act)
+    → sent_on side (with_tells desk watch made) ≡ sent_on side made
+sent_tells side desk watch made =
+    tells_pass (sent_on side) (sent_both side) (sent_past side) desk watch made
 
 -- ---- words of messages that flow
 

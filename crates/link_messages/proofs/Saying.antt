@@ -26,12 +26,13 @@ use Rattle.node_core.specs.Bridge.{failed_front, fails, sets_level, tells_level}
 use Rattle.node_core.specs.Connect.{both_shut_down, both_tick, meets_second, notices, opens, shuts_down, ticks}
 use Rattle.node_core.specs.Desk.{Desk}
 use Rattle.node_core.specs.Done.{and_then, behind, done}
-use Rattle.node_core.specs.Event.{Accepted, Connect, Event, Fault, Forecast, Insert, Level, Mark, Nothing, Notice, Query, Remove, Replace, Second, Shutdown, Tick, Will, Words, event_did}
+use Rattle.node_core.specs.Event.{Accepted, Connect, Event, Fault, Forecast, Insert, Level, Mark, Nothing, Notice, Query, Remove, Replace, Second, Shutdown, Supervised, Tick, Will, Words, event_did}
 use Rattle.node_core.specs.Halves.{ended}
 use Rattle.node_core.specs.Reads.{all_read, reads, saw}
 use Rattle.node_core.specs.Sides.{is_open, session_at}
 use Rattle.node_core.specs.Signals.{moves_out, quality_taken, signal_told, signalled}
-use Rattle.node_core.specs.Step.{machine_step}
+use Rattle.node_core.specs.Step.{machine_step, plain_step}
+use Rattle.node_core.specs.Supervising.{Answer, Ask, Supervise, Supervision, supervises, watch_of}
 use Rattle.node_core.specs.declared.act.Act.{Act}
 use Rattle.node_core.specs.declared.act.Act.TheVariants as acts
 use Rattle.node_core.specs.declared.act.Signal.{Signal}
@@ -40,7 +41,7 @@ use Rattle.node_core.specs.declared.lane.Body.{Body}
 use Rattle.link_messages.specs.Fit.{AreFitActs, AreFitRecords, Fits, IsFitAct, IsFitBody, IsFitDesk, IsFitEvent, IsFitId, IsFitRecord, IsTextIf, more_kept, more_said, none_kept, none_said}
 use Rattle.link_messages.proofs.SayingHalves.{at_intake_fits, at_outlet_fits, behind_fits, ended_fits, fits_behind, fits_both, fits_still, fits_told}
 use Rattle.link_messages.proofs.SayingSessions.{session_fits}
-use Rattle.link_messages.proofs.SayingWhat.{both_said, forecasts_fit, front_fits, question_fits, sent}
+use Rattle.link_messages.proofs.SayingWhat.{both_said, forecasts_fit, front_fits, question_fits, sent, with_tells_fit}
 use Rattle.link_messages.proofs.SayingWords.{if_fits, words_fit}
 
 -- ---- sensor events
@@ -167,6 +168,13 @@ sets_level_fits desk line on body b =
     fits_both (tells_level line on body) (λ (x : Body). fails (failed_front desk.bridge line on x) x) told
     (fails_fit (failed_front desk.bridge line on one) one told.body)
 
+-- nothing that is said to a supervisor, or that it says, is a message of a link
+supervises_fit : (desk : Desk) (what : Supervision) (body : Body) → IsFitBody body
+    → Fits (supervises desk what body)
+supervises_fit desk (Supervise on) body b = record { body = b; acts = more_said tt none_said }
+supervises_fit desk (Ask question) body b = record { body = b; acts = more_said tt none_said }
+supervises_fit desk (Answer query order) body b = record { body = b; acts = more_said tt none_said }
+
 -- ---- an event
 
 pub event_fits : (desk : Desk) (event : Event) (body : Body) → IsFitEvent event → IsFitDesk desk → IsFitBody body → Fits (event_did desk event body)
@@ -187,6 +195,7 @@ event_fits desk (Mark id quality) body given d b = marks_fit id quality body b
 event_fits desk (Level line on) body given d b = sets_level_fits desk line on body b
 event_fits desk Forecast body given d b = fits_told body _ b (forecasts_fit desk (slice_get body.kept 0) d (front_fits body.kept b.kept))
 event_fits desk (Query barcode) body given d b = fits_told body _ b (sent desk Entry (bodies.QueryBoardInfo (Some barcode) None) d (question_fits barcode given))
+event_fits desk (Supervised what) body given d b = supervises_fit desk what body b
 
 -- ---- announcements
 
@@ -229,14 +238,23 @@ announces_fit desk body d b =
 
 -- ---- THE STEP
 
-pub step_fits : (desk : Desk) (unread : List Sensed) (event : Event) (body : Body) → IsFitDesk desk → IsFitEvent event → IsFitBody body → Fits (machine_step desk unread event body)
-step_fits desk unread event body d given b =
+-- what the supervisor is told aside
+plain_step_fits : (desk : Desk) (unread : List Sensed) (event : Event) (body : Body)
+    → IsFitDesk desk → IsFitEvent event → IsFitBody body → Fits (plain_step desk unread event body)
+plain_step_fits desk unread event body d given b =
     let one : Fits (all_read desk unread body) = all_read_fit desk unread body d b in
     let at_one : Body = (all_read desk unread body).body in
     let two : Fits (event_did desk event at_one) = event_fits desk event at_one given d one.body in
     let three : Fits (announces desk (event_did desk event at_one).body) = announces_fit desk (event_did desk event at_one).body d two.body in
     fits_both (all_read desk unread body) (λ (x : Body). and_then (event_did desk event x) (announces desk)) one
     (fits_both (event_did desk event at_one) (announces desk) two three)
+
+pub step_fits : (desk : Desk) (unread : List Sensed) (event : Event) (body : Body)
+    → IsFitDesk desk → IsFitEvent event → IsFitBody body → Fits (machine_step desk unread event body)
+step_fits desk unread event body d given b =
+    let did : Fits (plain_step desk unread event body) =
+    plain_step_fits desk unread event body d given b in
+    record { body = did.body; acts = with_tells_fit desk (watch_of desk body) did.acts }
 
 -- a bridge's own signals are no messages
 told_fits : (signal : Signal) (edge : Option Bool) → AreFitActs (signal_told signal edge)

@@ -33,9 +33,12 @@ use Rattle.forecast_query.specs.Find.{first_match}
 use Rattle.forecast_query.specs.Info.{forecast_of, info_of}
 use Rattle.node_core.specs.Desk.{Desk}
 use Rattle.node_core.specs.Information.{answer_to, board_at, forecasts, info_if}
+use Rattle.node_core.specs.Supervising.{with_tells}
 use Rattle.node_core.specs.Told.{drives, in_does, in_says, in_sends, in_told, notification, offers, out_does, out_sends, out_told, sends, service_of, tells}
 use Rattle.node_core.specs.declared.act.Act.{Act}
-use Rattle.link_messages.specs.Fit.{AreFitActs, AreFitRecords, IsFitDesk, IsFitIf, IsFitRecord, IsTextIf, more_kept, more_said, none_kept, none_said}
+use Rattle.node_core.specs.declared.supervising.Watch.{Watch}
+use Rattle.node_core.proofs.Telling.{tells_all}
+use Rattle.link_messages.specs.Fit.{AreFitActs, AreFitRecords, IsFitAct, IsFitDesk, IsFitIf, IsFitRecord, IsTextIf, more_kept, more_said, none_kept, none_said}
 use Rattle.link_messages.proofs.SayingRows.{IsFitInSend, IsFitOutSend}
 
 -- ---- messages
@@ -137,6 +140,19 @@ unexpected_is_text kinds.Other = plain_is_text _ refl
 pub both_said : {a b : List Act} → AreFitActs a → AreFitActs b → AreFitActs (a ++ b)
 both_said none_said b = b
 both_said (more_said one others) b = more_said one (both_said others b)
+
+first_said : {act : Act} {others : List Act} → AreFitActs (act ∷ others) → IsFitAct act
+first_said (more_said one more) = one
+
+others_said : (act : Act) (others : List Act) → AreFitActs (act ∷ others) → AreFitActs others
+others_said act others (more_said one more) = more
+
+-- what the supervisor is told is no message of a link
+pub with_tells_fit : (desk : Desk) (watch : Watch) {made : List Act}
+    → AreFitActs made → AreFitActs (with_tells desk watch made)
+with_tells_fit desk watch {made = made} fit =
+    tells_all AreFitActs others_said (λ act told others is more. more_said (first_said is) more)
+    (λ message told more. more_said tt more) none_said desk watch made fit
 
 out_deed_fits : (deed : Option OutDeed) → AreFitActs (out_does deed)
 out_deed_fits None = none_said

@@ -40,7 +40,7 @@ pub data AreFit : List Message → Type 0 where
   none_fit : AreFit []
   more_fit : {message : Message} {others : List Message} → IsFit message → AreFit others → AreFit (message ∷ others)
 
--- the messages that are sent are fit
+-- the messages that are sent are fit; what a supervisor is told goes out on no link
 abbrev pub IsFitAct : Act → Type 0
 IsFitAct (acts.Sends side message) = IsFit message
 IsFitAct _ = Unit {0}

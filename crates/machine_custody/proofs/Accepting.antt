@@ -32,7 +32,7 @@ use Rattle.node_core.specs.Halves.{intake_row_did, outlet_row_did}
 use Rattle.node_core.specs.Reads.{all_read, saw}
 use Rattle.node_core.specs.Session.{session_did}
 use Rattle.node_core.specs.Sides.{with_session}
-use Rattle.node_core.specs.Step.{machine_step}
+use Rattle.node_core.specs.Step.{machine_step, plain_step}
 use Rattle.node_core.specs.declared.act.Act.{Act}
 use Rattle.node_core.specs.declared.lane.Body.{Body as Machine}
 use Rattle.node_core.specs.declared.lane.End.{End}
@@ -52,7 +52,7 @@ use Rattle.machine_custody.specs.ByHand.{body_read, scene_read}
 use Rattle.machine_custody.specs.Joined.{with_link}
 use Rattle.machine_custody.proofs.Announcing.{announces_go}
 use Rattle.machine_custody.proofs.Far.{all_entry_below, all_intake, all_outlet}
-use Rattle.machine_custody.proofs.Goes.{met_append}
+use Rattle.machine_custody.proofs.Goes.{met_append, step_met}
 use Rattle.machine_custody.proofs.Quiet.{quiet_all, read_keeps, read_quiet}
 use Rattle.machine_custody.proofs.Reading.{all_read_good}
 
@@ -143,13 +143,13 @@ goes_since {ga = ga} {gb = gb} {e = e} outlet intake t = record {
   lists_below = subst (λ (i : InState). ListsBelow i.phase gb e.below.intake.phase t.b) intake t.lists_below;
 }
 
--- THE STEP OF THE MACHINE ABOVE at a first connection: before it the entry below has called in a scene whose link doesn't
--- stand, and the real scene has the description on its way
-pub accepts_go : {afar : Afar} {above : List Record} {ga gb : Ghost} (desk : Desk) (unread : List Sensed) (body : Machine) (c : Scene) (service : Service)
+-- the step, what the supervisor is told aside
+plain_accepts_go : {afar : Afar} {above : List Record} {ga gb : Ghost} (desk : Desk) (unread : List Sensed)
+    (body : Machine) (c : Scene) (service : Service)
     → Good afar above unread ga gb body (with_link Exit false [] [] c) → body.exit.session.state ≡ NotConnected → c.below.entry ≡ Handshake
-    → Goes afar above [] ga gb c (machine_step desk unread Accepted body).body
-    (all_met (machine_step desk unread Accepted body).acts (with_link Exit true (message.ServiceDescription service ∷ []) [] c))
-accepts_go {afar = afar} {above = above} {ga = ga} {gb = gb} desk unread body c service g away shakes =
+    → Goes afar above [] ga gb c (plain_step desk unread Accepted body).body
+    (all_met (plain_step desk unread Accepted body).acts (with_link Exit true (message.ServiceDescription service ∷ []) [] c))
+plain_accepts_go {afar = afar} {above = above} {ga = ga} {gb = gb} desk unread body c service g away shakes =
     let read : Done = all_read desk unread body in
     let one : Machine = body_read desk unread body in
     let before : Scene = with_link Exit false [] [] c in
@@ -166,3 +166,16 @@ accepts_go {afar = afar} {above = above} {ga = ga} {gb = gb} desk unread body c 
     (subst (λ (s : Scene). Goes afar above [] ga gb c (announces desk (with_session Exit accepting one)).body s)
     (sym (met_append read.acts last called ∙ ap (all_met last) (read_apart_below desk unread body c before true (message.ServiceDescription service ∷ []) [] g away)))
     (goes_since (all_outlet read.acts c) (all_intake read.acts c) t))
+
+-- THE STEP OF THE MACHINE ABOVE at a first connection: before it the entry below has called in a scene whose link doesn't
+-- stand, and the real scene has the description on its way
+pub accepts_go : {afar : Afar} {above : List Record} {ga gb : Ghost} (desk : Desk) (unread : List Sensed)
+    (body : Machine) (c : Scene) (service : Service)
+    → Good afar above unread ga gb body (with_link Exit false [] [] c) → body.exit.session.state ≡ NotConnected → c.below.entry ≡ Handshake
+    → Goes afar above [] ga gb c (machine_step desk unread Accepted body).body
+    (all_met (machine_step desk unread Accepted body).acts (with_link Exit true (message.ServiceDescription service ∷ []) [] c))
+accepts_go {afar = afar} {above = above} {ga = ga} {gb = gb} desk unread body c service g away shakes =
+    let called : Scene = with_link Exit true (message.ServiceDescription service ∷ []) [] c in
+    subst (λ (s : Scene). Goes afar above [] ga gb c (plain_step desk unread Accepted body).body s)
+    (sym (step_met desk unread Accepted body called))
+    (plain_accepts_go desk unread body c service g away shakes)

@@ -31,11 +31,14 @@ use Rattle.node_core.specs.Halves.{at_intake, at_outlet}
 use Rattle.node_core.specs.Reads.{all_read, saw}
 use Rattle.node_core.specs.Session.{actions_did, session_did}
 use Rattle.node_core.specs.Sides.{with_session}
-use Rattle.node_core.specs.Step.{machine_step}
+use Rattle.node_core.specs.Step.{machine_step, plain_step}
+use Rattle.node_core.specs.Supervising.{watch_of, with_tells}
 use Rattle.node_core.specs.Told.{sends, tells}
 use Rattle.node_core.specs.declared.act.Act.{Act}
 use Rattle.node_core.specs.declared.act.Act.TheVariants as acts
 use Rattle.node_core.specs.declared.lane.Body.{Body as Machine}
+use Rattle.node_core.specs.declared.supervising.Watch.{Watch}
+use Rattle.node_core.proofs.Telling.{beside}
 use Rattle.custody.specs.Pair.{Ghost}
 use Rattle.custody.specs.Words.{down_words}
 use Rattle.custody.proofs.Lists.{down_words-append}
@@ -72,6 +75,14 @@ plain_met _ c (acts_more {act = act} {others = others} p ps) = ap (all_met_secon
 pub second_append : (xs ys : List Act) (c : Scene) → all_met_second (xs ++ ys) c ≡ all_met_second ys (all_met_second xs c)
 second_append [] ys c = refl
 second_append (x ∷ xs) ys c = second_append xs ys (met_second x c)
+
+-- what the supervisor is told does nothing there
+pub second_tells : (desk : Desk) (watch : Watch) (made : List Act) (c : Scene)
+    → all_met_second (with_tells desk watch made) c ≡ all_met_second made c
+second_tells desk watch made =
+    beside (λ told plain. (c : Scene) → all_met_second told c ≡ all_met_second plain c) (λ c. refl)
+    (λ act told plain same c. same (met_second act c)) (λ message told plain same c. same c)
+    desk watch made
 
 says_plain : IsPlain IsNoAnswer
 says_plain = record { reads = λ side event. tt; deeds = λ deed. tt; drives = λ side on. tt }
@@ -188,7 +199,8 @@ seconds_are desk unread body c =
     let read : Done = all_read desk unread body in
     let did : Done = event_did desk Second read.body in
     let last : List Act = (announces desk did.body).acts in
-    second_append read.acts (did.acts ++ last) c ∙ ap (all_met_second (did.acts ++ last)) (plain_met read.acts c (read_plain desk unread body))
+    second_tells desk (watch_of desk body) (plain_step desk unread Second body).acts c
+    ∙ second_append read.acts (did.acts ++ last) c ∙ ap (all_met_second (did.acts ++ last)) (plain_met read.acts c (read_plain desk unread body))
     ∙ second_append did.acts last (scene_read desk unread body c) ∙ plain_met last (all_met_second did.acts (scene_read desk unread body c)) (announces_plain desk did.body)
 
 -- THE STEP OF THE MACHINE ABOVE at a second connection, to which the answer flows though the link doesn't stand

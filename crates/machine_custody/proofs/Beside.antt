@@ -1,5 +1,5 @@
 -- What a machine does beside its handovers: it tells the next board ahead, asks for a board, takes a level of its segment,
--- and sets its own signals.
+-- sets its own signals, and talks to its supervisor.
 use Rattle.std.proofs.Common.{Bool, List, None, Option, Some, [], false, refl, true, ℕ, ◌++◌, ◌&&◌, ◌==◌, ◌∙◌, ◌∷◌, ◌≡◌, if◌then◌else◌, not}
 use Rattle.std.specs.Prelude.{slice_get}
 use Rattle.std.proofs.lemmas.Bool.{eq-eqb}
@@ -21,6 +21,7 @@ use Rattle.node_core.specs.Desk.{Desk}
 use Rattle.node_core.specs.Halves.{front_id}
 use Rattle.node_core.specs.Information.{asks_for, forecasts, forecasts_front}
 use Rattle.node_core.specs.Signals.{edges_told, moves_out, quality_taken, signal_told, signalled}
+use Rattle.node_core.specs.Supervising.{Answer, Ask, Supervise, Supervision, supervises}
 use Rattle.node_core.specs.declared.act.Act.{Act}
 use Rattle.node_core.specs.declared.act.Signal.{Signal}
 use Rattle.node_core.specs.declared.act.Signal.TheVariants as signals
@@ -48,6 +49,15 @@ forecasts_go {body = body} desk g = front_told desk (slice_get body.kept 0) g
 pub asks_go : {afar : Afar} {above : List Record} {ga gb : Ghost} {body : Machine} {c : Scene} (desk : Desk) (barcode : List ℕ)
     → Good afar above [] ga gb body c → GoesBy afar above [] ga gb c (asks_for desk barcode body)
 asks_go {body = body} {c = c} desk barcode g = entry_says body c (message.QueryBoardInfo (Some barcode) None ∷ []) refl g
+
+-- ---- the supervisor is no business of links and floor
+
+pub supervises_go : {afar : Afar} {above : List Record} {ga gb : Ghost} {body : Machine} {c : Scene}
+    (desk : Desk) (what : Supervision)
+    → Good afar above [] ga gb body c → GoesBy afar above [] ga gb c (supervises desk what body)
+supervises_go desk (Supervise on) g = goes_not g
+supervises_go desk (Ask question) g = goes_not g
+supervises_go desk (Answer query order) g = goes_not g
 
 -- ---- a level of the segment is set
 

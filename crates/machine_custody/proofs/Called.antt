@@ -18,7 +18,7 @@ use Rattle.node_core.specs.Event.{Connect}
 use Rattle.node_core.specs.Halves.{at_outlet, outlet_row_did}
 use Rattle.node_core.specs.Reads.{all_read}
 use Rattle.node_core.specs.Sides.{with_session}
-use Rattle.node_core.specs.Step.{machine_step}
+use Rattle.node_core.specs.Step.{machine_step, plain_step}
 use Rattle.node_core.specs.Told.{sends, service_of}
 use Rattle.node_core.specs.declared.act.Act.{Act}
 use Rattle.node_core.specs.declared.act.Act.TheVariants as acts
@@ -32,7 +32,7 @@ use Rattle.machine_custody.specs.ByHand.{body_read, scene_read}
 use Rattle.machine_custody.specs.Joined.{described_by, with_link}
 use Rattle.machine_custody.proofs.Announcing.{left_of_both, right_of_both}
 use Rattle.machine_custody.proofs.Connecting.{calling, connect_did, entry_unready, read_apart, read_entry, vanishes}
-use Rattle.machine_custody.proofs.Goes.{met_append}
+use Rattle.machine_custody.proofs.Goes.{met_append, step_met}
 use Rattle.machine_custody.proofs.Quiet.{AllActs, IsQuiet, acts_more, acts_none, all_append, outlet_all, outlet_says, quiet_all, quiet_is_plain}
 use Rattle.machine_custody.proofs.Reading.{all_read_good}
 
@@ -114,11 +114,13 @@ call_met desk one now stands up down unsaid =
     quiet_all Entry stands (sent (service_of desk ∷ []) stands up) down (announces desk (with_session Entry calling one)).acts (said Entry (service_of desk) now)
     (announces_unsaid desk (with_session Entry calling one) (record { state = refl; unsaid = unsaid })).quiet
 
-pub connect_met : {afar : Afar} {above : List Record} {ga gb : Ghost} (desk : Desk) (unread : List Sensed) (body : Machine) (c : Scene) (stands : Bool) (up down : List Horizontal)
+-- what the supervisor is told aside
+plain_connect_met : {afar : Afar} {above : List Record} {ga gb : Ghost} (desk : Desk) (unread : List Sensed)
+    (body : Machine) (c : Scene) (stands : Bool) (up down : List Horizontal)
     → Good afar above unread ga gb body c → body.entry.session.state ≡ NotConnected
-    → all_met (machine_step desk unread Connect body).acts (with_link Entry stands up down c)
-    ≡ with_link Entry stands (sent (service_of desk ∷ []) stands up) down (all_met (machine_step desk unread Connect body).acts c)
-connect_met desk unread body c stands up down g away =
+    → all_met (plain_step desk unread Connect body).acts (with_link Entry stands up down c)
+    ≡ with_link Entry stands (sent (service_of desk ∷ []) stands up) down (all_met (plain_step desk unread Connect body).acts c)
+plain_connect_met desk unread body c stands up down g away =
     let read : Done = all_read desk unread body in
     let one : Machine = body_read desk unread body in
     let still : one.entry.session.state ≡ NotConnected = ap (λ (e : End). e.session.state) (read_entry desk unread body) ∙ away in
@@ -130,6 +132,17 @@ connect_met desk unread body c stands up down g away =
     ∙ ap (all_met rest) (read_apart desk unread body c stands up down g away)
     ∙ call_met desk one (scene_read desk unread body c) stands up down (entry_unready still (all_read_good desk unread body c g))
     ∙ ap (with_link Entry stands (sent (service_of desk ∷ []) stands up) down) (sym (met_append read.acts rest c)))
+
+pub connect_met : {afar : Afar} {above : List Record} {ga gb : Ghost} (desk : Desk) (unread : List Sensed)
+    (body : Machine) (c : Scene) (stands : Bool) (up down : List Horizontal)
+    → Good afar above unread ga gb body c → body.entry.session.state ≡ NotConnected
+    → all_met (machine_step desk unread Connect body).acts (with_link Entry stands up down c)
+    ≡ with_link Entry stands (sent (service_of desk ∷ []) stands up) down (all_met (machine_step desk unread Connect body).acts c)
+connect_met desk unread body c stands up down g away =
+    step_met desk unread Connect body (with_link Entry stands up down c)
+    ∙ plain_connect_met desk unread body c stands up down g away
+    ∙ ap (with_link Entry stands (sent (service_of desk ∷ []) stands up) down)
+    (sym (step_met desk unread Connect body c))
 
 -- the message that is said is the machine's description
 pub service_is : (desk : Desk) → service_of desk ≡ message.ServiceDescription (described_by desk)

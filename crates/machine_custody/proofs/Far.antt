@@ -27,6 +27,8 @@ met_outlet (acts.Inserts id) c = refl
 met_outlet (acts.Removes id) c = refl
 met_outlet (acts.Replaces old new) c = refl
 met_outlet (acts.Signals signal on) c = refl
+met_outlet (acts.Tells message) c = refl
+met_outlet (acts.Answered query order) c = refl
 met_outlet (acts.Sets setting) c = refl
 
 pub all_outlet : (done : List Act) (c : Scene) → (all_met done c).above.outlet ≡ c.above.outlet
@@ -55,6 +57,8 @@ met_intake (acts.Inserts id) c = refl
 met_intake (acts.Removes id) c = refl
 met_intake (acts.Replaces old new) c = refl
 met_intake (acts.Signals signal on) c = refl
+met_intake (acts.Tells message) c = refl
+met_intake (acts.Answered query order) c = refl
 met_intake (acts.Sets setting) c = refl
 
 pub all_intake : (done : List Act) (c : Scene) → (all_met done c).below.intake ≡ c.below.intake
@@ -83,6 +87,8 @@ met_gap_above (acts.Inserts id) c = refl
 met_gap_above (acts.Removes id) c = refl
 met_gap_above (acts.Replaces old new) c = refl
 met_gap_above (acts.Signals signal on) c = refl
+met_gap_above (acts.Tells message) c = refl
+met_gap_above (acts.Answered query order) c = refl
 met_gap_above (acts.Sets setting) c = refl
 
 pub all_gap_above : (done : List Act) (c : Scene) → (all_met done c).above.gap.lies ≡ c.above.gap.lies
@@ -111,6 +117,8 @@ met_gap_below (acts.Inserts id) c = refl
 met_gap_below (acts.Removes id) c = refl
 met_gap_below (acts.Replaces old new) c = refl
 met_gap_below (acts.Signals signal on) c = refl
+met_gap_below (acts.Tells message) c = refl
+met_gap_below (acts.Answered query order) c = refl
 met_gap_below (acts.Sets setting) c = refl
 
 pub all_gap_below : (done : List Act) (c : Scene) → (all_met done c).below.gap.lies ≡ c.below.gap.lies
@@ -139,6 +147,8 @@ met_far_above (acts.Inserts id) c = refl
 met_far_above (acts.Removes id) c = refl
 met_far_above (acts.Replaces old new) c = refl
 met_far_above (acts.Signals signal on) c = refl
+met_far_above (acts.Tells message) c = refl
+met_far_above (acts.Answered query order) c = refl
 met_far_above (acts.Sets setting) c = refl
 
 pub all_far_above : (done : List Act) (c : Scene) → (all_met done c).above.far ≡ c.above.far
@@ -167,6 +177,8 @@ met_far_below (acts.Inserts id) c = refl
 met_far_below (acts.Removes id) c = refl
 met_far_below (acts.Replaces old new) c = refl
 met_far_below (acts.Signals signal on) c = refl
+met_far_below (acts.Tells message) c = refl
+met_far_below (acts.Answered query order) c = refl
 met_far_below (acts.Sets setting) c = refl
 
 pub all_far_below : (done : List Act) (c : Scene) → (all_met done c).below.far ≡ c.below.far
@@ -195,6 +207,8 @@ met_exit_above (acts.Inserts id) c = refl
 met_exit_above (acts.Removes id) c = refl
 met_exit_above (acts.Replaces old new) c = refl
 met_exit_above (acts.Signals signal on) c = refl
+met_exit_above (acts.Tells message) c = refl
+met_exit_above (acts.Answered query order) c = refl
 met_exit_above (acts.Sets setting) c = refl
 
 pub all_exit_above : (done : List Act) (c : Scene) → (all_met done c).above.exit ≡ c.above.exit
@@ -223,6 +237,8 @@ met_entry_below (acts.Inserts id) c = refl
 met_entry_below (acts.Removes id) c = refl
 met_entry_below (acts.Replaces old new) c = refl
 met_entry_below (acts.Signals signal on) c = refl
+met_entry_below (acts.Tells message) c = refl
+met_entry_below (acts.Answered query order) c = refl
 met_entry_below (acts.Sets setting) c = refl
 
 pub all_entry_below : (done : List Act) (c : Scene) → (all_met done c).below.entry ≡ c.below.entry

@@ -2,9 +2,15 @@
 use Rattle.std.proofs.Common.{List, [], refl, subst, sym, ◌++◌, ◌∷◌, ◌≡◌}
 use Rattle.board_record.specs.declared.record.Record.{Record}
 use Rattle.board_record.specs.declared.sensed.Sensed.{Sensed}
+use Rattle.node_core.specs.Desk.{Desk}
 use Rattle.node_core.specs.Done.{Done, and_then, behind}
+use Rattle.node_core.specs.Event.{Event}
+use Rattle.node_core.specs.Step.{machine_step, plain_step}
+use Rattle.node_core.specs.Supervising.{watch_of, with_tells}
 use Rattle.node_core.specs.declared.act.Act.{Act}
 use Rattle.node_core.specs.declared.lane.Body.{Body as Machine}
+use Rattle.node_core.specs.declared.supervising.Watch.{Watch}
+use Rattle.node_core.proofs.Telling.{beside}
 use Rattle.custody.specs.Pair.{Ghost}
 use Rattle.machine_custody.specs.Scene.{Scene, all_met, met}
 use Rattle.machine_custody.specs.Good.{Afar, Goes, GoesBy, Good}
@@ -12,6 +18,21 @@ use Rattle.machine_custody.specs.Good.{Afar, Goes, GoesBy, Good}
 pub met_append : (xs ys : List Act) (c : Scene) → all_met (xs ++ ys) c ≡ all_met ys (all_met xs c)
 met_append [] ys c = refl
 met_append (x ∷ xs) ys c = met_append xs ys (met x c)
+
+-- what the supervisor is told does nothing there
+pub met_tells : (desk : Desk) (watch : Watch) (made : List Act) (c : Scene)
+    → all_met (with_tells desk watch made) c ≡ all_met made c
+met_tells desk watch made =
+    beside (λ told plain. (c : Scene) → all_met told c ≡ all_met plain c) (λ c. refl)
+    (λ act told plain same c. same (met act c)) (λ message told plain same c. same c)
+    desk watch made
+
+-- so a whole step does there what it does without it
+pub step_met : (desk : Desk) (unread : List Sensed) (event : Event) (body : Machine) (c : Scene)
+    → all_met (machine_step desk unread event body).acts c
+    ≡ all_met (plain_step desk unread event body).acts c
+step_met desk unread event body c =
+    met_tells desk (watch_of desk body) (plain_step desk unread event body).acts c
 
 -- nothing happens
 pub goes_not : {afar : Afar} {above : List Record} {us : List Sensed} {ga gb : Ghost} {body : Machine} {c : Scene}

@@ -34,7 +34,7 @@ use Rattle.machine_custody.specs.ByHand.{body_read, scene_read}
 use Rattle.machine_custody.specs.Flight.{AreOldest, oldest_none, oldest_says, oldest_wrong, unheard}
 use Rattle.machine_custody.specs.Scene.{Scene, all_met}
 use Rattle.machine_custody.proofs.BehindReading.{intake_leaves, outlet_leaves, read_leaves}
-use Rattle.machine_custody.proofs.Goes.{met_append}
+use Rattle.machine_custody.proofs.Goes.{met_append, step_met}
 use Rattle.machine_custody.proofs.HearingAll.{deaf}
 use Rattle.machine_custody.proofs.Listening.{Then, breach_shuts, closed, entry_hears_then, exit_hears_then, still}
 
@@ -164,7 +164,8 @@ step_leaves desk unread side words messages body c oldest roles is on =
     let read_parts = (all_read_keeps 0 desk unread body).parts in
     let heard_all : Done = all_heard desk side words one in
     let told = announces_spare side desk heard_all.body in
-    ap (unheard side) (met_append (all_read desk unread body).acts (and_then heard_all (announces desk)).acts c)
+    ap (unheard side) (step_met desk unread (Words side words) body c)
+    ∙ ap (unheard side) (met_append (all_read desk unread body).acts (and_then heard_all (announces desk)).acts c)
     ∙ ap (unheard side) (met_append heard_all.acts (announces desk heard_all.body).acts (scene_read desk unread body c))
     ∙ told.leaves (all_met heard_all.acts (scene_read desk unread body c))
     ∙ words_leave desk side words messages one (scene_read desk unread body c) oldest (record { entry = read_parts.entry ∙ roles.entry; exit = read_parts.exit ∙ roles.exit }) (read_leaves side desk unread body c ∙ is) (sym told.opens ∙ on)

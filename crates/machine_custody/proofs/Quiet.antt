@@ -7,6 +7,7 @@ use Rattle.board_record.specs.declared.record.Record.{Record}
 use Rattle.board_record.specs.declared.sensed.Sensed.{Sensed}
 use Rattle.hermes_horizontal.specs.declared.message.Horizontal.{Horizontal}
 use Rattle.hermes_horizontal.specs.declared.message.Horizontal.TheVariants as message
+use Rattle.hermes_vertical.specs.declared.message.VerticalMessage.{VerticalMessage}
 use Rattle.handover_out.specs.Links.{is_unlinked_phase as out_unlinked}
 use Rattle.handover_out.specs.Row.{OutRow, outlet_row}
 use Rattle.handover_out.specs.Run.{stay as out_stay}
@@ -27,11 +28,14 @@ use Rattle.handover_in.proofs.Deeds.{unlinked_silent as in_silent}
 use Rattle.node_core.specs.Desk.{Desk}
 use Rattle.node_core.specs.Halves.{intake_row_did, outlet_row_did}
 use Rattle.node_core.specs.Reads.{all_read, saw}
+use Rattle.node_core.specs.Supervising.{with_tells}
 use Rattle.node_core.specs.Told.{drives, in_does, in_says, in_sends, out_does, out_sends, sends}
 use Rattle.node_core.specs.declared.act.Act.{Act}
 use Rattle.node_core.specs.declared.act.Act.TheVariants as acts
 use Rattle.node_core.specs.declared.act.Deed.{Deed}
 use Rattle.node_core.specs.declared.lane.Body.{Body as Machine}
+use Rattle.node_core.specs.declared.supervising.Watch.{Watch}
+use Rattle.node_core.proofs.Telling.{tells_all}
 use Rattle.machine_custody.specs.Scene.{Scene, all_met, met}
 use Rattle.machine_custody.specs.Joined.{is_answer, with_link}
 
@@ -41,9 +45,24 @@ pub data AllActs (P : Act → Type 0) : List Act → Type 0 where
   acts_none : AllActs P []
   acts_more : {act : Act} {others : List Act} → P act → AllActs P others → AllActs P (act ∷ others)
 
+first_has : {P : Act → Type 0} {act : Act} {others : List Act} → AllActs P (act ∷ others) → P act
+first_has (acts_more one more) = one
+
+others_have : {P : Act → Type 0} (act : Act) (others : List Act)
+    → AllActs P (act ∷ others) → AllActs P others
+others_have act others (acts_more one more) = more
+
 pub all_append : {P : Act → Type 0} {xs ys : List Act} → AllActs P xs → AllActs P ys → AllActs P (xs ++ ys)
 all_append acts_none ys = ys
 all_append (acts_more x xs) ys = acts_more x (all_append xs ys)
+
+-- what each message to the supervisor has, too, the acts have with what it is told
+pub all_tells : {P : Act → Type 0} (desk : Desk) (watch : Watch) {made : List Act}
+    → ((message : VerticalMessage) → P (acts.Tells message)) → AllActs P made
+    → AllActs P (with_tells desk watch made)
+all_tells {P = P} desk watch {made = made} tells all =
+    tells_all (AllActs P) others_have (λ act told others is more. acts_more (first_has is) more)
+    (λ message told more. acts_more (tells message) more) acts_none desk watch made all
 
 -- what is no message and closes nothing has it
 pub record IsPlain (P : Act → Type 0) : Type 0 where

@@ -1,5 +1,5 @@
 -- A MACHINE'S STEP keeps the relation of both its links: the events that it reads, what befalls it, its announcements.
-use Rattle.std.proofs.Common.{Bool, List, Option, Some, [], subst, sym, true, ℕ, ◌++◌, ◌∷◌, ◌≡◌}
+use Rattle.std.proofs.Common.{Bool, List, Option, Some, [], subst, sym, true, ℕ, ◌++◌, ◌∙◌, ◌∷◌, ◌≡◌}
 use Rattle.line_base.specs.declared.states.Quality.{Quality}
 use Rattle.board_record.specs.declared.record.Record.{Record}
 use Rattle.board_record.specs.declared.sensed.Sensed.{Sensed}
@@ -12,7 +12,7 @@ use Rattle.node_core.specs.Announces.{announces}
 use Rattle.node_core.specs.Boards.{inserts, is_kept, marks, removes, replaces}
 use Rattle.node_core.specs.Desk.{Desk}
 use Rattle.node_core.specs.Done.{Done, and_then}
-use Rattle.node_core.specs.Event.{Event, Fault, Forecast, Insert, Level, Mark, Nothing, Notice, Query, Remove, Replace, Shutdown, Tick, Will, Words, event_did}
+use Rattle.node_core.specs.Event.{Event, Fault, Forecast, Insert, Level, Mark, Nothing, Notice, Query, Remove, Replace, Shutdown, Supervised, Tick, Will, Words, event_did}
 use Rattle.node_core.specs.Halves.{OffersFront}
 use Rattle.node_core.specs.Reads.{all_read}
 use Rattle.node_core.specs.Step.{machine_step}
@@ -22,17 +22,17 @@ use Rattle.node_core.proofs.Offers.{OffersOf, to_offers}
 use Rattle.custody.specs.Pair.{Ghost}
 use Rattle.machine_custody.specs.Scene.{Scene, all_met}
 use Rattle.machine_custody.specs.Good.{Afar, Goes, GoesBy, Good, Lies, ListsAbove, ListsBelow}
-use Rattle.machine_custody.specs.Flight.{IsPlain, plain_fault, plain_forecast, plain_level, plain_notice, plain_nothing, plain_query, plain_shutdown, plain_tick, plain_will, plain_words, unheard}
+use Rattle.machine_custody.specs.Flight.{IsPlain, plain_fault, plain_forecast, plain_level, plain_notice, plain_nothing, plain_query, plain_shutdown, plain_supervised, plain_tick, plain_will, plain_words, unheard}
 use Rattle.machine_custody.specs.ByHand.{AreHere, Grows, body_read, scene_read}
 use Rattle.machine_custody.specs.Unique.{IsFrontOnce, IsApart}
 use Rattle.machine_custody.proofs.Announcing.{announces_go}
-use Rattle.machine_custody.proofs.Beside.{asks_go, forecasts_go, levels_go}
+use Rattle.machine_custody.proofs.Beside.{asks_go, forecasts_go, levels_go, supervises_go}
 use Rattle.machine_custody.proofs.BehindReading.{read_idle, read_leaves, read_lists, read_untouched}
 use Rattle.machine_custody.proofs.Handing.{inserts_good, marks_good, removes_good, replaces_good}
 use Rattle.machine_custody.proofs.Clock.{both_shut_down_go, both_tick_go, notices_go, wills_go}
 use Rattle.machine_custody.proofs.Elsewhere.{is_elsewhere}
 use Rattle.machine_custody.proofs.Far.{all_intake, all_outlet}
-use Rattle.machine_custody.proofs.Goes.{goes_not, goes_then, met_append}
+use Rattle.machine_custody.proofs.Goes.{goes_not, goes_then, met_append, step_met}
 use Rattle.machine_custody.proofs.HearingAll.{words_go}
 use Rattle.machine_custody.proofs.Reading.{all_read_good, faults_go}
 use Rattle.machine_custody.proofs.Rows.{goes_good}
@@ -46,7 +46,8 @@ step_by {afar = afar} {above = above} {ga = ga} {gb = gb} desk unread event body
     let now : Scene = all_met read.acts c in
     let did : Done = and_then (event_did desk event read.body) (announces desk) in
     let t = goes_then (event_did desk event read.body) (announces desk) goes (λ a b next. announces_go desk next) in
-    subst (λ s. Goes afar above [] ga gb c did.body s) (sym (met_append read.acts did.acts c)) (record {
+    subst (λ s. Goes afar above [] ga gb c did.body s)
+    (sym (step_met desk unread event body c ∙ met_append read.acts did.acts c)) (record {
       a = t.a;
       b = t.b;
       good = t.good;
@@ -70,6 +71,8 @@ plain_goes desk unread _ body c (plain_will {side = side} {on = on}) offers g = 
 plain_goes desk unread _ body c (plain_level {line = line} {on = on}) offers g = step_by desk unread (Level line on) body c (levels_go desk line on (all_read_good desk unread body c g))
 plain_goes desk unread _ body c plain_forecast offers g = step_by desk unread Forecast body c (forecasts_go desk (all_read_good desk unread body c g))
 plain_goes desk unread _ body c (plain_query {barcode = barcode}) offers g = step_by desk unread (Query barcode) body c (asks_go desk barcode (all_read_good desk unread body c g))
+plain_goes desk unread _ body c (plain_supervised {what = what}) offers g =
+    step_by desk unread (Supervised what) body c (supervises_go desk what (all_read_good desk unread body c g))
 
 -- the same, from what holds of a machine between its steps
 pub plain_keeps : {afar : Afar} {above : List Record} {ga gb : Ghost} (desk : Desk) (unread : List Sensed) (event : Event) (body : Machine) (c : Scene) → IsPlain event c → OffersFront body

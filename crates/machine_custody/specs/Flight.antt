@@ -5,7 +5,8 @@ use Rattle.line_base.specs.declared.states.Side.TheVariants.{Entry, Exit}
 use Rattle.hermes_horizontal.specs.declared.message.Horizontal.{Horizontal}
 use Rattle.hermes_horizontal.specs.declared.message.Message.{Message}
 use Rattle.smema_bridge.specs.declared.line.SegmentLine.{SegmentLine}
-use Rattle.node_core.specs.Event.{Event, Fault, Forecast, Level, Nothing, Notice, Query, Shutdown, Tick, Will, Words}
+use Rattle.node_core.specs.Event.{Event, Fault, Forecast, Level, Nothing, Notice, Query, Shutdown, Supervised, Tick, Will, Words}
+use Rattle.node_core.specs.Supervising.{Supervision}
 use Rattle.node_core.specs.declared.word.Word.{Word}
 use Rattle.node_core.specs.declared.word.Word.TheVariants as words
 use Rattle.machine_custody.specs.Scene.{Scene}
@@ -35,3 +36,5 @@ pub data IsPlain : Event → Scene → Type 0 where
   plain_level : {line : SegmentLine} {on : Bool} {c : Scene} → IsPlain (Level line on) c
   plain_forecast : {c : Scene} → IsPlain Forecast c
   plain_query : {barcode : List ℕ} {c : Scene} → IsPlain (Query barcode) c
+  -- it is supervised or not, asks its supervisor, or is answered
+  plain_supervised : {what : Supervision} {c : Scene} → IsPlain (Supervised what) c

@@ -29,8 +29,8 @@ ghost use Rattle.machine_custody.specs.Unique.{IsApart};
 
 /// A step in which no board is changed by hand and no connection is made keeps the relation of both links and of the
 /// machine: it reads its sensor events, hears the oldest messages to a side or a wrong one, notices a close, ticks, shuts
-/// down, meets a fault of a drive, another will or a level of its segment, tells or asks of boards, and makes its
-/// announcements.
+/// down, meets a fault of a drive, another will or a level of its segment, tells or asks of boards, talks to its
+/// supervisor, and makes its announcements.
 pub fn a_step_keeps_both_links()
     ensures { (afar : Afar) (above : List Record) (ga gb : Ghost) (desk : Desk) (unread : List Sensed) (event : Event) (body : Machine) (c : Scene) → IsPlain event c → OffersFront body → Good afar above unread ga gb body c → GoesBy afar above [] ga gb c (machine_step desk unread event body) }
 {}

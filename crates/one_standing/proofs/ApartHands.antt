@@ -36,7 +36,10 @@ use Rattle.line_step.specs.State.{LineState, machine_in, with_machine, with_worl
 use Rattle.line_step.specs.Steps.{MachineSteps, is_second, moment_of, read_by, unread_by}
 use Rattle.line_step.specs.World.{WorldParts}
 use Rattle.line_step.proofs.FloorLaws.{Holds}
-use Rattle.line_step.proofs.Hands.{AreQuiet, announces-quiet, both_shut-quiet, both_tick-quiet, faults-quiet, heard-quiet, marks-quiet, notices-quiet, opens-quiet, quiet-join, read-quiet, second-quiet, signals-quiet, levels-quiet, forecasts-quiet}
+use Rattle.line_step.proofs.Hands.{AreQuiet, announces-quiet, both_shut-quiet, both_tick-quiet, faults-quiet, heard-quiet, marks-quiet, notices-quiet, opens-quiet, quiet-join, read-quiet, second-quiet, signals-quiet, levels-quiet, forecasts-quiet, hands_with_tells, supervises-quiet}
+use Rattle.line_step.proofs.WithTells.{tells_append}
+use Rattle.node_core.specs.Step.{plain_step}
+use Rattle.node_core.specs.Supervising.{Answer, Ask, Supervise, tells_behind, watch_after, watch_behind, watch_of, with_tells}
 use Rattle.line_step.proofs.Makers.{AreNumbered, IsOld, numbered-at, numbered-set, old-set}
 use Rattle.line_step.proofs.OnFloor.{LiesThere, as_many_gaps, lies-there_by, quiet-acts}
 use Rattle.one_standing.specs.Carried.{Trace, between_of, stand_of}
@@ -91,18 +94,48 @@ body_then number m input s after told steps = (all_read (desk_of steps.node (mom
 abbrev hand_then : (number m : ℕ) (input : Input) (s after : LineState) (told : List Happening) → MachineSteps number m input s after told → List Act
 hand_then number m input s after told steps = (event_did (desk_of steps.node (moment_of number)) (event_of steps.node.maker input steps.steps.lane.words) (body_then number m input s after told steps)).acts
 
+-- what the step does but for what it tells its supervisor
+abbrev plain_then : (number m : ℕ) (input : Input) (s after : LineState) (told : List Happening)
+    → MachineSteps number m input s after told → List Act
+plain_then number m input s after told steps =
+    (plain_step (desk_of steps.node (moment_of number)) (unread_by m s.world)
+    (event_of steps.node.maker input steps.steps.lane.words) steps.node.lane.body).acts
+
+-- an act that a step does is told, whatever the supervisor is told behind it
+among_told : (number m : ℕ) (input : Input) (act : Act) (front back : List Act)
+    (s after : LineState) (told : List Happening)
+    (steps : MachineSteps number m input s after told)
+    → plain_then number m input s after told steps ≡ front ++ act ∷ back
+    → ((w : WorldParts) → (act_did (is_second input) m act w).told ≡ happenings.Done m act ∷ [])
+    → IsTold (happenings.Done m act) told
+among_told number m input act front back s after told steps is plain =
+    let desk = desk_of steps.node (moment_of number) in
+    let watch = watch_of desk steps.node.lane.body in
+    let now = watch_behind watch front in
+    let first = with_tells desk watch front in
+    let rest = tells_behind desk now act ++ with_tells desk (watch_after now act) back in
+    let own : List Act = signalled steps.node.bridge steps.next.lane.body in
+    let made : steps.steps.made ≡ first ++ act ∷ rest =
+    steps.steps.lane.told ∙ ap (with_tells desk watch) is
+    ∙ tells_append desk watch front (act ∷ back) in
+    let all : steps.acts ≡ first ++ act ∷ (rest ++ own) =
+    steps.steps.told ∙ ap (λ (acts : List Act). acts ++ own) made
+    ∙ append_assoc first (act ∷ rest) own in
+    let P : List Act → Type 0 =
+    λ list. IsTold (happenings.Done m act)
+    (acts_did (is_second input) m list (read_by m s.world)).told in
+    let Q : List Happening → Type 0 = λ list. IsTold (happenings.Done m act) list in
+    subst Q (sym steps.told_is)
+    (subst P (sym all)
+    (acts_told (is_second input) m act first (rest ++ own) (read_by m s.world) plain))
+
 step_told : (number m : ℕ) (input : Input) (act : Act) (s after : LineState) (told : List Happening) (steps : MachineSteps number m input s after told) → hand_then number m input s after told steps ≡ act ∷ [] → ((w : WorldParts) → (act_did (is_second input) m act w).told ≡ happenings.Done m act ∷ []) → IsTold (happenings.Done m act) told
 step_told number m input act s after told steps one plain =
     let desk = desk_of steps.node (moment_of number) in
     let read = all_read desk (unread_by m s.world) steps.node.lane.body in
     let last = announces desk (event_did desk (event_of steps.node.maker input steps.steps.lane.words) read.body).body in
-    let own : List Act = signalled steps.node.bridge steps.next.lane.body in
-    let made : steps.steps.made ≡ read.acts ++ (act ∷ [] ++ last.acts) = steps.steps.lane.told ∙ ap (λ hand. read.acts ++ (hand ++ last.acts)) one in
-    let all : steps.acts ≡ read.acts ++ (act ∷ [] ++ (last.acts ++ own)) =
-    steps.steps.told ∙ ap (λ (acts : List Act). acts ++ own) made ∙ append_assoc read.acts (act ∷ [] ++ last.acts) own in
-    let P : List Act → Type 0 = λ list. IsTold (happenings.Done m act) (acts_did (is_second input) m list (read_by m s.world)).told in
-    let Q : List Happening → Type 0 = λ list. IsTold (happenings.Done m act) list in
-    subst Q (sym steps.told_is) (subst P (sym all) (acts_told (is_second input) m act read.acts (last.acts ++ own) (read_by m s.world) plain))
+    among_told number m input act read.acts last.acts s after told steps
+    (ap (λ (hand : List Act). read.acts ++ (hand ++ last.acts)) one) plain
 
 -- a machine puts a board in under its next id
 pub inserts_told : (number m new : ℕ) (barcode : Option (List ℕ)) (s after : LineState) (told : List Happening) (steps : MachineSteps number m (inputs.Insert barcode) s after told) → next_id steps.node.maker ≡ Ok new → IsTold (happenings.Done m (acts.Inserts new)) told
@@ -137,19 +170,15 @@ marks_told number m x quality s after told steps kept =
 
 -- what is done behind another act of the input is told too
 step_told_second : (number m : ℕ) (input : Input) (first act : Act) (s after : LineState) (told : List Happening) (steps : MachineSteps number m input s after told) → hand_then number m input s after told steps ≡ first ∷ act ∷ []
-    → ((w : WorldParts) → (act_did (is_second input) m act w).told ≡ happenings.Done m act ∷ []) → IsTold (happenings.Done m act) told
+    → ((w : WorldParts) → (act_did (is_second input) m act w).told ≡ happenings.Done m act ∷ [])
+    → IsTold (happenings.Done m act) told
 step_told_second number m input first act s after told steps two plain =
     let desk = desk_of steps.node (moment_of number) in
     let read = all_read desk (unread_by m s.world) steps.node.lane.body in
     let last = announces desk (event_did desk (event_of steps.node.maker input steps.steps.lane.words) read.body).body in
-    let own : List Act = signalled steps.node.bridge steps.next.lane.body in
-    let made : steps.steps.made ≡ read.acts ++ (first ∷ act ∷ [] ++ last.acts) = steps.steps.lane.told ∙ ap (λ hand. read.acts ++ (hand ++ last.acts)) two in
-    let all : steps.acts ≡ (read.acts ++ first ∷ []) ++ (act ∷ (last.acts ++ own)) =
-    steps.steps.told ∙ ap (λ (acts : List Act). acts ++ own) made ∙ append_assoc read.acts (first ∷ act ∷ [] ++ last.acts) own
-    ∙ sym (append_assoc read.acts (first ∷ []) (act ∷ (last.acts ++ own))) in
-    let P : List Act → Type 0 = λ list. IsTold (happenings.Done m act) (acts_did (is_second input) m list (read_by m s.world)).told in
-    let Q : List Happening → Type 0 = λ list. IsTold (happenings.Done m act) list in
-    subst Q (sym steps.told_is) (subst P (sym all) (acts_told (is_second input) m act (read.acts ++ first ∷ []) (last.acts ++ own) (read_by m s.world) plain))
+    among_told number m input act (read.acts ++ first ∷ []) last.acts s after told steps
+    (ap (λ (hand : List Act). read.acts ++ (hand ++ last.acts)) two
+    ∙ sym (append_assoc read.acts (first ∷ []) (act ∷ last.acts))) plain
 
 -- a bridge marks its front board, where a level of the segment says that it is a failed one
 pub fails_told : (number m id : ℕ) (line : SegmentLine) (on : Bool) (s after : LineState) (told : List Happening) (steps : MachineSteps number m (inputs.Level line on) s after told)
@@ -186,6 +215,9 @@ event_quiet desk maker (inputs.Will side on) words body handless = (tt, tt)
 event_quiet desk maker (inputs.Level line on) words body handless = levels-quiet desk line on body
 event_quiet desk maker inputs.Forecast words body handless = forecasts-quiet desk (slice_get body.kept 0)
 event_quiet desk maker (inputs.Query barcode) words body handless = (tt, tt)
+event_quiet desk maker (inputs.Supervise on) words body handless = supervises-quiet desk (Supervise on) body
+event_quiet desk maker (inputs.Ask question) words body handless = supervises-quiet desk (Ask question) body
+event_quiet desk maker (inputs.Answer query order) words body handless = supervises-quiet desk (Answer query order) body
 event_quiet desk maker (inputs.Insert barcode) words body handless = absurd handless
 event_quiet desk maker (inputs.Remove id) words body handless = absurd handless
 event_quiet desk maker (inputs.Replace id) words body handless = absurd handless
@@ -236,13 +268,17 @@ step_still number m input s after told handless h steps =
     let read = all_read desk (unread_by m s.world) steps.node.lane.body in
     let event = event_did desk (event_of steps.node.maker input steps.steps.lane.words) read.body in
     let last = announces desk event.body in
+    let watch = watch_of desk steps.node.lane.body in
     let own : List Act = signalled steps.node.bridge steps.next.lane.body in
     let P : List Act → Type 0 = λ list. AreQuiet list in
     let quiet : AreQuiet steps.acts =
     subst P (sym (steps.steps.told ∙ ap (λ (acts : List Act). acts ++ own) steps.steps.lane.told))
-    (quiet-join (read.acts ++ (event.acts ++ last.acts)) own
+    (quiet-join (with_tells desk watch (read.acts ++ (event.acts ++ last.acts))) own
+    (hands_with_tells desk watch (read.acts ++ (event.acts ++ last.acts))
     (quiet-join read.acts (event.acts ++ last.acts) (read-quiet desk (unread_by m s.world) steps.node.lane.body)
-    (quiet-join event.acts last.acts (event_quiet desk steps.node.maker input steps.steps.lane.words read.body handless) (announces-quiet desk event.body)))
+    (quiet-join event.acts last.acts
+    (event_quiet desk steps.node.maker input steps.steps.lane.words read.body handless)
+    (announces-quiet desk event.body))))
     (signals-quiet steps.node.bridge steps.next.lane.body)) in
     let world = read_by m s.world in
     let plan = s.world.floor in

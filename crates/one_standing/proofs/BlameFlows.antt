@@ -51,6 +51,7 @@ use Rattle.node_core.specs.Signals.{signalled}
 use Rattle.node_core.specs.declared.lane.Body.{Body}
 use Rattle.one_standing.proofs.Signalled.{signals_mild}
 use Rattle.one_standing.proofs.FactsBlame.{Leave, are_mild}
+use Rattle.one_standing.proofs.LineMoves.{less_one}
 
 -- ---- what arrives at a side, and what is heard
 
@@ -59,9 +60,6 @@ record Hearing (Taint : Type 0) (side : Side) (ready stands : Bool) (old piece l
   some : is_empty bytes ≡ false
   are : AreWords old piece new still heard
   clear : Clear Taint side ready false stands old bytes
-
-less_one : (m : ℕ) → 1 ≤ m → m - 1 + 1 ≡ m
-less_one m counted = omega (arith, counted)
 
 there_at : (number m : ℕ) (side : Side) (count : Option ℕ) (before after : LineState) (told : List Happening) (flows : Flows number m side count before after told) → node_at before m ≡ flows.steps.node
 there_at number m side count before after told flows = node_there m before flows.steps.node flows.steps.there

@@ -31,6 +31,7 @@ use Rattle.one_standing.proofs.LedgerLine.{same_nodes}
 use Rattle.one_standing.proofs.MirroringCall.{dry_down, dry_up}
 use Rattle.one_standing.proofs.Traces.{put, put_other, put_same}
 use Rattle.one_standing.proofs.WholeLinks.{steps as whole_steps, whole_connect, whole_links}
+use Rattle.one_standing.proofs.LineMoves.{less_one}
 
 -- ---- the bytes that wait behind both steps
 
@@ -72,9 +73,6 @@ unmet_entry _ meets_second = refl
 meeting_entry : (input : Input) → IsMeeting input → (bytes : List ℕ) → entry_after input bytes ≡ bytes
 meeting_entry _ meets_first bytes = refl
 meeting_entry _ meets_second bytes = refl
-
-pub less_one : (m : ℕ) → 1 ≤ m → m - 1 + 1 ≡ m
-less_one m counted = omega (arith, counted)
 
 -- what is had of both steps
 record Joins (number m : ℕ) (input : Input) (before between after : LineState) (earlier later : List Happening) : Type 0 where
@@ -149,7 +147,7 @@ second_ready number m before between after earlier later j k is =
 
 -- ---- what flows behind both
 
-whole_connecting : (m : ℕ) (before : LineState) → AreWholeLinks before → AreWholeLinks (connecting m before)
+pub whole_connecting : (m : ℕ) (before : LineState) → AreWholeLinks before → AreWholeLinks (connecting m before)
 whole_connecting m before whole = whole_links (m - 1) (after_connect (link_at (m - 1) before.world)) before.world whole (whole_connect (link_at (m - 1) before.world) (whole (m - 1)))
 
 -- from what flows on the link as it is connected

@@ -54,7 +54,8 @@ use Rattle.one_standing.specs.Waits.{AreWaiting}
 use Rattle.one_standing.proofs.ApartStep.{told_before, told_behind}
 use Rattle.one_standing.proofs.BlameFlows.{flow_clear, flow_mild}
 use Rattle.one_standing.proofs.BlameFree.{freed}
-use Rattle.one_standing.proofs.BlameJoins.{connects_clear, less_one, same_entry, same_exit}
+use Rattle.one_standing.proofs.BlameJoins.{connects_clear, same_entry, same_exit}
+use Rattle.one_standing.proofs.LineMoves.{less_one}
 use Rattle.one_standing.proofs.BlameLinks.{AreClear, IsClear, are_clear_by, are_clear_map, are_clear_ready, are_clear_with, clear_cut, clear_limit, clear_no_link, clear_nulled_down, clear_nulled_up, none_free}
 use Rattle.one_standing.proofs.BlameReady.{is_ready, is_ready_state}
 use Rattle.one_standing.proofs.BlameSteps.{AreClearIn, AreMildAt, IsFree, NewBytes, both_ready, calls, entries_of, exits_of, frees_by, frees_there, is_bytes, new_bytes, quiet_fit, quiet_mild, ready_of, step_clear}
@@ -245,6 +246,9 @@ does_clear number (lines.Go m side) t before next told fit taints g does = unles
 does_clear number (lines.Signal m line on) t before next told fit taints g does = unless_clear _ before next told _ does g.all (λ may done. plain_clear number m (inputs.Level line on) t before next told refl refl tt (λ node there. tt) g done)
 does_clear number (lines.Forecast m) t before next told fit taints g does = unless_clear _ before next told _ does g.all (λ may done. plain_clear number m inputs.Forecast t before next told refl refl tt (forecast_free m before may) g done)
 does_clear number (lines.Query m barcode) t before next told fit taints g does = unless_clear _ before next told _ does g.all (λ may done. plain_clear number m (inputs.Query barcode) t before next told refl refl fit (query_free m barcode before may) g done)
+does_clear number (lines.Supervise m) t before next told fit taints g does = unless_clear _ before next told _ does g.all (λ may done. plain_clear number m (inputs.Supervise true) t before next told refl refl tt (λ node there. tt) g done)
+does_clear number (lines.Ask m question) t before next told fit taints g does = unless_clear _ before next told _ does g.all (λ may done. plain_clear number m (inputs.Ask question) t before next told refl refl tt (λ node there. tt) g done)
+does_clear number (lines.Answer m query order) t before next told fit taints g does = unless_clear _ before next told _ does g.all (λ may done. plain_clear number m (inputs.Answer query order) t before next told refl refl tt (λ node there. tt) g done)
 does_clear number (lines.Connect m) t before next told fit taints g does = unless_clear _ before next told _ does g.all (λ may done. connects_clear g.alone number m before next told g.few g.holds.fit g.holds.links g.holds.together may done g.all)
 does_clear number (lines.Flow m side count) t before next told fit taints g does = unless_clear _ before next told _ does g.all (λ may done. flow_line number m side count t before next told g may done)
 does_clear number (lines.Notice m side) t before next told fit taints g does = unless_clear _ before next told _ does g.all (λ may done. plain_clear number m (inputs.Notice side) t before next told refl refl tt (λ node there. tt) g done)
@@ -290,7 +294,7 @@ quiet_blame Holds number m input before next told none free steps =
 given_blame : (Holds : ℕ → Side → Type 0) (may : May) (number m : ℕ) (input : Input) (before next : LineState) (told : List Happening) → is_bytes input ≡ false → FreeAt m input before → Unless may before next told (MachineSteps number m input before next told) → AllBlames Holds told
 given_blame Holds may number m input before next told none free does = unless_blame Holds may before next told _ does (λ can done. quiet_blame Holds number m input before next told none free done)
 
-met_quiet : (on : Connected) → is_bytes (met on) ≡ false
+pub met_quiet : (on : Connected) → is_bytes (met on) ≡ false
 met_quiet connections.Accepted = refl
 met_quiet connections.Second = refl
 
@@ -338,6 +342,9 @@ does_blame past number (lines.Go m side) t before next told alone holds all does
 does_blame past number (lines.Signal m line on) t before next told alone holds all does = given_blame (WasSpoiled past) _ number m (inputs.Level line on) before next told refl (λ node there. tt) does
 does_blame past number (lines.Forecast m) t before next told alone holds all does = unless_blame (WasSpoiled past) _ before next told _ does (λ may done. quiet_blame (WasSpoiled past) number m inputs.Forecast before next told refl (forecast_free m before may) done)
 does_blame past number (lines.Query m barcode) t before next told alone holds all does = unless_blame (WasSpoiled past) _ before next told _ does (λ may done. quiet_blame (WasSpoiled past) number m (inputs.Query barcode) before next told refl (query_free m barcode before may) done)
+does_blame past number (lines.Supervise m) t before next told alone holds all does = given_blame (WasSpoiled past) _ number m (inputs.Supervise true) before next told refl (λ node there. tt) does
+does_blame past number (lines.Ask m question) t before next told alone holds all does = given_blame (WasSpoiled past) _ number m (inputs.Ask question) before next told refl (λ node there. tt) does
+does_blame past number (lines.Answer m query order) t before next told alone holds all does = given_blame (WasSpoiled past) _ number m (inputs.Answer query order) before next told refl (λ node there. tt) does
 does_blame past number (lines.Connect m) t before next told alone holds all does = unless_blame (WasSpoiled past) _ before next told _ does (λ may done. connects_blame (WasSpoiled past) number m before next told done)
 does_blame past number (lines.Flow m side count) t before next told alone holds all does = unless_blame (WasSpoiled past) _ before next told _ does (λ may done. flow_blame past number m side count t before next told alone holds all may done)
 does_blame past number (lines.Notice m side) t before next told alone holds all does = given_blame (WasSpoiled past) _ number m (inputs.Notice side) before next told refl (λ node there. tt) does

@@ -36,7 +36,7 @@ use Rattle.node_core.specs.Bridge.{failed_front, fails, tells_level, with_level_
 use Rattle.node_core.specs.Connect.{if_open, shuts_down, ticks}
 use Rattle.node_core.specs.Desk.{Desk}
 use Rattle.node_core.specs.Done.{Done, and_then, behind}
-use Rattle.node_core.specs.Event.{Accepted, Connect, Event, Fault, Forecast, Insert, Level, Mark, Nothing, Notice, Query, Remove, Replace, Second, Shutdown, Tick, Will, Words, event_did}
+use Rattle.node_core.specs.Event.{Accepted, Connect, Event, Fault, Forecast, Insert, Level, Mark, Nothing, Notice, Query, Remove, Replace, Second, Shutdown, Supervised, Tick, Will, Words, event_did}
 use Rattle.node_core.specs.Halves.{behind_opening, half_closed, intake_row_did, opening_board, outlet_row_did}
 use Rattle.node_core.specs.Hears.{entry_took, entry_word, exit_took, exit_word, hears, intake_took, outlet_took, passed, rowed, side_took, taken}
 use Rattle.node_core.specs.Reads.{all_read, reads, saw}
@@ -438,6 +438,7 @@ event_stays side desk (Replace old new) body other = kept_stays side (is_kept ol
 event_stays side desk (Mark id quality) body other = kept_stays side (is_kept id body.kept) _ body _
 event_stays side desk Forecast body other = none_stays body
 event_stays side desk (Query barcode) body other = none_stays body
+event_stays side desk (Supervised what) body other = none_stays body
 
 pub step_stays : (side : Side) (desk : Desk) (unread : List Seen) (event : Event) (body : Body) → MayCall side event → Stays side body (machine_step desk unread event body).body
 step_stays side desk unread event body other =

@@ -1,5 +1,5 @@
 -- A machine's step: what flows to each side of the line goes on being said by the other end, and which breaches are told.
-use Rattle.std.proofs.Common.{Bool, Err, List, None, Ok, Option, Result, Some, [], ap, arith, false, inl, inr, is_some, refl, subst, sym, true, ℕ, ◌+◌, ◌-◌, ◌∙◌, ◌≡◌, ◌≢◌, ◌≤◌, ◌⊎◌}
+use Rattle.std.proofs.Common.{Bool, Err, List, None, Ok, Option, Result, Some, [], ap, false, inl, inr, is_some, refl, subst, sym, true, ℕ, ◌+◌, ◌∙◌, ◌≡◌, ◌≢◌, ◌≤◌, ◌⊎◌}
 use Rattle.std.specs.Borrow.{Bor}
 use Rattle.std.proofs.lemmas.Bool.{false≢true}
 use Rattle.line_base.specs.declared.states.Side.{Side}
@@ -51,9 +51,7 @@ use Rattle.one_standing.proofs.Plain.{node_next}
 use Rattle.one_standing.proofs.WholeLinks.{numbered}
 use Rattle.link_messages.proofs.SayingWhat.{both_said}
 use Rattle.one_standing.proofs.Signalled.{signals_mild}
-
-less_one : (m : ℕ) → 1 ≤ m → m - 1 + 1 ≡ m
-less_one m counted = omega (arith, counted)
+use Rattle.one_standing.proofs.LineMoves.{less_one}
 
 -- ---- the bytes that wait at the two sides of each link, and what flows there
 

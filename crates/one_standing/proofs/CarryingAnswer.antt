@@ -1,6 +1,6 @@
 -- The acts of a step of a second connection, whose answer flows down though the link doesn't stand.
 use Rattle.std.proofs.Common.{Bool, List, None, Option, Some, [], ap, false, refl, subst, suc, sym, true, ℕ, ◌++◌, ◌∙◌, ◌∷◌, ◌≡◌, append_assoc}
-use Rattle.std.specs.Prelude.{cond, drop, is_some}
+use Rattle.std.specs.Prelude.{cond, drop, if◌then◌else◌, is_some}
 use Rattle.std.proofs.lemmas.Bool.{false≢true}
 use Rattle.line_base.specs.declared.states.Role.TheVariants.{Downstream, Upstream}
 use Rattle.line_base.specs.declared.states.Side.{Side}
@@ -34,7 +34,10 @@ use Rattle.link_messages.specs.Fit.{AreFitActs, IsFit, IsFitAct, more_said, none
 use Rattle.machine_custody.specs.Joined.{all_met_second, answered, is_answer, met_second}
 use Rattle.machine_custody.specs.Scene.{Scene, all_met, met}
 use Rattle.machine_custody.proofs.Answering.{IsNoAnswer, announces_plain, plain_met, read_plain, second_append}
-use Rattle.machine_custody.proofs.Quiet.{AllActs, acts_more, acts_none, all_append}
+use Rattle.machine_custody.proofs.Quiet.{AllActs, acts_more, acts_none, all_append, all_tells}
+use Rattle.node_core.specs.Supervising.{watch_behind, watch_of, with_tells}
+use Rattle.node_core.specs.declared.supervising.Watch.{Watch}
+use Rattle.line_step.proofs.WithTells.{tells_append}
 use Rattle.custody.specs.Words.{sent}
 use Rattle.line_step.specs.Acts.{is_answer as is_told_answer}
 use Rattle.line_step.specs.Near.{Near, near_did, near_sent, nears_did}
@@ -122,6 +125,8 @@ act_off alone acts.Connects rest fit k = record { place = k.place; above = joint
 act_off alone (acts.Deed deed) rest fit k = record { place = k.place; above = joint_on Entry (acts.Deed deed) rest refl refl k.above; there = k.there; off = k.off; below = side_on Exit (acts.Deed deed) rest refl refl k.below; linked = k.linked }
 act_off alone (acts.Marks id quality) rest fit k = record { place = k.place; above = joint_on Entry (acts.Marks id quality) rest refl refl k.above; there = k.there; off = k.off; below = side_on Exit (acts.Marks id quality) rest refl refl k.below; linked = k.linked }
 act_off alone (acts.Signals signal on) rest fit k = record { place = k.place; above = joint_on Entry (acts.Signals signal on) rest refl refl k.above; there = k.there; off = k.off; below = side_on Exit (acts.Signals signal on) rest refl refl k.below; linked = k.linked }
+act_off alone (acts.Tells message) rest fit k = record { place = k.place; above = joint_on Entry (acts.Tells message) rest refl refl k.above; there = k.there; off = k.off; below = side_on Exit (acts.Tells message) rest refl refl k.below; linked = k.linked }
+act_off alone (acts.Answered query order) rest fit k = record { place = k.place; above = joint_on Entry (acts.Answered query order) rest refl refl k.above; there = k.there; off = k.off; below = side_on Exit (acts.Answered query order) rest refl refl k.below; linked = k.linked }
 act_off alone (acts.Sets setting) rest fit k = record { place = k.place; above = joint_on Entry (acts.Sets setting) rest refl refl k.above; there = k.there; off = k.off; below = side_on Exit (acts.Sets setting) rest refl refl k.below; linked = k.linked }
 
 acts_off : {has : Side → Bool} {new_entry new_exit far_above : List ℕ} → SaysAlone → (told rest : List Act) → AreFitActs told → {near : Near} {c : Scene}
@@ -188,40 +193,73 @@ fit_front (x ∷ xs) ys (more_said one more) = let both = fit_front xs ys more i
 
 data IsAnswering : List Act → Type 0 where
   answers_none : IsAnswering []
-  answers_one : (said : Message) → is_answer said.body ≡ true → IsAnswering (acts.Sends Exit said ∷ [])
+  answers_one : (said : Message) (more : List Act) → is_answer said.body ≡ true
+      → AllActs IsNoAnswer more → IsAnswering (acts.Sends Exit said ∷ more)
 
 answering_row : (desk : Desk) (body : Body) (s : SessionEnd) (row : SessionRow) → IsSessionRow s second row → IsAnswering (actions_did desk Exit row.actions (with_session Exit row.after body)).acts
-answering_row desk body _ _ (refuses_second is) = answers_one _ refl
+answering_row desk body _ _ (refuses_second is) = answers_one _ [] refl acts_none
 
 answering : (desk : Desk) (body : Body) (row : Option SessionRow) → session_row body.exit.session second ≡ row → IsAnswering (session_did desk Exit row body).acts
 answering desk body None is = answers_none
 answering desk body (Some row) is = answering_row desk body body.exit.session row (session_row_is body.exit.session second row is)
+
+tells_none : (test : Bool) → AllActs IsNoAnswer (if test then [] else [])
+tells_none true = acts_none
+tells_none false = acts_none
+
+-- and so it does with what the supervisor is told
+answering_tells : (desk : Desk) (watch : Watch) (made : List Act) → IsAnswering made
+    → IsAnswering (with_tells desk watch made)
+answering_tells desk watch _ answers_none = answers_none
+answering_tells desk watch _ (answers_one said more is plain) =
+    answers_one said _ is
+    (all_append (tells_none watch.supervised) (all_tells desk watch (λ message. tt) plain))
 
 -- behind the reading: perhaps an answer, and then what is announced
 mid_like : {has : Side → Bool} {new_entry new_exit far_above : List ℕ} {near : Near} {c : Scene} → SaysAlone → (mid says : List Act) → IsAnswering mid → AllActs IsNoAnswer says → AreFitActs (mid ++ says)
     → IsLikeOff has (mid ++ says) new_entry new_exit far_above near c → IsLike has [] new_entry new_exit far_above [] (nears_did has true (mid ++ says) near) (all_met_second (mid ++ says) c)
 mid_like {has = has} {new_entry = ne} {new_exit = nx} {far_above = fa} {near = near} {c = c} alone _ says answers_none plain fit k =
     subst (λ (n : Near). IsLike has [] ne nx fa [] n (all_met_second says c)) (sym (nears_plain has says near plain)) (subst (λ (d : Scene). IsLike has [] ne nx fa [] (nears_did has false says near) d) (sym (plain_met says c plain)) (acts_like alone says fit (like_of k)))
-mid_like {has = has} {new_entry = ne} {new_exit = nx} {far_above = fa} {near = near} {c = c} alone _ says (answers_one said is) plain (more_said one fit) k =
+mid_like {has = has} {new_entry = ne} {new_exit = nx} {far_above = fa} {near = near} {c = c} alone
+    _ says (answers_one said more is others) plain (more_said one fit) k =
     let act : Act = acts.Sends Exit said in
-    let next : IsLike has says ne nx fa [] (near_did has true act near) (met_second act c) = answer_like alone said says one is k in
-    let last = acts_like alone says fit next in
-    subst (λ (n : Near). IsLike has [] ne nx fa [] n (all_met_second says (met_second act c))) (sym (nears_plain has says (near_did has true act near) plain))
-    (subst (λ (d : Scene). IsLike has [] ne nx fa [] (nears_did has false says (near_did has true act near)) d) (sym (plain_met says (met_second act c) plain)) last)
+    let rest : List Act = more ++ says in
+    let quiet : AllActs IsNoAnswer rest = all_append others plain in
+    let next : IsLike has rest ne nx fa [] (near_did has true act near) (met_second act c) =
+    answer_like alone said rest one is k in
+    let last = acts_like alone rest fit next in
+    subst (λ (n : Near). IsLike has [] ne nx fa [] n (all_met_second rest (met_second act c)))
+    (sym (nears_plain has rest (near_did has true act near) quiet))
+    (subst (λ (d : Scene). IsLike has [] ne nx fa []
+    (nears_did has false rest (near_did has true act near)) d)
+    (sym (plain_met rest (met_second act c) quiet)) last)
 
--- the acts of the step, with a bridge's own signals behind them
+-- the acts of the step, with what the supervisor is told, and a bridge's own signals behind them
 abbrev pub second_acts : Desk → List Sensed → Body → List Act → List Act
 second_acts desk unread body own =
+    let watch : Watch = watch_of desk body in
     let read : Done = all_read desk unread body in
     let did : Done = event_did desk Second read.body in
-    read.acts ++ (did.acts ++ ((announces desk did.body).acts ++ own))
+    let now : Watch = watch_behind watch read.acts in
+    with_tells desk watch read.acts
+    ++ (with_tells desk now did.acts
+    ++ (with_tells desk (watch_behind now did.acts) (announces desk did.body).acts ++ own))
 
 pub second_acts_are : (desk : Desk) (unread : List Sensed) (body : Body) (own : List Act) → (machine_step desk unread Second body).acts ++ own ≡ second_acts desk unread body own
 second_acts_are desk unread body own =
+    let watch : Watch = watch_of desk body in
     let read : Done = all_read desk unread body in
     let did : Done = event_did desk Second read.body in
     let says : Done = announces desk did.body in
-    append_assoc read.acts (did.acts ++ says.acts) own ∙ ap (λ (rest : List Act). read.acts ++ rest) (append_assoc did.acts says.acts own)
+    let now : Watch = watch_behind watch read.acts in
+    let first : List Act = with_tells desk watch read.acts in
+    let mid : List Act = with_tells desk now did.acts in
+    let last : List Act = with_tells desk (watch_behind now did.acts) says.acts in
+    let are : with_tells desk watch (read.acts ++ (did.acts ++ says.acts)) ≡ first ++ (mid ++ last) =
+    tells_append desk watch read.acts (did.acts ++ says.acts)
+    ∙ ap (λ (rest : List Act). first ++ rest) (tells_append desk now did.acts says.acts) in
+    ap (λ (told : List Act). told ++ own) are ∙ append_assoc first (mid ++ last) own
+    ∙ ap (λ (rest : List Act). first ++ rest) (append_assoc mid last own)
 
 -- THE ACTS OF THE STEP in lockstep
 pub second_like : {has : Side → Bool} {new_entry new_exit far_above : List ℕ} {near : Near} {c : Scene} → SaysAlone → (desk : Desk) (unread : List Sensed) (body : Body) (own : List Act) → AllActs IsNoAnswer own
@@ -232,12 +270,34 @@ second_like {has = has} {new_entry = ne} {new_exit = nx} {far_above = fa} {near 
     let read : Done = all_read desk unread body in
     let did : Done = event_did desk Second read.body in
     let says : Done = announces desk did.body in
-    let last : List Act = says.acts ++ own in
-    let rest : List Act = did.acts ++ last in
-    let fits = fit_front read.acts rest fit in
-    let front : IsLikeOff has rest ne nx fa (nears_did has false read.acts near) (all_met read.acts c) = acts_off alone read.acts rest fits.0 k in
-    let back : IsLike has [] ne nx fa [] (nears_did has true rest (nears_did has false read.acts near)) (all_met_second rest (all_met read.acts c)) =
-    mid_like alone did.acts last (answering desk read.body (session_row read.body.exit.session second) refl) (all_append (announces_plain desk did.body) none) fits.1 front in
-    let near_is : nears_did has true (read.acts ++ rest) near ≡ nears_did has true rest (nears_did has false read.acts near) = nears_append has true read.acts rest near ∙ ap (nears_did has true rest) (nears_plain has read.acts near (read_plain desk unread body)) in
-    let scene_is : all_met_second (read.acts ++ rest) c ≡ all_met_second rest (all_met read.acts c) = second_append read.acts rest c ∙ ap (all_met_second rest) (plain_met read.acts c (read_plain desk unread body)) in
-    subst (λ (n : Near). IsLike has [] ne nx fa [] n (all_met_second (read.acts ++ rest) c)) (sym near_is) (subst (λ (d : Scene). IsLike has [] ne nx fa [] (nears_did has true rest (nears_did has false read.acts near)) d) (sym scene_is) back)
+    let watch : Watch = watch_of desk body in
+    let now : Watch = watch_behind watch read.acts in
+    let first : List Act = with_tells desk watch read.acts in
+    let mid : List Act = with_tells desk now did.acts in
+    let announced : List Act = with_tells desk (watch_behind now did.acts) says.acts in
+    let last : List Act = announced ++ own in
+    let rest : List Act = mid ++ last in
+    let quiet : AllActs IsNoAnswer first =
+    all_tells desk watch (λ message. tt) (read_plain desk unread body) in
+    let says_none : AllActs IsNoAnswer announced =
+    all_tells desk (watch_behind now did.acts) (λ message. tt)
+    (announces_plain desk did.body) in
+    let fits = fit_front first rest fit in
+    let front : IsLikeOff has rest ne nx fa (nears_did has false first near) (all_met first c) =
+    acts_off alone first rest fits.0 k in
+    let back : IsLike has [] ne nx fa [] (nears_did has true rest (nears_did has false first near))
+    (all_met_second rest (all_met first c)) =
+    mid_like alone mid last
+    (answering_tells desk now did.acts
+    (answering desk read.body (session_row read.body.exit.session second) refl))
+    (all_append says_none none) fits.1 front in
+    let near_is : nears_did has true (first ++ rest) near
+    ≡ nears_did has true rest (nears_did has false first near) =
+    nears_append has true first rest near ∙ ap (nears_did has true rest)
+    (nears_plain has first near quiet) in
+    let scene_is : all_met_second (first ++ rest) c ≡ all_met_second rest (all_met first c) =
+    second_append first rest c ∙ ap (all_met_second rest) (plain_met first c quiet) in
+    subst (λ (n : Near). IsLike has [] ne nx fa [] n (all_met_second (first ++ rest) c))
+    (sym near_is)
+    (subst (λ (d : Scene). IsLike has [] ne nx fa []
+    (nears_did has true rest (nears_did has false first near)) d) (sym scene_is) back)

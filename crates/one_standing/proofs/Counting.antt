@@ -26,13 +26,14 @@ use Rattle.node_core.specs.Boards.{is_kept}
 use Rattle.node_core.specs.Connect.{if_open}
 use Rattle.node_core.specs.Desk.{Desk}
 use Rattle.node_core.specs.Done.{Done, and_then, behind}
-use Rattle.node_core.specs.Event.{Accepted, Connect, Event, Fault, Insert, Mark, Nothing, Notice, Remove, Replace, Second, Shutdown, Tick, Will, Words, event_did, event_of, with_new, Level, Forecast, Query}
+use Rattle.node_core.specs.Event.{Accepted, Connect, Event, Fault, Insert, Mark, Nothing, Notice, Remove, Replace, Second, Shutdown, Tick, Will, Words, event_did, event_of, with_new, Level, Forecast, Query, Supervised}
 use Rattle.node_core.specs.Halves.{behind_opening, opening_board}
 use Rattle.node_core.specs.Hears.{entry_took, entry_word, exit_took, exit_word, hears, intake_took, outlet_took, passed, rowed, side_took, taken}
 use Rattle.node_core.specs.Reads.{all_read}
 use Rattle.node_core.specs.Session.{actions_did, breaches}
 use Rattle.node_core.specs.Sides.{is_open, session_at, with_session}
-use Rattle.node_core.specs.Step.{machine_step}
+use Rattle.node_core.specs.Step.{machine_step, plain_step}
+use Rattle.node_core.specs.Supervising.{watch_of}
 use Rattle.node_core.specs.Words.{all_heard, word_did}
 use Rattle.node_core.specs.declared.act.Act.{Act}
 use Rattle.node_core.specs.declared.act.Act.TheVariants as acts
@@ -50,7 +51,7 @@ use Rattle.machine_custody.proofs.HearingAll.{deaf}
 use Rattle.machine_custody.proofs.Quiet.{AllActs, acts_more, acts_none}
 use Rattle.line_step.proofs.Quiet.{announces_leave}
 use Rattle.one_standing.proofs.CarryingSides.{heard_at, heard_in}
-use Rattle.one_standing.proofs.CountingQuiet.{IsDeaf, actions_deaf, announces_deaf, breaches_deaf, deaf_count, faults_deaf, heard_append, if_kept_deaf, intake_deaf, notices_deaf, outlet_deaf, read_deaf, session_deaf, shuts_deaf, ticks_deaf}
+use Rattle.one_standing.proofs.CountingQuiet.{IsDeaf, actions_deaf, announces_deaf, breaches_deaf, deaf_count, faults_deaf, heard_append, if_kept_deaf, intake_deaf, notices_deaf, outlet_deaf, read_deaf, session_deaf, shuts_deaf, supervises_deaf, tells_unheard, ticks_deaf}
 use Rattle.node_core.specs.Bridge.{failed_front, fails, sets_level, tells_level}
 use Rattle.node_core.specs.Information.{forecasts}
 use Rattle.smema_bridge.specs.declared.line.SegmentLine.{SegmentLine}
@@ -236,6 +237,7 @@ event_none at desk (Will side on) body is = refl
 event_none at desk (Level line on) body is = deaf_count at (levels_deaf desk line on body)
 event_none at desk Forecast body is = deaf_count at (forecasts_deaf desk (slice_get body.kept 0))
 event_none at desk (Query barcode) body is = refl
+event_none at desk (Supervised what) body is = deaf_count at (supervises_deaf desk what body)
 event_none at desk (Insert id barcode) body is = refl
 event_none at desk (Remove id) body is = deaf_count at (if_kept_deaf (is_kept id body.kept) _ body (acts.Removes id) tt)
 event_none at desk (Replace old new) body is = deaf_count at (if_kept_deaf (is_kept old body.kept) _ body (acts.Replaces old new) tt)
@@ -251,7 +253,8 @@ step_heard at desk unread event body =
     let one : heard_in at read.acts ≡ 0 = deaf_count at (read_deaf desk unread body) in
     let two : heard_in at says.acts ≡ 0 = deaf_count at (announces_deaf desk did.body) in
     let both : heard_in at (did.acts ++ says.acts) ≡ heard_in at did.acts + heard_in at says.acts = heard_append at did.acts says.acts in
-    heard_append at read.acts (did.acts ++ says.acts) ∙ omega (arith, one, two, both)
+    tells_unheard at desk (watch_of desk body) (plain_step desk unread event body).acts
+    ∙ heard_append at read.acts (did.acts ++ says.acts) ∙ omega (arith, one, two, both)
 
 -- a side to which no words come hears nothing
 pub step_hears_none : (at : Side) (desk : Desk) (unread : List Sensed) (event : Event) (body : Body) → is_words_to at event ≡ false → heard_in at (machine_step desk unread event body).acts ≡ 0

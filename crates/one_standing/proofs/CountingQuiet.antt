@@ -28,6 +28,9 @@ use Rattle.node_core.specs.Reads.{all_read, saw}
 use Rattle.node_core.specs.Session.{action_did, actions_did, breaches, maybe_did, session_did}
 use Rattle.node_core.specs.Sides.{session_at, with_session}
 use Rattle.node_core.specs.declared.act.Act.{Act}
+use Rattle.node_core.specs.declared.supervising.Watch.{Watch}
+use Rattle.node_core.specs.Supervising.{Answer, Ask, Supervise, Supervision, supervises, with_tells}
+use Rattle.node_core.proofs.Telling.{tells_pass}
 use Rattle.node_core.specs.declared.act.Act.TheVariants as acts
 use Rattle.node_core.specs.declared.lane.Body.{Body}
 use Rattle.machine_custody.proofs.Quiet.{AllActs, IsPlain, acts_more, acts_none, all_append, intake_all, intake_says, outlet_all, outlet_says, read_all}
@@ -48,6 +51,13 @@ plus_by side _ m n = refl
 pub heard_append : (side : Side) (xs ys : List Act) → heard_in side (xs ++ ys) ≡ heard_in side xs + heard_in side ys
 heard_append side [] ys = omega arith
 heard_append side (x ∷ xs) ys = ap (heard_by side x) (heard_append side xs ys) ∙ plus_by side x (heard_in side xs) (heard_in side ys)
+
+-- what the supervisor is told is heard by no side
+pub tells_unheard : (side : Side) (desk : Desk) (watch : Watch) (made : List Act)
+    → heard_in side (with_tells desk watch made) ≡ heard_in side made
+tells_unheard side desk watch made =
+    tells_pass (heard_in side) (λ act told plain same. ap (heard_by side act) same)
+    (λ message told. refl) desk watch made
 
 -- ---- acts that hear nothing
 
@@ -148,6 +158,12 @@ faults_deaf desk Exit body = at_outlet_deaf desk out_input.Fault body
 pub if_kept_deaf : (test : Bool) (after body : Body) (act : Act) → IsDeaf act → AllActs IsDeaf (if_kept test after act body).acts
 if_kept_deaf true after body act is = acts_more is acts_none
 if_kept_deaf false after body act is = acts_none
+
+pub supervises_deaf : (desk : Desk) (what : Supervision) (body : Body)
+    → AllActs IsDeaf (supervises desk what body).acts
+supervises_deaf desk (Supervise on) body = acts_more tt acts_none
+supervises_deaf desk (Ask question) body = acts_more tt acts_none
+supervises_deaf desk (Answer query order) body = acts_more tt acts_none
 
 -- ---- announcements
 

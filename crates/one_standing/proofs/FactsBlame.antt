@@ -80,14 +80,17 @@ use Rattle.node_core.specs.Boards.{if_kept, is_kept}
 use Rattle.node_core.specs.Connect.{if_open, opens, shuts_down, ticks}
 use Rattle.node_core.specs.Desk.{Desk}
 use Rattle.node_core.specs.Done.{Done, and_then, behind, done}
-use Rattle.node_core.specs.Event.{Accepted, Connect, Event, Fault, Insert, Mark, Nothing, Notice, Remove, Replace, Second, Shutdown, Tick, Will, Words, event_did, Level, Forecast, Query}
+use Rattle.node_core.specs.Event.{Accepted, Connect, Event, Fault, Insert, Mark, Nothing, Notice, Remove, Replace, Second, Shutdown, Tick, Will, Words, event_did, Level, Forecast, Query, Supervised}
 use Rattle.node_core.specs.Information.{forecasts}
 use Rattle.node_core.specs.Halves.{behind_opening, ended, half_closed, intake_row_did, opening_board, outlet_row_did}
 use Rattle.node_core.specs.Hears.{hears, intake_took, outlet_took, passed, rowed, taken}
 use Rattle.node_core.specs.Reads.{all_read, reads, saw}
 use Rattle.node_core.specs.Session.{action_did, actions_did, breaches, maybe_did, session_did}
 use Rattle.node_core.specs.Sides.{is_open, session_at, with_session}
-use Rattle.node_core.specs.Step.{machine_step}
+use Rattle.node_core.specs.Step.{machine_step, plain_step}
+use Rattle.node_core.specs.Supervising.{Answer, Ask, Supervise, Supervision, supervises, watch_of, with_tells}
+use Rattle.node_core.specs.declared.supervising.Watch.{Watch}
+use Rattle.node_core.proofs.Telling.{tells_pass}
 use Rattle.node_core.specs.Told.{drives, in_does, in_sends as in_said, in_told, notification, out_does, out_sends as out_said, out_told, sends}
 use Rattle.node_core.specs.Words.{all_heard}
 use Rattle.node_core.specs.declared.act.Act.{Act}
@@ -135,6 +138,14 @@ is_mild may _ = true
 abbrev pub are_mild : Leave → List Act → Bool
 are_mild may [] = true
 are_mild may (act ∷ others) = is_mild may act && are_mild may others
+
+-- what the supervisor is told breaches nothing, and goes to no neighbour
+pub tells_mild : (may : Leave) (desk : Desk) (watch : Watch) (made : List Act)
+    → are_mild may (with_tells desk watch made) ≡ are_mild may made
+tells_mild may desk watch made =
+    tells_pass (are_mild may)
+    (λ act told plain same. ap (λ (rest : Bool). is_mild may act && rest) same)
+    (λ message told. refl) desk watch made
 
 record Mild (may : Leave) (d : Done) : Type 0 where
   mild : are_mild may d.acts ≡ true
@@ -326,6 +337,12 @@ forecast_mild : {may : Leave} (desk : Desk) (front : Option Record) (body : Body
 forecast_mild desk None body free = record { mild = refl }
 forecast_mild desk (Some board) body free = record { mild = both_mild _ true free refl }
 
+supervises_mild : {may : Leave} (desk : Desk) (what : Supervision) (body : Body)
+    → Mild may (supervises desk what body)
+supervises_mild desk (Supervise on) body = record { mild = refl }
+supervises_mild desk (Ask question) body = record { mild = refl }
+supervises_mild desk (Answer query order) body = record { mild = refl }
+
 event_mild : {may : Leave} (desk : Desk) (event : Event) (body : Body) → IsNoWords may.frees event → Mild may (event_did desk event body)
 event_mild desk Nothing body other = record { mild = refl }
 event_mild desk Connect body other = mild_behind (acts.Connects ∷ []) (opens desk Entry body) refl (session_mild desk Entry body (session_row (session_at Entry body) opened))
@@ -346,16 +363,23 @@ event_mild {may} desk (Level line on) body other =
     (let b = (tells_level line on body).body in fails_mild (failed_front desk.bridge line on b) b)
 event_mild desk Forecast body other = forecast_mild desk (slice_get body.kept 0) body other
 event_mild desk (Query barcode) body other = record { mild = both_mild _ true other refl }
+event_mild desk (Supervised what) body other = supervises_mild desk what body
 event_mild desk (Insert id barcode) body other = record { mild = refl }
 event_mild desk (Remove id) body other = kept_mild (is_kept id body.kept) body _ (acts.Removes id) refl
 event_mild desk (Replace old new) body other = kept_mild (is_kept old body.kept) body _ (acts.Replaces old new) refl
 event_mild desk (Mark id quality) body other = kept_mild (is_kept id body.kept) body _ (acts.Marks id quality) refl
 
 step_mild_by : {may : Leave} (desk : Desk) (unread : List Seen) (event : Event) (body : Body) → Mild may (event_did desk event (all_read desk unread body).body) → Mild may (machine_step desk unread event body)
-step_mild_by desk unread event body m =
+step_mild_by {may} desk unread event body m =
     let read = all_read desk unread body in
+    let plain : Mild may (plain_step desk unread event body) =
     mild_both read (λ (b : Body). and_then (event_did desk event b) (announces desk)) (read_mild desk unread body)
-    (mild_both (event_did desk event read.body) (announces desk) m (announces_mild desk (event_did desk event read.body).body))
+    (mild_both (event_did desk event read.body) (announces desk) m
+    (announces_mild desk (event_did desk event read.body).body)) in
+    record {
+      mild = tells_mild may desk (watch_of desk body)
+          (plain_step desk unread event body).acts ∙ plain.mild;
+    }
 
 -- without words nothing is breached
 pub quiet_step_mild : (may : Leave) (desk : Desk) (unread : List Seen) (event : Event) (body : Body) → IsNoWords may.frees event → are_mild may (machine_step desk unread event body).acts ≡ true

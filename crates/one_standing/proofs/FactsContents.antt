@@ -52,7 +52,7 @@ use Rattle.node_core.specs.Reads.{saw, reads, all_read}
 use Rattle.node_core.specs.Connect.{if_open, opens, notices, ticks, shuts_down}
 use Rattle.node_core.specs.Boards.{without, with_instead, with_mark, is_kept, if_kept, faults, wills}
 use Rattle.node_core.specs.Announces.{revokes_now, revoke_by, revoke, unreadies_now, unready_by, unready, offers_now, offer_by, offer, readies_now, ready_by, ready, starts_now, start_by, announces}
-use Rattle.node_core.specs.Event.{Event, Nothing, Connect, Accepted, Second, Words, Notice, Tick, Shutdown, Fault, Will, Insert, Remove, Replace, Mark, event_did, Level, Forecast, Query}
+use Rattle.node_core.specs.Event.{Event, Nothing, Connect, Accepted, Second, Words, Notice, Tick, Shutdown, Fault, Will, Insert, Remove, Replace, Mark, event_did, Level, Forecast, Query, Supervised}
 use Rattle.node_core.specs.Step.{machine_step}
 use Rattle.node_core.proofs.HalfRows.{IsNoStart, IsPlain}
 use Rattle.one_standing.specs.Contents.{In, in_first, in_later}
@@ -420,6 +420,7 @@ event_brings desk (Will side on) body = met (Will side on) (wills_brings side on
 event_brings desk (Level line on) body = levels_bring desk line on body
 event_brings desk Forecast body = met Forecast (brings_told body (forecasts desk (slice_get body.kept 0)))
 event_brings desk (Query barcode) body = met (Query barcode) (brings_told body _)
+event_brings desk (Supervised what) body = met (Supervised what) (brings_told body _)
 event_brings desk (Insert id barcode) body = record { each = λ q h. kept_by_hand (λ i. elim (in_last q (plain_record id desk.name barcode) body.kept i) [ inl before ↦ inl before | inr is ↦ inr (ap (λ (r : Record). r.id) is) ]) h }
 event_brings desk (Remove id) body = met (Remove id) (removed id body (is_kept id body.kept))
 event_brings desk (Replace old new) body = replaced desk old new body (is_kept old body.kept)

@@ -137,6 +137,9 @@ hand_of bridge maker body (inputs.Remove id) heard q hand = hand
 hand_of bridge maker body (inputs.Level line on) heard q hand = hand
 hand_of bridge maker body inputs.Forecast heard q hand = hand
 hand_of bridge maker body (inputs.Query barcode) heard q hand = hand
+hand_of bridge maker body (inputs.Supervise on) heard q hand = hand
+hand_of bridge maker body (inputs.Ask question) heard q hand = hand
+hand_of bridge maker body (inputs.Answer query order) heard q hand = hand
 
 -- a record that is kept before a step and behind it is the same, or the input is of the hands that make it or mark it
 pub machine_contents : (number machine : ℕ) (input : Input) (before after : LineState) (told : List Happening) (steps : MachineSteps number machine input before after told) → IsOneRecord (node_at before machine).lane.body
@@ -224,6 +227,9 @@ no_hand bridge (inputs.Remove id) maker body p plain hand = hand
 no_hand bridge (inputs.Level line on) maker body p plain hand = plain
 no_hand bridge inputs.Forecast maker body p plain hand = hand
 no_hand bridge (inputs.Query barcode) maker body p plain hand = hand
+no_hand bridge (inputs.Supervise on) maker body p plain hand = hand
+no_hand bridge (inputs.Ask question) maker body p plain hand = hand
+no_hand bridge (inputs.Answer query order) maker body p plain hand = hand
 
 plain_keeps : (Marks : ℕ → ℕ → Type 0) (number m : ℕ) (input : Input) (before after : LineState) (told : List Happening) → IsPlainInput input → Starting before → MachineSteps number m input before after told → KeepsContents Marks before after
 plain_keeps Marks number m input before after told plain a steps = step_keeps Marks number m input before after told a steps (λ q p i same hand. absurd (no_hand steps.node.bridge input steps.node.maker (body_then number m input before after told steps) p plain hand))
@@ -340,6 +346,9 @@ does_keeps number (lines.Signal m line on) before next told a does =
     (λ steps. step_keeps (IsMarked told) number m (inputs.Level line on) before next told a steps (λ q p i same hand. level_is_told number m line on before next told steps p hand)) does
 does_keeps number (lines.Forecast m) before next told a does = given_keeps _ _ number m (inputs.Forecast) before next told tt a does
 does_keeps number (lines.Query m barcode) before next told a does = given_keeps _ _ number m (inputs.Query barcode) before next told tt a does
+does_keeps number (lines.Supervise m) before next told a does = given_keeps _ _ number m (inputs.Supervise true) before next told tt a does
+does_keeps number (lines.Ask m question) before next told a does = given_keeps _ _ number m (inputs.Ask question) before next told tt a does
+does_keeps number (lines.Answer m query order) before next told a does = given_keeps _ _ number m (inputs.Answer query order) before next told tt a does
 does_keeps number (lines.Connect m) before next told a does = unless_keeps _ _ before next told (Connects number m before next told) a (connects_keeps _ number m before next told a) does
 does_keeps number (lines.Flow m side count) before next told a does = unless_keeps _ _ before next told (Flows number m side count before next told) a (flows_keeps _ number m side count before next told a) does
 does_keeps number (lines.Notice m side) before next told a does = given_keeps _ _ number m (inputs.Notice side) before next told tt a does

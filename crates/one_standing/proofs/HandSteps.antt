@@ -31,7 +31,8 @@ use Rattle.node_core.specs.declared.input.No.{No}
 use Rattle.node_core.specs.declared.lane.Body.{Body as Machine}
 use Rattle.node_core.specs.declared.word.Word.{Word}
 use Rattle.machine_custody.specs.ByHand.{AreHere, Grows}
-use Rattle.machine_custody.specs.Flight.{IsPlain, plain_fault, plain_nothing, plain_notice, plain_shutdown, plain_tick, plain_will, plain_words, plain_level, plain_forecast, plain_query}
+use Rattle.machine_custody.specs.Flight.{IsPlain, plain_fault, plain_nothing, plain_notice, plain_shutdown, plain_tick, plain_will, plain_words, plain_level, plain_forecast, plain_query, plain_supervised}
+use Rattle.hermes_vertical.specs.declared.message.Question.{Question}
 use Rattle.machine_custody.specs.Good.{GoesBy, Good, Lies, lies_first, lies_later}
 use Rattle.machine_custody.specs.Scene.{Scene}
 use Rattle.machine_custody.specs.Unique.{IsApart}
@@ -344,6 +345,9 @@ pub data IsPlainInput : Input → Type 0 where
   is_level : {line : SegmentLine} {on : Bool} → IsPlainInput (inputs.Level line on)
   is_forecast : IsPlainInput inputs.Forecast
   is_query : {barcode : List ℕ} → IsPlainInput (inputs.Query barcode)
+  is_supervise : {on : Bool} → IsPlainInput (inputs.Supervise on)
+  is_ask : {question : Question} → IsPlainInput (inputs.Ask question)
+  is_answer : {query : ℕ} {order : List ℕ} → IsPlainInput (inputs.Answer query order)
 
 pub plain_event : (maker : Maker) (input : Input) (words : List Word) (c : Scene) → IsPlainInput input → AreHeard input words c → IsPlain (event_of maker input words) c
 plain_event maker _ words c is_nothing heard = plain_nothing
@@ -356,6 +360,9 @@ plain_event maker _ words c is_will heard = plain_will
 plain_event maker _ words c is_level heard = plain_level
 plain_event maker _ words c is_forecast heard = plain_forecast
 plain_event maker _ words c is_query heard = plain_query
+plain_event maker _ words c is_supervise heard = plain_supervised
+plain_event maker _ words c is_ask heard = plain_supervised
+plain_event maker _ words c is_answer heard = plain_supervised
 
 no_connect : {input : Input} {A : Type 0} → IsPlainInput input → input ≡ inputs.Connect → A
 no_connect is_nothing is = absurd (cc)
@@ -368,6 +375,9 @@ no_connect is_will is = absurd (cc)
 no_connect is_level is = absurd (cc)
 no_connect is_forecast is = absurd (cc)
 no_connect is_query is = absurd (cc)
+no_connect is_supervise is = absurd (cc)
+no_connect is_ask is = absurd (cc)
+no_connect is_answer is = absurd (cc)
 
 no_accepted : {input : Input} {A : Type 0} → IsPlainInput input → input ≡ inputs.Accepted → A
 no_accepted is_nothing is = absurd (cc)
@@ -380,6 +390,9 @@ no_accepted is_will is = absurd (cc)
 no_accepted is_level is = absurd (cc)
 no_accepted is_forecast is = absurd (cc)
 no_accepted is_query is = absurd (cc)
+no_accepted is_supervise is = absurd (cc)
+no_accepted is_ask is = absurd (cc)
+no_accepted is_answer is = absurd (cc)
 
 pub other_bears : (number j : ℕ) (input : Input) (t : Trace) (before after : LineState) (told all : List Happening) → IsPlainInput input → Around t before after all → (steps : MachineSteps number (j + 1) input before after told) → may_of steps.node input ≡ may_do
     → Mirrors number j input t before after → Bearing after

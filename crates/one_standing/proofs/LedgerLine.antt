@@ -17,7 +17,8 @@ use Rattle.line_world.specs.declared.moves.MoveNo.{MoveNo}
 use Rattle.node_core.specs.Event.{Event, Insert, Replace, event_of, maker_after, with_new}
 use Rattle.node_core.specs.Node.{NodeState, desk_of, new_node}
 use Rattle.node_core.specs.Own.{own_of}
-use Rattle.node_core.specs.Step.{machine_step}
+use Rattle.node_core.specs.Step.{plain_step}
+use Rattle.node_core.specs.Supervising.{watch_of}
 use Rattle.node_core.specs.declared.act.Act.{Act}
 use Rattle.node_core.specs.declared.input.Input.{Input}
 use Rattle.node_core.specs.declared.input.Input.TheVariants as inputs
@@ -43,10 +44,10 @@ use Rattle.one_standing.specs.Carried.{Trace}
 use Rattle.one_standing.specs.Replay.{deeds_of}
 use Rattle.one_standing.specs.Stands.{Stands}
 use Rattle.one_standing.proofs.LedgerMarks.{FitsLine, differ_of, taken_old}
-use Rattle.one_standing.proofs.LedgerSteps.{IsMadeNow, all_of, deeds_by, did_goes}
+use Rattle.one_standing.proofs.LedgerSteps.{IsMadeNow, all_of, deeds_by, did_goes, silent_behind, tells_deeds}
 use Rattle.one_standing.proofs.LedgerTold.{acts_deeds, cut_none, deeds_join, shown_none, standings_none}
 use Rattle.one_standing.proofs.LedgerTurns.{Fits, Follows, after_append, entry_at, legal_append}
-use Rattle.one_standing.proofs.LedgerWalk.{Did, IsNewFor, step_did, did_behind}
+use Rattle.one_standing.proofs.LedgerWalk.{Did, IsNewFor, step_did}
 use Rattle.one_standing.proofs.Mirroring.{node_there}
 use Rattle.node_core.specs.Signals.{signalled}
 use Rattle.one_standing.proofs.Signalled.{signals_silent}
@@ -120,21 +121,46 @@ new_event New maker (inputs.Will side on) words new = tt
 new_event New maker (inputs.Level line on) words new = tt
 new_event New maker inputs.Forecast words new = tt
 new_event New maker (inputs.Query barcode) words new = tt
+new_event New maker (inputs.Supervise on) words new = tt
+new_event New maker (inputs.Ask question) words new = tt
+new_event New maker (inputs.Answer query order) words new = tt
 new_event New maker (inputs.Remove id) words new = tt
 new_event New maker (inputs.Mark id quality) words new = tt
 
+-- what a step does but for what it tells its supervisor, and for a bridge's own signals
+abbrev plain_of : (number machine : ℕ) (input : Input) (before after : LineState)
+    (told : List Happening) → MachineSteps number machine input before after told → List Act
+plain_of number machine input before after told steps =
+    (plain_step (desk_of steps.node (moment_of number)) (unread_by machine before.world)
+    (event_of steps.node.maker input steps.steps.lane.words) steps.node.lane.body).acts
+
 step_own : {New : ℕ → Type 0} (number machine : ℕ) (input : Input) (before after : LineState) (told : List Happening) (steps : MachineSteps number machine input before after told) → IsNewInput New input steps.node.maker
-    → Did New (own_of steps.node.lane.body) steps.acts (own_of steps.next.lane.body)
+    → Did New (own_of steps.node.lane.body) (plain_of number machine input before after told steps)
+    (own_of steps.next.lane.body)
 step_own {New} number machine input before after told steps new =
     let lane = steps.steps.lane in
     let event = event_of steps.node.maker input lane.words in
     let desk = desk_of steps.node (moment_of number) in
     let unread = unread_by machine before.world in
-    subst (λ (b : Body). Did New (own_of steps.node.lane.body) steps.acts (own_of b)) (sym lane.body)
-    (subst (λ (a : List Act). Did New (own_of steps.node.lane.body) a (own_of (machine_step desk unread event steps.node.lane.body).body))
-    (sym (steps.steps.told ∙ ap (λ (made : List Act). made ++ signalled steps.node.bridge steps.next.lane.body) lane.told))
-    (did_behind (signalled steps.node.bridge steps.next.lane.body) (signals_silent steps.node.bridge steps.next.lane.body)
-    (step_did desk unread event steps.node.lane.body (new_event New steps.node.maker input lane.words new))))
+    subst (λ (b : Body). Did New (own_of steps.node.lane.body)
+    (plain_step desk unread event steps.node.lane.body).acts (own_of b)) (sym lane.body)
+    (step_did desk unread event steps.node.lane.body
+    (new_event New steps.node.maker input lane.words new))
+
+-- which are its deeds
+step_deeds : (number machine : ℕ) (input : Input) (before after : LineState)
+    (told : List Happening) (steps : MachineSteps number machine input before after told)
+    → deeds_by machine steps.acts
+    ≡ deeds_by machine (plain_of number machine input before after told steps)
+step_deeds number machine input before after told steps =
+    let desk = desk_of steps.node (moment_of number) in
+    let own : List Act = signalled steps.node.bridge steps.next.lane.body in
+    ap (deeds_by machine) steps.steps.told
+    ∙ silent_behind machine steps.steps.made own
+    (signals_silent steps.node.bridge steps.next.lane.body)
+    ∙ ap (deeds_by machine) steps.steps.lane.told
+    ∙ tells_deeds machine desk (watch_of desk steps.node.lane.body)
+    (plain_of number machine input before after told steps)
 
 machine_led : {Older Old : ℕ → Type 0} (number machine : ℕ) (input : Input) (before after : LineState) (told : List Happening) → ((x : ℕ) → Older x → Old x) → (steps : MachineSteps number machine input before after told)
     → IsNewInput (IsMadeNow Older Old) input steps.node.maker → are_different (all_of (own_of (node_at before machine).lane.body)) ≡ true → ((id : ℕ) → (own_of (node_at after machine).lane.body).taking ≡ Some id → Old id)
@@ -145,25 +171,45 @@ machine_led {Older} {Old} number machine input before after told more steps new 
     let next_is : node_at after machine ≡ steps.next = node_there machine after steps.next (ap (machine_in machine) steps.after_is ∙ machine_set_own machine before steps.node steps.next steps.there) in
     let counted : 1 ≤ machine = (machine_within machine before steps.node steps.there).0 in
     let at : machine - 1 + 1 ≡ machine = omega (arith, counted) in
-    let does : Did (IsMadeNow Older Old) (own_of (node_at before machine).lane.body) steps.acts (own_of (node_at after machine).lane.body) =
-    subst (λ (n : NodeState). Did (IsMadeNow Older Old) (own_of n.lane.body) steps.acts (own_of (node_at after machine).lane.body)) (sym node_is)
-    (subst (λ (n : NodeState). Did (IsMadeNow Older Old) (own_of steps.node.lane.body) steps.acts (own_of n.lane.body)) (sym next_is) (step_own number machine input before after told steps new)) in
+    let plain : List Act = plain_of number machine input before after told steps in
+    let does : Did (IsMadeNow Older Old) (own_of (node_at before machine).lane.body) plain
+    (own_of (node_at after machine).lane.body) =
+    subst (λ (n : NodeState). Did (IsMadeNow Older Old) (own_of n.lane.body) plain
+    (own_of (node_at after machine).lane.body)) (sym node_is)
+    (subst (λ (n : NodeState). Did (IsMadeNow Older Old) (own_of steps.node.lane.body) plain
+    (own_of n.lane.body)) (sym next_is)
+    (step_own number machine input before after told steps new)) in
     let here : Fits Older machine (own_of (node_at before machine).lane.body) others ledger =
     record { past = fits.past; is = fits.is; here = λ place x. fits.all place machine x; there = λ place other x apart. fits.all place other x; olds = fits.olds } in
-    let follows : Follows Old machine (own_of (node_at after machine).lane.body) others ledger (deeds_by machine steps.acts) = did_goes at more does different taken ledger here in
-    let same : deeds_of told ≡ deeds_by machine steps.acts = ap deeds_of steps.told_is ∙ acts_deeds (is_second input) machine steps.acts (read_by machine before.world) in
+    let follows : Follows Old machine (own_of (node_at after machine).lane.body) others ledger
+    (deeds_by machine plain) = did_goes at more does different taken ledger here in
+    let same : deeds_of told ≡ deeds_by machine plain =
+    ap deeds_of steps.told_is ∙ acts_deeds (is_second input) machine steps.acts
+    (read_by machine before.world)
+    ∙ step_deeds number machine input before after told steps in
     let changes : ChangesMachine machine before after = step_changes number machine input before after told steps in
-    let last : FitsLine Old after (ledger_after_all ledger (deeds_by machine steps.acts)) = record {
+    let last : FitsLine Old after (ledger_after_all ledger (deeds_by machine plain)) = record {
       past = follows.fits.past;
       is = follows.fits.is;
       all = λ place other x. place_by place other x follows changes (same_or_not other machine);
       olds = follows.fits.olds;
     } in
     record { legal = subst (λ (ds : List Deed). AreLegal ledger ds) (sym same) follows.legal; fits = subst (λ (ds : List Deed). FitsLine Old after (ledger_after_all ledger ds)) (sym same) last } where
-      place_by : (place : Where) (other x : ℕ) → Follows Old machine (own_of (node_at after machine).lane.body) (λ p n y. has_at p (owned_by (node_at before n)) y) ledger (deeds_by machine steps.acts) → ChangesMachine machine before after
-          → (other ≡ machine) ⊎ (other ≢ machine) → has_entry (entry_at other place x) (ledger_after_all ledger (deeds_by machine steps.acts)).marks ≡ has_at place (owned_by (node_at after other)) x
+      place_by : (place : Where) (other x : ℕ)
+          → Follows Old machine (own_of (node_at after machine).lane.body)
+          (λ p n y. has_at p (owned_by (node_at before n)) y) ledger
+          (deeds_by machine (plain_of number machine input before after told steps))
+          → ChangesMachine machine before after
+          → (other ≡ machine) ⊎ (other ≢ machine)
+          → has_entry (entry_at other place x)
+          (ledger_after_all ledger
+          (deeds_by machine (plain_of number machine input before after told steps))).marks
+          ≡ has_at place (owned_by (node_at after other)) x
       place_by place other x follows changes (inl is) =
-          subst (λ (n : ℕ). has_entry (entry_at n place x) (ledger_after_all ledger (deeds_by machine steps.acts)).marks ≡ has_at place (owned_by (node_at after n)) x) (sym is) (follows.fits.here place x)
+          subst (λ (n : ℕ). has_entry (entry_at n place x)
+          (ledger_after_all ledger
+          (deeds_by machine (plain_of number machine input before after told steps))).marks
+          ≡ has_at place (owned_by (node_at after n)) x) (sym is) (follows.fits.here place x)
       place_by place other x follows changes (inr apart) =
           follows.fits.there place other x apart ∙ ap (λ (s : Stand). has_at place (owned_by s.node) x) (sym (changes.machines other apart))
 
@@ -249,6 +295,9 @@ none_new New (inputs.Will side on) maker none = tt
 none_new New (inputs.Level line on) maker none = tt
 none_new New inputs.Forecast maker none = tt
 none_new New (inputs.Query barcode) maker none = tt
+none_new New (inputs.Supervise on) maker none = tt
+none_new New (inputs.Ask question) maker none = tt
+none_new New (inputs.Answer query order) maker none = tt
 none_new New (inputs.Remove id) maker none = tt
 none_new New (inputs.Mark id quality) maker none = tt
 
@@ -360,6 +409,9 @@ does_led number (lines.Go machine side) before next told ledger a does = given_l
 does_led number (lines.Signal machine line on) before next told ledger a does = given_led _ number machine (inputs.Level line on) before next told ledger tt a does
 does_led number (lines.Forecast machine) before next told ledger a does = given_led _ number machine (inputs.Forecast) before next told ledger tt a does
 does_led number (lines.Query machine barcode) before next told ledger a does = given_led _ number machine (inputs.Query barcode) before next told ledger tt a does
+does_led number (lines.Supervise machine) before next told ledger a does = given_led _ number machine (inputs.Supervise true) before next told ledger tt a does
+does_led number (lines.Ask machine question) before next told ledger a does = given_led _ number machine (inputs.Ask question) before next told ledger tt a does
+does_led number (lines.Answer machine query order) before next told ledger a does = given_led _ number machine (inputs.Answer query order) before next told ledger tt a does
 does_led number (lines.Connect machine) before next told ledger a does = unless_led _ before next told ledger (Connects number machine before next told) a (connects_led number machine before next told ledger a) does
 does_led number (lines.Flow machine side count) before next told ledger a does = unless_led _ before next told ledger (Flows number machine side count before next told) a (flows_led number machine side count before next told ledger a) does
 does_led number (lines.Notice machine side) before next told ledger a does = given_led _ number machine (inputs.Notice side) before next told ledger tt a does

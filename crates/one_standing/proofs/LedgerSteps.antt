@@ -3,6 +3,10 @@ use Rattle.std.proofs.Common.{Bool, List, None, Option, Some, [], ap, append-nil
 use Rattle.std.proofs.lemmas.List.Folds.{list_any-append}
 use Rattle.node_core.specs.Own.{Own, one_of}
 use Rattle.node_core.specs.declared.act.Act.{Act}
+use Rattle.node_core.specs.declared.supervising.Watch.{Watch}
+use Rattle.node_core.specs.Desk.{Desk}
+use Rattle.node_core.specs.Supervising.{with_tells}
+use Rattle.node_core.proofs.Telling.{tells_pass}
 use Rattle.node_core.specs.declared.act.Act.TheVariants as acts
 use Rattle.node_core.specs.declared.act.Deed.{Deed as OwnDeed}
 use Rattle.node_core.specs.declared.act.Deed.TheVariants as own_deeds
@@ -14,20 +18,12 @@ use Rattle.standings.specs.declared.mark.Mark.TheVariants.{Intake, Kept}
 use Rattle.standings.proofs.Ids.{marks_are_seen}
 use Rattle.one_standing.specs.Replay.{deeds_at, deeds_at_side}
 use Rattle.one_standing.proofs.LedgerTurns.{Fits, Follows, different_first, different_rest, entry_at, follows_both, follows_none, follows_one, owned, spot, turns_drops, turns_inserts, turns_leaves, turns_opens, turns_removes, turns_replaces, turns_returns, turns_settles, turns_starts}
-use Rattle.one_standing.proofs.LedgerWalk.{Announces, Did, Hand, Walk, are_silent, did, hand_inserts, hand_removes, hand_replaces, hand_walks, is_refusal, is_silent, own_parts, says_last, says_more, says_start, walk_drops, walk_end, walk_leaves, walk_loses, walk_on, walk_opens, walk_returns, walk_settles}
+use Rattle.one_standing.proofs.LedgerWalk.{Announces, Did, Hand, Walk, are_silent, did, hand_inserts, hand_removes, hand_replaces, hand_walks, is_refusal, is_silent, own_parts, says_last, says_more, says_start, walk_drops, walk_end, walk_leaves, walk_loses, walk_on, walk_opens, walk_returns, walk_settles, and_one, and_two}
 
 -- the deeds of a machine's acts
 abbrev pub deeds_by : ℕ → List Act → List Deed
 deeds_by machine [] = []
 deeds_by machine (act ∷ others) = deeds_at machine act ++ deeds_by machine others
-
-and_one : (a b : Bool) → (a && b) ≡ true → a ≡ true
-and_one true b is = refl
-and_one false b is = is
-
-and_two : (a b : Bool) → (a && b) ≡ true → b ≡ true
-and_two true b is = is
-and_two false b is = absurd (let h : false ≡ true = is in cc)
 
 no_deed_by : (machine : ℕ) (deed : OwnDeed) → is_refusal deed ≡ true → deeds_at_side machine deed ≡ []
 no_deed_by machine (own_deeds.Refuses id) is = refl
@@ -57,6 +53,22 @@ none_silent machine told silent = ap (λ (l : List Act). deeds_by machine l) (sy
 deeds_append : (machine : ℕ) (a b : List Act) → deeds_by machine (a ++ b) ≡ deeds_by machine a ++ deeds_by machine b
 deeds_append machine [] b = refl
 deeds_append machine (act ∷ a) b = ap (λ (ds : List Deed). deeds_at machine act ++ ds) (deeds_append machine a b) ∙ sym (append_assoc (deeds_at machine act) (deeds_by machine a) (deeds_by machine b))
+
+-- what the supervisor is told is no deed
+pub tells_deeds : (machine : ℕ) (desk : Desk) (watch : Watch) (made : List Act)
+    → deeds_by machine (with_tells desk watch made) ≡ deeds_by machine made
+tells_deeds machine desk watch made =
+    tells_pass (deeds_by machine)
+    (λ act told plain same. ap (λ (rest : List Deed). deeds_at machine act ++ rest) same)
+    (λ message told. refl) desk watch made
+
+-- and acts that move no record, behind others, are none
+pub silent_behind : (machine : ℕ) (made more : List Act) → are_silent more ≡ true
+    → deeds_by machine (made ++ more) ≡ deeds_by machine made
+silent_behind machine made more silent =
+    deeds_append machine made more
+    ∙ ap (λ (rest : List Deed). deeds_by machine made ++ rest) (none_silent machine more silent)
+    ∙ append-nil (deeds_by machine made)
 
 -- ---- all ids of a machine, which differ
 

@@ -9,7 +9,7 @@ use Rattle.standings.specs.Marks.{Owned, Where, has_at, has_id, intake, is_held,
 use Rattle.standings.specs.declared.deed.Deed.{Deed}
 use Rattle.standings.specs.declared.entry.Entry.{Entry}
 use Rattle.standings.proofs.Entries.{stands_after}
-use Rattle.one_standing.proofs.LedgerWalk.{own_parts}
+use Rattle.one_standing.proofs.LedgerWalk.{own_parts, and_one, and_two}
 
 -- ---- the places of a machine
 
@@ -209,14 +209,6 @@ turns_inserts id ids held taking none = record { found = refl; missing = not_has
   now intake x = stays_in (id == x) (is_held x taking)
 
 -- ---- by hand, where no id is kept twice
-
-and_one : (a b : Bool) → (a && b) ≡ true → a ≡ true
-and_one true b is = refl
-and_one false b is = is
-
-and_two : (a b : Bool) → (a && b) ≡ true → b ≡ true
-and_two true b is = is
-and_two false b is = absurd (let h : false ≡ true = is in cc)
 
 not_true : (b : Bool) → not b ≡ true → b ≡ false
 not_true false is = refl

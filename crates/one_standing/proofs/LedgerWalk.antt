@@ -1,6 +1,6 @@
 -- What a machine owns goes from place to place as the acts of its step say: each deed finds its id where it takes it from.
 -- One lemma for each definition of the machine step, in the order of the definitions.
-use Rattle.std.proofs.Common.{if◌then◌else◌, ◌&&◌, subst, ◌≡◌, ◌∙◌, ◌++◌, ◌==◌, ◌||◌, ℕ, Bool, true, false, List, [], ◌∷◌, Option, Some, None, refl, sym, ap, append_assoc}
+use Rattle.std.proofs.Common.{if◌then◌else◌, ◌&&◌, subst, ◌≡◌, ◌∙◌, ◌++◌, ◌==◌, ◌||◌, ℕ, Bool, true, false, List, [], ◌∷◌, Option, Some, None, refl, sym, ap}
 use Rattle.std.specs.Prelude.{is_some, slice_get}
 use Rattle.std.proofs.lemmas.Bool.{false≢true}
 use Rattle.std.proofs.lemmas.List.{map-append}
@@ -55,8 +55,11 @@ use Rattle.node_core.specs.Reads.{saw, reads, all_read}
 use Rattle.node_core.specs.Connect.{if_open, opens, notices, ticks, shuts_down}
 use Rattle.node_core.specs.Boards.{without, with_instead, with_mark, is_kept, if_kept, faults, wills}
 use Rattle.node_core.specs.Announces.{revokes_now, revoke_by, revoke, unreadies_now, unready_by, unready, offers_now, offer_by, offer, readies_now, ready_by, ready, starts_now, start_by, start, announces}
-use Rattle.node_core.specs.Event.{Event, Nothing, Connect, Accepted, Second, Words, Notice, Tick, Shutdown, Fault, Will, Insert, Remove, Replace, Mark, event_did, Level, Forecast, Query}
-use Rattle.node_core.specs.Step.{machine_step}
+use Rattle.node_core.specs.Event.{Event, Nothing, Connect, Accepted, Second, Words, Notice, Tick, Shutdown, Fault, Will, Insert, Remove, Replace, Mark, event_did, Level, Forecast, Query, Supervised}
+use Rattle.node_core.specs.Step.{plain_step}
+use Rattle.node_core.specs.Supervising.{Answer, Ask, Supervise, Supervision, supervision_act, with_tells}
+use Rattle.node_core.specs.declared.supervising.Watch.{Watch}
+use Rattle.node_core.proofs.Telling.{tells_pass}
 use Rattle.node_core.specs.Own.{with_id_instead, without_id, Own, own_by, own_of, ids_of, id_of}
 use Rattle.node_core.specs.declared.act.Deed.TheVariants as deeds
 use Rattle.node_core.proofs.HalfRows.{IsNoStart, IsPlain}
@@ -83,6 +86,14 @@ is_silent _ = true
 abbrev pub are_silent : List Act → Bool
 are_silent [] = true
 are_silent (act ∷ others) = is_silent act && are_silent others
+
+-- what the supervisor is told moves no record
+pub tells_silent : (desk : Desk) (watch : Watch) (made : List Act)
+    → are_silent (with_tells desk watch made) ≡ are_silent made
+tells_silent desk watch made =
+    tells_pass are_silent (λ act told plain same. ap (λ (rest : Bool). is_silent act && rest) same)
+    (λ message told. refl)
+    desk watch made
 
 abbrev pub own_parts : List ℕ → Option ℕ → Option ℕ → Own
 own_parts kept held taking = record { kept = kept; held = held; taking = taking }
@@ -116,11 +127,11 @@ pub data Announces : Own → List Act → Own → Type 0 where
 pub data Did (New : ℕ → Type 0) : Own → List Act → Own → Type 0 where
   did : {own one two end : Own} (read met told : List Act) → Walk own read one → Hand New one met two → Announces two told end → Did New own (read ++ (met ++ told)) end
 
-and_one : (a b : Bool) → (a && b) ≡ true → a ≡ true
+pub and_one : (a b : Bool) → (a && b) ≡ true → a ≡ true
 and_one true b is = refl
 and_one false b is = is
 
-and_two : (a b : Bool) → (a && b) ≡ true → b ≡ true
+pub and_two : (a b : Bool) → (a && b) ≡ true → b ≡ true
 and_two true b is = is
 and_two false b is = absurd (false≢true is)
 
@@ -443,6 +454,12 @@ forecasts_silent : (desk : Desk) (front : Option Record) → are_silent (forecas
 forecasts_silent desk None = refl
 forecasts_silent desk (Some board) = refl
 
+supervision_silent : (desk : Desk) (what : Supervision)
+    → are_silent (supervision_act desk what ∷ []) ≡ true
+supervision_silent desk (Supervise on) = refl
+supervision_silent desk (Ask question) = refl
+supervision_silent desk (Answer query order) = refl
+
 event_meets : {New : ℕ → Type 0} (desk : Desk) (event : Event) (body : Body) → IsNewFor New event → Meets New body (event_did desk event body)
 event_meets desk Nothing body new = meets_walk (walks_still body)
 event_meets desk Connect body new = meets_walk (walks_behind body (acts.Connects ∷ []) refl (opens desk Entry body) (session_walks desk Entry body (session_row (session_at Entry body) opened)))
@@ -459,6 +476,7 @@ event_meets desk (Will side on) body new = meets_walk (wills_walks side on body)
 event_meets desk (Level line on) body new = meets_walk (levels_walk desk line on body)
 event_meets desk Forecast body new = meets_walk (walks_told body _ (forecasts_silent desk (slice_get body.kept 0)))
 event_meets desk (Query barcode) body new = meets_walk (walks_told body _ refl)
+event_meets desk (Supervised what) body new = meets_walk (walks_told body _ (supervision_silent desk what))
 event_meets desk (Insert id barcode) body new = record { hand = hand_kept (body.kept ++ plain_record id desk.name barcode ∷ []) (id_of (held body.outlet)) (id_of (in_held body.intake)) (behind_ids body.kept (plain_record id desk.name barcode)) (hand_inserts new) }
 event_meets desk (Remove id) body new = removes_by id body (is_kept id body.kept) refl
 event_meets desk (Replace old new) body fresh = replaces_by desk old new body (is_kept old body.kept) fresh refl
@@ -547,9 +565,12 @@ announces_tells desk body =
     (tells_both two (offer desk two) (λ (d : Body). and_then (ready desk d) (start desk)) (offer_quiet desk (offers_now two) (slice_get two.kept 0) two)
     (tells_both three (ready desk three) (start desk) (ready_quiet desk (readies_now desk three) three) (start_tells desk (starts_now four) four))))
 
--- ---- the step
+-- ---- the step, but for what the supervisor is told
 
-pub step_did : {New : ℕ → Type 0} (desk : Desk) (unread : List Seen) (event : Event) (body : Body) → IsNewFor New event → Did New (own_of body) (machine_step desk unread event body).acts (own_of (machine_step desk unread event body).body)
+pub step_did : {New : ℕ → Type 0} (desk : Desk) (unread : List Seen) (event : Event) (body : Body)
+    → IsNewFor New event
+    → Did New (own_of body) (plain_step desk unread event body).acts
+    (own_of (plain_step desk unread event body).body)
 step_did desk unread event body new =
     let one = (all_read desk unread body).body in
     let two = (event_did desk event one).body in
@@ -562,15 +583,3 @@ silent_by false front both is next = cc
 pub both_silent : (first rest : List Act) → are_silent first ≡ true → are_silent rest ≡ true → are_silent (first ++ rest) ≡ true
 both_silent [] rest one other = other
 both_silent (act ∷ first) rest one other = silent_by (is_silent act) (are_silent first) (are_silent (first ++ rest)) one (λ is. both_silent first rest is other)
-
--- acts that move no record, behind the announcements
-announces_behind : {own end : Own} {told : List Act} (more : List Act) → are_silent more ≡ true → Announces own told end → Announces own (told ++ more) end
-announces_behind {own} {end} more quiet (says_more told others is rest) =
-    subst (λ (all : List Act). Announces own all end) (sym (append_assoc told others more)) (says_more told (others ++ more) is (announces_behind more quiet rest))
-announces_behind more quiet (says_last {told = told} is) = says_more told more is (says_last quiet)
-announces_behind more quiet (says_start {others = others} is) = says_start (both_silent others more is quiet)
-
-pub did_behind : {New : ℕ → Type 0} {own end : Own} {told : List Act} (more : List Act) → are_silent more ≡ true → Did New own told end → Did New own (told ++ more) end
-did_behind {New} {own} {end} more quiet (did read met told r h a) =
-    subst (λ (all : List Act). Did New own all end) (sym (append_assoc read (met ++ told) more ∙ ap (λ (rest : List Act). read ++ rest) (append_assoc met told more)))
-    (did read met (told ++ more) r h (announces_behind more quiet a))

@@ -1,5 +1,5 @@
 -- Each form of a script line keeps the relation of the line.
-use Rattle.std.proofs.Common.{Bool, Err, List, None, Ok, Option, Result, Some, ap, arith, false, not, refl, subst, sym, true, ℕ, ◌+◌, ◌-◌, ◌∙◌, ◌∷◌, ◌≡◌, ◌≤◌}
+use Rattle.std.proofs.Common.{Bool, Err, List, None, Ok, Option, Result, Some, ap, false, not, refl, subst, sym, true, ℕ, ◌+◌, ◌-◌, ◌∙◌, ◌∷◌, ◌≡◌, ◌≤◌}
 use Rattle.std.proofs.lemmas.Bool.{false≢true}
 use Rattle.line_base.specs.declared.states.Quality.{Quality}
 use Rattle.line_base.specs.declared.states.Side.{Side}
@@ -19,6 +19,7 @@ use Rattle.line_report.specs.declared.happening.Reason.{Reason}
 use Rattle.line_report.specs.declared.happening.Reason.TheVariants as reasons
 use Rattle.line_step.specs.Lies.{tells_lie}
 use Rattle.line_step.specs.Lines.{Becomes, Connects, Flows, LineDoes, Unless, cut_in, lied, spoiled, unvouched_told, unseen}
+use Rattle.line_step.proofs.Answering.{answer_may}
 use Rattle.line_step.specs.Reasons.{May, behind_own, has_neighbour, if_there, is_here, may_add, may_connect, may_do, may_flow, may_give, may_lie, may_notice, may_remove, may_replace, no_if, may_unseen}
 use Rattle.line_step.specs.State.{LineState, machine_in, one_more}
 use Rattle.line_step.specs.Steps.{MachineSteps}
@@ -31,8 +32,8 @@ use Rattle.one_standing.proofs.ApartHands.{remove_here, replace_here}
 use Rattle.one_standing.specs.Told.{IsTold}
 use Rattle.one_standing.proofs.Behind.{Bears}
 use Rattle.one_standing.proofs.Carrying.{SaysAlone}
-use Rattle.one_standing.proofs.HandSteps.{Around, Bearing, IsPlainInput, flow_bears, insert_bears, is_fault, is_notice, is_nothing, is_shutdown, is_tick, is_will, is_level, is_forecast, is_query, mark_bears, other_bears, remove_bears, replace_bears}
-use Rattle.one_standing.proofs.LineMoves.{moves_bear}
+use Rattle.one_standing.proofs.HandSteps.{Around, Bearing, IsPlainInput, flow_bears, insert_bears, is_fault, is_notice, is_nothing, is_shutdown, is_tick, is_will, is_level, is_forecast, is_query, is_supervise, is_ask, is_answer, mark_bears, other_bears, remove_bears, replace_bears}
+use Rattle.one_standing.proofs.LineMoves.{moves_bear, less_one}
 use Rattle.one_standing.proofs.MirroringFlow.{mirrors_flow}
 use Rattle.one_standing.proofs.MirroringPlain.{is_plain_input, mirrors_plain}
 use Rattle.one_standing.proofs.RestMore.{more_stands}
@@ -72,9 +73,6 @@ give_may : (machine : ℕ) (input : Input) (s : LineState) (node : NodeState) �
 give_may machine input s node there may = own_first (own.may_of node input) may_do (there_may (machine_in machine s) node (λ n. behind_own (own.may_of n input) may_do) there may)
 
 -- ---- machines by their number
-
-less_one : (n : ℕ) → 1 ≤ n → n - 1 + 1 ≡ n
-less_one n counted = omega (arith, counted)
 
 -- what is shown of each machine j + 1 holds of a machine that is there
 pub numbered : (Q : ℕ → Type 0) (machine : ℕ) (s : LineState) (node : NodeState) → machine_in machine s ≡ Some node → ((j : ℕ) → Q (j + 1)) → Q machine
@@ -182,6 +180,9 @@ line_bears connects number (lines.Go machine side) t before next told all s hone
 line_bears connects number (lines.Signal machine line on) t before next told all s honest fit is = unless_bears t _ before next told _ s.around.st is (λ may done. give_bears number machine (inputs.Level line on) t before next told all refl tt is_level s may done)
 line_bears connects number (lines.Forecast machine) t before next told all s honest fit is = unless_bears t _ before next told _ s.around.st is (λ may done. give_bears number machine inputs.Forecast t before next told all refl tt is_forecast s may done)
 line_bears connects number (lines.Query machine barcode) t before next told all s honest fit is = unless_bears t _ before next told _ s.around.st is (λ may done. give_bears number machine (inputs.Query barcode) t before next told all refl fit is_query s may done)
+line_bears connects number (lines.Supervise machine) t before next told all s honest fit is = unless_bears t _ before next told _ s.around.st is (λ may done. give_bears number machine (inputs.Supervise true) t before next told all refl tt is_supervise s may done)
+line_bears connects number (lines.Ask machine question) t before next told all s honest fit is = unless_bears t _ before next told _ s.around.st is (λ may done. give_bears number machine (inputs.Ask question) t before next told all refl tt is_ask s may done)
+line_bears connects number (lines.Answer machine query order) t before next told all s honest fit is = unless_bears t _ before next told _ s.around.st is (λ may done. give_bears number machine (inputs.Answer query order) t before next told all refl tt is_answer s (answer_may machine query order before may) done)
 line_bears connects number (lines.Connect machine) t before next told all s honest fit is = unless_bears t _ before next told _ s.around.st is (λ may done. connects number machine t before next told all s may done)
 line_bears connects number (lines.Flow machine side count) t before next told all s honest fit is = unless_bears t _ before next told _ s.around.st is (λ may done. flow_line number machine side count t before next told all s may done)
 line_bears connects number (lines.Notice machine side) t before next told all s honest fit is = unless_bears t _ before next told _ s.around.st is (λ may done. notice_bears number machine side t before next told all s may done)

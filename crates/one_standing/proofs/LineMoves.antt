@@ -4,7 +4,7 @@ use Rattle.board_record.specs.declared.record.Record.{Record}
 use Rattle.line_world.specs.FloorPlan.{FloorPlan, IsGap, gap_at, machine_at}
 use Rattle.line_world.specs.Moved.{IsMove, begun_is_taken, left_is_taken}
 use Rattle.line_world.specs.Moves as world
-use Rattle.line_world.specs.Moves.{around_move, around_of, floor_move, with_around}
+use Rattle.line_world.specs.Moves.{around_of, floor_move}
 use Rattle.line_world.specs.declared.gap.Gap.{Gap}
 use Rattle.line_world.specs.declared.moves.Move.{Move}
 use Rattle.line_world.specs.declared.moves.Move.TheVariants as moves
@@ -133,7 +133,7 @@ each_move i moves.Enter t s plan all a is_done = other_bears i moves.Enter t s p
 each_move i moves.Back t s plan all a is_done = other_bears i moves.Back t s plan all a tt is_done
 each_move i moves.HandIn t s plan all a is_done = other_bears i moves.HandIn t s plan all a tt is_done
 
-less_one : (n : ℕ) → 1 ≤ n → n - 1 + 1 ≡ n
+pub less_one : (n : ℕ) → 1 ≤ n → n - 1 + 1 ≡ n
 less_one n counted = omega (arith, counted)
 
 pub move_bears : (gap : ℕ) (step : Move) (t : Trace) (s : LineState) (plan : FloorPlan) (all : List Happening) → Around t s (with_plan plan s) all → floor_move gap step s.world.floor ≡ Ok plan → Bearing (with_plan plan s)

@@ -49,7 +49,7 @@ use Rattle.one_standing.proofs.Signalled.{signals_passed}
 
 -- ---- a machine that is there, by number
 
-same_some : {a b : NodeState} → ◌≡◌ {A = Option NodeState} (Some a) (Some b) → a ≡ b
+pub same_some : {a b : NodeState} → ◌≡◌ {A = Option NodeState} (Some a) (Some b) → a ≡ b
 same_some is = cc
 
 pub node_there : (machine : ℕ) (s : LineState) (node : NodeState) → machine_in machine s ≡ Some node → node_at s machine ≡ node
@@ -117,7 +117,7 @@ read_like {new_entry = ne} {new_exit = nx} {far_above = fa} {far_below = fb} j s
 
 -- ---- the step
 
-moment_fits : (number : ℕ) → number ≤ 1000000 → IsMomentMillis (moment_of number)
+pub moment_fits : (number : ℕ) → number ≤ 1000000 → IsMomentMillis (moment_of number)
 moment_fits number few = (record { le = tt }, record { le = le→leb number 253402300799999 (omega (arith, few)) })
 
 pub fit_desk : (node : NodeState) (number : ℕ) (s : LineState) (machine : ℕ) → node_at s machine ≡ node → number ≤ 1000000 → IsFitMachine s machine → IsFitDesk (desk_of node (moment_of number))

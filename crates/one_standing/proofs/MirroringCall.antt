@@ -48,7 +48,7 @@ use Rattle.one_standing.specs.Mirrors.{cut_above, cut_below, scene_at}
 use Rattle.one_standing.specs.Stands.{Stands}
 use Rattle.one_standing.proofs.Carrying.{SaysAlone, carries_off}
 use Rattle.one_standing.proofs.CarryingSides.{Joint, drop_none}
-use Rattle.one_standing.proofs.Mirroring.{along_plain, beside, links_of, mirrored, next_there, node_there}
+use Rattle.one_standing.proofs.Mirroring.{along_plain, beside, links_of, mirrored, next_there, node_there, same_some}
 use Rattle.one_standing.proofs.MirroringEnds.{IsAround, around_same, before_one}
 use Rattle.one_standing.proofs.MirroringFlow.{link_there}
 use Rattle.one_standing.proofs.MirroringPlain.{above_quiet, below_quiet, quiet_side}
@@ -119,9 +119,6 @@ called_open desk unread body closed role =
     (announces_leave Entry desk (event_did desk Connect one).body).same ∙ ap (λ (d : Done). is_open Entry d.body) (connect_did desk one state down)
 
 -- ---- THE STEP
-
-same_some : {a b : NodeState} → ◌≡◌ {A = Option NodeState} (Some a) (Some b) → a ≡ b
-same_some is = cc
 
 call_by : {far : List ℕ} {up : List Horizontal} → SaysAlone → (t : Trace) (number j : ℕ) (before between : LineState) (told : List Happening) (on : Bool) → may_connect (j + 1 + 1) before ≡ may_do → number ≤ 1000000 → Stands t before → AreWholeLinks before
     → (after_connect (link_at (j + 1) before.world)).stands ≡ on → Carries on far (link_at (j + 1) before.world).flows.to_upstream up

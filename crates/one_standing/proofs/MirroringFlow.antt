@@ -52,7 +52,7 @@ use Rattle.one_standing.specs.Stands.{Stands}
 use Rattle.one_standing.proofs.Carrying.{SaysAlone}
 use Rattle.one_standing.proofs.CarryingSides.{Home, Joint, heard_in, home_closes, home_hears}
 use Rattle.one_standing.proofs.Counting.{HearsAll, is_wrong_first, step_hears_all}
-use Rattle.one_standing.proofs.Mirroring.{mirrors_by, node_there}
+use Rattle.one_standing.proofs.Mirroring.{mirrors_by, node_there, same_some}
 use Rattle.one_standing.proofs.MirroringEnds.{before_one}
 use Rattle.one_standing.proofs.MirroringPlain.{above_quiet, below_quiet, joint_when, quiet_side}
 use Rattle.one_standing.proofs.Signalled.{signals_unheard}
@@ -176,9 +176,6 @@ tests_true false two x y = absurd (cc)
 
 pub link_there : (link count : ℕ) → 1 ≤ link → link + 1 ≤ count → (nat_le 1 link && nat_lt link count) ≡ true
 link_there link count counted within = tests_true (nat_le 1 link) (nat_lt link count) (grind (arith, counted)) (grind (arith, within))
-
-same_some : {a b : NodeState} → ◌≡◌ {A = Option NodeState} (Some a) (Some b) → a ≡ b
-same_some is = cc
 
 -- THE STEP at the entry
 flows_entry : SaysAlone → (t : Trace) (number j : ℕ) (count : Option ℕ) (before after : LineState) (told : List Happening) → CanFlow (j + 1) Entry before → number ≤ 1000000 → Stands t before → AreWholeLinks before

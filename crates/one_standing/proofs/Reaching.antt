@@ -19,11 +19,11 @@ use Rattle.one_standing.specs.Standing.{IsFitLine}
 pub none_reached : IsReached no_line
 none_reached = record { asked = []; points = []; fit = tt; counted = refl; few = omega arith; run = tt; behind = refl }
 
-fit_more : (asked : List ScriptLine) (line : ScriptLine) → AllByRecursion IsFitLine asked → IsFitLine line → AllByRecursion IsFitLine (asked ++ line ∷ [])
+pub fit_more : (asked : List ScriptLine) (line : ScriptLine) → AllByRecursion IsFitLine asked → IsFitLine line → AllByRecursion IsFitLine (asked ++ line ∷ [])
 fit_more [] line fit one = (one, tt)
 fit_more (first ∷ asked) line fit one = (fit.0, fit_more asked line fit.1 one)
 
-length_more : (asked : List ScriptLine) (line : ScriptLine) → length (asked ++ line ∷ []) ≡ length asked + 1
+pub length_more : (asked : List ScriptLine) (line : ScriptLine) → length (asked ++ line ∷ []) ≡ length asked + 1
 length_more [] line = refl
 length_more (first ∷ asked) line = let rest = length_more asked line in omega (arith, rest)
 

@@ -62,6 +62,8 @@ met_below (acts.Inserts id) c k = record { stands = k.stands; up = k.up; down = 
 met_below (acts.Removes id) c k = record { stands = k.stands; up = k.up; down = k.down }
 met_below (acts.Replaces old new) c k = record { stands = k.stands; up = k.up; down = k.down }
 met_below (acts.Signals signal on) c k = record { stands = k.stands; up = k.up; down = k.down }
+met_below (acts.Tells message) c k = record { stands = k.stands; up = k.up; down = k.down }
+met_below (acts.Answered query order) c k = record { stands = k.stands; up = k.up; down = k.down }
 met_below (acts.Sets setting) c k = record { stands = k.stands; up = k.up; down = k.down }
 
 pub all_below : (done : List Act) (c : Scene) → IsStillBelow c → IsStillBelow (all_met done c)
@@ -90,6 +92,8 @@ met_above (acts.Inserts id) c k = record { stands = k.stands; up = k.up; down = 
 met_above (acts.Removes id) c k = record { stands = k.stands; up = k.up; down = k.down }
 met_above (acts.Replaces old new) c k = record { stands = k.stands; up = k.up; down = k.down }
 met_above (acts.Signals signal on) c k = record { stands = k.stands; up = k.up; down = k.down }
+met_above (acts.Tells message) c k = record { stands = k.stands; up = k.up; down = k.down }
+met_above (acts.Answered query order) c k = record { stands = k.stands; up = k.up; down = k.down }
 met_above (acts.Sets setting) c k = record { stands = k.stands; up = k.up; down = k.down }
 
 pub all_above : (done : List Act) (c : Scene) → IsStillAbove c → IsStillAbove (all_met done c)
@@ -120,6 +124,8 @@ met_far_drive_below (acts.Inserts id) c = refl
 met_far_drive_below (acts.Removes id) c = refl
 met_far_drive_below (acts.Replaces old new) c = refl
 met_far_drive_below (acts.Signals signal on) c = refl
+met_far_drive_below (acts.Tells message) c = refl
+met_far_drive_below (acts.Answered query order) c = refl
 met_far_drive_below (acts.Sets setting) c = refl
 
 pub all_far_drive_below : (done : List Act) (c : Scene) → (all_met done c).below.gap.entry_drive ≡ c.below.gap.entry_drive
@@ -148,6 +154,8 @@ met_far_drive_above (acts.Inserts id) c = refl
 met_far_drive_above (acts.Removes id) c = refl
 met_far_drive_above (acts.Replaces old new) c = refl
 met_far_drive_above (acts.Signals signal on) c = refl
+met_far_drive_above (acts.Tells message) c = refl
+met_far_drive_above (acts.Answered query order) c = refl
 met_far_drive_above (acts.Sets setting) c = refl
 
 pub all_far_drive_above : (done : List Act) (c : Scene) → (all_met done c).above.gap.exit_drive ≡ c.above.gap.exit_drive
@@ -255,6 +263,8 @@ second_met (acts.Inserts id) c e is = is
 second_met (acts.Removes id) c e is = is
 second_met (acts.Replaces old new) c e is = is
 second_met (acts.Signals signal on) c e is = is
+second_met (acts.Tells message) c e is = is
+second_met (acts.Answered query order) c e is = is
 second_met (acts.Sets setting) c e is = is
 
 second_by : (done : List Act) (c e : Scene) → c.above ≡ e.above → (all_met_second done c).above ≡ (all_met done e).above

@@ -37,7 +37,7 @@ use Rattle.node_core.specs.Boards.{if_kept, is_kept, with_instead, with_kept, wi
 use Rattle.node_core.specs.Connect.{if_open, meets_second, opens, shuts_down, ticks}
 use Rattle.node_core.specs.Desk.{Desk}
 use Rattle.node_core.specs.Done.{Done, and_then}
-use Rattle.node_core.specs.Event.{Accepted, Connect, Event, Fault, Insert, Mark, Notice, Nothing, Remove, Replace, Second, Shutdown, Tick, Will, Words, event_did, Level, Forecast, Query}
+use Rattle.node_core.specs.Event.{Accepted, Connect, Event, Fault, Insert, Mark, Notice, Nothing, Remove, Replace, Second, Shutdown, Tick, Will, Words, event_did, Level, Forecast, Query, Supervised}
 use Rattle.node_core.specs.Halves.{at_intake, at_outlet, behind_opening, ended, half_closed, intake_row_did, opening_board, outlet_row_did}
 use Rattle.node_core.specs.Hears.{entry_took, entry_word, exit_took, exit_word, intake_took, outlet_took, passed, rowed, side_took, taken}
 use Rattle.node_core.specs.Reads.{all_read, reads, saw}
@@ -373,6 +373,7 @@ event_stills at desk (Will side on) body plain = wills_still at side on body
 event_stills at desk (Level line on) body plain = levels_still at desk line on body
 event_stills at desk Forecast body plain = λ k. k
 event_stills at desk (Query barcode) body plain = λ k. k
+event_stills at desk (Supervised what) body plain = λ k. k
 event_stills at desk (Insert id barcode) body plain = kept_stills at (body.kept ++ plain_record id desk.name barcode ∷ []) body
 event_stills at desk (Remove id) body plain = if_kept_stills at (is_kept id body.kept) body (without id body.kept) _
 event_stills at desk (Replace old new) body plain = if_kept_stills at (is_kept old body.kept) body (with_instead old (plain_record new desk.name None) body.kept) _

@@ -10,6 +10,7 @@ use Rattle.board_record.specs.declared.record.Record.{Record}
 use Rattle.hermes_horizontal.specs.declared.message.Message.{Message}
 use Rattle.hermes_horizontal.specs.declared.message.Horizontal.{Horizontal}
 use Rattle.hermes_horizontal.specs.Parts.{kind_of}
+use Rattle.hermes_vertical.specs.declared.message.VerticalMessage.{VerticalMessage}
 use Rattle.smema_bridge.specs.Levels.{BridgeLevels}
 use Rattle.session_core.specs.Breach.{unexpected}
 use Rattle.session_core.specs.declared.actions.Action.{Action}
@@ -40,6 +41,7 @@ use Rattle.node_core.specs.declared.act.Act.TheVariants as acts
 use Rattle.node_core.specs.declared.act.Deed.TheVariants as deeds
 use Rattle.node_core.specs.declared.act.Signal.{Signal}
 use Rattle.node_core.specs.declared.lane.Body.{Body}
+use Rattle.node_core.specs.declared.supervising.Watch.{Watch}
 use Rattle.node_core.specs.declared.word.Word.{Word}
 use Rattle.node_core.specs.declared.word.Word.TheVariants.{Says, Wrong}
 use Rattle.node_core.specs.declared.word.ExitWord.{ExitWord}
@@ -54,10 +56,12 @@ use Rattle.node_core.specs.Session.{action_did, actions_did, breaches, maybe_did
 use Rattle.node_core.specs.Hears.{entry_took, entry_word, exit_took, exit_word, intake_took, outlet_took, passed, rowed, taken}
 use Rattle.node_core.specs.Connect.{if_open, meets_second, notices, opens}
 use Rattle.node_core.specs.Signals.{signalled}
+use Rattle.node_core.specs.Supervising.{with_tells}
 use Rattle.node_core.specs.Words.{all_heard, word_did}
 use Rattle.node_core.specs.Reads.{reads, saw}
 use Rattle.node_core.proofs.Keeping.{word_keeps}
 use Rattle.node_core.proofs.Signalling.{signals_pass}
+use Rattle.node_core.proofs.Telling.{tells_pass}
 
 -- ---- the acts that reach the link and the gap at a side, and what its intake tells of a board that settles
 
@@ -95,6 +99,19 @@ signals_reach side made bridge body =
     signals_pass (λ (told : List Act). reaches side told)
     (λ front signal on. reaches_append side front (acts.Signals signal on ∷ []) ∙ ap (λ (rest : List Act). reaches side front ++ rest) (signal_silent side signal on) ∙ append-nil (reaches side front))
     made bridge body
+
+-- nor does what the supervisor is told
+tell_silent : (side : Side) (message : VerticalMessage) → reach side (acts.Tells message) ≡ []
+tell_silent Entry message = refl
+tell_silent Exit message = refl
+
+pub tells_reach : (side : Side) (desk : Desk) (watch : Watch) (made : List Act)
+    → reaches side (with_tells desk watch made) ≡ reaches side made
+tells_reach side desk watch made =
+    tells_pass (λ (told : List Act). reaches side told)
+    (λ act told plain same. ap (λ (rest : List Act). reach side act ++ rest) same)
+    (λ message told. ap (λ (first : List Act). first ++ reaches side told) (tell_silent side message))
+    desk watch made
 
 pub none_reach : (side : Side) (a b : List Act) → reaches side a ≡ [] → reaches side b ≡ [] → reaches side (a ++ b) ≡ []
 none_reach side a b first last = reaches_append side a b ∙ ap (λ xs. xs ++ reaches side b) first ∙ last

@@ -265,6 +265,15 @@ elsewhere_line {number = number} (lines.Go m side) e h is = unless_goes (lines.G
 elsewhere_line {number = number} (lines.Signal m line on) e h is = unless_goes (lines.Signal m line on) _ _ h.st is (λ may steps. elsewhere_step (lines.Signal m line on) number m (inputs.Level line on) h.st e refl steps)
 elsewhere_line {number = number} (lines.Forecast m) e h is = unless_goes (lines.Forecast m) _ _ h.st is (λ may steps. elsewhere_step (lines.Forecast m) number m (inputs.Forecast) h.st e refl steps)
 elsewhere_line {number = number} (lines.Query m barcode) e h is = unless_goes (lines.Query m barcode) _ _ h.st is (λ may steps. elsewhere_step (lines.Query m barcode) number m (inputs.Query barcode) h.st e refl steps)
+elsewhere_line {number = number} (lines.Supervise m) e h is =
+    unless_goes (lines.Supervise m) _ _ h.st is
+    (λ may steps. elsewhere_step (lines.Supervise m) number m (inputs.Supervise true) h.st e refl steps)
+elsewhere_line {number = number} (lines.Ask m question) e h is =
+    unless_goes (lines.Ask m question) _ _ h.st is
+    (λ may steps. elsewhere_step (lines.Ask m question) number m (inputs.Ask question) h.st e refl steps)
+elsewhere_line {number = number} (lines.Answer m query order) e h is =
+    unless_goes (lines.Answer m query order) _ _ h.st is
+    (λ may steps. elsewhere_step (lines.Answer m query order) number m (inputs.Answer query order) h.st e refl steps)
 elsewhere_line {k = k} {number = number} (lines.Connect m) e h is = unless_goes (lines.Connect m) _ _ h.st is (λ may c. connect_elsewhere m h e c (same_or_not (m - 1) (k + 1)))
 elsewhere_line {number = number} (lines.Flow m side count) e h is = unless_goes (lines.Flow m side count) _ _ h.st is (λ may flows. elsewhere_flow number m side count h.st e flows)
 elsewhere_line {number = number} (lines.Notice m side) e h is = unless_goes (lines.Notice m side) _ _ h.st is (λ may steps. elsewhere_step (lines.Notice m side) number m (inputs.Notice side) h.st e refl steps)

@@ -16,7 +16,7 @@ use Rattle.link_messages.specs.Fit.{AreFitActs, IsFit, IsFitDesk, IsFitRecord, m
 use Rattle.link_messages.proofs.SayingWhat.{IsFitSaid, available_fits, sent}
 use Rattle.twelve_steps.specs.Announced.{AreTextsOf, IsAnnounced, in_flight, more_texts, no_texts}
 use Rattle.twelve_steps.specs.Example.{announced_line, board_offered, first_board, first_record, machine_above, machine_below, place_told}
-use Rattle.twelve_steps.proofs.Flowing.{moment_fits}
+use Rattle.one_standing.proofs.Mirroring.{moment_fits}
 use Rattle.twelve_steps.proofs.Texts.{sayable_one}
 
 -- what is said at a moment is fit

@@ -1,11 +1,8 @@
 -- A step of the machine above the gap, and of the one below it, in a line.
 use Rattle.std.proofs.Common.{Bool, List, None, Some, [], ap, arith, drop, false, length, refl, subst, sym, true, ℕ, ◌++◌, ◌+◌, ◌-◌, ◌∙◌, ◌∷◌, ◌≡◌, ◌≤◌}
-use Rattle.std.proofs.Common.{le→leb}
 use Rattle.std.proofs.lemmas.Bool.{false≢true}
 use Rattle.std.proofs.lemmas.List.{drop_all}
 use Rattle.std.specs.Borrow.{Bor}
-use Rattle.line_base.specs.Moment.{IsMomentMillis}
-use Rattle.line_base.specs.Text.{IsText}
 use Rattle.line_base.specs.declared.states.Role.TheVariants.{Upstream}
 use Rattle.line_base.specs.declared.states.SensorEvent.{SensorEvent}
 use Rattle.line_base.specs.declared.states.Side.TheVariants.{Entry, Exit}
@@ -37,7 +34,7 @@ use Rattle.node_core.specs.declared.input.Input.TheVariants as inputs
 use Rattle.node_core.specs.declared.lane.Body.{Body}
 use Rattle.node_core.specs.declared.word.Word.{Word}
 use Rattle.node_core.specs.declared.word.Word.TheVariants.{Says}
-use Rattle.link_messages.specs.Fit.{AreFit, AreFitActs, AreFitRecords, IsFit, IsFitDesk, IsFitRecord, more_fit, more_kept}
+use Rattle.link_messages.specs.Fit.{AreFit, AreFitActs, AreFitRecords, IsFit, IsFitRecord, more_fit, more_kept}
 use Rattle.link_messages.specs.Heard.{bodies}
 use Rattle.link_messages.proofs.SayingWhat.{both_said as both_fit_said}
 use Rattle.line_report.specs.declared.happening.Happening.{Happening}
@@ -61,6 +58,7 @@ use Rattle.twelve_steps.proofs.Texts.{Carrying, Flying, HeardOne, flying_rest, h
 use Rattle.twelve_steps.proofs.Turning.{above_beside, above_hearing, above_read_fits, above_said_fits, hearing, is_settled, last}
 use Rattle.twelve_steps.proofs.Upper.{IsUpper, Upper, over}
 use Rattle.twelve_steps.proofs.Upper as upper
+use Rattle.one_standing.proofs.Mirroring.{fit_desk}
 
 -- the handover is over behind a line
 pub record IsOver (k left spare : ℕ) (told : Bool) (next : LineState) : Type 0 where
@@ -84,16 +82,6 @@ outcome_less less few (comes_to_end e) =
     comes_to_end (record { fewer = omega (arith, fewer, few); told_is = e.told_is; idle = e.idle })
 
 -- ---- what is fit
-
-pub moment_fits : (number : ℕ) → number ≤ 1000000 → IsMomentMillis (moment_of number)
-moment_fits number few = (record { le = tt }, record { le = le→leb number 253402300799999 (omega (arith, few)) })
-
-pub fit_desk : (node : NodeState) (number : ℕ) (s : LineState) (machine : ℕ) → node_at s machine ≡ node → number ≤ 1000000 → IsFitMachine s machine → IsFitDesk (desk_of node (moment_of number))
-fit_desk node number s machine is few fit = record {
-  name = subst (λ (n : NodeState). IsText n.name) is fit.name;
-  lane = subst (λ (n : NodeState). n.number ≤ 999_999_999) is fit.lane;
-  moment = moment_fits number few;
-}
 
 first_fits : (r : Record) (others : List Record) → AreFitRecords (r ∷ others) → IsFitRecord r
 first_fits r others (more_kept one more) = one

@@ -261,6 +261,12 @@ does_heed number (lines.Go m side) s next told is h = unless_heeds s next told _
 does_heed number (lines.Signal m line on) s next told is h = unless_heeds s next told _ _ is h (λ steps. step_heeds number m _ s next told steps h)
 does_heed number (lines.Forecast m) s next told is h = unless_heeds s next told _ _ is h (λ steps. step_heeds number m _ s next told steps h)
 does_heed number (lines.Query m barcode) s next told is h = unless_heeds s next told _ _ is h (λ steps. step_heeds number m _ s next told steps h)
+does_heed number (lines.Supervise m) s next told is h =
+    unless_heeds s next told _ _ is h (λ steps. step_heeds number m _ s next told steps h)
+does_heed number (lines.Ask m question) s next told is h =
+    unless_heeds s next told _ _ is h (λ steps. step_heeds number m _ s next told steps h)
+does_heed number (lines.Answer m query order) s next told is h =
+    unless_heeds s next told _ _ is h (λ steps. step_heeds number m _ s next told steps h)
 does_heed number (lines.Connect m) s next told is h = unless_heeds s next told _ _ is h (λ c. twice_heeds number m s next told c h)
 does_heed number (lines.Flow m side count) s next told is h = unless_heeds s next told _ (Flows number m side count s next told) is h (λ flows. step_heeds number m _ _ next told flows.steps (record { at = h.at }))
 does_heed number (lines.Notice m side) s next told is h = unless_heeds s next told _ _ is h (λ steps. step_heeds number m _ s next told steps h)

@@ -1,5 +1,5 @@
 -- The machine below the gap keeps the record of the board that settles there.
-use Rattle.std.proofs.Common.{Bool, List, [], arith, eqb-true, false, length, refl, subst, sym, true, ℕ, ◌&&◌, ◌+◌, ◌==◌, ◌||◌, ◌∷◌, ◌≡◌, ◌≤◌}
+use Rattle.std.proofs.Common.{Bool, List, [], arith, eqb-true, false, length, refl, subst, sym, true, ℕ, ◌+◌, ◌==◌, ◌||◌, ◌∷◌, ◌≡◌, ◌≤◌}
 use Rattle.std.specs.List.{AllByRecursion}
 use Rattle.board_record.specs.declared.record.Record.{Record}
 use Rattle.line_script.specs.declared.line.ScriptLine.{ScriptLine}
@@ -20,13 +20,14 @@ use Rattle.one_standing.proofs.LineForms.{ConnectsBear}
 use Rattle.one_standing.proofs.LineRun.{Stood, line_stood}
 use Rattle.line_history.specs.Offered.{IsLast}
 use Rattle.line_history.proofs.Courses.{IsByHand}
-use Rattle.line_history.proofs.OfferedRun.{AreOffered, line_are_offered, line_keeps_last}
+use Rattle.line_history.proofs.OfferedRun.{AreOffered, line_are_offered, line_keeps_last, still_among}
 use Rattle.line_history.proofs.Offering.{settles_act, settles_acts, settles_append}
 use Rattle.line_history.proofs.OfferingWhole.{IsAmong, among_first, among_later}
 use Rattle.line_history.proofs.View.{done_act, done_by}
 use Rattle.twelve_steps.specs.Twelve.{HoldsIt, HoldsItToEnd, KeepsItToEnd, Unless, has_ended, is_settling, tells_settled}
 use Rattle.twelve_steps.specs.Undisturbed.{AreUndisturbed, IsUndisturbed, NamesElsewhere, begins, blank, connects_above, elsewhere, enters, flows_above, flows_below, flows_down, flows_up, leaves, more, notices_above, notices_below, senses, shows, spoils_above, spoils_below}
 use Rattle.twelve_steps.proofs.Running.{lines_after, or_first, or_second}
+use Rattle.one_standing.proofs.LedgerWalk.{and_one, and_two}
 
 -- ---- a stretch is of no hand at machine k + 1
 
@@ -68,18 +69,6 @@ still_act (acts.Deed (deeds.Loses other)) ids is = is
 still_act (acts.Deed (deeds.Starts other)) ids is = is
 still_act (acts.Deed (deeds.Drops other)) ids is = is
 still_act _ ids is = is
-
-still_among : {id : ℕ} (told : List Act) (ids : List ℕ) → IsAmong id ids → IsAmong id (settles_acts told ids)
-still_among [] ids is = is
-still_among (act ∷ told) ids is = still_among told (settles_act act ids) (still_act act ids is)
-
-and_one : (a b : Bool) → (a && b) ≡ true → a ≡ true
-and_one true b is = refl
-and_one false b is = is
-
-and_two : (a b : Bool) → (a && b) ≡ true → b ≡ true
-and_two true b is = is
-and_two false b is = absurd (let no : false ≡ true = is in cc)
 
 -- the first happening, or a later one
 one_settles : (k id : ℕ) (h : Happening) (ids : List ℕ) → is_settling k id h ≡ true → IsAmong id (settles_acts (done_act (k + 1) h) ids)

@@ -36,7 +36,8 @@ use Rattle.node_core.specs.Hears.{hears}
 use Rattle.node_core.specs.Places.{has_place, place_for, used}
 use Rattle.node_core.specs.Reads.{all_read, reads}
 use Rattle.node_core.specs.Sides.{is_standing}
-use Rattle.node_core.specs.Step.{machine_step}
+use Rattle.node_core.specs.Step.{machine_step, plain_step}
+use Rattle.node_core.specs.Supervising.{telling, watch_of}
 use Rattle.node_core.specs.Words.{all_heard}
 use Rattle.node_core.specs.declared.act.Act.{Act}
 use Rattle.node_core.specs.declared.act.Act.TheVariants as acts
@@ -46,7 +47,7 @@ use Rattle.node_core.specs.declared.lane.End.{End}
 use Rattle.node_core.specs.declared.word.Word.TheVariants.{Says}
 use Rattle.node_core.proofs.HalfRows.{offer_places}
 use Rattle.node_core.proofs.Keeping.{Keeps, at_outlet_keeps, keeps_behind}
-use Rattle.twelve_steps.proofs.Beside.{Leaves, SameLower, at_outlet_leaves, leaves_still, reaches, reaches_append, reads_leave}
+use Rattle.twelve_steps.proofs.Beside.{Leaves, SameLower, at_outlet_leaves, leaves_still, reaches, reaches_append, reads_leave, tells_reach}
 
 -- it has said that it is ready; it has heard the offer (in the midst of a step alone); it takes the board, and has read that it
 -- begins or not, and has heard that it left or not; it has read that the board is inside before it heard that it left; and the
@@ -433,6 +434,12 @@ announces_turn {r = r} l desk body is =
 
 -- ---- a step of the machine
 
+-- what the supervisor is told of it reaches no link
+turns_telling : {capacity : ℕ} {r : Record} {l : Lower} {said : List Act} (desk : Desk) (body : Body)
+    (did : Done) → Turns capacity r l said did → Turns capacity r l said (telling desk body did)
+turns_telling desk body did t =
+    record { lower = t.lower; reached = tells_reach Entry desk (watch_of desk body) did.acts ∙ t.reached }
+
 -- whatever befalls its exit
 pub step_aside : {r : Record} {l m : Lower} {said : List Act} (desk : Desk) (unread : List Sensed) (event : Event) (body : Body) → IsLower desk.capacity r l body → Reads desk r l (events_at Entry unread) m said
     → Aside (all_read desk unread body).body (event_did desk event (all_read desk unread body).body) → (next : Lower) × (told : List Act) × IsRest next × Follows desk r m next told × Turns desk.capacity r next (said ++ told) (machine_step desk unread event body)
@@ -441,8 +448,15 @@ step_aside {r = r} {m = m} {said = said} desk unread event body is rs aside =
     let first = all_turn desk unread body is rs in
     let did = event_did desk event read.body in
     let second : Turns desk.capacity r m [] did = turns_aside first.lower aside in
-    let third = announces_turn m desk did.body second.lower in
-    (third.announced.next, third.announced.told, third.rests, third.announced.follows, turns_both read (λ (b : Body). and_then (event_did desk event b) (announces desk)) first (turns_both did (announces desk) second third.announced.turns))
+    let third = announces_turn m desk did.body second.lower in (
+      third.announced.next,
+      third.announced.told,
+      third.rests,
+      third.announced.follows,
+      turns_telling desk body (plain_step desk unread event body)
+          (turns_both read (λ (b : Body). and_then (event_did desk event b) (announces desk)) first
+          (turns_both did (announces desk) second third.announced.turns)),
+    )
 
 last_turns : {capacity : ℕ} {r : Record} {l : Lower} (desk : Desk) (body : Body) → IsLower capacity r l body → Turns capacity r l [] (all_heard desk Entry [] body)
 last_turns desk body is = record { lower = is; reached = refl }
@@ -461,6 +475,14 @@ step_hears {r = r} {m = m} {n = n} {said = said} {heard = heard} desk unread one
     let second : Turns desk.capacity r n heard (all_heard desk Entry (Says one ∷ []) read.body) =
     subst (λ (test : Bool). Turns desk.capacity r n heard (if_open test (and_then (hears desk Entry one read.body) (all_heard desk Entry [])) read.body)) (sym (open_if read.body.entry.session.state first.lower.stands))
     (subst (λ (told : List Act). Turns desk.capacity r n told (and_then (hears desk Entry one read.body) (all_heard desk Entry []))) (append-nil heard) heard_one) in
+    let event : Event = Words Entry (Says one ∷ []) in
     let did = all_heard desk Entry (Says one ∷ []) read.body in
-    let third = announces_turn n desk did.body second.lower in
-    (third.announced.next, third.announced.told, third.rests, third.announced.follows, turns_both read (λ (b : Body). and_then (event_did desk (Words Entry (Says one ∷ [])) b) (announces desk)) first (turns_both did (announces desk) second third.announced.turns))
+    let third = announces_turn n desk did.body second.lower in (
+      third.announced.next,
+      third.announced.told,
+      third.rests,
+      third.announced.follows,
+      turns_telling desk body (plain_step desk unread event body)
+          (turns_both read (λ (b : Body). and_then (event_did desk event b) (announces desk)) first
+          (turns_both did (announces desk) second third.announced.turns)),
+    )

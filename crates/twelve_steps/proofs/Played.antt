@@ -1,5 +1,5 @@
 -- A run of the six lines leads to the state that is written out.
-use Rattle.std.proofs.Common.{Bool, List, None, Some, [], ap, append-nil, arith, false, if◌then◌else◌, length, refl, subst, sym, take, true, ℕ, ◌++◌, ◌+◌, ◌-◌, ◌∙◌, ◌∷◌, ◌≡◌}
+use Rattle.std.proofs.Common.{Bool, List, None, Some, [], ap, append-nil, arith, false, length, refl, subst, sym, take, true, ℕ, ◌++◌, ◌+◌, ◌-◌, ◌∙◌, ◌∷◌, ◌≡◌}
 use Rattle.std.specs.Prelude.{nat_lt}
 use Rattle.std.proofs.lemmas.Bool.{le-ltb}
 use Rattle.std.proofs.lemmas.List.{take_all}
@@ -24,6 +24,7 @@ use Rattle.node_core.specs.Forecasts.{forecasts_after}
 use Rattle.node_core.specs.Node.{NodeState, desk_of}
 use Rattle.node_core.specs.Signals.{levels_after, signalled}
 use Rattle.node_core.specs.Step.{Brings, machine_step}
+use Rattle.node_core.specs.Supervising.{orders_after, supervised_after}
 use Rattle.node_core.specs.Told.{service_of}
 use Rattle.node_core.specs.Words.{AreAll, AreFirst, AreWords, all_more, all_none, first_more, first_none}
 use Rattle.node_core.specs.declared.act.Act.{Act}
@@ -45,8 +46,9 @@ use Rattle.one_standing.proofs.Carrying.{SaysAlone}
 use Rattle.one_standing.proofs.RestMore.{machine_is_text}
 use Rattle.twelve_steps.specs.Example.{IsReachedAnnounced, announced_line, board_offered, first_board, machine_above, machine_below, place_told}
 use Rattle.twelve_steps.proofs.Example.{is_announced, offer_one, place_one, said_fits}
-use Rattle.twelve_steps.proofs.Flowing.{moment_fits}
+use Rattle.one_standing.proofs.Mirroring.{moment_fits}
 use Rattle.twelve_steps.proofs.Texts.{sayable_one}
+use Rattle.line_step.proofs.Ascending.{choose_true, choose_false}
 
 -- ---- the step of a machine, computed: no bytes wait behind it
 
@@ -67,6 +69,8 @@ next_of number machine input words s = record (node_at s machine) {
   };
   bridge = levels_after input (did_of number machine input words s).body (node_at s machine).bridge;
   forecasts = forecasts_after (node_at s machine).forecasts (acts_of number machine input words s);
+  supervised = supervised_after input (node_at s machine).supervised;
+  orders = orders_after input (node_at s machine).orders;
 }
 
 abbrev after_of : ℕ → ℕ → Input → List Word → LineState → LineState
@@ -88,6 +92,8 @@ steps_by number machine input words s there brings = record {
     told = refl;
     bridge = refl;
     forecasts = refl;
+    supervised = refl;
+    orders = refl;
     name = refl;
     number = refl;
     capacity = refl;
@@ -108,14 +114,6 @@ hears_one alone message fit piece is still =
     }
 
 -- ---- what a link makes of a text
-
-choose_true : {A : Type 0} (test : Bool) (a b : A) → test ≡ true → (if test then a else b) ≡ a
-choose_true true a b is = refl
-choose_true false a b is = absurd (cc)
-
-choose_false : {A : Type 0} (test : Bool) (a b : A) → test ≡ false → (if test then a else b) ≡ b
-choose_false false a b is = refl
-choose_false true a b is = absurd (cc)
 
 -- a text that is alone on its way is not too much
 record IsSent (from : Role) (text : List ℕ) (link : LinkParts) : Type 0 where

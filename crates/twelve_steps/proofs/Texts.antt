@@ -1,5 +1,5 @@
 -- Messages in flight on a link: one more is sent, and the oldest arrives whole.
-use Rattle.std.proofs.Common.{Bool, List, None, Some, [], ap, append-nil, append_assoc, arith, drop, false, length, refl, subst, sym, take, true, ℕ, ◌*◌, ◌++◌, ◌+◌, ◌-◌, ◌<◌, ◌∙◌, ◌∷◌, ◌≡◌, ◌≤◌, if◌then◌else◌, eqb-true, lt-ltb, ltb-true}
+use Rattle.std.proofs.Common.{Bool, List, None, Some, [], ap, append-nil, append_assoc, arith, drop, false, length, refl, subst, sym, take, true, ℕ, ◌*◌, ◌++◌, ◌+◌, ◌-◌, ◌<◌, ◌∙◌, ◌∷◌, ◌≡◌, ◌≤◌, eqb-true, lt-ltb, ltb-true}
 use Rattle.std.proofs.lemmas.Bool.{le-ltb}
 use Rattle.std.proofs.lemmas.List.{drop-append-le, length-append, length-drop, take-append-drop, take-append-le, take_at}
 use Rattle.std.specs.Prelude.{nat_lt}
@@ -22,6 +22,7 @@ use Rattle.link_messages.specs.Heard.{AreSayable, IsSayable, bodies, more_sayabl
 use Rattle.link_messages.proofs.Fitting.{both_fit}
 use Rattle.one_standing.proofs.Carrying.{SaysAlone}
 use Rattle.one_standing.proofs.CarryingSides.{begun_text}
+use Rattle.line_step.proofs.Ascending.{choose_true, choose_false}
 
 -- the texts of these messages are on their way, and this waits of the oldest
 pub record AreOn (said : List Message) (waiting : List ℕ) (stream : Stream) : Type 0 where
@@ -87,14 +88,6 @@ pub record Carrying (up_waits down_waits : List ℕ) (link : LinkParts) (up down
   pub stands : link.stands ≡ true
   pub upward : Flying up_waits link.flows.to_upstream up
   pub downward : Flying down_waits link.flows.to_downstream down
-
-choose_true : {A : Type 0} (test : Bool) (a b : A) → test ≡ true → (if test then a else b) ≡ a
-choose_true true a b is = refl
-choose_true false a b is = absurd (cc)
-
-choose_false : {A : Type 0} (test : Bool) (a b : A) → test ≡ false → (if test then a else b) ≡ b
-choose_false false a b is = refl
-choose_false true a b is = absurd (cc)
 
 coming_few : SaysAlone → (waiting : List ℕ) (stream : Stream) (said : List Message) → Flying waiting stream said → length said ≤ 15 → length (coming stream) ≤ 1048576
 coming_few alone waiting stream said f few =

@@ -34,7 +34,8 @@ use Rattle.node_core.specs.Halves.{behind_opening, opening_board, outlet_did}
 use Rattle.node_core.specs.Hears.{hears, outlet_took, passed, start_took}
 use Rattle.node_core.specs.Reads.{all_read, reads}
 use Rattle.node_core.specs.Sides.{is_standing}
-use Rattle.node_core.specs.Step.{machine_step}
+use Rattle.node_core.specs.Step.{machine_step, plain_step}
+use Rattle.node_core.specs.Supervising.{telling, watch_of}
 use Rattle.node_core.specs.Words.{all_heard}
 use Rattle.node_core.specs.Connect.{if_open}
 use Rattle.node_core.specs.declared.act.Act.{Act}
@@ -43,7 +44,7 @@ use Rattle.node_core.specs.declared.lane.Body.{Body}
 use Rattle.node_core.specs.declared.lane.End.{End}
 use Rattle.node_core.specs.declared.word.Word.TheVariants.{Says}
 use Rattle.handover_in.specs.declared.input.InInput.TheVariants as in_input
-use Rattle.twelve_steps.proofs.Beside.{IsFirst, Leaves, SameUpper, at_intake_leaves, leaves_still, reaches, reaches_append, reads_leave}
+use Rattle.twelve_steps.proofs.Beside.{IsFirst, Leaves, SameUpper, at_intake_leaves, leaves_still, reaches, reaches_append, reads_leave, tells_reach}
 
 -- it offers the board, and has heard of the place or not; it moves the board out, and has read that it begins or not; it has read
 -- that the board left; and it has heard the stop, and offers the next board or not
@@ -352,6 +353,12 @@ announces_turn {r = r} u desk body is =
 
 -- ---- a step of the machine
 
+-- what the supervisor is told of it reaches no link
+turns_telling : {r : Record} {u : Upper} {said : List Act} (desk : Desk) (body : Body) (did : Done)
+    → Turns r u said did → Turns r u said (telling desk body did)
+turns_telling desk body did t =
+    record { upper = t.upper; reached = tells_reach Exit desk (watch_of desk body) did.acts ∙ t.reached }
+
 -- whatever befalls its entry
 pub step_beside : {r : Record} {u v : Upper} {said : List Act} (desk : Desk) (unread : List Seen) (event : Event) (body : Body) → IsUpper r u body → Reads desk r u (events_at Exit unread) v said
     → Leaves Entry (all_read desk unread body).body (event_did desk event (all_read desk unread body).body) → (next : Upper) × (told : List Act) × Follows desk v next told × Turns r next (said ++ told) (machine_step desk unread event body)
@@ -360,8 +367,14 @@ step_beside {r = r} {v = v} {said = said} desk unread event body is rs leaves =
     let first = all_turn desk unread body is rs in
     let did = event_did desk event read.body in
     let second : Turns r v [] did = turns_beside first.upper leaves in
-    let third = announces_turn v desk did.body second.upper in
-    (third.next, third.told, third.follows, turns_both read (λ (b : Body). and_then (event_did desk event b) (announces desk)) first (turns_both did (announces desk) second third.turns))
+    let third = announces_turn v desk did.body second.upper in (
+      third.next,
+      third.told,
+      third.follows,
+      turns_telling desk body (plain_step desk unread event body)
+          (turns_both read (λ (b : Body). and_then (event_did desk event b) (announces desk)) first
+          (turns_both did (announces desk) second third.turns)),
+    )
 
 open_if : (state : SessionState) → state ≡ Standing → is_connected_state state ≡ true
 open_if state is = ap (λ (s : SessionState). is_connected_state s) is
@@ -380,6 +393,13 @@ step_hears {r = r} {v = v} {w = w} {said = said} {heard = heard} desk unread one
     let second : Turns r w heard (all_heard desk Exit (Says one ∷ []) read.body) =
     subst (λ (test : Bool). Turns r w heard (if_open test (and_then (hears desk Exit one read.body) (all_heard desk Exit [])) read.body)) (sym (open_if read.body.exit.session.state first.upper.stands))
     (subst (λ (told : List Act). Turns r w told (and_then (hears desk Exit one read.body) (all_heard desk Exit []))) (append-nil heard) heard_one) in
+    let event : Event = Words Exit (Says one ∷ []) in
     let did = all_heard desk Exit (Says one ∷ []) read.body in
-    let third = announces_turn w desk did.body second.upper in
-    (third.next, third.told, third.follows, turns_both read (λ (b : Body). and_then (event_did desk (Words Exit (Says one ∷ [])) b) (announces desk)) first (turns_both did (announces desk) second third.turns))
+    let third = announces_turn w desk did.body second.upper in (
+      third.next,
+      third.told,
+      third.follows,
+      turns_telling desk body (plain_step desk unread event body)
+          (turns_both read (λ (b : Body). and_then (event_did desk event b) (announces desk)) first
+          (turns_both did (announces desk) second third.turns)),
+    )

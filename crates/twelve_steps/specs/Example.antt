@@ -73,6 +73,8 @@ machine_above = record {
   };
   bridge = None;
   forecasts = [];
+  supervised = false;
+  orders = [];
 }
 
 abbrev pub machine_below : NodeState
@@ -92,6 +94,8 @@ machine_below = record {
   };
   bridge = None;
   forecasts = [];
+  supervised = false;
+  orders = [];
 }
 
 abbrev pub link_between : LinkParts

@@ -97,6 +97,9 @@ NamesElsewhere k (lines.HandIn gap) = gap ≢ k
 NamesElsewhere k (lines.Take gap) = gap ≢ k
 NamesElsewhere k (lines.Forecast machine) = IsElsewhere k machine
 NamesElsewhere k (lines.Query machine barcode) = IsElsewhere k machine
+NamesElsewhere k (lines.Supervise machine) = IsElsewhere k machine
+NamesElsewhere k (lines.Ask machine question) = IsElsewhere k machine
+NamesElsewhere k (lines.Answer machine query order) = IsElsewhere k machine
 NamesElsewhere k _ = ⊥
 
 -- A LINE THAT DOESN'T DISTURB the handover at gap k: a link step's form, any `sense`, a `show`, a blank line, a line of
