@@ -1,27 +1,29 @@
--- Each script that is read has barcodes that are texts, and at most 1,000,000 lines.
-use Rattle.std.proofs.Common.{Bool, List, [], arith, false, length, refl, suc, true, ℕ, ◌+◌, ◌∷◌, ◌≡◌, ◌≤◌, sym}
+-- Each script that is read fits the laws: its texts are texts, and it has at most 1,000,000 lines.
+use Rattle.std.proofs.Common.{Bool, List, [], arith, false, length, refl, true, ℕ, ◌+◌, ◌∷◌, ◌≡◌, ◌≤◌, sym}
 use Rattle.std.proofs.lemmas.Bool.Decides.{nat_tests}
-use Rattle.std.specs.Prelude.{Err, Ok, Result, if◌then◌else◌, nat_eq, nat_le, nat_lt}
-use Rattle.std.specs.List.{AllByRecursion, list_all, list_any}
+use Rattle.std.specs.Prelude.{Err, Ok, Result, if◌then◌else◌, nat_eq, nat_lt}
+use Rattle.std.specs.List.{AllByRecursion, list_all}
 use Rattle.std.specs.Str.{bytes_eq}
 use Rattle.std.specs.Str.Lines.{lines as lines_in}
 use Rattle.line_base.specs.declared.states.SensorEvent.{SensorEvent}
 use Rattle.line_base.specs.declared.states.Side.{Side}
 use Rattle.line_base.specs.Text.{IsText}
-use Rattle.smema_bridge.specs.declared.line.SegmentLine.{SegmentLine}
-use Rattle.line_script.specs.Grammar.{Form, Value, arguments_as, board, forms, graded, insert_form, is_comment, is_later, is_seen_at, lie_of, line_among, line_as, line_of_words, mapped_ok, numeral, query_form, read_of, seen, sided, signalled, spelled, switched, then_ok}
+use Rattle.hermes_vertical.specs.declared.message.Question.TheVariants as questions
+use Rattle.line_script.specs.Grammar.{Form, Kind, Value, arguments_as, asked_by, board, forms, graded, is_comment, is_seen_at, lie_of, line_among, line_as, line_of_words, numeral, read_of, seen, sided, signalled, spelled, switched, then_ok}
 use Rattle.line_script.specs.Grammar as grammar
-use Rattle.line_script.specs.Words.{is_text_byte, number_in, token_of, words_of}
+use Rattle.line_script.specs.Words.{is_text_byte, question_of, words_of}
 use Rattle.line_script.specs.declared.line.LineWhy.{LineWhy}
 use Rattle.line_script.specs.declared.line.LineWhy.TheVariants as whys
 use Rattle.line_script.specs.declared.line.ScriptLine.{ScriptLine}
 use Rattle.line_script.specs.declared.line.ScriptLine.TheVariants as lines
-use Rattle.line_script.proofs.Tokens.{IsAllowed-from_text}
+use Rattle.line_script.specs.declared.words.AskedBy.{AskedBy}
+use Rattle.line_script.specs.declared.words.AskedBy.TheVariants as bys
+use Rattle.line_script.proofs.Said.{SayAll, SayAllOk, arguments_say}
 use Rattle.line_cli.specs.Premises.{ScriptsAreFit}
 use Rattle.line_cli.specs.Script.{Script, before_all, either, meaning_at, refused_at, script_from, script_of}
 use Rattle.one_standing.specs.Standing.{IsFitLine}
 
--- an answer is a refusal, or a line whose barcode is a text
+-- an answer is a refusal, or a line whose texts are texts
 abbrev Fit : Result ScriptLine LineWhy → Type 0
 Fit (Ok line) = IsFitLine line
 Fit (Err why) = Unit {0}
@@ -143,6 +145,53 @@ made_lie : (values : List Value) → Fit (grammar.made_lie values)
 made_lie (numeral machine ∷ sided side ∷ seen event ∷ []) = lie_by machine side event (is_seen_at side event) refl
 made_lie _ = tt
 
+made_supervise : (values : List Value) → Fit (grammar.made_supervise values)
+made_supervise (numeral machine ∷ []) = tt
+made_supervise _ = tt
+
+-- the barcode of an insertion, and that of a query, is a text
+made_insert : (count : ℕ) (values : List Value) → SayAll (grammar.insert_form.arguments count) values
+    → Fit (grammar.made_insert values)
+made_insert count (numeral machine ∷ []) say = tt
+made_insert count (numeral machine ∷ spelled barcode ∷ []) say = say.1.0
+made_insert count _ say = tt
+
+made_query : (count : ℕ) (values : List Value) → SayAll (grammar.query_form.arguments count) values
+    → Fit (grammar.made_query values)
+made_query count (numeral machine ∷ spelled barcode ∷ []) say = say.1.0
+made_query count _ say = tt
+
+-- a question by a text, one by a place, and an answer
+text_asked : (machine : ℕ) (by : AskedBy) (text : List ℕ) → IsText text → IsFitLine (lines.Ask machine (question_of by text))
+text_asked machine bys.Barcode text is = tt
+text_asked machine bys.Order text is = tt
+
+place_asked : (machine : ℕ) (magazine : List ℕ) (slot : ℕ) → IsText magazine
+    → IsFitLine (lines.Ask machine (questions.Place magazine slot))
+place_asked machine magazine slot is = tt
+
+answered : (machine query : ℕ) (order : List ℕ) → IsText order → IsFitLine (lines.Answer machine query order)
+answered machine query order is = tt
+
+made_question : (place : Bool) (values : List Value)
+    → SayAll (if place then grammar.place_words else grammar.text_words) values → Fit (grammar.made_ask values)
+made_question true (numeral machine ∷ asked_by by ∷ spelled text ∷ []) say = text_asked machine by text say.1.1.0
+made_question false (numeral machine ∷ asked_by by ∷ spelled text ∷ []) say = text_asked machine by text say.1.1.0
+made_question true (numeral machine ∷ spelled place ∷ spelled magazine ∷ numeral slot ∷ []) say =
+    place_asked machine magazine slot say.1.1.0
+made_question false (numeral machine ∷ spelled place ∷ spelled magazine ∷ numeral slot ∷ []) say =
+    place_asked machine magazine slot say.1.1.0
+made_question place _ say = tt
+
+made_ask : (count : ℕ) (values : List Value) → SayAll (grammar.ask_form.arguments count) values
+    → Fit (grammar.made_ask values)
+made_ask count values say = made_question (nat_eq count 4) values say
+
+made_answer : (count : ℕ) (values : List Value) → SayAll (grammar.answer_form.arguments count) values
+    → Fit (grammar.made_answer values)
+made_answer count (numeral machine ∷ numeral query ∷ spelled order ∷ []) say = answered machine query order say.1.1.0
+made_answer count _ say = tt
+
 -- ---- a form, whatever its words
 
 abbrev FitForm : Form → Type 0
@@ -153,65 +202,110 @@ fit_then (Ok values) made fits = fits values
 fit_then (Err why) made fits = tt
 
 by_values : (form : Form) → ((all : List Value) → Fit (form.made all)) → FitForm form
-by_values form fits words = fit_then (arguments_as form.counts form.arguments words) form.made fits
+by_values form fits words = fit_then (arguments_as form.counts (form.arguments (length words)) words) form.made fits
 
--- the barcode of an insertion, and that of a question, is a text
-barcode_by : (made : List Value → Result ScriptLine LineWhy) (machine : ℕ) (word : List ℕ)
-    → (IsText word → Fit (made (numeral machine ∷ spelled word ∷ []))) → (short plain : Bool)
-    → short ≡ nat_le (length word) 64 → plain ≡ list_all is_text_byte word
-    → Fit (then_ok (then_ok (Ok (numeral machine)) (λ value. mapped_ok (λ values. value ∷ values)
-    (then_ok (mapped_ok spelled (token_of word)) (λ value. mapped_ok (λ values. value ∷ values) (Ok []))))) made)
-barcode_by made machine word fits true true short plain =
-    rw (sym short) (rw (sym plain) (fits (record { short = grind (arith, nat_tests); allowed = IsAllowed-from_text word (sym plain) })))
-barcode_by made machine word fits true false short plain = rw (sym short) (rw (sym plain) tt)
-barcode_by made machine word fits false plain short is = rw (sym short) tt
+-- the same, where what the arguments say is needed
+said_then : (kinds : List Kind) (values : Result (List Value) LineWhy) (made : List Value → Result ScriptLine LineWhy)
+    → ((all : List Value) → SayAll kinds all → Fit (made all)) → SayAllOk kinds values → Fit (then_ok values made)
+said_then kinds (Ok values) made fits say = fits values say
+said_then kinds (Err why) made fits say = tt
 
-word_at : (made : List Value → Result ScriptLine LineWhy) (number : Result ℕ LineWhy) (word : List ℕ)
-    → ((machine : ℕ) → IsText word → Fit (made (numeral machine ∷ spelled word ∷ [])))
-    → Fit (then_ok (then_ok (mapped_ok numeral number) (λ value. mapped_ok (λ values. value ∷ values)
-    (then_ok (mapped_ok spelled (token_of word)) (λ value. mapped_ok (λ values. value ∷ values) (Ok []))))) made)
-word_at made (Ok machine) word fits =
-    barcode_by made machine word (fits machine) (nat_le (length word) 64) (list_all is_text_byte word) refl refl
-word_at made (Err why) word fits = tt
-
-insert_alone : (number : Result ℕ LineWhy) → Fit (then_ok (then_ok (mapped_ok numeral number) (λ value. mapped_ok (λ values. value ∷ values) (Ok []))) grammar.made_insert)
-insert_alone (Ok machine) = tt
-insert_alone (Err why) = tt
-
-too_many : (n : ℕ) → list_any (nat_eq (suc (suc (suc n)))) (1 ∷ 2 ∷ []) ≡ false
-too_many n = grind (arith, nat_tests)
-
-fit_insert : FitForm insert_form
-fit_insert [] = tt
-fit_insert (first ∷ []) = insert_alone (number_in 1 64 first)
-fit_insert (first ∷ word ∷ []) = word_at grammar.made_insert (number_in 1 64 first) word (λ machine text. text)
-fit_insert (first ∷ word ∷ other ∷ words) = rw (too_many (length words)) tt
-
-too_many_asked : (n : ℕ) → list_any (nat_eq (suc (suc (suc n)))) (2 ∷ []) ≡ false
-too_many_asked n = grind (arith, nat_tests)
-
-fit_query : FitForm query_form
-fit_query [] = tt
-fit_query (first ∷ []) = tt
-fit_query (first ∷ word ∷ []) = word_at grammar.made_query (number_in 1 64 first) word (λ machine text. text)
-fit_query (first ∷ word ∷ other ∷ words) = rw (too_many_asked (length words)) tt
+by_said : (form : Form)
+    → ((count : ℕ) (all : List Value) → SayAll (form.arguments count) all → Fit (form.made all)) → FitForm form
+by_said form fits words =
+    said_then (form.arguments (length words)) (arguments_as form.counts (form.arguments (length words)) words)
+    form.made (fits (length words)) (arguments_say form.counts (form.arguments (length words)) words)
 
 -- ---- all forms
 
 abbrev AllFit : List Form → Type 0
 AllFit rows = AllByRecursion FitForm rows
 
-none_among : (first : List ℕ) (words : List (List ℕ)) (is : Bool) → is ≡ is_later first → Fit (line_among [] first words)
-none_among first words true is = rw (sym is) tt
-none_among first words false is = rw (sym is) tt
-
 among_by : (form : Form) (rows : List Form) (first : List ℕ) (words : List (List ℕ)) (is : Bool) → is ≡ bytes_eq first form.word → Fit (line_as form words) → Fit (line_among rows first words) → Fit (line_among (form ∷ rows) first words)
 among_by form rows first words true is this others = rw (sym is) this
 among_by form rows first words false is this others = rw (sym is) others
 
 among : (rows : List Form) (first : List ℕ) (words : List (List ℕ)) → AllFit rows → Fit (line_among rows first words)
-among [] first words all = none_among first words (is_later first) refl
+among [] first words all = tt
 among (form ∷ rows) first words all = among_by form rows first words (bytes_eq first form.word) refl (all.0 words) (among rows first words all.1)
+
+report_fit : AllFit grammar.report_forms
+report_fit = (by_values grammar.show_form made_show, tt)
+
+floor_fit : AllFit grammar.floor_forms
+floor_fit = (
+  by_values grammar.sense_form made_sense,
+  (
+    by_values grammar.begin_form made_begin,
+    (
+      by_values grammar.left_form made_left,
+      (
+        by_values grammar.enter_form made_enter,
+        (
+          by_values grammar.back_form made_back,
+          (
+            by_values grammar.hand_in_form made_hand_in,
+            (by_values grammar.take_form made_take, report_fit),
+          ),
+        ),
+      ),
+    ),
+  ),
+)
+
+machine_fit : AllFit grammar.machine_forms
+machine_fit = (
+  by_values grammar.shutdown_form made_shutdown,
+  (
+    by_values grammar.tick_form made_tick,
+    (
+      by_values grammar.fault_form made_fault,
+      (
+        by_values grammar.lie_form made_lie,
+        (by_values grammar.unseen_form made_unseen, floor_fit),
+      ),
+    ),
+  ),
+)
+
+link_fit : AllFit grammar.link_forms
+link_fit = (
+  by_values grammar.connect_form made_connect,
+  (
+    by_values grammar.flow_form made_flow,
+    (
+      by_values grammar.notice_form made_notice,
+      (
+        by_values grammar.cut_form made_cut,
+        (
+          by_values grammar.spoil_form made_spoil,
+          (
+            by_values grammar.forecast_form made_forecast,
+            (by_values grammar.supervise_form made_supervise, machine_fit),
+          ),
+        ),
+      ),
+    ),
+  ),
+)
+
+board_fit : AllFit grammar.board_forms
+board_fit = (
+  by_values grammar.remove_form made_remove,
+  (
+    by_values grammar.replace_form made_replace,
+    (
+      by_values grammar.mark_form made_mark,
+      (
+        by_values grammar.hold_form made_hold,
+        (
+          by_values grammar.go_form made_go,
+          (by_values grammar.signal_form made_signal, link_fit),
+        ),
+      ),
+    ),
+  ),
+)
 
 all_fit : AllFit forms
 all_fit = (
@@ -219,78 +313,12 @@ all_fit = (
   (
     by_values grammar.bridge_form made_bridge,
     (
-      fit_insert,
+      by_said grammar.insert_form made_insert,
       (
-        fit_query,
+        by_said grammar.query_form made_query,
         (
-          by_values grammar.remove_form made_remove,
-          (
-            by_values grammar.replace_form made_replace,
-            (
-              by_values grammar.mark_form made_mark,
-              (
-                by_values grammar.hold_form made_hold,
-                (
-                  by_values grammar.go_form made_go,
-                  (
-                    by_values grammar.signal_form made_signal,
-                    (
-                      by_values grammar.connect_form made_connect,
-                      (
-                        by_values grammar.flow_form made_flow,
-                        (
-                          by_values grammar.notice_form made_notice,
-                          (
-                            by_values grammar.cut_form made_cut,
-                            (
-                              by_values grammar.spoil_form made_spoil,
-                              (
-                                by_values grammar.forecast_form made_forecast,
-                                (
-                                  by_values grammar.shutdown_form made_shutdown,
-                                  (
-                                    by_values grammar.tick_form made_tick,
-                                    (
-                                      by_values grammar.fault_form made_fault,
-                                      (
-                                        by_values grammar.lie_form made_lie,
-                                        (
-                                          by_values grammar.unseen_form made_unseen,
-                                          (
-                                            by_values grammar.sense_form made_sense,
-                                            (
-                                              by_values grammar.begin_form made_begin,
-                                              (
-                                                by_values grammar.left_form made_left,
-                                                (
-                                                  by_values grammar.enter_form made_enter,
-                                                  (
-                                                    by_values grammar.back_form made_back,
-                                                    (
-                                                      by_values grammar.hand_in_form made_hand_in,
-                                                      (by_values grammar.take_form made_take, (by_values grammar.show_form made_show, tt)),
-                                                    ),
-                                                  ),
-                                                ),
-                                              ),
-                                            ),
-                                          ),
-                                        ),
-                                      ),
-                                    ),
-                                  ),
-                                ),
-                              ),
-                            ),
-                          ),
-                        ),
-                      ),
-                    ),
-                  ),
-                ),
-              ),
-            ),
-          ),
+          by_said grammar.ask_form made_ask,
+          (by_said grammar.answer_form made_answer, board_fit),
         ),
       ),
     ),

@@ -13,6 +13,7 @@ ghost use Rattle.one_standing.specs.Facts.{CustodyFacts};
 ghost use Rattle.one_standing.specs.Replay.{LedgerFollows};
 ghost use Rattle.one_standing.specs.Standing.{OneStanding};
 ghost use Rattle.twelve_steps.specs.Twelve.{EndsWithinTwelveSteps};
+ghost use Rattle.work_orders.specs.Answers.{OneAnswer};
 ghost use Rattle.line_cli.specs.Command.{DoesAs, FitsWords, HasCauses, is_word, is_run, is_read, is_check, usage_text};
 ghost use Rattle.line_cli.specs.Making.{made_number};
 ghost use Rattle.line_cli.specs.Premises.{ScriptsAreFit};
@@ -79,6 +80,9 @@ pub fn line_main<S: Source, K: Sink>(
     ensures fit { ScriptsAreFit }
     // a handover opens exactly when board and place are announced, over the run of every script
     ensures opens { OpensWhenAnnounced }
+    // what is told as an answer to a question for a work order is the one answer that its machine keeps, over the run of every
+    // script
+    ensures answers { OneAnswer }
 {
     one_standing::laws::one_standing_after_each_line();
     one_standing::laws::the_custody_facts_hold_after_each_line();
@@ -93,6 +97,7 @@ pub fn line_main<S: Source, K: Sink>(
     line_history::laws::what_opens_was_started_last();
     twelve_steps::laws::an_undisturbed_handover_ends_within_twelve_link_steps();
     line_openings::laws::a_machine_opens_exactly_when_announced();
+    work_orders::laws::each_query_has_one_answer();
     do_words(alloc, words, script, report)
 }
 

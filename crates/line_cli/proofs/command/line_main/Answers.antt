@@ -26,6 +26,9 @@ returns-clause-blame g c = c.a_breach_is_told_only_behind_a_spoiled_text.ensures
 pub returns-clause-opens : goal.returns-clause-opens
 returns-clause-opens g c = c.a_machine_opens_exactly_when_announced.ensures
 
+pub returns-clause-answers : goal.returns-clause-answers
+returns-clause-answers g c = c.each_query_has_one_answer.ensures
+
 pub returns-clause-fit : goal.returns-clause-fit
 returns-clause-fit g c = scripts_are_fit
 

@@ -1,0 +1,6 @@
+pub mod Walk
+pub mod Book
+pub mod Told
+pub mod Steps
+pub mod Lines
+pub mod Running
