@@ -20,6 +20,9 @@ fn way_of(word: &str) -> Way {
     if word == "up" {
         return Way::Upstream;
     }
+    if word == "super" {
+        return Way::Supervisory;
+    }
     Way::Downstream
 }
 

@@ -8,8 +8,10 @@ use Rattle.line_base.specs.declared.states.Side.TheVariants.{Entry, Exit}
 use Rattle.board_record.specs.BoardId.{id_text}
 use Rattle.board_record.specs.declared.record.Record.{Record}
 use Rattle.board_record.proofs.IdTexts.{read_id-id_text}
+use Rattle.hermes_vertical.specs.declared.message.Vertical.{Vertical}
+use Rattle.hermes_vertical.specs.declared.message.Vertical.TheVariants as verticals
 use Rattle.line_script.specs.Words.{why_text}
-use Rattle.line_report.specs.Texts.{act_text, of_board, quality_text, reason_text}
+use Rattle.line_report.specs.Texts.{act_text, of_board, quality_text, reason_text, told_text}
 use Rattle.node_core.specs.Own.{Own, own_after, own_act, own_deed}
 use Rattle.node_core.specs.declared.act.Act.{Act}
 use Rattle.node_core.specs.declared.act.Act.TheVariants as acts
@@ -102,6 +104,17 @@ told_replaced machine old new own fits fits' =
 told_line : (turn machine : ℕ) (act : Act) (rest : List ℕ) (own : Own) → IsProperAct act → own_told (act_in (act_text machine act)) own ≡ own_act own act → own_behind [] (log_line turn (act_text machine act) ++ rest) own ≡ own_behind [] rest (own_act own act)
 told_line turn machine act rest own proper e = log_read turn (act_text machine act) rest own (inner_act machine act proper) ∙ ap (own_behind [] rest) e
 
+-- what the supervisor is told tells nothing of it
+told_no_own : (machine : ℕ) (body : Vertical) (own : Own) → own_told (act_in (told_text machine body)) own ≡ own
+told_no_own machine (verticals.BoardArrived passage) own = refl
+told_no_own machine (verticals.BoardDeparted passage) own = refl
+told_no_own machine (verticals.QueryWorkOrderInfo query question) own = refl
+told_no_own machine (verticals.SupervisoryServiceDescription system) own = refl
+told_no_own machine (verticals.SendWorkOrderInfo query order batch product) own = refl
+told_no_own machine (verticals.CheckAlive ping id) own = refl
+told_no_own machine (verticals.Notification code severity text) own = refl
+told_no_own machine (verticals.Other name) own = refl
+
 act_read : (turn machine : ℕ) (act : Act) (rest : List ℕ) (own : Own) → IsProperAct act → own_behind [] (line_of turn machine act ++ rest) own ≡ own_behind [] rest (own_act own act)
 act_read turn machine (acts.Reads side event) rest own proper = told_line turn machine (acts.Reads side event) rest own proper refl
 act_read turn machine (acts.Hears side message) rest own proper = told_line turn machine (acts.Hears side message) rest own proper refl
@@ -120,6 +133,9 @@ act_read turn machine (acts.Replaces old new) rest own proper = told_line turn m
 act_read turn machine (acts.Sets (settings.Will side true)) rest own proper = told_line turn machine (acts.Sets (settings.Will side true)) rest own proper refl
 act_read turn machine (acts.Sets (settings.Will side false)) rest own proper = told_line turn machine (acts.Sets (settings.Will side false)) rest own proper refl
 act_read turn machine (acts.Sets (settings.Level line on)) rest own proper = told_line turn machine (acts.Sets (settings.Level line on)) rest own proper refl
+act_read turn machine (acts.Sets (settings.Supervise on)) rest own proper = told_line turn machine (acts.Sets (settings.Supervise on)) rest own proper refl
+act_read turn machine (acts.Tells message) rest own proper = told_line turn machine (acts.Tells message) rest own proper (told_no_own machine message.body own)
+act_read turn machine (acts.Answered query order) rest own proper = told_line turn machine (acts.Answered query order) rest own proper refl
 
 acts_read : (turn machine : ℕ) (told : List Act) (rest : List ℕ) (own : Own) → AllByRecursion IsProperAct told → own_behind [] (lines_of turn machine told ++ rest) own ≡ own_behind [] rest (own_after own told)
 acts_read turn machine [] rest own proper = refl

@@ -1,4 +1,5 @@
--- A side that hears of the end of its connection has none then, and the other side is as it was.
+-- A side that hears of the end of its connection has none then, and the other side is as it was. A machine that is
+-- supervised, or no more, leaves both as they were.
 use Rattle.std.proofs.Common.{◌≡◌, ◌∙◌, ap, refl, ℤ, Bool, true, false, List, [], Option, None, Some}
 use Rattle.line_base.specs.declared.states.Side.{Side}
 use Rattle.line_base.specs.declared.states.Side.TheVariants.{Entry, Exit}
@@ -56,3 +57,6 @@ pub notice_leaves : (s t : NodeState) (side : Side) (moment : ℤ) (told : List 
 notice_leaves s t side moment told steps =
     let desk = desk_of s moment in
     ap (is_open (other side)) steps.lane.body ∙ announces_open desk (other side) (notices desk side s.lane.body).body ∙ opened_leaves desk side (is_open side s.lane.body) _ s.lane.body
+
+pub supervise_leaves : (s t : NodeState) (on : Bool) (side : Side) (moment : ℤ) (told : List Act) → Steps s [] (inputs.Supervise on) moment t told → is_open side t.lane.body ≡ is_open side s.lane.body
+supervise_leaves s t on side moment told steps = ap (is_open side) steps.lane.body ∙ announces_open (desk_of s moment) side s.lane.body

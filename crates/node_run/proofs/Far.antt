@@ -10,19 +10,21 @@ use Rattle.line_outside.specs.declared.ports.Opened.TheVariants as opens
 use Rattle.line_outside.specs.declared.ports.Sent.{Sent}
 use Rattle.line_outside.specs.declared.way.Way.{Way}
 use Rattle.line_outside.specs.declared.way.Way.TheVariants as ways
-use Rattle.node_core.specs.May.{no_if, may_do}
+use Rattle.node_core.specs.May.{no_if, may_do, same_bool}
 use Rattle.node_core.specs.Sides.{is_open}
 use Rattle.node_core.specs.declared.input.Input.TheVariants as inputs
 use Rattle.node_core.specs.declared.input.No.TheVariants as no
 use Rattle.node_run.specs.declared.rules.Rules.{Rules}
 use Rattle.node_run.specs.State.{Refusal, RunState, at_rest, way_at}
-use Rattle.node_run.specs.Next.{at_place, place_behind, turn_behind, moved_on, is_due, is_due_by, is_empty}
+use Rattle.node_run.specs.Next.{at_place, place_behind, turn_behind, moved_on, is_due, is_due_by}
 use Rattle.node_run.specs.Steps.{Takes, TakesStep}
 use Rattle.node_run.specs.After.{after_listen, after_send, panel_gone, AfterPoll, AfterClose}
+use Rattle.node_run.specs.Hearing.{DoesHear}
 use Rattle.node_run.specs.Lines.{DoesLine}
-use Rattle.node_run.specs.Runs.{Moves, listens, connects, polls, sends, refuses, closes, skips, does_line}
+use Rattle.node_run.specs.Runs.{Moves, listens, connects, polls, sends, refuses, closes, skips, does_line, does_hear}
 use Rattle.node_run.specs.Moving.{is_end}
-use Rattle.node_run.specs.Work.{far_at, count, wire_work, refusal_work, close_work, work_at, far_of}
+use Rattle.node_run.specs.Channel.{is_empty, ChannelValue, IsShort, no_session}
+use Rattle.node_run.specs.Work.{far_at, count, wire_work, refusal_work, close_work, hear_work, work_at, far_of}
 use Rattle.node_run.specs.declared.place.Next.{Next}
 use Rattle.node_run.specs.declared.place.Next.TheVariants as nexts
 use Rattle.node_run.specs.declared.place.Place.{Place}
@@ -31,7 +33,8 @@ use Rattle.node_run.specs.declared.way_state.Wire.{Wire}
 use Rattle.node_run.specs.declared.way_state.Wire.TheVariants as wires
 use Rattle.node_run.proofs.Nexts.{is_from, turn_goes}
 use Rattle.node_run.proofs.Frames.{IsShortGot, poll_same, sent_same, line_takes}
-use Rattle.node_run.proofs.Closing.{notice_closes, notice_leaves}
+use Rattle.node_run.proofs.Heard.{hear_less}
+use Rattle.node_run.proofs.Closing.{notice_closes, notice_leaves, supervise_leaves}
 
 -- ---- bounds
 
@@ -49,31 +52,53 @@ refusal_most : (refusal : Option Refusal) → refusal_work refusal ≤ 1
 refusal_most None = omega arith
 refusal_most (Some refusal) = omega arith
 
-work_most : (s : RunState) → work_at s ≤ 12 * length s.rest + 11
-work_most s = omega (arith, count_most s.asks, refusal_most s.refusal, wire_most s.panel.wire, wire_most s.upstream.wire, wire_most s.downstream.wire, count_most (is_open Entry s.node.lane.body), count_most (is_open Exit s.node.lane.body))
+-- but for what is to be heard
+abbrev other_work : RunState → ℕ
+other_work s = count s.asks + (refusal_work s.refusal + close_work s)
+
+others_most : (s : RunState) → other_work s ≤ 15
+others_most s =
+    omega (
+      arith,
+      count_most s.asks,
+      refusal_most s.refusal,
+      wire_most s.panel.wire,
+      wire_most s.upstream.wire,
+      wire_most s.downstream.wire,
+      wire_most s.supervisory.wire,
+      count_most s.node.supervised,
+      count_most (is_open Entry s.node.lane.body),
+      count_most (is_open Exit s.node.lane.body),
+    )
+
+hear_most : (channel : ChannelValue) → IsShort channel → hear_work channel ≤ 73729
+hear_most channel short = omega (arith, short.waiting, short.piece, count_most channel.hears)
 
 -- ---- places
 
 behind_far : (rules : Rules) (s : RunState) (place : Place) → is_end (at_place rules s place) ≡ false → far_at rules.turns (turn_behind place s.turn) (place_behind place) + 1 ≤ far_at rules.turns s.turn place
 behind_far rules s places.ListenPanel goes = omega arith
 behind_far rules s places.ListenDownstream goes = omega arith
+behind_far rules s places.ListenSupervisory goes = omega arith
 behind_far rules s places.PollPanel goes = omega arith
 behind_far rules s places.PollUpstream goes = omega arith
 behind_far rules s places.PollDownstream goes = omega arith
+behind_far rules s places.PollSupervisory goes = omega arith
 behind_far rules s places.SendPanel goes = omega arith
 behind_far rules s places.SendUpstream goes = omega arith
 behind_far rules s places.SendDownstream goes = omega arith
+behind_far rules s places.SendSupervisory goes = omega arith
 behind_far rules s places.TurnDone goes = omega (arith, turn_goes (nat_lt s.turn rules.turns) s.turn rules.turns refl goes)
 
 -- a place behind this one, whatever is to do there
-further : (far near work less : ℕ) → near + 1 ≤ far → less < 50000 → 50000 * near + less < 50000 * far + work
+further : (far near work less : ℕ) → near + 1 ≤ far → less < 2000000 → 2000000 * near + less < 2000000 * far + work
 further far near work less nearer few = omega (arith, nearer, few)
 
-place_far : (rules : Rules) (s t : RunState) (found : Next) → at_place rules s s.place ≡ found → is_end found ≡ false → t.turn ≡ turn_behind s.place s.turn → t.place ≡ place_behind s.place → length t.rest ≤ 4096 → far_of rules t < far_of rules s
-place_far rules s t found e goes turn place rest =
+place_far : (rules : Rules) (s t : RunState) (found : Next) → at_place rules s s.place ≡ found → is_end found ≡ false → t.turn ≡ turn_behind s.place s.turn → t.place ≡ place_behind s.place → length t.rest ≤ 4096 → IsShort t.channel → far_of rules t < far_of rules s
+place_far rules s t found e goes turn place rest short =
     let nearer = behind_far rules s s.place (ap is_end e ∙ goes) in
     let there : far_at rules.turns t.turn t.place ≡ far_at rules.turns (turn_behind s.place s.turn) (place_behind s.place) = ap (λ n. far_at rules.turns n t.place) turn ∙ ap (λ p. far_at rules.turns (turn_behind s.place s.turn) p) place in
-    further (far_at rules.turns s.turn s.place) (far_at rules.turns t.turn t.place) (work_at s) (work_at t) (rw there nearer) (omega (arith, work_most t, rest))
+    further (far_at rules.turns s.turn s.place) (far_at rules.turns t.turn t.place) (work_at s) (work_at t) (rw there nearer) (omega (arith, others_most t, hear_most t.channel short, rest))
 
 -- the same place, with less to do
 nearer_at : (rules : Rules) (s t : RunState) → t.turn ≡ s.turn → t.place ≡ s.place → work_at t < work_at s → far_of rules t < far_of rules s
@@ -94,6 +119,7 @@ pub record ClosesLess (s t : RunState) : Type 0 where
   pub turn : t.turn ≡ s.turn
   pub place : t.place ≡ s.place
   pub rest : length t.rest ≤ length s.rest
+  pub hears : hear_work t.channel ≤ hear_work s.channel
   pub asks : t.asks ≡ s.asks
   pub refusal : t.refusal ≡ s.refusal
   pub ended : t.ended ≡ s.ended
@@ -106,16 +132,19 @@ upstream_step rules moment s t log connected due takes =
     let other = notice_leaves s.node takes.node Entry moment takes.told takes.steps in
     let node = ap (λ (r : RunState). r.node.lane.body) takes.after in
     let panel = ap (λ (r : RunState). wire_work r.panel.wire) takes.after in
+    let way = ap (λ (r : RunState). wire_work r.supervisory.wire) takes.after in
+    let watched = ap (λ (r : RunState). count r.node.supervised) takes.after ∙ ap count takes.steps.supervised in
     let up = ap (λ (r : RunState). count (is_open Entry r.node.lane.body)) takes.after ∙ ap count closed in
     let down = ap (λ (r : RunState). count (is_open Exit r.node.lane.body)) takes.after ∙ ap count other in
     record {
       turn = ap (λ (r : RunState). r.turn) takes.after;
       place = ap (λ (r : RunState). r.place) takes.after;
       rest = omega (arith, ap (λ (r : RunState). length r.rest) takes.after);
+      hears = omega (arith, ap (λ (r : RunState). hear_work r.channel) takes.after);
       asks = ap (λ (r : RunState). r.asks) takes.after;
       refusal = ap (λ (r : RunState). r.refusal) takes.after;
       ended = ap (λ (r : RunState). r.ended) takes.after;
-      less = omega (arith, panel, up, down, ap count connected, due_wire s.upstream.wire s.upstream.unsent due, wire_most t.upstream.wire, wire_most t.downstream.wire);
+      less = omega (arith, panel, way, watched, up, down, ap count connected, due_wire s.upstream.wire s.upstream.unsent due, wire_most t.upstream.wire, wire_most t.downstream.wire);
     }
 
 downstream_step : (rules : Rules) (moment : ℤ) (s t : RunState) (log : List ℕ) → is_open Exit s.node.lane.body ≡ true → is_due s.downstream ≡ true → TakesStep rules moment [] (inputs.Notice Exit) (record s { downstream = at_rest }) t log → ClosesLess s t
@@ -123,29 +152,53 @@ downstream_step rules moment s t log connected due takes =
     let closed = notice_closes s.node takes.node Exit moment takes.told takes.steps in
     let other = notice_leaves s.node takes.node Exit moment takes.told takes.steps in
     let panel = ap (λ (r : RunState). wire_work r.panel.wire) takes.after in
+    let way = ap (λ (r : RunState). wire_work r.supervisory.wire) takes.after in
+    let watched = ap (λ (r : RunState). count r.node.supervised) takes.after ∙ ap count takes.steps.supervised in
     let up = ap (λ (r : RunState). count (is_open Entry r.node.lane.body)) takes.after ∙ ap count other in
     let down = ap (λ (r : RunState). count (is_open Exit r.node.lane.body)) takes.after ∙ ap count closed in
     record {
       turn = ap (λ (r : RunState). r.turn) takes.after;
       place = ap (λ (r : RunState). r.place) takes.after;
       rest = omega (arith, ap (λ (r : RunState). length r.rest) takes.after);
+      hears = omega (arith, ap (λ (r : RunState). hear_work r.channel) takes.after);
       asks = ap (λ (r : RunState). r.asks) takes.after;
       refusal = ap (λ (r : RunState). r.refusal) takes.after;
       ended = ap (λ (r : RunState). r.ended) takes.after;
-      less = omega (arith, panel, up, down, ap count connected, due_wire s.downstream.wire s.downstream.unsent due, wire_most t.upstream.wire, wire_most t.downstream.wire);
+      less = omega (arith, panel, way, watched, up, down, ap count connected, due_wire s.downstream.wire s.downstream.unsent due, wire_most t.upstream.wire, wire_most t.downstream.wire);
+    }
+
+supervisory_step : (rules : Rules) (moment : ℤ) (s t : RunState) (log : List ℕ) → s.node.supervised ≡ true → is_due s.supervisory ≡ true → TakesStep rules moment [] (inputs.Supervise false) (record s { supervisory = at_rest; channel = no_session }) t log → ClosesLess s t
+supervisory_step rules moment s t log supervised due takes =
+    let up = ap (λ (r : RunState). count (is_open Entry r.node.lane.body)) takes.after ∙ ap count (supervise_leaves s.node takes.node false Entry moment takes.told takes.steps) in
+    let down = ap (λ (r : RunState). count (is_open Exit r.node.lane.body)) takes.after ∙ ap count (supervise_leaves s.node takes.node false Exit moment takes.told takes.steps) in
+    let panel = ap (λ (r : RunState). wire_work r.panel.wire) takes.after in
+    let way = ap (λ (r : RunState). wire_work r.supervisory.wire) takes.after in
+    let watched = ap (λ (r : RunState). count r.node.supervised) takes.after ∙ ap count takes.steps.supervised in
+    record {
+      turn = ap (λ (r : RunState). r.turn) takes.after;
+      place = ap (λ (r : RunState). r.place) takes.after;
+      rest = omega (arith, ap (λ (r : RunState). length r.rest) takes.after);
+      hears = omega (arith, ap (λ (r : RunState). hear_work r.channel) takes.after);
+      asks = ap (λ (r : RunState). r.asks) takes.after;
+      refusal = ap (λ (r : RunState). r.refusal) takes.after;
+      ended = ap (λ (r : RunState). r.ended) takes.after;
+      less = omega (arith, panel, way, watched, up, down, ap count supervised, due_wire s.supervisory.wire s.supervisory.unsent due, wire_most t.upstream.wire, wire_most t.downstream.wire);
     }
 
 less_at : (s u t : RunState) → t ≡ u → ClosesLess s u → ClosesLess s t
 less_at s u t e less = let P : RunState → Type 0 = ClosesLess s in subst P (sym e) less
 
 panel_less : (s : RunState) → is_due s.panel ≡ true → ClosesLess s (panel_gone s)
-panel_less s due = record { turn = refl; place = refl; rest = omega arith; asks = refl; refusal = refl; ended = refl; less = omega (arith, due_wire s.panel.wire s.panel.unsent due) }
+panel_less s due = record { turn = refl; place = refl; rest = omega arith; hears = omega arith; asks = refl; refusal = refl; ended = refl; less = omega (arith, due_wire s.panel.wire s.panel.unsent due) }
 
 upstream_rests : (s : RunState) → is_due s.upstream ≡ true → ClosesLess s (record s { upstream = at_rest })
-upstream_rests s due = record { turn = refl; place = refl; rest = omega arith; asks = refl; refusal = refl; ended = refl; less = omega (arith, due_wire s.upstream.wire s.upstream.unsent due) }
+upstream_rests s due = record { turn = refl; place = refl; rest = omega arith; hears = omega arith; asks = refl; refusal = refl; ended = refl; less = omega (arith, due_wire s.upstream.wire s.upstream.unsent due) }
 
 downstream_rests : (s : RunState) → is_due s.downstream ≡ true → ClosesLess s (record s { downstream = at_rest })
-downstream_rests s due = record { turn = refl; place = refl; rest = omega arith; asks = refl; refusal = refl; ended = refl; less = omega (arith, due_wire s.downstream.wire s.downstream.unsent due) }
+downstream_rests s due = record { turn = refl; place = refl; rest = omega arith; hears = omega arith; asks = refl; refusal = refl; ended = refl; less = omega (arith, due_wire s.downstream.wire s.downstream.unsent due) }
+
+supervisory_rests : (s : RunState) → is_due s.supervisory ≡ true → ClosesLess s (record s { supervisory = at_rest; channel = no_session })
+supervisory_rests s due = record { turn = refl; place = refl; rest = omega arith; hears = omega arith; asks = refl; refusal = refl; ended = refl; less = omega (arith, due_wire s.supervisory.wire s.supervisory.unsent due) }
 
 upstream_less : (test : Bool) (rules : Rules) (moment : ℤ) (s t : RunState) (log : List ℕ) → is_open Entry s.node.lane.body ≡ test → is_due s.upstream ≡ true
     → (let closed : RunState = record s { upstream = at_rest } in Takes (no_if (not test) no.NotConnected may_do) rules moment (inputs.Notice Entry) closed closed t log) → ClosesLess s t
@@ -157,20 +210,25 @@ downstream_less : (test : Bool) (rules : Rules) (moment : ℤ) (s t : RunState) 
 downstream_less true rules moment s t log connected due after = downstream_step rules moment s t log connected due after
 downstream_less false rules moment s t log connected due after = less_at s (record s { downstream = at_rest }) t after.0 (downstream_rests s due)
 
+supervisory_less : (test : Bool) (rules : Rules) (moment : ℤ) (s t : RunState) (log : List ℕ) → s.node.supervised ≡ test → is_due s.supervisory ≡ true
+    → (let closed : RunState = record s { supervisory = at_rest; channel = no_session } in Takes (no_if (same_bool test false) no.Same may_do) rules moment (inputs.Supervise false) closed closed t log) → ClosesLess s t
+supervisory_less true rules moment s t log supervised due after = supervisory_step rules moment s t log supervised due after
+supervisory_less false rules moment s t log supervised due after = less_at s (record s { supervisory = at_rest; channel = no_session }) t after.0 (supervisory_rests s due)
+
 pub close_less : (rules : Rules) (moment : ℤ) (way : Way) (s t : RunState) (log : List ℕ) → is_due (way_at way s) ≡ true → AfterClose rules moment way s t log → ClosesLess s t
 close_less rules moment ways.Panel s t log due after = less_at s (panel_gone s) t after.0 (panel_less s due)
 close_less rules moment ways.Upstream s t log due after = upstream_less (is_open Entry s.node.lane.body) rules moment s t log refl due after
 close_less rules moment ways.Downstream s t log due after = downstream_less (is_open Exit s.node.lane.body) rules moment s t log refl due after
-close_less rules moment ways.Supervisory s t log due after = absurd (false≢true due)
+close_less rules moment ways.Supervisory s t log due after = supervisory_less s.node.supervised rules moment s t log refl due after
 
 less_work : (s t : RunState) → ClosesLess s t → work_at t < work_at s
-less_work s t less = omega (arith, less.rest, ap count less.asks, ap refusal_work less.refusal, less.less)
+less_work s t less = omega (arith, less.rest, less.hears, ap count less.asks, ap refusal_work less.refusal, less.less)
 
 -- ---- all moves
 
-listen_nearer : (rules : Rules) (s : RunState) (way : Way) (port : ℕ) (opened : Opened) → at_place rules s s.place ≡ nexts.Listen way port → length s.rest ≤ 4096 → far_of rules (after_listen opened s) < far_of rules s
-listen_nearer rules s way port opens.Done e rest = place_far rules s (after_listen opens.Done s) (nexts.Listen way port) e refl refl refl rest
-listen_nearer rules s way port opens.Failed e rest = place_far rules s (after_listen opens.Failed s) (nexts.Listen way port) e refl refl refl rest
+listen_nearer : (rules : Rules) (s : RunState) (way : Way) (port : ℕ) (opened : Opened) → at_place rules s s.place ≡ nexts.Listen way port → length s.rest ≤ 4096 → IsShort (after_listen opened s).channel → far_of rules (after_listen opened s) < far_of rules s
+listen_nearer rules s way port opens.Done e rest short = place_far rules s (after_listen opens.Done s) (nexts.Listen way port) e refl refl refl rest short
+listen_nearer rules s way port opens.Failed e rest short = place_far rules s (after_listen opens.Failed s) (nexts.Listen way port) e refl refl refl rest short
 
 connect_nearer : (rules : Rules) (s : RunState) → s.asks ≡ true → far_of rules (record s { asks = false }) < far_of rules s
 connect_nearer rules s asks = nearer_at rules s (record s { asks = false }) refl refl (omega (arith, ap count asks))
@@ -178,10 +236,10 @@ connect_nearer rules s asks = nearer_at rules s (record s { asks = false }) refl
 refuse_nearer : (rules : Rules) (s : RunState) (refusal : Refusal) → s.refusal ≡ Some refusal → far_of rules (record s { refusal = None }) < far_of rules s
 refuse_nearer rules s refusal e = nearer_at rules s (record s { refusal = None }) refl refl (omega (arith, ap refusal_work e))
 
-send_nearer : (rules : Rules) (s : RunState) (way : Way) (sent : Sent) → at_place rules s s.place ≡ nexts.Send way → length s.rest ≤ 4096 → far_of rules (after_send way sent (moved_on s)) < far_of rules s
-send_nearer rules s way sent e rest =
+send_nearer : (rules : Rules) (s : RunState) (way : Way) (sent : Sent) → at_place rules s s.place ≡ nexts.Send way → length s.rest ≤ 4096 → IsShort (after_send way sent (moved_on s)).channel → far_of rules (after_send way sent (moved_on s)) < far_of rules s
+send_nearer rules s way sent e rest short =
     let there = sent_same way sent (moved_on s) in
-    place_far rules s (after_send way sent (moved_on s)) (nexts.Send way) e refl there.turn there.place (rw there.rest rest)
+    place_far rules s (after_send way sent (moved_on s)) (nexts.Send way) e refl there.turn there.place (rw there.rest rest) short
 
 bytes_of : GotBytes → ℕ
 bytes_of (founds.Bytes bytes) = length bytes
@@ -196,10 +254,10 @@ short_of founds.NotYet = tt
 short_of founds.Closed = tt
 short_of founds.Failed = tt
 
-poll_nearer : (rules : Rules) (moment : ℤ) (s t : RunState) (way : Way) (got : GotBytes) (log : List ℕ) → at_place rules s s.place ≡ nexts.Poll way → AfterPoll rules moment way got (moved_on s) t log → length t.rest ≤ 4096 → far_of rules t < far_of rules s
-poll_nearer rules moment s t way got log e after rest =
+poll_nearer : (rules : Rules) (moment : ℤ) (s t : RunState) (way : Way) (got : GotBytes) (log : List ℕ) → at_place rules s s.place ≡ nexts.Poll way → AfterPoll rules moment way got (moved_on s) t log → length t.rest ≤ 4096 → IsShort t.channel → far_of rules t < far_of rules s
+poll_nearer rules moment s t way got log e after rest short =
     let there = poll_same (bytes_of got) rules moment way got (moved_on s) t log (short_of got) after in
-    place_far rules s t (nexts.Poll way) e refl there.turn there.place rest
+    place_far rules s t (nexts.Poll way) e refl there.turn there.place rest short
 
 close_nearer : (rules : Rules) (moment : ℤ) (s t : RunState) (way : Way) (log : List ℕ) → is_due (way_at way s) ≡ true → AfterClose rules moment way s t log → far_of rules t < far_of rules s
 close_nearer rules moment s t way log due after =
@@ -210,21 +268,30 @@ pub not_empty : (bytes : List ℕ) → is_empty bytes ≡ false → 0 < length b
 not_empty [] e = absurd (false≢true (sym e))
 not_empty (byte ∷ bytes) e = omega arith
 
-fewer_bytes : (s t : RunState) → length t.rest < length s.rest → work_at t < work_at s
-fewer_bytes s t fewer = omega (arith, work_most t, fewer)
+fewer_bytes : (s t : RunState) → length t.rest < length s.rest → t.channel ≡ s.channel → work_at t < work_at s
+fewer_bytes s t fewer same = omega (arith, others_most t, ap hear_work same, fewer)
+
+less_to_hear : (s t : RunState) → t.rest ≡ s.rest → hear_work t.channel < hear_work s.channel → work_at t < work_at s
+less_to_hear s t same less = omega (arith, others_most t, ap length same, less)
 
 line_nearer : (rules : Rules) (moment : ℤ) (s t : RunState) (log : List ℕ) → is_empty s.rest ≡ false → DoesLine rules moment s t log → far_of rules t < far_of rules s
 line_nearer rules moment s t log some does =
     let takes = line_takes rules moment s t log (not_empty s.rest some) does in
-    nearer_at rules s t takes.turn takes.place (fewer_bytes s t takes.rest)
+    nearer_at rules s t takes.turn takes.place (fewer_bytes s t takes.rest takes.channel)
+
+hear_nearer : (rules : Rules) (moment : ℤ) (s t : RunState) (log : List ℕ) → s.channel.hears ≡ true → DoesHear rules moment s t log → far_of rules t < far_of rules s
+hear_nearer rules moment s t log hears does =
+    let less = hear_less rules moment s t log hears does in
+    nearer_at rules s t less.turn less.place (less_to_hear s t less.rest less.less)
 
 -- A MOVE BRINGS A RUN NEARER TO ITS END
-pub moves_nearer : (rules : Rules) (moment : ℤ) {s t : RunState} {calls : List Given} {log : List ℕ} → Moves rules moment s calls t log → length s.rest ≤ 4096 → length t.rest ≤ 4096 → far_of rules t < far_of rules s
-moves_nearer rules moment (listens {s} {way} {port} {opened} next) before after = listen_nearer rules s way port opened (is_from rules s (nexts.Listen way port) next) before
-moves_nearer rules moment (connects {s} {address} {opened} next) before after = connect_nearer rules s (is_from rules s (nexts.Connect address) next)
-moves_nearer rules moment (polls {s} {t} {way} {got} {log} next done) before after = poll_nearer rules moment s t way got log (is_from rules s (nexts.Poll way) next) done after
-moves_nearer rules moment (sends {s} {way} {sent} next) before after = send_nearer rules s way sent (is_from rules s (nexts.Send way) next) before
-moves_nearer rules moment (refuses {s} {refusal} {sent} next e) before after = refuse_nearer rules s refusal e
-moves_nearer rules moment (closes {s} {t} {way} {log} next done) before after = close_nearer rules moment s t way log (is_from rules s (nexts.Close way) next) done
-moves_nearer rules moment (skips {s} next) before after = place_far rules s (moved_on s) nexts.Skip (is_from rules s nexts.Skip next) refl refl refl before
-moves_nearer rules moment (does_line {s} {t} {log} next done) before after = line_nearer rules moment s t log (is_from rules s nexts.Line next) done
+pub moves_nearer : (rules : Rules) (moment : ℤ) {s t : RunState} {calls : List Given} {log : List ℕ} → Moves rules moment s calls t log → length s.rest ≤ 4096 → length t.rest ≤ 4096 → IsShort t.channel → far_of rules t < far_of rules s
+moves_nearer rules moment (listens {s} {way} {port} {opened} next) before after short = listen_nearer rules s way port opened (is_from rules s (nexts.Listen way port) next) before short
+moves_nearer rules moment (connects {s} {address} {opened} next) before after short = connect_nearer rules s (is_from rules s (nexts.Connect address) next)
+moves_nearer rules moment (polls {s} {t} {way} {got} {log} next done) before after short = poll_nearer rules moment s t way got log (is_from rules s (nexts.Poll way) next) done after short
+moves_nearer rules moment (sends {s} {way} {sent} next) before after short = send_nearer rules s way sent (is_from rules s (nexts.Send way) next) before short
+moves_nearer rules moment (refuses {s} {refusal} {sent} next e) before after short = refuse_nearer rules s refusal e
+moves_nearer rules moment (closes {s} {t} {way} {log} next done) before after short = close_nearer rules moment s t way log (is_from rules s (nexts.Close way) next) done
+moves_nearer rules moment (skips {s} next) before after short = place_far rules s (moved_on s) nexts.Skip (is_from rules s nexts.Skip next) refl refl refl before short
+moves_nearer rules moment (does_line {s} {t} {log} next done) before after short = line_nearer rules moment s t log (is_from rules s nexts.Line next) done
+moves_nearer rules moment (does_hear {s} {t} {log} next done) before after short = hear_nearer rules moment s t log (is_from rules s nexts.Hear next) done

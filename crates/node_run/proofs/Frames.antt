@@ -22,7 +22,7 @@ use Rattle.node_run.specs.declared.rules.Rules.{Rules}
 use Rattle.node_run.specs.State.{RunState, WayValue, way_at, with_way, with_wire}
 use Rattle.node_run.specs.Next.{has_ended}
 use Rattle.node_run.specs.Steps.{Takes, TakesStep, MeetsSecond}
-use Rattle.node_run.specs.After.{after_send, after_panel, panel_arrived, panel_second, panel_bytes, panel_closed, broken, AfterUpstream, AfterDownstream, AfterPoll}
+use Rattle.node_run.specs.After.{after_send, after_panel, panel_arrived, panel_second, panel_bytes, panel_closed, after_supervisory, supervisory_arrived, supervisory_second, supervisory_bytes, supervisory_closed, broken, AfterUpstream, AfterDownstream, AfterPoll}
 use Rattle.node_run.specs.Lines.{cut_line, behind_first, without_return, is_too_long, echoed, Tells, DoesInput, StepsAloud, AsksIf, AsksConnect, may_ask, DoesAsked, KeepsFront, Fronts, Ends, DoesCut, DoesLine}
 use Rattle.node_run.specs.declared.way_state.Wire.{Wire}
 use Rattle.node_run.specs.declared.way_state.Wire.TheVariants as wires
@@ -120,11 +120,43 @@ downstream_same most rules moment founds.NotYet s t log after = same_at most s s
 downstream_same most rules moment founds.Closed s t log after = same_at most s _ t after.0 (downstream_broken_same most (is_open Exit s.node.lane.body) s)
 downstream_same most rules moment founds.Failed s t log after = same_at most s _ t after.0 (downstream_broken_same most (is_open Exit s.node.lane.body) s)
 
+supervisory_arrived_same : (most : ℕ) (wire : Wire) (s : RunState) → SamePlace most s (supervisory_arrived wire s)
+supervisory_arrived_same most wires.Rests s = record { turn = refl; place = refl; ended = refl; rest = λ few. few }
+supervisory_arrived_same most wires.Stands s = same most s
+supervisory_arrived_same most wires.Ends s = same most s
+supervisory_arrived_same most wires.Breaks s = same most s
+
+supervisory_second_same : (most : ℕ) (wire : Wire) (moment : ℤ) (s : RunState) → SamePlace most s (supervisory_second wire moment s)
+supervisory_second_same most wires.Stands moment s = record { turn = refl; place = refl; ended = refl; rest = λ few. few }
+supervisory_second_same most wires.Rests moment s = same most s
+supervisory_second_same most wires.Ends moment s = same most s
+supervisory_second_same most wires.Breaks moment s = same most s
+
+supervisory_bytes_same : (most : ℕ) (wire : Wire) (bytes : List ℕ) (s : RunState) → SamePlace most s (supervisory_bytes wire bytes s)
+supervisory_bytes_same most wires.Stands bytes s = record { turn = refl; place = refl; ended = refl; rest = λ few. few }
+supervisory_bytes_same most wires.Rests bytes s = same most s
+supervisory_bytes_same most wires.Ends bytes s = same most s
+supervisory_bytes_same most wires.Breaks bytes s = same most s
+
+supervisory_closed_same : (most : ℕ) (wire : Wire) (s : RunState) → SamePlace most s (supervisory_closed wire s)
+supervisory_closed_same most wires.Stands s = record { turn = refl; place = refl; ended = refl; rest = λ few. few }
+supervisory_closed_same most wires.Rests s = same most s
+supervisory_closed_same most wires.Ends s = same most s
+supervisory_closed_same most wires.Breaks s = same most s
+
+supervisory_same : (most : ℕ) (moment : ℤ) (got : GotBytes) (s : RunState) → SamePlace most s (after_supervisory moment got s)
+supervisory_same most moment founds.Arrived s = supervisory_arrived_same most s.supervisory.wire s
+supervisory_same most moment founds.Second s = supervisory_second_same most s.supervisory.wire moment s
+supervisory_same most moment (founds.Bytes bytes) s = supervisory_bytes_same most s.supervisory.wire bytes s
+supervisory_same most moment founds.NotYet s = same most s
+supervisory_same most moment founds.Closed s = supervisory_closed_same most s.supervisory.wire s
+supervisory_same most moment founds.Failed s = supervisory_closed_same most s.supervisory.wire s
+
 pub poll_same : (most : ℕ) (rules : Rules) (moment : ℤ) (way : Way) (got : GotBytes) (s t : RunState) (log : List ℕ) → IsShortGot most got → AfterPoll rules moment way got s t log → SamePlace most s t
 poll_same most rules moment ways.Panel got s t log short after = same_at most s _ t after.0 (panel_same most got s short)
 poll_same most rules moment ways.Upstream got s t log short after = upstream_same most rules moment got s t log after
 poll_same most rules moment ways.Downstream got s t log short after = downstream_same most rules moment got s t log after
-poll_same most rules moment ways.Supervisory got s t log short after = same_at most s s t after.0 (same most s)
+poll_same most rules moment ways.Supervisory got s t log short after = same_at most s _ t after.0 (supervisory_same most moment got s)
 
 -- ---- sending
 
@@ -151,33 +183,34 @@ sent_same way sents.Failed s = way_same way (record (way_at way s) { wire = wire
 abbrev pub EndsBy : Option NodeStatus → Option NodeStatus → Type 0
 EndsBy before after = (after ≡ before) ⊎ (after ≡ Some statuses.Done)
 
--- a line leaves the turn, the place and the text behind it, and ends the run at most as done
+-- a line leaves the turn, the place, the text behind it and the supervisor's channel, and ends the run at most as done
 pub record SameRest (s t : RunState) : Type 0 where
   pub turn : t.turn ≡ s.turn
   pub place : t.place ≡ s.place
   pub rest : t.rest ≡ s.rest
+  pub channel : t.channel ≡ s.channel
   pub ended : EndsBy s.ended t.ended
 
 rests : (s : RunState) → SameRest s s
-rests s = record { turn = refl; place = refl; rest = refl; ended = inl refl }
+rests s = record { turn = refl; place = refl; rest = refl; channel = refl; ended = inl refl }
 
 rests_at : (s u t : RunState) → t ≡ u → SameRest s u → SameRest s t
 rests_at s u t e frame = let P : RunState → Type 0 = SameRest s in subst P (sym e) frame
 
 tells_rest : (text : List ℕ) (s t : RunState) (log : List ℕ) → Tells text s t log → SameRest s t
-tells_rest text s t log tells = rests_at s (echoed text s) t tells.0 (record { turn = refl; place = refl; rest = refl; ended = inl refl })
+tells_rest text s t log tells = rests_at s (echoed text s) t tells.0 (record { turn = refl; place = refl; rest = refl; channel = refl; ended = inl refl })
 
 aloud_rest : (rules : Rules) (moment : ℤ) (sensed : List Sensed) (input : Input) (s t : RunState) (log : List ℕ) → StepsAloud rules moment sensed input s t log → SameRest s t
 aloud_rest rules moment sensed input s t log aloud =
     let after = aloud.takes.after in
-    rests_at s (echoed log aloud.silent) t aloud.after (record { turn = ap (λ (r : RunState). r.turn) after; place = ap (λ (r : RunState). r.place) after; rest = ap (λ (r : RunState). r.rest) after; ended = inl (ap (λ (r : RunState). r.ended) after) })
+    rests_at s (echoed log aloud.silent) t aloud.after (record { turn = ap (λ (r : RunState). r.turn) after; place = ap (λ (r : RunState). r.place) after; rest = ap (λ (r : RunState). r.rest) after; channel = ap (λ (r : RunState). r.channel) after; ended = inl (ap (λ (r : RunState). r.ended) after) })
 
 input_rest : (may : Result (Unit {0}) No) (rules : Rules) (moment : ℤ) (sensed : List Sensed) (input : Input) (s t : RunState) (log : List ℕ) → DoesInput may rules moment sensed input s t log → SameRest s t
 input_rest (Ok done) rules moment sensed input s t log does = aloud_rest rules moment sensed input s t log does
 input_rest (Err why) rules moment sensed input s t log does = tells_rest _ s t log does
 
 asks_rest : (may : Result (Unit {0}) No) (s t : RunState) (log : List ℕ) → AsksIf may s t log → SameRest s t
-asks_rest (Ok done) s t log asks = rests_at s (record s { asks = true }) t asks.0 (record { turn = refl; place = refl; rest = refl; ended = inl refl })
+asks_rest (Ok done) s t log asks = rests_at s (record s { asks = true }) t asks.0 (record { turn = refl; place = refl; rest = refl; channel = refl; ended = inl refl })
 asks_rest (Err why) s t log asks = tells_rest _ s t log asks
 
 connect_rest : (upstream : Option Address) (s t : RunState) (log : List ℕ) → AsksConnect upstream s t log → SameRest s t
@@ -187,7 +220,7 @@ connect_rest (Some address) s t log asks = asks_rest (may_ask (has_ended s.upstr
 asked_rest : (asked : Result PanelLine LineWhy) (rules : Rules) (moment : ℤ) (s t : RunState) (log : List ℕ) → DoesAsked asked rules moment s t log → SameRest s t
 asked_rest (Err why) rules moment s t log does = tells_rest _ s t log does
 asked_rest (Ok lines.Blank) rules moment s t log does = rests_at s s t does.0 (rests s)
-asked_rest (Ok lines.End) rules moment s t log does = rests_at s (record s { ended = Some statuses.Done }) t does.0 (record { turn = refl; place = refl; rest = refl; ended = inr refl })
+asked_rest (Ok lines.End) rules moment s t log does = rests_at s (record s { ended = Some statuses.Done }) t does.0 (record { turn = refl; place = refl; rest = refl; channel = refl; ended = inr refl })
 asked_rest (Ok lines.Show) rules moment s t log does = tells_rest _ s t log does
 asked_rest (Ok lines.Connect) rules moment s t log does = connect_rest rules.connections.upstream s t log does
 asked_rest (Ok (lines.Insert barcode)) rules moment s t log does = input_rest (may_of s.node (inputs.Insert barcode)) rules moment _ _ s t log does
@@ -202,19 +235,21 @@ asked_rest (Ok (lines.Fault side)) rules moment s t log does = input_rest (may_o
 asked_rest (Ok (lines.Signal line on)) rules moment s t log does = input_rest (may_of s.node (inputs.Level line on)) rules moment _ _ s t log does
 asked_rest (Ok lines.Forecast) rules moment s t log does = input_rest (may_of s.node inputs.Forecast) rules moment _ _ s t log does
 asked_rest (Ok (lines.Query barcode)) rules moment s t log does = input_rest (may_of s.node (inputs.Query barcode)) rules moment _ _ s t log does
+asked_rest (Ok (lines.Ask question)) rules moment s t log does =
+    input_rest (may_of s.node (inputs.Ask question)) rules moment _ _ s t log does
 asked_rest (Ok (lines.Sense sensed)) rules moment s t log does = input_rest (may_of s.node inputs.Nothing) rules moment _ _ s t log does
 
 keeps_rest : (long : Bool) (front : List ℕ) (s t : RunState) (log : List ℕ) → KeepsFront long front s t log → SameRest s t
-keeps_rest true front s t log keeps = let told = tells_rest _ (record s { line = []; drops = true }) t log keeps in record { turn = told.turn; place = told.place; rest = told.rest; ended = told.ended }
-keeps_rest false front s t log keeps = rests_at s (record s { line = front }) t keeps.0 (record { turn = refl; place = refl; rest = refl; ended = inl refl })
+keeps_rest true front s t log keeps = let told = tells_rest _ (record s { line = []; drops = true }) t log keeps in record { turn = told.turn; place = told.place; rest = told.rest; channel = told.channel; ended = told.ended }
+keeps_rest false front s t log keeps = rests_at s (record s { line = front }) t keeps.0 (record { turn = refl; place = refl; rest = refl; channel = refl; ended = inl refl })
 
 fronts_rest : (drops : Bool) (front : List ℕ) (s t : RunState) (log : List ℕ) → Fronts drops front s t log → SameRest s t
 fronts_rest true front s t log fronts = rests_at s s t fronts.0 (rests s)
 fronts_rest false front s t log fronts = keeps_rest (is_too_long front) front s t log fronts
 
 ends_rest : (drops : Bool) (line : List ℕ) (rules : Rules) (moment : ℤ) (s t : RunState) (log : List ℕ) → Ends drops line rules moment s t log → SameRest s t
-ends_rest true line rules moment s t log ends = rests_at s (record s { drops = false }) t ends.0 (record { turn = refl; place = refl; rest = refl; ended = inl refl })
-ends_rest false line rules moment s t log ends = let does = asked_rest (panel_line_of (without_return line)) rules moment (record s { line = [] }) t log ends in record { turn = does.turn; place = does.place; rest = does.rest; ended = does.ended }
+ends_rest true line rules moment s t log ends = rests_at s (record s { drops = false }) t ends.0 (record { turn = refl; place = refl; rest = refl; channel = refl; ended = inl refl })
+ends_rest false line rules moment s t log ends = let does = asked_rest (panel_line_of (without_return line)) rules moment (record s { line = [] }) t log ends in record { turn = does.turn; place = does.place; rest = does.rest; channel = does.channel; ended = does.ended }
 
 -- what stands behind the first end of a line is less than all
 abbrev IsShorter : List ℕ → Option (List ℕ × List ℕ) → Type 0
@@ -238,15 +273,16 @@ pub record TakesLine (s t : RunState) : Type 0 where
   pub turn : t.turn ≡ s.turn
   pub place : t.place ≡ s.place
   pub rest : length t.rest < length s.rest
+  pub channel : t.channel ≡ s.channel
   pub ended : EndsBy s.ended t.ended
 
 cut_takes : (cut : Option (List ℕ × List ℕ)) (rules : Rules) (moment : ℤ) (s t : RunState) (log : List ℕ) → IsShorter s.rest cut → 0 < length s.rest → DoesCut cut rules moment s t log → TakesLine s t
 cut_takes None rules moment s t log shorter some does =
     let rest = fronts_rest s.drops (s.line ++ s.rest) (record s { rest = [] }) t log does in
-    record { turn = rest.turn; place = rest.place; rest = rw rest.rest some; ended = rest.ended }
+    record { turn = rest.turn; place = rest.place; rest = rw rest.rest some; channel = rest.channel; ended = rest.ended }
 cut_takes (Some parts) rules moment s t log shorter some does =
     let rest = ends_rest s.drops (s.line ++ parts.0) rules moment (record s { rest = parts.1 }) t log does in
-    record { turn = rest.turn; place = rest.place; rest = rw rest.rest shorter; ended = rest.ended }
+    record { turn = rest.turn; place = rest.place; rest = rw rest.rest shorter; channel = rest.channel; ended = rest.ended }
 
 pub line_takes : (rules : Rules) (moment : ℤ) (s t : RunState) (log : List ℕ) → 0 < length s.rest → DoesLine rules moment s t log → TakesLine s t
 line_takes rules moment s t log some does = cut_takes (cut_line s.rest) rules moment s t log (cut_shorter s.rest) some does

@@ -13,6 +13,12 @@ use Rattle.line_base.specs.declared.states.Transfer.TheVariants as transfers
 use Rattle.line_base.specs.Name.{IsName}
 use Rattle.board_record.specs.BoardId.{id_text}
 use Rattle.hermes_horizontal.specs.Parts.{name_of}
+use Rattle.hermes_vertical.specs.Parts.{name_of as vertical_name_of}
+use Rattle.hermes_vertical.specs.declared.message.Passage.{Passage}
+use Rattle.hermes_vertical.specs.declared.message.Passing.{Passing}
+use Rattle.hermes_vertical.specs.declared.message.Passing.TheVariants as passings
+use Rattle.hermes_vertical.specs.declared.message.Vertical.{Vertical}
+use Rattle.hermes_vertical.specs.declared.message.Vertical.TheVariants as verticals
 use Rattle.hermes_horizontal.specs.declared.message.Horizontal.{Horizontal}
 use Rattle.hermes_horizontal.specs.declared.message.Horizontal.TheVariants as bodies
 use Rattle.hermes_horizontal.specs.declared.message.Ping.{Ping}
@@ -25,7 +31,7 @@ use Rattle.line_world.specs.declared.moves.MoveNo.TheVariants as moves
 use Rattle.line_script.specs.Words.{why_text}
 use Rattle.line_script.specs.declared.line.LineWhy.{LineWhy}
 use Rattle.line_script.specs.declared.line.LineWhy.TheVariants as whys
-use Rattle.line_report.specs.Texts.{act_text, at_side, byte_in_line, event_text, id_or_none, in_line, line_word, mark_of, no_text, numbered, of_board, ping_text, quality_text, reason_text, setting_text, side_text, signal_word, switch_word, switched, transfer_text, what_text, will_word}
+use Rattle.line_report.specs.Texts.{act_text, at_side, byte_in_line, event_text, id_or_none, in_line, line_word, mark_of, no_text, numbered, of_board, passed_text, passing_text, ping_text, quality_text, reason_text, setting_text, side_text, signal_word, switch_word, switched, told_text, transfer_text, what_text, will_word}
 use Rattle.line_report.specs.declared.happening.Reason.{Reason}
 use Rattle.line_report.specs.declared.happening.Reason.TheVariants as reasons
 use Rattle.node_core.specs.declared.act.Act.{Act}
@@ -154,6 +160,39 @@ inner_in_line (b ∷ bytes) = join is_inner (byte_in_line b) (in_line bytes) (in
 inner_setting : (machine : ℕ) (setting : Setting) → inner (setting_text machine setting)
 inner_setting machine (settings.Will side on) = inner_at_side (will_word on) machine side (inner_word on)
 inner_setting machine (settings.Level line on) = inner_switched (codes "level") machine (line_word line) on refl (inner_line line)
+inner_setting machine (settings.Supervise on) = spaced (numbered (codes "supervise") machine) (switch_word on) (inner_numbered (codes "supervise") machine refl) (inner_switch on)
+
+-- ---- what the supervisor is told
+
+inner_passing : (how : Passing) → inner (passing_text how)
+inner_passing passings.Transferred = refl
+inner_passing passings.Loaded = refl
+inner_passing passings.ByHand = refl
+
+inner_passed : (machine : ℕ) (word : List ℕ) (passage : Passage) → inner word → inner (passed_text machine word passage)
+inner_passed machine word passage w =
+    let tells = numbered (codes "tells") machine in
+    spaced (tells ++ codes " " ++ word ++ codes " " ++ id_text passage.id) (passing_text passage.how)
+    (spaced (tells ++ codes " " ++ word) (id_text passage.id)
+    (spaced tells word (inner_numbered (codes "tells") machine refl) w) (inner_id passage.id))
+    (inner_passing passage.how)
+
+inner_named : (machine : ℕ) (name : List ℕ) → IsName name → inner (numbered (codes "tells") machine ++ codes " " ++ name)
+inner_named machine name named =
+    spaced (numbered (codes "tells") machine) name (inner_numbered (codes "tells") machine refl) (inner_name name named)
+
+inner_told : (machine : ℕ) (body : Vertical) → IsName (vertical_name_of body) → inner (told_text machine body)
+inner_told machine (verticals.BoardArrived passage) named = inner_passed machine (codes "arrived") passage refl
+inner_told machine (verticals.BoardDeparted passage) named = inner_passed machine (codes "departed") passage refl
+inner_told machine (verticals.QueryWorkOrderInfo query question) named =
+    inner_numbered (numbered (codes "asks") machine) query (inner_numbered (codes "asks") machine refl)
+inner_told machine (verticals.SupervisoryServiceDescription system) named = inner_named machine _ named
+inner_told machine (verticals.SendWorkOrderInfo query order batch product) named = inner_named machine _ named
+inner_told machine (verticals.CheckAlive ping id) named = inner_named machine _ named
+inner_told machine (verticals.Notification code severity text) named = inner_named machine _ named
+inner_told machine (verticals.Other name) named = inner_named machine _ named
+
+-- ---- all acts
 
 -- an act that is no deed and no drive
 pub inner_act : (machine : ℕ) (act : Act) → IsProperAct act → inner (act_text machine act)
@@ -179,6 +218,10 @@ inner_act machine (acts.Marks id quality) proper = spaced (of_board (codes "mark
 inner_act machine (acts.Inserts id) proper = inner_board (codes "insert") machine id refl
 inner_act machine (acts.Removes id) proper = inner_board (codes "remove") machine id refl
 inner_act machine (acts.Replaces old new) proper = spaced (of_board (codes "replace") machine old) (id_text new) (inner_board (codes "replace") machine old refl) (inner_id new)
+inner_act machine (acts.Tells message) proper = inner_told machine message.body proper
+inner_act machine (acts.Answered query order) proper =
+    spaced (numbered (numbered (codes "answered") machine) query) (in_line order)
+    (inner_numbered (numbered (codes "answered") machine) query (inner_numbered (codes "answered") machine refl)) (inner_in_line order)
 inner_act machine (acts.Sets setting) proper = inner_setting machine setting
 
 pub inner_deed : (deed : Deed) → inner (deed_text deed)
@@ -198,7 +241,6 @@ inner_why whys.LongLine = refl
 inner_why whys.TooManyLines = refl
 inner_why whys.NotText = refl
 inner_why whys.UnknownWord = refl
-inner_why whys.NotYet = refl
 inner_why whys.WrongCount = refl
 inner_why whys.BadNumber = refl
 inner_why whys.BadSide = refl
@@ -221,6 +263,10 @@ inner_no nos.NotABridge = refl
 inner_no nos.NotStanding = refl
 inner_no nos.NotSupported = refl
 inner_no nos.NothingKept = refl
+inner_no nos.NotSupervised = refl
+inner_no nos.QueriesFull = refl
+inner_no nos.UnknownQuery = refl
+inner_no (nos.Answered query) = refl
 
 inner_move : (why : MoveNo) → inner (move_no_text why)
 inner_move moves.NoGap = refl
@@ -244,3 +290,4 @@ inner_reason reasons.NothingInFlight = refl
 inner_reason reasons.NothingToRead = refl
 inner_reason reasons.Standing = refl
 inner_reason reasons.TextInFlight = refl
+inner_reason (reasons.Answered word) = join is_inner (codes "answered ") (in_line word) refl (inner_in_line word)

@@ -3,6 +3,8 @@ mod Inner
 mod Accounts
 pub mod Nexts
 pub mod Frames
+pub mod Heard
+pub mod Taking
 pub mod Closing
 pub mod Far
 pub mod Moving

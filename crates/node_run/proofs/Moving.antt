@@ -19,10 +19,12 @@ use Rattle.line_outside.specs.declared.way.Address.{Address}
 use Rattle.line_outside.specs.declared.way.Way.{Way}
 use Rattle.line_outside.specs.declared.way.Way.TheVariants as ways
 use Rattle.node_run.specs.After.{found_of, after_listen, after_send, AfterPoll, AfterClose}
+use Rattle.node_run.specs.Channel.{is_empty, IsShort}
+use Rattle.node_run.specs.Hearing.{DoesHear}
 use Rattle.node_run.specs.Lines.{DoesLine}
 use Rattle.node_run.specs.Moving.{IsMoment, MovesAs, MissesMove, IsEndCaused, MovesOn, FailsLog, FailsMemory, IsAtEnd, EndsMove, IsRunEnd, IsOnceStatus, RunsTold}
-use Rattle.node_run.specs.Next.{next_of, moved_on, is_empty}
-use Rattle.node_run.specs.Runs.{Moves, listens, connects, polls, sends, refuses, closes, skips, does_line, begins, goes_on, no_call, polled, closed, HasRun, HasRunInPart, RunEnds, IsRunStatus, room_bytes}
+use Rattle.node_run.specs.Next.{next_of, moved_on}
+use Rattle.node_run.specs.Runs.{Moves, listens, connects, polls, sends, refuses, closes, skips, does_line, does_hear, begins, goes_on, no_call, polled, closed, HasRun, HasRunInPart, RunEnds, IsRunStatus, room_bytes}
 use Rattle.node_run.specs.State.{Refusal, RunState, RunView, refusal_text, way_at}
 use Rattle.node_run.specs.Work.{far_of}
 use Rattle.node_run.specs.Told.{HasRunCauses, RunEndsFrom}
@@ -33,6 +35,7 @@ use Rattle.node_run.specs.declared.status.NodeStatus.{NodeStatus}
 use Rattle.node_run.specs.declared.status.NodeStatus.TheVariants as statuses
 use Rattle.node_run.proofs.Far.{close_less, moves_nearer, not_empty}
 use Rattle.node_run.proofs.Frames.{EndsBy, IsShortGot, line_takes, poll_same, sent_same}
+use Rattle.node_run.proofs.Heard.{hear_less}
 use Rattle.node_run.proofs.Nexts.{is_from, not_ended}
 
 -- ---- calls that come behind others
@@ -180,6 +183,18 @@ line_done told after moment r u given before now next rest tells rules does =
       makes = record { moment = moment; same = is_moment_now told after moment tells; calls = []; move = does_line next does; gains = gains_none given };
       rest = omega (arith, takes.rest, rest);
       ended = ends_caused r.state.ended u.state.ended before now (not_ended r.rules r.state nexts.Line next refl) takes.ended;
+    }
+
+pub heard_on : (told after : Option ℤ) (moment : ℤ) (r u : RunView) (given : Option (List Given)) (before now : ℕ)
+    → next_of r.rules r.state ≡ nexts.Hear → length r.state.rest ≤ 4096 → TellsMoment told after moment → u.rules ≡ r.rules → DoesHear r.rules moment r.state u.state u.told
+    → MovesAs told r u given given before now
+heard_on told after moment r u given before now next rest tells rules does =
+    let less = hear_less r.rules moment r.state u.state u.told (is_from r.rules r.state nexts.Hear next) does in
+    record {
+      rules = rules;
+      makes = record { moment = moment; same = is_moment_now told after moment tells; calls = []; move = does_hear next does; gains = gains_none given };
+      rest = omega (arith, ap length less.rest, rest);
+      ended = uncaused u.state.ended before now (less.ended ∙ not_ended r.rules r.state nexts.Hear next refl);
     }
 
 pub polled_on : (told after : Option ℤ) (moment : ℤ) (r u : RunView) (way : Way) (room : ℕ) (got found : GotBytes) (given_old given_new : Option (List Given)) (before now : ℕ)
@@ -371,10 +386,10 @@ ends_before (Some moment) rules s given log = record { calls = []; last = []; lo
 
 -- a run that went on is nearer to its end
 pub nearer_on : (told : Option ℤ) (rules rules_now : Rules) (s t : RunState) (given_old given_new : Option (List Given)) (log_old log_new : Option (List ℕ))
-    → rules_now ≡ rules → MovesOn told rules s t given_old given_new log_old log_new → length s.rest ≤ 4096 → length t.rest ≤ 4096 → far_of rules_now t < far_of rules s
-nearer_on told rules rules_now s t given_old given_new log_old log_new same moves before after =
+    → rules_now ≡ rules → MovesOn told rules s t given_old given_new log_old log_new → length s.rest ≤ 4096 → length t.rest ≤ 4096 → IsShort t.channel → far_of rules_now t < far_of rules s
+nearer_on told rules rules_now s t given_old given_new log_old log_new same moves before after short =
     let P : Rules → Type 0 = λ r. far_of r t < far_of rules s in
-    subst P (sym same) (moves_nearer rules moves.makes.moment moves.makes.move before after)
+    subst P (sym same) (moves_nearer rules moves.makes.moment moves.makes.move before after short)
 
 -- ---- causes
 
@@ -465,6 +480,12 @@ pub if_lined : (answer : Result (Unit {0}) Memory) (told after : Option ℤ) (mo
     → OnOk answer (MovesAs told r u given given before now)
 if_lined (Ok done) told after moment r u given before now next rest tells rules does = line_done told after moment r u given before now next rest tells rules does
 if_lined (Err memory) told after moment r u given before now next rest tells rules does = tt
+
+pub if_heard : (answer : Result (Unit {0}) Memory) (told after : Option ℤ) (moment : ℤ) (r u : RunView) (given : Option (List Given)) (before now : ℕ)
+    → next_of r.rules r.state ≡ nexts.Hear → length r.state.rest ≤ 4096 → TellsMoment told after moment → u.rules ≡ r.rules → OnOk answer (DoesHear r.rules moment r.state u.state u.told)
+    → OnOk answer (MovesAs told r u given given before now)
+if_heard (Ok done) told after moment r u given before now next rest tells rules does = heard_on told after moment r u given before now next rest tells rules does
+if_heard (Err memory) told after moment r u given before now next rest tells rules does = tt
 
 pub unless_lined : (answer : Result (Unit {0}) Memory) (rules : Rules) (s : RunState) (given : Option (List Given)) → OnErr answer (MissesMove rules s given given)
 unless_lined (Ok done) rules s given = tt

@@ -8,7 +8,8 @@ use Rattle.line_outside.specs.declared.way.Way.{Way}
 use Rattle.line_outside.specs.declared.way.Way.TheVariants as ways
 use Rattle.node_run.specs.declared.rules.Rules.{Rules}
 use Rattle.node_run.specs.State.{Refusal, RunState, way_at}
-use Rattle.node_run.specs.Next.{next_of, ends_next, refuses_next, asks_next, lines_next, at_place, is_polled, is_due, is_empty, IsTurnLeft}
+use Rattle.node_run.specs.Channel.{is_empty}
+use Rattle.node_run.specs.Next.{next_of, ends_next, refuses_next, asks_next, lines_next, hears_next, at_place, listens_if, is_polled, is_due, IsTurnLeft}
 use Rattle.node_run.specs.Moving.{is_end}
 use Rattle.node_run.specs.declared.place.Next.{Next}
 use Rattle.node_run.specs.declared.place.Next.TheVariants as nexts
@@ -38,6 +39,7 @@ IsFrom rules s (nexts.Refuse way) = (refusal : Refusal) × (s.refusal ≡ Some r
 IsFrom rules s (nexts.Close way) = is_due (way_at way s) ≡ true
 IsFrom rules s (nexts.Connect address) = s.asks ≡ true
 IsFrom rules s nexts.Line = is_empty s.rest ≡ false
+IsFrom rules s nexts.Hear = s.channel.hears ≡ true
 IsFrom rules s nexts.Skip = at_place rules s s.place ≡ nexts.Skip
 IsFrom rules s (nexts.Listen way port) = at_place rules s s.place ≡ nexts.Listen way port
 IsFrom rules s (nexts.Poll way) = at_place rules s s.place ≡ nexts.Poll way
@@ -47,6 +49,7 @@ IsFrom rules s (nexts.Send way) = at_place rules s s.place ≡ nexts.Send way
 abbrev IsPlaced : Next → Type 0
 IsPlaced (nexts.End status) = status ≡ statuses.TurnsUsed
 IsPlaced nexts.Line = ⊥
+IsPlaced nexts.Hear = ⊥
 IsPlaced (nexts.Refuse way) = ⊥
 IsPlaced (nexts.Close way) = ⊥
 IsPlaced (nexts.Connect address) = ⊥
@@ -67,15 +70,22 @@ turn_is : (test : Bool) → IsPlaced (if test then nexts.Skip else nexts.End sta
 turn_is true = tt
 turn_is false = refl
 
+listens_is : (port : Option ℕ) → IsPlaced (listens_if port)
+listens_is None = tt
+listens_is (Some port) = tt
+
 at_place_is : (rules : Rules) (s : RunState) (place : Place) → IsPlaced (at_place rules s place)
 at_place_is rules s places.ListenPanel = tt
 at_place_is rules s places.ListenDownstream = tt
+at_place_is rules s places.ListenSupervisory = listens_is rules.connections.supervisory_port
 at_place_is rules s places.PollPanel = tt
 at_place_is rules s places.PollUpstream = polls_is (is_polled rules s ways.Upstream) ways.Upstream
 at_place_is rules s places.PollDownstream = polls_is (is_polled rules s ways.Downstream) ways.Downstream
+at_place_is rules s places.PollSupervisory = polls_is (is_polled rules s ways.Supervisory) ways.Supervisory
 at_place_is rules s places.SendPanel = sends_is (is_empty s.panel.unsent) ways.Panel
 at_place_is rules s places.SendUpstream = sends_is (is_empty s.upstream.unsent) ways.Upstream
 at_place_is rules s places.SendDownstream = sends_is (is_empty s.downstream.unsent) ways.Downstream
+at_place_is rules s places.SendSupervisory = sends_is (is_empty s.supervisory.unsent) ways.Supervisory
 at_place_is rules s places.TurnDone = turn_is (nat_lt s.turn rules.turns)
 
 place_from : (rules : Rules) (s : RunState) (next : Next) → at_place rules s s.place ≡ next → IsPlaced next → IsFrom rules s next
@@ -84,13 +94,18 @@ place_from rules s (nexts.Refuse way) e placed = absurd placed
 place_from rules s (nexts.Close way) e placed = absurd placed
 place_from rules s (nexts.Connect address) e placed = absurd placed
 place_from rules s nexts.Line e placed = absurd placed
+place_from rules s nexts.Hear e placed = absurd placed
 place_from rules s nexts.Skip e placed = e
 place_from rules s (nexts.Listen way port) e placed = e
 place_from rules s (nexts.Poll way) e placed = e
 place_from rules s (nexts.Send way) e placed = e
 
-lines_from : (rules : Rules) (s : RunState) (empty : Bool) → is_empty s.rest ≡ empty → IsFrom rules s (if empty then at_place rules s s.place else nexts.Line)
-lines_from rules s true e = place_from rules s (at_place rules s s.place) refl (at_place_is rules s s.place)
+hears_from : (rules : Rules) (s : RunState) (hears : Bool) → s.channel.hears ≡ hears → IsFrom rules s (if hears then nexts.Hear else at_place rules s s.place)
+hears_from rules s true e = e
+hears_from rules s false e = place_from rules s (at_place rules s s.place) refl (at_place_is rules s s.place)
+
+lines_from : (rules : Rules) (s : RunState) (empty : Bool) → is_empty s.rest ≡ empty → IsFrom rules s (if empty then hears_next rules s else nexts.Line)
+lines_from rules s true e = hears_from rules s s.channel.hears refl
 lines_from rules s false e = e
 
 asks_from : (rules : Rules) (s : RunState) (asks : Bool) (upstream : Option Address) (next : Next) → s.asks ≡ asks → IsFrom rules s next → IsFrom rules s (if asks then asks_next upstream next else next)
@@ -114,7 +129,8 @@ from : (rules : Rules) (s : RunState) → IsFrom rules s (next_of rules s)
 from rules s =
     ends_from rules s s.ended _ refl (refuses_from rules s s.refusal _ refl
     (closes_from rules s (is_due s.panel) ways.Panel _ refl (closes_from rules s (is_due s.upstream) ways.Upstream _ refl (closes_from rules s (is_due s.downstream) ways.Downstream _ refl
-    (asks_from rules s s.asks rules.connections.upstream (lines_next rules s) refl (lines_from rules s (is_empty s.rest) refl))))))
+    (closes_from rules s (is_due s.supervisory) ways.Supervisory _ refl
+    (asks_from rules s s.asks rules.connections.upstream (lines_next rules s) refl (lines_from rules s (is_empty s.rest) refl)))))))
 
 pub is_from : (rules : Rules) (s : RunState) (found : Next) → next_of rules s ≡ found → IsFrom rules s found
 is_from rules s found e = let P : Next → Type 0 = IsFrom rules s in subst P e (from rules s)
@@ -130,12 +146,15 @@ left_at : (rules : Rules) (s : RunState) (place : Place) → is_end (at_place ru
 left_at rules s places.TurnDone goes = turn_goes (nat_lt s.turn rules.turns) s.turn rules.turns refl goes
 left_at rules s places.ListenPanel goes = tt
 left_at rules s places.ListenDownstream goes = tt
+left_at rules s places.ListenSupervisory goes = tt
 left_at rules s places.PollPanel goes = tt
 left_at rules s places.PollUpstream goes = tt
 left_at rules s places.PollDownstream goes = tt
+left_at rules s places.PollSupervisory goes = tt
 left_at rules s places.SendPanel goes = tt
 left_at rules s places.SendUpstream goes = tt
 left_at rules s places.SendDownstream goes = tt
+left_at rules s places.SendSupervisory goes = tt
 
 left_for : (rules : Rules) (s : RunState) (found : Next) → at_place rules s s.place ≡ found → is_end found ≡ false → IsTurnLeft s.place s.turn rules.turns
 left_for rules s found e goes = left_at rules s s.place (ap is_end e ∙ goes)
@@ -158,6 +177,10 @@ polls_no_send : (test : Bool) (polled way : Way) → (if test then nexts.Poll po
 polls_no_send true polled way e = cc
 polls_no_send false polled way e = cc
 
+listens_no_send : (port : Option ℕ) (way : Way) → listens_if port ≡ nexts.Send way → ⊥
+listens_no_send None way e = cc
+listens_no_send (Some port) way e = cc
+
 abbrev sent_way : Way → Next → Way
 sent_way way (nexts.Send sent) = sent
 sent_way way next = way
@@ -173,12 +196,15 @@ turn_no_send false way e = cc
 some_at : (rules : Rules) (s : RunState) (place : Place) (way : Way) → at_place rules s place ≡ nexts.Send way → is_empty (way_at way s).unsent ≡ false
 some_at rules s places.ListenPanel way e = cc
 some_at rules s places.ListenDownstream way e = cc
+some_at rules s places.ListenSupervisory way e = absurd (listens_no_send rules.connections.supervisory_port way e)
 some_at rules s places.PollPanel way e = absurd (polls_no_send true ways.Panel way e)
 some_at rules s places.PollUpstream way e = absurd (polls_no_send (is_polled rules s ways.Upstream) ways.Upstream way e)
 some_at rules s places.PollDownstream way e = absurd (polls_no_send (is_polled rules s ways.Downstream) ways.Downstream way e)
+some_at rules s places.PollSupervisory way e = absurd (polls_no_send (is_polled rules s ways.Supervisory) ways.Supervisory way e)
 some_at rules s places.SendPanel way e = sends_some s ways.Panel way (is_empty s.panel.unsent) refl e
 some_at rules s places.SendUpstream way e = sends_some s ways.Upstream way (is_empty s.upstream.unsent) refl e
 some_at rules s places.SendDownstream way e = sends_some s ways.Downstream way (is_empty s.downstream.unsent) refl e
+some_at rules s places.SendSupervisory way e = sends_some s ways.Supervisory way (is_empty s.supervisory.unsent) refl e
 some_at rules s places.TurnDone way e = absurd (turn_no_send (nat_lt s.turn rules.turns) way e)
 
 pub some_to_send : (rules : Rules) (s : RunState) (way : Way) → next_of rules s ≡ nexts.Send way → is_empty (way_at way s).unsent ≡ false

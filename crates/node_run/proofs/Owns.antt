@@ -1,5 +1,5 @@
 -- What a machine owns follows from its log.
-use Rattle.std.proofs.Common.{◌≡◌, ◌∙◌, sym, subst, ap, refl, ℕ, ℤ, Bool, true, false, List, [], ◌++◌, Option, None, Some, Result, Ok, Err, append-nil}
+use Rattle.std.proofs.Common.{◌≡◌, ◌∙◌, sym, subst, ap, refl, ℕ, ℤ, Bool, true, false, List, [], ◌++◌, Option, None, Some, Result, Ok, Err, append-nil, codes}
 use Rattle.line_base.specs.declared.states.Side.TheVariants.{Entry, Exit}
 use Rattle.board_record.specs.declared.sensed.Sensed.{Sensed}
 use Rattle.line_outside.specs.Given.{Given}
@@ -12,6 +12,12 @@ use Rattle.line_outside.specs.declared.ports.Sent.TheVariants as sents
 use Rattle.line_outside.specs.declared.way.Address.{Address}
 use Rattle.line_outside.specs.declared.way.Way.{Way}
 use Rattle.line_outside.specs.declared.way.Way.TheVariants as ways
+use Rattle.hermes_vertical.specs.Parts.{kind_of}
+use Rattle.hermes_vertical.specs.declared.message.Vertical.{Vertical}
+use Rattle.supervisory_core.specs.Row.{SupervisedRow, supervised_row}
+use Rattle.supervisory_core.specs.Told.{unexpected}
+use Rattle.supervisory_core.specs.declared.action.VerticalAction.{VerticalAction}
+use Rattle.supervisory_core.specs.declared.action.VerticalAction.TheVariants as actions
 use Rattle.line_script.specs.declared.line.LineWhy.{LineWhy}
 use Rattle.line_script.specs.declared.line.LineWhy.TheVariants as whys
 use Rattle.line_report.specs.declared.happening.Reason.TheVariants as reasons
@@ -33,13 +39,19 @@ use Rattle.node_panel.specs.declared.line.PanelLine.TheVariants as lines
 use Rattle.node_run.specs.declared.rules.Rules.{Rules}
 use Rattle.node_run.specs.State.{RunState, WayValue, at_rest, way_at, with_way, with_wire}
 use Rattle.node_run.specs.Next.{has_ended, moved_on}
+use Rattle.node_run.specs.Channel.{no_session}
+use Rattle.node_run.specs.Hearing.{AnswersIf, DoesAction, DoesFound, DoesHear, DoesRow, DoesWord, Unsupervised, broken_off, said, system_of, with_channel, with_stands}
+use Rattle.node_run.specs.declared.channel.Found.{Found}
+use Rattle.node_run.specs.declared.channel.Found.TheVariants as finds
+use Rattle.node_run.specs.declared.channel.Word.{Word}
+use Rattle.node_run.specs.declared.channel.Word.TheVariants as words
 use Rattle.node_run.specs.Steps.{Takes, TakesStep, MeetsSecond}
-use Rattle.node_run.specs.After.{after_listen, after_send, after_panel, panel_arrived, panel_second, panel_bytes, panel_closed, broken, AfterUpstream, AfterDownstream, AfterPoll, AfterClose}
+use Rattle.node_run.specs.After.{after_listen, after_send, after_panel, panel_arrived, panel_second, panel_bytes, panel_closed, after_supervisory, supervisory_arrived, supervisory_second, supervisory_bytes, supervisory_closed, broken, AfterUpstream, AfterDownstream, AfterPoll, AfterClose}
 use Rattle.node_run.specs.Lines.{cut_line, without_return, is_too_long, Tells, DoesInput, StepsAloud, AsksIf, AsksConnect, may_ask, DoesAsked, KeepsFront, Fronts, Ends, DoesCut}
 use Rattle.node_run.proofs.Accounts.{own_append, own_read}
 use Rattle.node_run.specs.Account.{AreProper}
 use Rattle.node_run.specs.Owning.{OwnIsRead, IsAnswer, refuses, denies, shows, TellsActs, no_lines, step_lines, answer_lines, OwnFollows}
-use Rattle.node_run.specs.Runs.{Moves, listens, connects, polls, sends, refuses as refuses_second, closes, skips, does_line, Runs, begins, goes_on}
+use Rattle.node_run.specs.Runs.{Moves, listens, connects, polls, sends, refuses as refuses_second, closes, skips, does_line, does_hear, Runs, begins, goes_on}
 use Rattle.node_run.specs.Texts.{lines_of}
 use Rattle.node_run.specs.declared.way_state.Wire.{Wire}
 use Rattle.node_run.specs.declared.way_state.Wire.TheVariants as wires
@@ -117,6 +129,38 @@ panel_node founds.NotYet s = refl
 panel_node founds.Closed s = closed_node s.panel.wire s
 panel_node founds.Failed s = closed_node s.panel.wire s
 
+supervisory_arrived_node : (wire : Wire) (s : RunState) → (supervisory_arrived wire s).node ≡ s.node
+supervisory_arrived_node wires.Rests s = refl
+supervisory_arrived_node wires.Stands s = refl
+supervisory_arrived_node wires.Ends s = refl
+supervisory_arrived_node wires.Breaks s = refl
+
+supervisory_second_node : (wire : Wire) (moment : ℤ) (s : RunState) → (supervisory_second wire moment s).node ≡ s.node
+supervisory_second_node wires.Rests moment s = refl
+supervisory_second_node wires.Stands moment s = refl
+supervisory_second_node wires.Ends moment s = refl
+supervisory_second_node wires.Breaks moment s = refl
+
+supervisory_bytes_node : (wire : Wire) (bytes : List ℕ) (s : RunState) → (supervisory_bytes wire bytes s).node ≡ s.node
+supervisory_bytes_node wires.Rests bytes s = refl
+supervisory_bytes_node wires.Stands bytes s = refl
+supervisory_bytes_node wires.Ends bytes s = refl
+supervisory_bytes_node wires.Breaks bytes s = refl
+
+supervisory_closed_node : (wire : Wire) (s : RunState) → (supervisory_closed wire s).node ≡ s.node
+supervisory_closed_node wires.Rests s = refl
+supervisory_closed_node wires.Stands s = refl
+supervisory_closed_node wires.Ends s = refl
+supervisory_closed_node wires.Breaks s = refl
+
+supervisory_node : (moment : ℤ) (got : GotBytes) (s : RunState) → (after_supervisory moment got s).node ≡ s.node
+supervisory_node moment founds.Arrived s = supervisory_arrived_node s.supervisory.wire s
+supervisory_node moment founds.Second s = supervisory_second_node s.supervisory.wire moment s
+supervisory_node moment (founds.Bytes bytes) s = supervisory_bytes_node s.supervisory.wire bytes s
+supervisory_node moment founds.NotYet s = refl
+supervisory_node moment founds.Closed s = supervisory_closed_node s.supervisory.wire s
+supervisory_node moment founds.Failed s = supervisory_closed_node s.supervisory.wire s
+
 broken_node : (way : Way) (test : Bool) (s : RunState) → (broken way test s).node ≡ s.node
 broken_node way true s = way_node way (record (way_at way s) { wire = wires.Breaks }) s
 broken_node way false s = refl
@@ -141,7 +185,7 @@ poll_part : (rules : Rules) (moment : ℤ) (way : Way) (got : GotBytes) (s t : R
 poll_part rules moment ways.Panel got s t log after = still rules.number s _ t log after.0 after.1 (panel_node got s)
 poll_part rules moment ways.Upstream got s t log after = upstream_part rules moment got s t log after
 poll_part rules moment ways.Downstream got s t log after = downstream_part rules moment got s t log after
-poll_part rules moment ways.Supervisory got s t log after = still rules.number s s t log after.0 after.1 refl
+poll_part rules moment ways.Supervisory got s t log after = still rules.number s _ t log after.0 after.1 (supervisory_node moment got s)
 
 -- ---- sends and closes
 
@@ -155,11 +199,16 @@ listened_node : (opened : Opened) (s : RunState) → (after_listen opened s).nod
 listened_node opens.Done s = refl
 listened_node opens.Failed s = refl
 
+-- a machine that is supervised no more
+unsupervised_part : (rules : Rules) (moment : ℤ) (closed s t : RunState) (log : List ℕ) → closed.node ≡ s.node → Unsupervised rules moment closed t log → Part rules.number s t log
+unsupervised_part rules moment closed s t log same after =
+    closed_part (may_of closed.node (inputs.Supervise false)) rules moment (inputs.Supervise false) closed s t log same (ap (λ n. may_of n (inputs.Supervise false)) (sym same)) after
+
 close_part : (rules : Rules) (moment : ℤ) (way : Way) (s t : RunState) (log : List ℕ) → AfterClose rules moment way s t log → Part rules.number s t log
 close_part rules moment ways.Panel s t log after = still rules.number s _ t log after.0 after.1 refl
 close_part rules moment ways.Upstream s t log after = closed_part (may_of s.node (inputs.Notice Entry)) rules moment (inputs.Notice Entry) (record s { upstream = at_rest }) s t log refl refl after
 close_part rules moment ways.Downstream s t log after = closed_part (may_of s.node (inputs.Notice Exit)) rules moment (inputs.Notice Exit) (record s { downstream = at_rest }) s t log refl refl after
-close_part rules moment ways.Supervisory s t log after = still rules.number s s t log after.0 after.1 refl
+close_part rules moment ways.Supervisory s t log after = unsupervised_part rules moment (record s { supervisory = at_rest; channel = no_session }) s t log refl after
 
 -- ---- lines
 
@@ -205,6 +254,8 @@ asked_part (Ok lines.Forecast) rules moment s t log does =
     input_part (may_of s.node inputs.Forecast) rules moment _ inputs.Forecast s t log refl does
 asked_part (Ok (lines.Query barcode)) rules moment s t log does =
     input_part (may_of s.node (inputs.Query barcode)) rules moment _ (inputs.Query barcode) s t log refl does
+asked_part (Ok (lines.Ask question)) rules moment s t log does =
+    input_part (may_of s.node (inputs.Ask question)) rules moment _ (inputs.Ask question) s t log refl does
 asked_part (Ok (lines.Sense sensed)) rules moment s t log does = input_part (may_of s.node inputs.Nothing) rules moment _ inputs.Nothing s t log refl does
 
 -- a part from a state with the same machine
@@ -229,6 +280,37 @@ cut_part : (cut : Option (List ℕ × List ℕ)) (rules : Rules) (moment : ℤ) 
 cut_part None rules moment s t log does = moved_part rules.number (record s { rest = [] }) s t log refl (fronts_part s.drops (s.line ++ s.rest) rules.number (record s { rest = [] }) t log does)
 cut_part (Some parts) rules moment s t log does = moved_part rules.number (record s { rest = parts.1 }) s t log refl (ends_part s.drops (s.line ++ parts.0) rules moment (record s { rest = parts.1 }) t log does)
 
+-- ---- messages of the supervisor
+
+answer_part : (may : Result (Unit {0}) No) (rules : Rules) (moment : ℤ) (query : ℕ) (order : List ℕ) (s t : RunState) (log : List ℕ) → may_of s.node (inputs.Answer query order) ≡ may
+    → AnswersIf may rules moment query order s t log → Part rules.number s t log
+answer_part (Ok done) rules moment query order s t log may does = step_part rules.number rules moment [] (inputs.Answer query order) s s t log refl may refl does
+answer_part (Err why) rules moment query order s t log may does = still rules.number s _ t log does.0 does.1 refl
+
+action_part : (action : VerticalAction) (rules : Rules) (moment : ℤ) (s t : RunState) (log : List ℕ) → DoesAction action rules moment s t log → Part rules.number s t log
+action_part actions.Describe rules moment s t log does =
+    closed_part (may_of s.node (inputs.Supervise true)) rules moment (inputs.Supervise true) (said moment (system_of rules.machine_id) s) s t log refl refl does
+action_part (actions.Pong id) rules moment s t log does = still rules.number s _ t log does.0 does.1 refl
+action_part (actions.Answer query order) rules moment s t log does = answer_part (may_of s.node (inputs.Answer query order)) rules moment query order s t log refl does
+action_part actions.Nothing rules moment s t log does = still rules.number s s t log does.0 does.1 refl
+
+row_part : (row : Option SupervisedRow) (body : Vertical) (rules : Rules) (moment : ℤ) (s t : RunState) (log : List ℕ) → DoesRow row body rules moment s t log → Part rules.number s t log
+row_part None body rules moment s t log does = unsupervised_part rules moment (broken_off moment (unexpected (kind_of body)) s) s t log refl does
+row_part (Some row) body rules moment s t log does = moved_part rules.number (with_stands row.after s) s t log refl (action_part row.action rules moment (with_stands row.after s) t log does)
+
+word_part : (word : Word) (rules : Rules) (moment : ℤ) (s t : RunState) (log : List ℕ) → DoesWord word rules moment s t log → Part rules.number s t log
+word_part (words.Says message) rules moment s t log does = row_part (supervised_row s.channel.stands message.body) message.body rules moment s t log does
+word_part (words.Wrong text) rules moment s t log does = unsupervised_part rules moment (broken_off moment text s) s t log refl does
+
+found_part : (found : Found) (rules : Rules) (moment : ℤ) (s t : RunState) (log : List ℕ) → DoesFound found rules moment s t log → Part rules.number s t log
+found_part (finds.Word word) rules moment s t log does = word_part word rules moment s t log does
+found_part finds.More rules moment s t log does = still rules.number s s t log does.0 does.1 refl
+found_part finds.TooLong rules moment s t log does = unsupervised_part rules moment (broken_off moment (codes "message too long") s) s t log refl does
+
+hear_part : (rules : Rules) (moment : ℤ) (s t : RunState) (log : List ℕ) → DoesHear rules moment s t log → Part rules.number s t log
+hear_part rules moment s t log does =
+    moved_part rules.number (with_channel does.channel s) s t log refl (found_part does.found rules moment (with_channel does.channel s) t log does.does)
+
 -- ---- moves and runs
 
 move_part : (rules : Rules) (moment : ℤ) {s t : RunState} {calls : List Given} {log : List ℕ} → Moves rules moment s calls t log → Part rules.number s t log
@@ -240,6 +322,7 @@ move_part rules moment (refuses_second {s} {refusal} {sent} next e) = quiet refl
 move_part rules moment (closes {s} {t} {way} {log} next done) = close_part rules moment way s t log done
 move_part rules moment (skips {s} next) = quiet refl refl
 move_part rules moment (does_line {s} {t} {log} next done) = cut_part (cut_line s.rest) rules moment s t log done
+move_part rules moment (does_hear {s} {t} {log} next done) = hear_part rules moment s t log done
 
 follows_on : (number : ℕ) (s t u : RunState) (log lines : List ℕ) → OwnFollows number s t log → Part number t u lines → OwnFollows number s u (log ++ lines)
 follows_on number s t u log lines follows (quiet none node) =

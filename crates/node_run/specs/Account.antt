@@ -5,6 +5,7 @@ use Rattle.line_base.specs.Name.{IsName}
 use Rattle.board_record.specs.BoardId.{read_id}
 use Rattle.board_record.specs.declared.id.BadId.{BadId}
 use Rattle.hermes_horizontal.specs.Parts.{name_of}
+use Rattle.hermes_vertical.specs.Parts.{name_of as vertical_name_of}
 use Rattle.node_core.specs.Own.{Own, own_act}
 use Rattle.node_core.specs.declared.act.Act.{Act}
 use Rattle.node_core.specs.declared.act.Act.TheVariants as acts
@@ -91,6 +92,7 @@ IsProperAct (acts.Deed deed) = id_of_deed deed < 2 ^ 128
 IsProperAct (acts.Inserts id) = id < 2 ^ 128
 IsProperAct (acts.Removes id) = id < 2 ^ 128
 IsProperAct (acts.Replaces old new) = (old < 2 ^ 128) × (new < 2 ^ 128)
+IsProperAct (acts.Tells message) = IsName (vertical_name_of message.body)
 IsProperAct act = Unit {0}
 
 pub record AreProper (told : List Act) : Type 0 where

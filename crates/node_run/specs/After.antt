@@ -17,6 +17,8 @@ use Rattle.node_core.specs.May.{may_of}
 use Rattle.node_core.specs.Sides.{is_open}
 use Rattle.node_core.specs.declared.input.Input.TheVariants as inputs
 use Rattle.node_run.specs.declared.rules.Rules.{Rules}
+use Rattle.node_run.specs.Channel.{no_session}
+use Rattle.node_run.specs.Hearing.{Unsupervised, connected_already, text_of}
 use Rattle.node_run.specs.State.{RunState, at_rest, way_at, with_way, with_wire}
 use Rattle.node_run.specs.Next.{moved_on}
 use Rattle.node_run.specs.Steps.{Takes, MeetsSecond}
@@ -66,6 +68,35 @@ after_panel founds.NotYet s = s
 after_panel founds.Closed s = panel_closed s.panel.wire s
 after_panel founds.Failed s = panel_closed s.panel.wire s
 
+-- ---- what a poll of the supervisor's way found
+
+-- a session begins with the connection
+abbrev pub supervisory_arrived : Wire → RunState → RunState
+supervisory_arrived wires.Rests s = record (with_wire ways.Supervisory wires.Stands s) { channel = no_session }
+supervisory_arrived wire s = s
+
+abbrev pub supervisory_second : Wire → ℤ → RunState → RunState
+supervisory_second wires.Stands moment s =
+    record s { refusal = Some (record { way = ways.Supervisory; text = text_of moment connected_already }) }
+supervisory_second wire moment s = s
+
+-- bytes are heard message by message
+abbrev pub supervisory_bytes : Wire → List ℕ → RunState → RunState
+supervisory_bytes wires.Stands bytes s = record s { channel = record s.channel { piece = bytes; hears = true } }
+supervisory_bytes wire bytes s = s
+
+abbrev pub supervisory_closed : Wire → RunState → RunState
+supervisory_closed wires.Stands s = with_wire ways.Supervisory wires.Breaks s
+supervisory_closed wire s = s
+
+abbrev pub after_supervisory : ℤ → GotBytes → RunState → RunState
+after_supervisory moment founds.Arrived s = supervisory_arrived s.supervisory.wire s
+after_supervisory moment founds.Second s = supervisory_second s.supervisory.wire moment s
+after_supervisory moment (founds.Bytes bytes) s = supervisory_bytes s.supervisory.wire bytes s
+after_supervisory moment founds.NotYet s = s
+after_supervisory moment founds.Closed s = supervisory_closed s.supervisory.wire s
+after_supervisory moment founds.Failed s = supervisory_closed s.supervisory.wire s
+
 -- ---- what a poll of a neighbour's way found
 
 -- bytes are heard at a side
@@ -99,7 +130,7 @@ abbrev pub AfterPoll : Rules → ℤ → Way → GotBytes → RunState → RunSt
 AfterPoll rules moment ways.Panel got s t log = (t ≡ after_panel got s) × (log ≡ [])
 AfterPoll rules moment ways.Upstream got s t log = AfterUpstream rules moment got s t log
 AfterPoll rules moment ways.Downstream got s t log = AfterDownstream rules moment got s t log
-AfterPoll rules moment ways.Supervisory got s t log = (t ≡ s) × (log ≡ [])
+AfterPoll rules moment ways.Supervisory got s t log = (t ≡ after_supervisory moment got s) × (log ≡ [])
 
 -- ---- sending and closing
 
@@ -122,4 +153,5 @@ AfterClose rules moment ways.Upstream s t log =
 AfterClose rules moment ways.Downstream s t log =
     let closed = record s { downstream = at_rest } in
     Takes (may_of s.node (inputs.Notice Exit)) rules moment (inputs.Notice Exit) closed closed t log
-AfterClose rules moment ways.Supervisory s t log = (t ≡ s) × (log ≡ [])
+AfterClose rules moment ways.Supervisory s t log =
+    Unsupervised rules moment (record s { supervisory = at_rest; channel = no_session }) t log

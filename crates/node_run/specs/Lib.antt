@@ -1,10 +1,12 @@
 pub mod Status
 pub mod Texts
 pub mod Account
+pub mod Channel
 pub mod State
 pub mod Next
 pub mod Steps
 pub mod Lines
+pub mod Hearing
 pub mod After
 pub mod Runs
 pub mod Moving

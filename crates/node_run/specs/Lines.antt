@@ -65,6 +65,7 @@ input_of lines.Tick = inputs.Tick
 input_of (lines.Signal line on) = inputs.Level line on
 input_of lines.Forecast = inputs.Forecast
 input_of (lines.Query barcode) = inputs.Query barcode
+input_of (lines.Ask question) = inputs.Ask question
 input_of (lines.Fault side) = inputs.Fault side
 input_of line = inputs.Nothing
 

@@ -1,9 +1,11 @@
--- WHAT COMES NEXT in a run: a call of the ports, a line of the panel, a place where nothing is to do, or the end.
-use Rattle.std.specs.Prelude.{◌≡◌, ◌≤◌, ◌⊎◌, ℕ, ◌+◌, ◌<◌, Bool, true, false, ◌||◌, ◌&&◌, not, nat_lt, List, [], ◌∷◌, length, Option, None, Some, is_some, if◌then◌else◌}
+-- WHAT COMES NEXT in a run: a call of the ports, a line of the panel, a message of the supervisor, a place where nothing is
+-- to do, or the end.
+use Rattle.std.specs.Prelude.{◌≡◌, ◌≤◌, ◌⊎◌, ℕ, ◌+◌, ◌<◌, Bool, true, false, ◌||◌, ◌&&◌, not, nat_lt, List, length, Option, None, Some, is_some, if◌then◌else◌}
 use Rattle.line_outside.specs.declared.way.Address.{Address}
 use Rattle.line_outside.specs.declared.way.Way.{Way}
 use Rattle.line_outside.specs.declared.way.Way.TheVariants as ways
 use Rattle.node_run.specs.declared.rules.Rules.{Rules}
+use Rattle.node_run.specs.Channel.{is_empty}
 use Rattle.node_run.specs.State.{WayValue, Refusal, RunState, way_at}
 use Rattle.node_run.specs.declared.place.Next.{Next}
 use Rattle.node_run.specs.declared.place.Next.TheVariants as nexts
@@ -13,10 +15,6 @@ use Rattle.node_run.specs.declared.status.NodeStatus.{NodeStatus}
 use Rattle.node_run.specs.declared.status.NodeStatus.TheVariants as statuses
 use Rattle.node_run.specs.declared.way_state.Wire.{Wire}
 use Rattle.node_run.specs.declared.way_state.Wire.TheVariants as wires
-
-abbrev pub is_empty : List ℕ → Bool
-is_empty [] = true
-is_empty (byte ∷ bytes) = false
 
 -- the most text that waits on a way
 abbrev pub most_unsent : ℕ
@@ -41,7 +39,7 @@ abbrev pub is_polled : Rules → RunState → Way → Bool
 is_polled rules s ways.Panel = true
 is_polled rules s ways.Upstream = is_some rules.connections.upstream && not (has_ended s.upstream.wire)
 is_polled rules s ways.Downstream = not (has_ended s.downstream.wire)
-is_polled rules s ways.Supervisory = false
+is_polled rules s ways.Supervisory = is_some rules.connections.supervisory_port && not (has_ended s.supervisory.wire)
 
 abbrev pub polls : Rules → RunState → Way → Next
 polls rules s way = if is_polled rules s way then nexts.Poll way else nexts.Skip
@@ -57,25 +55,37 @@ sends s way = sends_by way (way_at way s)
 abbrev pub turn_next : Rules → RunState → Next
 turn_next rules s = if nat_lt s.turn rules.turns then nexts.Skip else nexts.End statuses.TurnsUsed
 
+-- the supervisor's port is listened at where it is set
+abbrev pub listens_if : Option ℕ → Next
+listens_if None = nexts.Skip
+listens_if (Some port) = nexts.Listen ways.Supervisory port
+
 -- what is done at a place
 abbrev pub at_place : Rules → RunState → Place → Next
 at_place rules s places.ListenPanel = nexts.Listen ways.Panel rules.connections.panel_port
 at_place rules s places.ListenDownstream = nexts.Listen ways.Downstream rules.connections.downstream_port
+at_place rules s places.ListenSupervisory = listens_if rules.connections.supervisory_port
 at_place rules s places.PollPanel = polls rules s ways.Panel
 at_place rules s places.PollUpstream = polls rules s ways.Upstream
 at_place rules s places.PollDownstream = polls rules s ways.Downstream
+at_place rules s places.PollSupervisory = polls rules s ways.Supervisory
 at_place rules s places.SendPanel = sends s ways.Panel
 at_place rules s places.SendUpstream = sends s ways.Upstream
 at_place rules s places.SendDownstream = sends s ways.Downstream
+at_place rules s places.SendSupervisory = sends s ways.Supervisory
 at_place rules s places.TurnDone = turn_next rules s
 
 abbrev pub asks_next : Option Address → Next → Next
 asks_next None next = next
 asks_next (Some address) next = nexts.Connect address
 
--- the panel's lines, one by one
+-- the supervisor's messages, one by one
+abbrev pub hears_next : Rules → RunState → Next
+hears_next rules s = if s.channel.hears then nexts.Hear else at_place rules s s.place
+
+-- before them, the panel's lines, one by one
 abbrev pub lines_next : Rules → RunState → Next
-lines_next rules s = if is_empty s.rest then at_place rules s s.place else nexts.Line
+lines_next rules s = if is_empty s.rest then hears_next rules s else nexts.Line
 
 -- before them, a connection that was asked for
 abbrev pub connects_next : Rules → RunState → Next
@@ -86,7 +96,8 @@ abbrev pub closes_next : Rules → RunState → Next
 closes_next rules s =
     if is_due s.panel then nexts.Close ways.Panel else
     (if is_due s.upstream then nexts.Close ways.Upstream else
-    (if is_due s.downstream then nexts.Close ways.Downstream else connects_next rules s))
+    (if is_due s.downstream then nexts.Close ways.Downstream else
+    (if is_due s.supervisory then nexts.Close ways.Supervisory else connects_next rules s)))
 
 -- before them, a second connection that is to be refused
 abbrev pub refuses_next : Option Refusal → Next → Next
@@ -107,6 +118,7 @@ goes_on (nexts.End status) = false
 goes_on (nexts.Refuse way) = false
 goes_on (nexts.Close way) = false
 goes_on nexts.Line = true
+goes_on nexts.Hear = true
 goes_on nexts.Skip = true
 goes_on (nexts.Listen way port) = true
 goes_on (nexts.Connect address) = true
@@ -121,13 +133,16 @@ HasBoundedText way = (way.wire ≡ wires.Rests) ⊎ (length way.unsent ≤ most_
 
 abbrev pub place_behind : Place → Place
 place_behind places.ListenPanel = places.ListenDownstream
-place_behind places.ListenDownstream = places.PollPanel
+place_behind places.ListenDownstream = places.ListenSupervisory
+place_behind places.ListenSupervisory = places.PollPanel
 place_behind places.PollPanel = places.PollUpstream
 place_behind places.PollUpstream = places.PollDownstream
-place_behind places.PollDownstream = places.SendPanel
+place_behind places.PollDownstream = places.PollSupervisory
+place_behind places.PollSupervisory = places.SendPanel
 place_behind places.SendPanel = places.SendUpstream
 place_behind places.SendUpstream = places.SendDownstream
-place_behind places.SendDownstream = places.TurnDone
+place_behind places.SendDownstream = places.SendSupervisory
+place_behind places.SendSupervisory = places.TurnDone
 place_behind places.TurnDone = places.PollPanel
 
 abbrev pub turn_behind : Place → ℕ → ℕ

@@ -1,4 +1,5 @@
--- A RUN: a chain of moves. Each is one call of the ports with its answer, a line of the panel, or a place that is passed.
+-- A RUN: a chain of moves. Each is one call of the ports with its answer, a line of the panel, a message of the supervisor,
+-- or a place that is passed.
 use Rattle.std.specs.Prelude.{◌≡◌, ◌++◌, ℕ, ℤ, false, List, [], ◌∷◌, Option, None, Some}
 use Rattle.line_outside.specs.Given.{Given, Listens, Connects, Polls, Sends, Refuses, Closes}
 use Rattle.line_outside.specs.Ports.{Gains}
@@ -12,6 +13,7 @@ use Rattle.line_outside.specs.declared.way.Way.TheVariants as ways
 use Rattle.node_run.specs.declared.rules.Rules.{Rules}
 use Rattle.node_run.specs.State.{Refusal, RunState, way_at}
 use Rattle.node_run.specs.Next.{next_of, moved_on}
+use Rattle.node_run.specs.Hearing.{DoesHear}
 use Rattle.node_run.specs.Lines.{DoesLine}
 use Rattle.node_run.specs.After.{after_listen, AfterPoll, after_send, AfterClose}
 use Rattle.node_run.specs.declared.place.Next.TheVariants as nexts
@@ -32,6 +34,7 @@ pub data Moves (rules : Rules) (moment : ℤ) : RunState → List Given → RunS
   closes : {s t : RunState} {way : Way} {log : List ℕ} → next_of rules s ≡ nexts.Close way → AfterClose rules moment way s t log → Moves rules moment s (Closes way ∷ []) t log
   skips : {s : RunState} → next_of rules s ≡ nexts.Skip → Moves rules moment s [] (moved_on s) []
   does_line : {s t : RunState} {log : List ℕ} → next_of rules s ≡ nexts.Line → DoesLine rules moment s t log → Moves rules moment s [] t log
+  does_hear : {s t : RunState} {log : List ℕ} → next_of rules s ≡ nexts.Hear → DoesHear rules moment s t log → Moves rules moment s [] t log
 
 -- A RUN from a state, with all its calls and all its log
 pub data Runs (rules : Rules) (moment : ℤ) : RunState → List Given → RunState → List ℕ → Type 0 where

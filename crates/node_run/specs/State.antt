@@ -1,8 +1,9 @@
--- The state of a run: the machine, its ways, the panel's text, and what comes next.
+-- The state of a run: the machine, its ways, the supervisor's channel, the panel's text, and what comes next.
 use Rattle.std.specs.Prelude.{ℕ, Bool, false, List, [], Option, None, Some}
 use Rattle.line_outside.specs.declared.way.Way.{Way}
 use Rattle.line_outside.specs.declared.way.Way.TheVariants as ways
 use Rattle.node_core.specs.Node.{NodeState}
+use Rattle.node_run.specs.Channel.{ChannelValue, no_session}
 use Rattle.node_run.specs.declared.rules.Rules.{Rules}
 use Rattle.node_run.specs.declared.status.NodeStatus.{NodeStatus}
 use Rattle.node_run.specs.declared.place.Place.{Place}
@@ -25,6 +26,8 @@ pub record RunState : Type 0 where
   pub panel : WayValue
   pub upstream : WayValue
   pub downstream : WayValue
+  pub supervisory : WayValue
+  pub channel : ChannelValue
   pub line : List ℕ
   pub drops : Bool
   pub rest : List ℕ
@@ -51,6 +54,8 @@ started node = record {
   panel = at_rest;
   upstream = at_rest;
   downstream = at_rest;
+  supervisory = at_rest;
+  channel = no_session;
   line = [];
   drops = false;
   rest = [];
@@ -65,13 +70,13 @@ abbrev pub way_at : Way → RunState → WayValue
 way_at ways.Panel s = s.panel
 way_at ways.Upstream s = s.upstream
 way_at ways.Downstream s = s.downstream
-way_at ways.Supervisory s = at_rest
+way_at ways.Supervisory s = s.supervisory
 
 abbrev pub with_way : Way → WayValue → RunState → RunState
 with_way ways.Panel way s = record s { panel = way }
 with_way ways.Upstream way s = record s { upstream = way }
 with_way ways.Downstream way s = record s { downstream = way }
-with_way ways.Supervisory way s = s
+with_way ways.Supervisory way s = record s { supervisory = way }
 
 -- the run with the wire of a way as it is now
 abbrev pub with_wire : Way → Wire → RunState → RunState

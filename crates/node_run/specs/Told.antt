@@ -13,7 +13,12 @@ use Rattle.node_run.specs.declared.status.NodeStatus.TheVariants as statuses
 
 -- what settings make of a run
 abbrev pub rules_of : Settings → Rules
-rules_of settings = record { number = settings.identity.number; connections = settings.connections; turns = settings.turns }
+rules_of settings = record {
+  number = settings.identity.number;
+  machine_id = settings.identity.machine_id;
+  connections = settings.connections;
+  turns = settings.turns;
+}
 
 abbrev pub profile_of : Settings → NodeProfile
 profile_of settings = record {

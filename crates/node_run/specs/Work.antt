@@ -3,6 +3,7 @@ use Rattle.std.specs.Prelude.{ℕ, ◌+◌, ◌-◌, ◌*◌, Bool, true, false,
 use Rattle.line_base.specs.declared.states.Side.TheVariants.{Entry, Exit}
 use Rattle.node_core.specs.Sides.{is_open}
 use Rattle.node_run.specs.declared.rules.Rules.{Rules}
+use Rattle.node_run.specs.Channel.{ChannelValue}
 use Rattle.node_run.specs.State.{Refusal, RunState}
 use Rattle.node_run.specs.declared.place.Place.{Place}
 use Rattle.node_run.specs.declared.place.Place.TheVariants as places
@@ -11,18 +12,21 @@ use Rattle.node_run.specs.declared.way_state.Wire.TheVariants as wires
 
 -- the places behind this one, as far as the end of the turn
 abbrev pub places_left : Place → ℕ
-places_left places.ListenPanel = 8
-places_left places.ListenDownstream = 7
-places_left places.PollPanel = 6
-places_left places.PollUpstream = 5
-places_left places.PollDownstream = 4
-places_left places.SendPanel = 3
-places_left places.SendUpstream = 2
-places_left places.SendDownstream = 1
+places_left places.ListenPanel = 11
+places_left places.ListenDownstream = 10
+places_left places.ListenSupervisory = 9
+places_left places.PollPanel = 8
+places_left places.PollUpstream = 7
+places_left places.PollDownstream = 6
+places_left places.PollSupervisory = 5
+places_left places.SendPanel = 4
+places_left places.SendUpstream = 3
+places_left places.SendDownstream = 2
+places_left places.SendSupervisory = 1
 places_left places.TurnDone = 0
 
 abbrev pub far_at : ℕ → ℕ → Place → ℕ
-far_at turns turn place = 9 * (turns - turn) + places_left place
+far_at turns turn place = 12 * (turns - turn) + places_left place
 
 abbrev pub count : Bool → ℕ
 count true = 1
@@ -38,14 +42,24 @@ abbrev pub refusal_work : Option Refusal → ℕ
 refusal_work None = 0
 refusal_work (Some refusal) = 1
 
--- a way that is closed has none any more, and a side that hears of it has no connection
+-- a way that is closed has none any more, a side that hears of it has no connection, and a machine isn't supervised
+abbrev pub wires_work : RunState → ℕ
+wires_work s =
+    (wire_work s.panel.wire + wire_work s.upstream.wire) + (wire_work s.downstream.wire + wire_work s.supervisory.wire)
+
 abbrev pub close_work : RunState → ℕ
-close_work s = (wire_work s.panel.wire + (wire_work s.upstream.wire + wire_work s.downstream.wire)) + (3 * count (is_open Entry s.node.lane.body) + 3 * count (is_open Exit s.node.lane.body))
+close_work s =
+    wires_work s
+    + (3 * count s.node.supervised + (3 * count (is_open Entry s.node.lane.body) + 3 * count (is_open Exit s.node.lane.body)))
+
+-- of the supervisor's bytes each goes first behind those that wait, and then away
+abbrev pub hear_work : ChannelValue → ℕ
+hear_work channel = count channel.hears + (length channel.waiting + 2 * length channel.piece)
 
 -- what is done at one place
 abbrev pub work_at : RunState → ℕ
-work_at s = 12 * length s.rest + (count s.asks + (refusal_work s.refusal + close_work s))
+work_at s = 20 * length s.rest + (20 * hear_work s.channel + (count s.asks + (refusal_work s.refusal + close_work s)))
 
 -- how far a run is from its end
 abbrev pub far_of : Rules → RunState → ℕ
-far_of rules s = 50000 * far_at rules.turns s.turn s.place + work_at s
+far_of rules s = 2000000 * far_at rules.turns s.turn s.place + work_at s

@@ -1,10 +1,11 @@
 //! What the answers of the ports do.
 
-ghost use Rattle.std.specs.Prelude.{◌≡◌, [], false, None, OnOk};
+ghost use Rattle.std.specs.Prelude.{◌≡◌, ◌≤◌, [], false, None, OnOk, length};
 ghost use Rattle.line_outside.specs.declared.answer.GotBytes.TheVariants as founds;
 ghost use Rattle.node_run.specs.Next.{IsTurnLeft, moved_on};
-ghost use Rattle.node_run.specs.After.{after_listen, after_panel, after_send, found_of, panel_gone, AfterPoll, AfterUpstream, AfterDownstream, AfterClose};
+ghost use Rattle.node_run.specs.After.{after_listen, after_panel, after_send, after_supervisory, found_of, panel_gone, supervisory_second, AfterPoll, AfterUpstream, AfterDownstream, AfterClose};
 
+use crate::hearing::refusal_of_second;
 use crate::run::{Refusal, Run};
 use crate::status::NodeStatus;
 use crate::way_state::Wire;
@@ -56,6 +57,7 @@ impl Run {
     ) -> Result<(), Memory>
         requires turn { IsTurnLeft self.old.state.place self.old.state.turn self.old.rules.turns }
         requires told { self.old.told ≡ [] }
+        requires few { length bytes.now ≤ 4096 }
         ensures rules { self.new.rules ≡ self.old.rules }
         ensures after { OnOk result (AfterPoll self.old.rules moment way (found_of got bytes.now) (moved_on self.old.state) self.new.state self.new.told) }
     {
@@ -64,7 +66,7 @@ impl Run {
             Way::Panel => self.after_panel(got, bytes),
             Way::Upstream => self.after_upstream(got, bytes, moment),
             Way::Downstream => self.after_downstream(got, bytes, moment),
-            Way::Supervisory => Ok(()),
+            Way::Supervisory => self.after_supervisory(got, bytes, moment),
         }
     }
 
@@ -100,6 +102,40 @@ impl Run {
             Ok(()) => Ok(()),
             Err(_) => Err(Memory),
         }
+    }
+
+    /// A session begins with a connection, a second one is refused, and bytes are heard message by message.
+    fn after_supervisory(&mut self, got: Got, bytes: &[u8], moment: Moment) -> Result<(), Memory>
+        requires few { length bytes.now ≤ 4096 }
+        ensures rules { self.new.rules ≡ self.old.rules }
+        ensures after { OnOk result (self.new ≡ record self.old { state = after_supervisory moment (found_of got bytes.now) self.old.state }) }
+    {
+        let wire = self.supervisory.wire();
+        match got {
+            Got::Arrived if wire == Wire::Rests => {
+                self.supervisory.set_wire(Wire::Stands);
+                self.channel.restart();
+            }
+            Got::Second if wire == Wire::Stands => return self.refuse_supervisor(moment),
+            Got::Bytes(_) if wire == Wire::Stands => return self.channel.hear(bytes),
+            Got::Closed | Got::Failed if wire == Wire::Stands => {
+                self.supervisory.set_wire(Wire::Breaks);
+            }
+            _ => {}
+        }
+        Ok(())
+    }
+
+    fn refuse_supervisor(&mut self, moment: Moment) -> Result<(), Memory>
+        ensures rules { self.new.rules ≡ self.old.rules }
+        ensures refuses { OnOk result (self.new ≡ record self.old { state = supervisory_second Wire.Stands moment self.old.state }) }
+    {
+        let text = refusal_of_second(self.alloc, moment)?;
+        self.refusal = Some(Refusal {
+            way: Way::Supervisory,
+            text,
+        });
+        Ok(())
     }
 
     fn after_upstream(&mut self, got: Got, bytes: &[u8], moment: Moment) -> Result<(), Memory>
@@ -197,7 +233,11 @@ impl Run {
                 self.downstream.rest();
                 self.take(Input::Notice(Side::Exit), moment)
             }
-            Way::Supervisory => Ok(()),
+            Way::Supervisory => {
+                self.supervisory.rest();
+                self.channel.restart();
+                self.end_supervision(moment)
+            }
         }
     }
 

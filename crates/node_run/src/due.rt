@@ -1,7 +1,7 @@
 //! What comes next.
 
 ghost use Rattle.std.specs.Prelude.{◌≡◌};
-ghost use Rattle.node_run.specs.Next.{next_of, closes_next, connects_next, lines_next, at_place, polls, is_polled, sends_by, turn_next};
+ghost use Rattle.node_run.specs.Next.{next_of, closes_next, connects_next, lines_next, hears_next, at_place, listens_if, polls, is_polled, sends_by, turn_next};
 
 use crate::place::{Next, Place};
 use crate::run::Run;
@@ -11,7 +11,8 @@ use line_outside::Way;
 
 impl Run {
     /// What comes next: the end, a second connection that is to be refused, a way that has to be closed, a connection that
-    /// was asked for, the next of the panel's lines, and then what is done at this place.
+    /// was asked for, the next of the panel's lines, the next of the supervisor's messages, and then what is done at this
+    /// place.
     pub fn next(&self) -> Next
         ensures { result ≡ next_of self.now.rules self.now.state }
     {
@@ -36,6 +37,9 @@ impl Run {
         if self.downstream.is_due() {
             return Next::Close(Way::Downstream);
         }
+        if self.supervisory.is_due() {
+            return Next::Close(Way::Supervisory);
+        }
         self.next_connect()
     }
 
@@ -56,6 +60,15 @@ impl Run {
         if !self.rest().is_empty() {
             return Next::Line;
         }
+        self.next_hear()
+    }
+
+    fn next_hear(&self) -> Next
+        ensures { result ≡ hears_next self.now.rules self.now.state }
+    {
+        if self.channel.hears() {
+            return Next::Hear;
+        }
         self.next_at_place()
     }
 
@@ -67,12 +80,15 @@ impl Run {
             Place::ListenDownstream => {
                 Next::Listen(Way::Downstream, self.rules.connections.downstream_port)
             }
+            Place::ListenSupervisory => next_listen(self.rules.connections.supervisory_port),
             Place::PollPanel => self.next_poll(Way::Panel),
             Place::PollUpstream => self.next_poll(Way::Upstream),
             Place::PollDownstream => self.next_poll(Way::Downstream),
+            Place::PollSupervisory => self.next_poll(Way::Supervisory),
             Place::SendPanel => next_send(Way::Panel, &self.panel),
             Place::SendUpstream => next_send(Way::Upstream, &self.upstream),
             Place::SendDownstream => next_send(Way::Downstream, &self.downstream),
+            Place::SendSupervisory => next_send(Way::Supervisory, &self.supervisory),
             Place::TurnDone => self.next_turn(),
         }
     }
@@ -96,7 +112,9 @@ impl Run {
                 self.rules.connections.upstream.is_some() && !self.upstream.has_ended()
             }
             Way::Downstream => !self.downstream.has_ended(),
-            Way::Supervisory => false,
+            Way::Supervisory => {
+                self.rules.connections.supervisory_port.is_some() && !self.supervisory.has_ended()
+            }
         }
     }
 
@@ -107,6 +125,16 @@ impl Run {
             return Next::Skip;
         }
         Next::End(NodeStatus::TurnsUsed)
+    }
+}
+
+/// The supervisor's port is listened at where it is set.
+fn next_listen(port: Option<u16>) -> Next
+    ensures { result ≡ listens_if port }
+{
+    match port {
+        Some(port) => Next::Listen(Way::Supervisory, port),
+        None => Next::Skip,
     }
 }
 

@@ -5,7 +5,9 @@
 #![tactic(auto)]
 
 mod after;
+mod channel;
 mod due;
+mod hearing;
 pub mod laws;
 mod lines;
 mod moves;

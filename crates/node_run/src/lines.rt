@@ -132,7 +132,7 @@ impl Run {
         ensures rules { self.new.rules ≡ self.old.rules }
         ensures tells { OnOk result (Tells (no_line self.old.state.turn reason) self.old.state self.new.state self.new.told) }
     {
-        write_no(self.turn, reason, &mut self.told)?;
+        write_no(self.turn, &reason, &mut self.told)?;
         self.echo()
     }
 
@@ -226,6 +226,7 @@ fn input_of(asked: PanelLine) -> Input<'static>
         PanelLine::Signal { line, on } => Input::Level(line, on),
         PanelLine::Forecast => Input::Forecast,
         PanelLine::Query { barcode } => Input::Query(barcode),
+        PanelLine::Ask { question } => Input::Ask(question),
         PanelLine::Fault { side } => Input::Fault(side),
         PanelLine::Blank
         | PanelLine::Connect

@@ -1,4 +1,4 @@
-//! The moves of a run: one call of the ports with what its answer does, or a line of the panel.
+//! The moves of a run: one call of the ports with what its answer does, a line of the panel, or a message of the supervisor.
 
 ghost use Rattle.std.specs.Prelude.{◌≡◌, ◌≤◌, [], false, ℤ, OnOk, OnErr, Option, length};
 ghost use Rattle.line_outside.specs.Given.{got_bytes};
@@ -40,6 +40,7 @@ pub fn make_move<P: Ports, C: Clock>(
             Ok(())
         }
         Next::Line => take_line(run, ports, clock),
+        Next::Hear => take_message(run, ports, clock),
         Next::Listen(way, port) => {
             listen(run, way, port, ports);
             Ok(())
@@ -84,6 +85,24 @@ fn take_line<P: Ports, C: Clock>(run: &mut Run, ports: &mut P, clock: &mut C) ->
 {
     let moment = clock.now();
     run.take_line(moment)
+}
+
+/// Does the next of the supervisor's messages. The ports aren't called.
+fn take_message<P: Ports, C: Clock>(
+    run: &mut Run,
+    ports: &mut P,
+    clock: &mut C,
+) -> Result<(), Memory>
+    requires next { next_of run.old.rules run.old.state ≡ nexts.Hear }
+    requires told { run.old.told ≡ [] }
+    requires rest { length run.old.state.rest ≤ 4096 }
+    ensures clock { C.moment clock.new ≡ C.moment clock.old }
+    ensures counted { P.faults ports.old ≤ P.faults ports.new }
+    ensures moves { OnOk result (MovesAs (C.moment clock.old) run.old run.new (P.given ports.old) (P.given ports.new) (P.faults ports.old) (P.faults ports.new)) }
+    ensures misses { OnErr result (MissesMove run.old.rules run.old.state (P.given ports.old) (P.given ports.new)) }
+{
+    let moment = clock.now();
+    run.take_message(moment)
 }
 
 fn listen<P: Ports>(run: &mut Run, way: Way, port: u16, ports: &mut P)

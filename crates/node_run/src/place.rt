@@ -1,20 +1,23 @@
-ghost use Rattle.std.specs.Prelude.{◌≡◌, ◌<◌, ◌^◌};
-ghost use Rattle.node_run.specs.Next.{place_behind, turn_behind};
+ghost use Rattle.std.specs.Prelude.{◌≡◌};
+ghost use Rattle.node_run.specs.Next.{IsTurnLeft, place_behind, turn_behind};
 
 use crate::status::NodeStatus;
 use line_outside::{Address, Way};
 
-/// A place of a run: two before its first turn, and those of each turn.
+/// A place of a run: three before its first turn, and those of each turn.
 #[derive(Clone, Copy, Debug, PartialEq, Eq)]
 pub enum Place {
     ListenPanel,
     ListenDownstream,
+    ListenSupervisory,
     PollPanel,
     PollUpstream,
     PollDownstream,
+    PollSupervisory,
     SendPanel,
     SendUpstream,
     SendDownstream,
+    SendSupervisory,
     TurnDone,
 }
 
@@ -25,6 +28,8 @@ pub enum Next {
     End(NodeStatus),
     /// The next of the panel's lines.
     Line,
+    /// The next of the supervisor's messages.
+    Hear,
     /// Nothing is to do at this place.
     Skip,
     Listen(Way, u16),
@@ -42,32 +47,38 @@ impl Place {
     {
         match self {
             Place::ListenPanel => Place::ListenDownstream,
-            Place::ListenDownstream => Place::PollPanel,
+            Place::ListenDownstream => Place::ListenSupervisory,
+            Place::ListenSupervisory => Place::PollPanel,
             Place::PollPanel => Place::PollUpstream,
             Place::PollUpstream => Place::PollDownstream,
-            Place::PollDownstream => Place::SendPanel,
+            Place::PollDownstream => Place::PollSupervisory,
+            Place::PollSupervisory => Place::SendPanel,
             Place::SendPanel => Place::SendUpstream,
             Place::SendUpstream => Place::SendDownstream,
-            Place::SendDownstream => Place::TurnDone,
+            Place::SendDownstream => Place::SendSupervisory,
+            Place::SendSupervisory => Place::TurnDone,
             Place::TurnDone => Place::PollPanel,
         }
     }
 
-    /// The turn behind this place.
-    pub fn turn_behind(self, turn: u64) -> u64
-        requires { turn_behind self turn < 2 ^ 64 }
+    /// The turn behind this place, of at most so many turns.
+    pub fn turn_behind(self, turn: u64, turns: u64) -> u64
+        requires { IsTurnLeft self turn turns }
         ensures { result ≡ turn_behind self turn }
     {
         match self {
             Place::TurnDone => turn + 1,
             Place::ListenPanel
             | Place::ListenDownstream
+            | Place::ListenSupervisory
             | Place::PollPanel
             | Place::PollUpstream
             | Place::PollDownstream
+            | Place::PollSupervisory
             | Place::SendPanel
             | Place::SendUpstream
-            | Place::SendDownstream => turn,
+            | Place::SendDownstream
+            | Place::SendSupervisory => turn,
         }
     }
 }

@@ -4,10 +4,12 @@
 ghost use Rattle.std.specs.Prelude.{◌<◌, ◌^◌};
 ghost use Rattle.line_base.specs.Name.{IsName};
 ghost use Rattle.hermes_horizontal.specs.Parts.{name_of};
+ghost use Rattle.hermes_vertical.specs.Parts.{name_of as vertical_name_of};
 ghost use Rattle.node_run.specs.Account.{AreProper, IsProperAct, id_of_deed};
 
 use board_record::BoardId;
 use hermes_horizontal::Horizontal;
+use hermes_vertical::Vertical;
 use node_core::{Act, Deed};
 
 /// Every id and every name in these acts is what its type allows.
@@ -30,6 +32,7 @@ fn act_is_proper(act: &Act)
             id_is_proper(*old);
             id_is_proper(*new);
         }
+        Act::Tells(message) => told_is_proper(&message.body),
         Act::Reads(_, _)
         | Act::Breaches(_, _)
         | Act::Closes(_)
@@ -38,6 +41,7 @@ fn act_is_proper(act: &Act)
         | Act::Drive(_, _)
         | Act::Signals(_, _)
         | Act::Marks(_, _)
+        | Act::Answered(_, _)
         | Act::Sets(_) => {}
     }
 }
@@ -69,6 +73,15 @@ fn name_is_proper(body: &Horizontal)
     ensures { IsName (name_of body.now) }
 {
     if let Horizontal::Other(name) = body {
+        let _bytes = name.bytes();
+    }
+}
+
+/// And so is that of what the supervisor is told.
+fn told_is_proper(body: &Vertical)
+    ensures { IsName (vertical_name_of body.now) }
+{
+    if let Vertical::Other(name) = body {
         let _bytes = name.bytes();
     }
 }

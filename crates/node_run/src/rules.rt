@@ -1,10 +1,13 @@
+use line_base::Text;
 use node_settings::Connections;
 
 /// What a run goes by.
-#[derive(Clone, Copy, Debug, PartialEq, Eq)]
+#[derive(Debug, PartialEq, Eq, Drop)]
 pub struct Rules {
     /// The machine's number in its log.
     pub number: u32,
+    /// Its id text, by which it describes itself to its supervisory system.
+    pub machine_id: Text,
     /// How it is connected.
     pub connections: Connections,
     /// After how many turns it ends.

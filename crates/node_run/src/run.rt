@@ -1,10 +1,12 @@
-ghost use Rattle.std.specs.Prelude.{◌≡◌, [], OnOk};
+ghost use Rattle.std.specs.Prelude.{◌≡◌, [], IfOk, OnOk};
+ghost use Rattle.node_run.specs.Channel.{IsShort};
 ghost use Rattle.node_run.specs.State.{RunView, started, way_at, with_wire, refusal_text};
 ghost use Rattle.node_run.specs.Next.{IsTurnLeft, moved_on};
 ghost use Rattle.node_run.specs.Lines.{echoed};
 ghost use Rattle.node_run.specs.After.{after_send};
 ghost use Rattle.line_outside.specs.declared.ports.Sent.TheVariants as sents;
 
+use crate::channel::Channel;
 use crate::place::Place;
 use crate::rules::Rules;
 use crate::status::NodeStatus;
@@ -31,6 +33,8 @@ pub struct Run {
     pub(crate) panel: WayState,
     pub(crate) upstream: WayState,
     pub(crate) downstream: WayState,
+    pub(crate) supervisory: WayState,
+    pub(crate) channel: Channel,
     pub(crate) line: Vec<u8>,
     pub(crate) drops: bool,
     pub(crate) rest: Vec<u8>,
@@ -49,23 +53,26 @@ impl Model for Run {
 
     ghost Value = { RunView };
 
-    ghost view = { λ r. record { rules = r.rules; state = record { node = r.node; panel = r.panel; upstream = r.upstream; downstream = r.downstream; line = r.line.items; drops = r.drops; rest = drop r.done r.rest.items; refusal = option_map (λ refusal. seen_refusal refusal.way refusal.text.items) r.refusal; asks = r.asks; place = r.place; turn = r.turn; ended = r.ended }; told = r.told.items } };
+    ghost view = { λ r. record { rules = r.rules; state = record { node = r.node; panel = r.panel; upstream = r.upstream; downstream = r.downstream; supervisory = r.supervisory; channel = r.channel; line = r.line.items; drops = r.drops; rest = drop r.done r.rest.items; refusal = option_map (λ refusal. seen_refusal refusal.way refusal.text.items) r.refusal; asks = r.asks; place = r.place; turn = r.turn; ended = r.ended }; told = r.told.items } };
 
     ghost invariant = { λ r. r.done ≤ vec_len r.rest };
 }
 
 impl Run {
-    /// A run that is before its first turn.
-    pub fn new(alloc: Global, rules: Rules, node: Node) -> Run
-        ensures { result ≡ record { rules = rules; state = started node; told = [] } }
+    /// A run that is before its first turn. It takes the memory of a cutter.
+    pub fn new(alloc: Global, rules: Rules, node: Node) -> Result<Run, Memory>
+        ensures { IfOk result (λ run. run ≡ record { rules = rules; state = started node; told = [] }) }
     {
-        Run {
+        let channel = Channel::new(alloc)?;
+        Ok(Run {
             alloc,
             rules,
             node,
             panel: WayState::new(alloc),
             upstream: WayState::new(alloc),
             downstream: WayState::new(alloc),
+            supervisory: WayState::new(alloc),
+            channel,
             line: Vec::new(alloc),
             drops: false,
             rest: Vec::new(alloc),
@@ -76,7 +83,7 @@ impl Run {
             turn: 1,
             ended: None,
             told: Vec::new(alloc),
-        }
+        })
     }
 
     /// The lines of the present move in the log.
@@ -98,7 +105,7 @@ impl Run {
         requires { IsTurnLeft self.old.state.place self.old.state.turn self.old.rules.turns }
         ensures { self.new ≡ record self.old { state = moved_on self.old.state } }
     {
-        self.turn = self.place.turn_behind(self.turn);
+        self.turn = self.place.turn_behind(self.turn, self.rules.turns);
         self.place = self.place.behind();
     }
 
@@ -110,7 +117,7 @@ impl Run {
             Way::Panel => self.panel.unsent(),
             Way::Upstream => self.upstream.unsent(),
             Way::Downstream => self.downstream.unsent(),
-            Way::Supervisory => &[],
+            Way::Supervisory => self.supervisory.unsent(),
         }
     }
 
@@ -122,7 +129,7 @@ impl Run {
             Way::Panel => self.panel.set_wire(wire),
             Way::Upstream => self.upstream.set_wire(wire),
             Way::Downstream => self.downstream.set_wire(wire),
-            Way::Supervisory => {}
+            Way::Supervisory => self.supervisory.set_wire(wire),
         }
     }
 
@@ -134,7 +141,7 @@ impl Run {
             Way::Panel => self.panel.take_front(count),
             Way::Upstream => self.upstream.take_front(count),
             Way::Downstream => self.downstream.take_front(count),
-            Way::Supervisory => {}
+            Way::Supervisory => self.supervisory.take_front(count),
         }
     }
 
@@ -146,6 +153,13 @@ impl Run {
             Some(refusal) => refusal.text.as_slice(),
             None => &[],
         }
+    }
+
+    /// No more of the supervisor's bytes wait than a message and an answer have.
+    pub(crate) fn is_short(&self)
+        ensures { IsShort self.now.state.channel }
+    {
+        self.channel.is_short();
     }
 
     /// What of the panel's text isn't done yet.

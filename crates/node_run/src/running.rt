@@ -65,6 +65,7 @@ fn run_on<P: Ports, C: Clock, K: Sink>(
         if let Some(status) = move_once(run, room, ports, clock, log) {
             return status;
         }
+        run.is_short();
     }
 }
 
@@ -84,6 +85,7 @@ fn new_run(alloc: Global, settings: Settings) -> Result<Run, Memory>
     } = settings;
     let rules = Rules {
         number: identity.number,
+        machine_id: identity.machine_id.copy(alloc)?,
         connections,
         turns,
     };
@@ -96,7 +98,7 @@ fn new_run(alloc: Global, settings: Settings) -> Result<Run, Memory>
         bridge,
     };
     let node = Node::new(alloc, profile)?;
-    Ok(Run::new(alloc, rules, node))
+    Run::new(alloc, rules, node)
 }
 
 /// Makes the next move, and writes its lines to the log. Answers how the run ends, if it does.

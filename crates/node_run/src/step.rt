@@ -3,8 +3,9 @@
 ghost use Rattle.std.specs.Prelude.{◌≡◌, [], ◌∷◌, IfOk, OnOk};
 ghost use Rattle.line_base.specs.declared.states.Side.TheVariants.{Exit};
 ghost use Rattle.node_core.specs.May.{may_of, may_do};
+ghost use Rattle.node_core.specs.declared.act.Act.TheVariants as acts;
 ghost use Rattle.node_core.specs.declared.input.Input.TheVariants as inputs;
-ghost use Rattle.node_run.specs.Steps.{Takes, TakesStep, MeetsSecond, HasStepped, routed, refusing_with, message_for};
+ghost use Rattle.node_run.specs.Steps.{Takes, TakesSecond, TakesStep, MeetsSecond, HasStepped, routed, refusing_with, message_for};
 
 use crate::proper::acts_are_proper;
 use crate::run::{Refusal, Run};
@@ -12,6 +13,7 @@ use crate::texts::write_lines;
 use crate::way_state::Wire;
 use board_record::Sensed;
 use hermes_horizontal::write_horizontal;
+use hermes_vertical::VerticalMessage;
 use line_base::{Memory, Moment, Side};
 use line_outside::Way;
 use node_core::{Act, Input, Outputs};
@@ -63,7 +65,8 @@ impl Run {
         Ok(acts)
     }
 
-    /// Messages wait on the ways of their sides, and a side that was closed is to end.
+    /// Messages wait on the ways of their sides, those for the supervisor where its session stands, and a side that was
+    /// closed is to end.
     fn route(&mut self, acts: &[Act]) -> Result<(), Memory>
         ensures rules { self.new.rules ≡ self.old.rules }
         ensures routed { OnOk result (self.new ≡ record self.old { state = routed acts.now self.old.state }) }
@@ -81,6 +84,7 @@ impl Run {
         match act {
             Act::Sends(Side::Entry, message) => self.upstream.append_message(message),
             Act::Sends(Side::Exit, message) => self.downstream.append_message(message),
+            Act::Tells(message) => self.route_told(message),
             Act::Closes(Side::Entry) => {
                 self.upstream.set_wire(Wire::Ends);
                 Ok(())
@@ -93,6 +97,17 @@ impl Run {
         }
     }
 
+    /// What a supervisor is told waits on its way where its session stands, and is dropped where it doesn't.
+    fn route_told(&mut self, message: &VerticalMessage) -> Result<(), Memory>
+        ensures rules { self.new.rules ≡ self.old.rules }
+        ensures routed { OnOk result (self.new ≡ record self.old { state = routed (acts.Tells message.now ∷ []) self.old.state }) }
+    {
+        if !self.channel.stands() {
+            return Ok(());
+        }
+        self.supervisory.append_told(message)
+    }
+
     /// A second connection of the downstream neighbour: the first of the step's messages is for that, and it is refused.
     pub fn meet_second(&mut self, moment: Moment) -> Result<(), Memory>
         requires { self.old.told ≡ [] }
@@ -102,6 +117,15 @@ impl Run {
         if self.node.may(&Input::Second).is_err() {
             return Ok(());
         }
+        self.take_second(moment)
+    }
+
+    fn take_second(&mut self, moment: Moment) -> Result<(), Memory>
+        requires may { may_of self.old.state.node inputs.Second ≡ may_do }
+        requires told { self.old.told ≡ [] }
+        ensures rules { self.new.rules ≡ self.old.rules }
+        ensures takes { OnOk result (TakesSecond self.old.rules moment inputs.Second self.old.state self.new.state self.new.told) }
+    {
         let acts = self.step_silently(&[], Input::Second, moment)?;
         self.refuse_with(acts.list())
     }

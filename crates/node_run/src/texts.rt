@@ -4,7 +4,7 @@ ghost use Rattle.node_run.specs.Texts.{at_gap, deed_text, line_of, lines_of, log
 
 use board_record::BoardId;
 use line_base::{Memory, Side};
-use line_report::{Reason, side_word, write_act};
+use line_report::{Reason, side_word, write_act, write_reason};
 use line_script::LineWhy;
 use node_core::{Act, Deed};
 use std::io::Write;
@@ -77,10 +77,12 @@ pub fn write_refused(turn: u64, why: LineWhy, to: &mut Vec<u8>) -> Result<(), Me
 }
 
 /// Appends the line of a panel line that can't be done.
-pub fn write_no(turn: u64, reason: Reason, to: &mut Vec<u8>) -> Result<(), Memory>
-    ensures { OnOk result (to.new.items ≡ to.old.items ++ no_line turn reason) }
+pub fn write_no(turn: u64, reason: &Reason, to: &mut Vec<u8>) -> Result<(), Memory>
+    ensures { OnOk result (to.new.items ≡ to.old.items ++ no_line turn reason.now) }
 {
-    written(write!(to, "{turn} no: {reason}\n"))
+    written(write!(to, "{turn} no: "))?;
+    write_reason(reason, to)?;
+    written(write!(to, "\n"))
 }
 
 /// A write that was done, or the memory that it wanted.

@@ -1,9 +1,12 @@
 ghost use Rattle.std.specs.Prelude.{◌≡◌, ◌≤◌, ◌++◌, length, drop, OnOk};
 ghost use Rattle.node_run.specs.State.{WayValue, at_rest};
 ghost use Rattle.hermes_horizontal.specs.Canonical.{canonical};
-ghost use Rattle.node_run.specs.Next.{is_due, is_empty, has_ended};
+ghost use Rattle.hermes_vertical.specs.Canonical.{canonical as vertical_canonical};
+ghost use Rattle.node_run.specs.Channel.{is_empty};
+ghost use Rattle.node_run.specs.Next.{is_due, has_ended};
 
 use hermes_horizontal::{Message, write_horizontal};
+use hermes_vertical::{VerticalMessage, write_vertical};
 use line_base::Memory;
 use std::alloc::Global;
 use std::marker::Model;
@@ -113,6 +116,13 @@ impl WayState {
         ensures { OnOk result (self.new ≡ record self.old { unsent = self.old.unsent ++ canonical message.now }) }
     {
         write_horizontal(message, &mut self.unsent)
+    }
+
+    /// Adds a message for the supervisor at the end.
+    pub fn append_told(&mut self, message: &VerticalMessage) -> Result<(), Memory>
+        ensures { OnOk result (self.new ≡ record self.old { unsent = self.old.unsent ++ vertical_canonical message.now }) }
+    {
+        write_vertical(message, &mut self.unsent)
     }
 
     /// Takes so many bytes away, which were sent.

@@ -68,15 +68,27 @@ upstream_of ms = named keys.Upstream (optional address_as (get_member (codes "up
 abbrev pub downstream_port_of : Members → Result (Option ℕ) Refusal
 downstream_port_of ms = named keys.DownstreamPort (optional (number_as 1 65535) (get_member (codes "downstream_port") ms))
 
+abbrev pub supervisory_port_of : Members → Result (Option ℕ) Refusal
+supervisory_port_of ms =
+    named keys.SupervisoryPort (optional (number_as 1 65535) (get_member (codes "supervisory_port") ms))
+
 abbrev pub panel_port_of : Members → Result ℕ Refusal
 panel_port_of ms = named keys.PanelPort (required (number_as 1 65535) (get_member (codes "panel_port") ms))
 
 -- the standard's port of a lane is 50,100 and its number
-abbrev pub made_connections : ℕ → Option Address → Option ℕ → ℕ → Connections
-made_connections lane upstream downstream_port panel_port = record { upstream = upstream; downstream_port = unwrap_or downstream_port (50100 + lane); panel_port = panel_port }
+abbrev pub made_connections : ℕ → Option Address → Option ℕ → Option ℕ → ℕ → Connections
+made_connections lane upstream downstream_port supervisory_port panel_port = record {
+  upstream = upstream;
+  downstream_port = unwrap_or downstream_port (50100 + lane);
+  supervisory_port = supervisory_port;
+  panel_port = panel_port;
+}
 
 abbrev pub connections_of : ℕ → Members → Result Connections Refusal
-connections_of lane ms = then_ok (upstream_of ms) (λ upstream. then_ok (downstream_port_of ms) (λ downstream_port. mapped_ok (made_connections lane upstream downstream_port) (panel_port_of ms)))
+connections_of lane ms =
+    then_ok (upstream_of ms) (λ upstream. then_ok (downstream_port_of ms) (λ downstream_port.
+    then_ok (supervisory_port_of ms) (λ supervisory_port.
+    mapped_ok (made_connections lane upstream downstream_port supervisory_port) (panel_port_of ms))))
 
 abbrev pub turns_of : Members → Result ℕ Refusal
 turns_of ms = named keys.Turns (required (number_as 1 1000000000000) (get_member (codes "turns") ms))
@@ -93,6 +105,7 @@ key_text keys.Used = codes "used"
 key_text keys.Bridge = codes "bridge"
 key_text keys.Upstream = codes "upstream"
 key_text keys.DownstreamPort = codes "downstream_port"
+key_text keys.SupervisoryPort = codes "supervisory_port"
 key_text keys.PanelPort = codes "panel_port"
 key_text keys.Turns = codes "turns"
 key_text keys.Unknown = codes "a key"
@@ -103,7 +116,9 @@ abbrev pub is_known_of_machine : List ℕ → Bool
 is_known_of_machine key = bytes_eq key (codes "number") || bytes_eq key (codes "machine_id") || bytes_eq key (codes "lane") || bytes_eq key (codes "capacity") || bytes_eq key (codes "used") || bytes_eq key (codes "bridge")
 
 abbrev pub is_known_of_connections : List ℕ → Bool
-is_known_of_connections key = bytes_eq key (codes "upstream") || bytes_eq key (codes "downstream_port") || bytes_eq key (codes "panel_port") || bytes_eq key (codes "turns")
+is_known_of_connections key =
+    bytes_eq key (codes "upstream") || bytes_eq key (codes "downstream_port") || bytes_eq key (codes "supervisory_port") || bytes_eq key (codes "panel_port")
+    || bytes_eq key (codes "turns")
 
 abbrev pub is_known : List ℕ → Bool
 is_known key = is_known_of_machine key || is_known_of_connections key

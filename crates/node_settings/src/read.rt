@@ -23,8 +23,8 @@ const FIRST_PORT: u32 = 50_100;
 ///
 /// Refuses, in this order: a document of more than 65,536 bytes, or one that is no TOML (numbers beyond 64 bits and nesting
 /// past 80 are none); then the first of the keys `number`, `machine_id`, `lane`, `capacity`, `used`, `bridge`, `upstream`,
-/// `downstream_port`, `panel_port`, `turns` that is missing but not optional, of the wrong kind or out of range; and then a
-/// key of another name.
+/// `downstream_port`, `supervisory_port`, `panel_port`, `turns` that is missing but not optional, of the wrong kind or out
+/// of range; and then a key of another name.
 pub fn read_settings(alloc: Global, bytes: &[u8]) -> Result<Settings, SettingsError>
     ensures { Reads (read_of bytes.now) result }
 {
@@ -96,12 +96,31 @@ fn connections_of(table: &Table, lane: u32) -> Result<Connections, SettingsError
         1,
         65_535,
     )?;
+    let supervisory_port = optional_number_at(
+        table,
+        "supervisory_port",
+        ConfigKey::SupervisoryPort,
+        1,
+        65_535,
+    )?;
     let panel_port = number_at(table, "panel_port", ConfigKey::PanelPort, 1, 65_535)?;
     Ok(Connections {
         upstream,
         downstream_port: port_or(downstream_port, FIRST_PORT + lane),
+        supervisory_port: port_of(supervisory_port),
         panel_port: panel_port as u16,
     })
+}
+
+/// The port that was given, if one was.
+fn port_of(port: Option<u64>) -> Option<u16>
+    requires { ForSome port (λ n. n ≤ 65535) }
+    ensures { result ≡ port }
+{
+    match port {
+        Some(port) => Some(port as u16),
+        None => None,
+    }
 }
 
 /// The port that was given, or else this one.
@@ -159,5 +178,9 @@ fn is_known_of_machine(key: &str) -> bool
 fn is_known_of_connections(key: &str) -> bool
     ensures { result ≡ is_known_of_connections key.now }
 {
-    key == "upstream" || key == "downstream_port" || key == "panel_port" || key == "turns"
+    key == "upstream"
+        || key == "downstream_port"
+        || key == "supervisory_port"
+        || key == "panel_port"
+        || key == "turns"
 }

@@ -40,6 +40,8 @@ pub struct Connections {
     pub upstream: Option<Address>,
     /// The port at which it listens for its downstream neighbour.
     pub downstream_port: u16,
+    /// The port at which it listens for its supervisory system, if it may have one.
+    pub supervisory_port: Option<u16>,
     /// The port at which it listens for its operator's panel.
     pub panel_port: u16,
 }

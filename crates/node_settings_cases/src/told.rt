@@ -24,11 +24,20 @@ fn told_settings(alloc: Global, settings: &Settings) -> Result<String, AllocErro
     let body = if settings.bridge { " bridge" } else { "" };
     let upstream = told_address(alloc, settings.connections.upstream)?;
     let downstream = settings.connections.downstream_port;
+    let supervisory = told_port(alloc, settings.connections.supervisory_port)?;
     let panel = settings.connections.panel_port;
     let turns = settings.turns;
     format!(in alloc;
-        "{number} {id} {lane} {capacity} {used}{body} {upstream} {downstream} {panel} {turns}"
+        "{number} {id} {lane} {capacity} {used}{body} {upstream} {downstream}{supervisory} {panel} {turns}"
     )
+}
+
+/// The port of a supervisory system, with what it is, where it is set.
+fn told_port(alloc: Global, port: Option<u16>) -> Result<String, AllocError> {
+    match port {
+        Some(port) => format!(in alloc; " supervisory {port}"),
+        None => String::from_str(alloc, ""),
+    }
 }
 
 fn told_address(alloc: Global, address: Option<Address>) -> Result<String, AllocError> {

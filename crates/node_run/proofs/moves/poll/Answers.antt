@@ -1,10 +1,13 @@
-use Rattle.std.proofs.Common.{◌∙◌}
+use Rattle.std.proofs.Common.{◌∙◌, arith}
 use Rattle.node_run.proofs.Moving.{if_polled, unless_polled, clock_same, got_counts, short_found}
 use Rattle.node_run.proofs.Nexts.{left_to_poll}
 use Rattle.node_run.proofs.moves.poll.Goals as goal
 
 pub after_poll-requires-clause-turn : goal.after_poll-requires-clause-turn
 after_poll-requires-clause-turn g c = left_to_poll c.args.run.now.rules c.args.run.now.state c.args.way c.requires.next
+
+pub after_poll-requires-clause-few : goal.after_poll-requires-clause-few
+after_poll-requires-clause-few g c = omega (arith, c.given.ensures.within, c.poll-got.auto.room, c.requires.room)
 
 pub returns-clause-clock : goal.returns-clause-clock
 returns-clause-clock g c = clock_same _ _ c.now-moment.result c.now-moment.ensures.told

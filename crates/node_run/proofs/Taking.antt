@@ -1,0 +1,128 @@
+-- From what the methods of a run say to what a move does.
+use Rattle.std.proofs.Common.{◌≡◌, ◌∙◌, sym, subst, ap, refl, ℕ, ℤ, ◌||◌, Bool, true, false, List, [], ◌∷◌, ◌++◌, Option, None, Result, Ok, Err, append_assoc, if◌then◌else◌}
+use Rattle.std.specs.Prelude.{OnOk}
+use Rattle.std.specs.List.{list_any}
+use Rattle.line_base.specs.declared.memory.Memory.{Memory}
+use Rattle.line_base.specs.declared.states.Severity.TheVariants as severity
+use Rattle.line_base.specs.declared.states.Side.{Side}
+use Rattle.line_base.specs.declared.states.Side.TheVariants.{Entry, Exit}
+use Rattle.hermes_vertical.specs.Parts.{kind_of}
+use Rattle.hermes_vertical.specs.declared.kind.VerticalKind.{VerticalKind}
+use Rattle.hermes_vertical.specs.declared.message.Vertical.{Vertical}
+use Rattle.supervisory_core.specs.Row.{SupervisedRow}
+use Rattle.supervisory_core.specs.Told.{unexpected}
+use Rattle.node_core.specs.May.{may_of}
+use Rattle.node_core.specs.declared.act.Act.{Act}
+use Rattle.node_core.specs.declared.input.Input.TheVariants as inputs
+use Rattle.node_core.specs.declared.input.No.{No}
+use Rattle.node_run.specs.Channel.{HearsNext}
+use Rattle.node_run.specs.Hearing.{AnswersIf, BreaksOff, Describes, DoesFound, DoesHear, DoesRow, Unsupervised, notification, said, session_ended, system_of, untaken, with_channel}
+use Rattle.node_run.specs.State.{RunState, RunView, WayValue}
+use Rattle.node_run.specs.Steps.{HasStepped, Takes, TakesSecond, all_told_for, closes_side, message_for, messages_for, put, put_told, refusing_with, routed, told_for}
+use Rattle.node_run.specs.declared.channel.Found.{Found}
+use Rattle.node_run.specs.declared.rules.Rules.{Rules}
+use Rattle.node_run.specs.declared.way_state.Wire.{Wire}
+use Rattle.node_run.specs.declared.way_state.Wire.TheVariants as wires
+
+-- ---- an act more is routed
+
+wire_more : (a b : Bool) (wire : Wire) → (if b then wires.Ends else (if a || false then wires.Ends else wire)) ≡ (if a || b then wires.Ends else wire)
+wire_more true true wire = refl
+wire_more true false wire = refl
+wire_more false true wire = refl
+wire_more false false wire = refl
+
+text_more : (unsent text rest : List ℕ) → (unsent ++ (text ++ [])) ++ rest ≡ unsent ++ (text ++ rest)
+text_more unsent text rest = append_assoc unsent (text ++ []) rest ∙ ap (λ l. unsent ++ l) (append_assoc text [] rest)
+
+put_more : (side : Side) (act : Act) (rest : List Act) (way : WayValue) → put side rest (put side (act ∷ []) way) ≡ put side (act ∷ rest) way
+put_more side act rest way = λ i. record {
+  wire = wire_more (closes_side side act) (list_any (closes_side side) rest) way.wire i;
+  unsent = text_more way.unsent (message_for side act) (messages_for side rest) i;
+}
+
+told_more : (stands : Bool) (act : Act) (rest : List Act) (way : WayValue) → put_told stands rest (put_told stands (act ∷ []) way) ≡ put_told stands (act ∷ rest) way
+told_more stands act rest way = λ i. record way { unsent = text_more way.unsent (told_for stands act) (all_told_for stands rest) i }
+
+pub routed_more : (act : Act) (rest : List Act) (s : RunState) → routed rest (routed (act ∷ []) s) ≡ routed (act ∷ rest) s
+routed_more act rest s = λ i. record s {
+  upstream = put_more Entry act rest s.upstream i;
+  downstream = put_more Exit act rest s.downstream i;
+  supervisory = told_more s.channel.stands act rest s.supervisory i;
+}
+
+-- as a loop over acts has it
+pub routed_on : (act : Act) (rest all : List Act) (r m wanted : RunView) → all ≡ act ∷ rest → m ≡ record r { state = routed (act ∷ []) r.state } → record r { state = routed all r.state } ≡ wanted
+    → record m { state = routed rest m.state } ≡ wanted
+routed_on act rest all r m wanted first e whole =
+    ap (λ (v : RunView). record v { state = routed rest v.state }) e
+    ∙ ap (λ (s : RunState). record r { state = s }) (routed_more act rest r.state)
+    ∙ sym (ap (λ l. record r { state = routed l r.state }) first)
+    ∙ whole
+
+-- ---- a second connection downstream
+
+pub second_taken : (result : Result (Unit {0}) Memory) (moment : ℤ) (acts listed : List Act) (r m u : RunView) → listed ≡ acts
+    → HasStepped r.rules moment [] inputs.Second acts r.state m.state m.told → OnOk result (u ≡ record m { state = refusing_with listed m.state })
+    → OnOk result (TakesSecond r.rules moment inputs.Second r.state u.state u.told)
+second_taken (Ok done) moment acts listed r m u same stepped refused = record {
+  node = m.state.node;
+  told = acts;
+  steps = stepped.steps;
+  proper = stepped.proper;
+  after = ap (λ (v : RunView). v.state) refused ∙ ap (λ l. refusing_with l m.state) same ∙ ap (refusing_with acts) stepped.after;
+  lines = ap (λ (v : RunView). v.told) refused ∙ stepped.lines;
+}
+second_taken (Err memory) moment acts listed r m u same stepped refused = tt
+
+-- ---- messages of the supervisor
+
+pub hears_does : (result : Result (Unit {0}) Memory) (found : Found) (moment : ℤ) (r m u : RunView) → HearsNext r.state.channel m.state.channel found
+    → m ≡ record r { state = with_channel m.state.channel r.state } → OnOk result (DoesFound found m.rules moment m.state u.state u.told)
+    → OnOk result (DoesHear r.rules moment r.state u.state u.told)
+hears_does (Ok done) found moment r m u hears e does =
+    let P : RunView → Type 0 = λ v. DoesFound found v.rules moment v.state u.state u.told in
+    record { found = found; channel = m.state.channel; hears = hears; does = subst P e does }
+hears_does (Err memory) found moment r m u hears e does = tt
+
+pub describes : (result : Result (Unit {0}) Memory) (moment : ℤ) (own : Vertical) (r m u : RunView) → own ≡ system_of r.rules.machine_id → m.rules ≡ r.rules
+    → m.state ≡ said moment own r.state
+    → OnOk result (Takes (may_of m.state.node (inputs.Supervise true)) m.rules moment (inputs.Supervise true) m.state m.state u.state u.told)
+    → OnOk result (Describes r.rules moment r.state u.state u.told)
+describes (Ok done) moment own r m u own_is rules e takes =
+    let P : RunState → Type 0 = λ s. Takes (may_of s.node (inputs.Supervise true)) m.rules moment (inputs.Supervise true) s s u.state u.told in
+    let t = said moment (system_of r.rules.machine_id) r.state in
+    let Q : Rules → Type 0 = λ n. Takes (may_of t.node (inputs.Supervise true)) n moment (inputs.Supervise true) t t u.state u.told in
+    subst Q rules (subst P (e ∙ ap (λ b. said moment b r.state) own_is) takes)
+describes (Err memory) moment own r m u own_is rules e takes = tt
+
+pub untaken_does : (result : Result (Unit {0}) Memory) (may : Result (Unit {0}) No) (why : No) (moment : ℤ) (query : ℕ) (order : List ℕ) (r u : RunView) → Err why ≡ may → u.told ≡ r.told → r.told ≡ []
+    → OnOk result (u.state ≡ said moment (notification 0 severity.Warning (untaken why)) r.state)
+    → OnOk result (AnswersIf may r.rules moment query order r.state u.state u.told)
+untaken_does (Ok done) may why moment query order r u is told none said =
+    let P : Result (Unit {0}) No → Type 0 = λ n. AnswersIf n r.rules moment query order r.state u.state u.told in
+    subst P is (said, told ∙ none)
+untaken_does (Err memory) may why moment query order r u is told none said = tt
+
+pub text_breaks : (result : Result (Unit {0}) Memory) (text wanted : List ℕ) (moment : ℤ) (r u : RunView) → text ≡ wanted
+    → OnOk result (BreaksOff r.rules moment text r.state u.state u.told) → OnOk result (BreaksOff r.rules moment wanted r.state u.state u.told)
+text_breaks result text wanted moment r u same breaks =
+    let P : List ℕ → Type 0 = λ l. OnOk result (BreaksOff r.rules moment l r.state u.state u.told) in subst P same breaks
+
+pub session_breaks : (result : Result (Unit {0}) Memory) (text : List ℕ) (body : Vertical) (moment : ℤ) (r m n u : RunView) → body ≡ notification 1 severity.Fatal text → m.rules ≡ r.rules → m.state ≡ said moment body r.state
+    → n ≡ record m { state = session_ended m.state } → OnOk result (Unsupervised n.rules moment n.state u.state u.told)
+    → OnOk result (BreaksOff r.rules moment text r.state u.state u.told)
+session_breaks result text body moment r m n u is rules e ended ends =
+    let P : RunView → Type 0 = λ v. OnOk result (Unsupervised v.rules moment v.state u.state u.told) in
+    let Q : RunState → Type 0 = λ s. OnOk result (Unsupervised m.rules moment (session_ended s) u.state u.told) in
+    let t = session_ended (said moment (notification 1 severity.Fatal text) r.state) in
+    let R : Rules → Type 0 = λ l. OnOk result (Unsupervised l moment t u.state u.told) in
+    subst R rules (subst Q (e ∙ ap (λ b. said moment b r.state) is) (subst P ended ends))
+
+pub row_breaks : (result : Result (Unit {0}) Memory) (row : Option SupervisedRow) (body : Vertical) (kind : VerticalKind) (text : List ℕ) (moment : ℤ) (r m u : RunView) → row ≡ None → kind ≡ kind_of body
+    → text ≡ unexpected kind → m ≡ r → OnOk result (BreaksOff m.rules moment text m.state u.state u.told)
+    → OnOk result (DoesRow row body r.rules moment r.state u.state u.told)
+row_breaks result row body kind text moment r m u none is said same breaks =
+    let P : Option SupervisedRow → Type 0 = λ o. OnOk result (DoesRow o body r.rules moment r.state u.state u.told) in
+    let Q : RunView → Type 0 = λ v. OnOk result (BreaksOff v.rules moment text v.state u.state u.told) in
+    subst P (sym none) (text_breaks result text (unexpected (kind_of body)) moment r u (said ∙ ap unexpected is) (subst Q same breaks))
