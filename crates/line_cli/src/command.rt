@@ -12,6 +12,7 @@ ghost use Rattle.one_standing.specs.Contents.{ContentsAreKept};
 ghost use Rattle.one_standing.specs.Facts.{CustodyFacts};
 ghost use Rattle.one_standing.specs.Replay.{LedgerFollows};
 ghost use Rattle.one_standing.specs.Standing.{OneStanding};
+ghost use Rattle.supervisor_replay.specs.Replay.{ReplayAgrees};
 ghost use Rattle.twelve_steps.specs.Twelve.{EndsWithinTwelveSteps};
 ghost use Rattle.work_orders.specs.Answers.{OneAnswer};
 ghost use Rattle.line_cli.specs.Command.{DoesAs, FitsWords, HasCauses, is_word, is_run, is_read, is_check, usage_text};
@@ -83,6 +84,8 @@ pub fn line_main<S: Source, K: Sink>(
     // what is told as an answer to a question for a work order is the one answer that its machine keeps, over the run of every
     // script
     ensures answers { OneAnswer }
+    // where each machine is supervised before its first mark, a supervisor who folds what it is told knows where each board is
+    ensures replay { ReplayAgrees }
 {
     one_standing::laws::one_standing_after_each_line();
     one_standing::laws::the_custody_facts_hold_after_each_line();
@@ -98,6 +101,7 @@ pub fn line_main<S: Source, K: Sink>(
     twelve_steps::laws::an_undisturbed_handover_ends_within_twelve_link_steps();
     line_openings::laws::a_machine_opens_exactly_when_announced();
     work_orders::laws::each_query_has_one_answer();
+    supervisor_replay::laws::the_replay_agrees_with_the_marks();
     do_words(alloc, words, script, report)
 }
 

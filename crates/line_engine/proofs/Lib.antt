@@ -8,6 +8,7 @@ pub mod Following
 pub mod Keeping
 pub mod Naming
 pub mod Orders
+pub mod Replayed
 pub mod Patched
 pub mod Places
 pub mod Restored

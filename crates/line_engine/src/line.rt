@@ -12,6 +12,7 @@ ghost use Rattle.one_standing.specs.Contents.{IsMarked, KeepsContents};
 ghost use Rattle.one_standing.specs.Facts.{HasCustodyFacts};
 ghost use Rattle.one_standing.specs.Reached.{FollowsLine, HasUniqueIds, IsReached};
 ghost use Rattle.one_standing.specs.Standing.{HasOneStanding, IsFitLine};
+ghost use Rattle.supervisor_replay.specs.Along.{AgreesNext};
 ghost use Rattle.work_orders.specs.Answers.{AnswersOnce};
 ghost use Rattle.line_engine.specs.Blames.{BlamesNext};
 ghost use Rattle.line_engine.specs.Opens.{OpensNext};
@@ -99,6 +100,8 @@ impl Line {
         // a word that it told answers a question that was asked and had no answer, and answers that are kept stay; behind a lie
         // too
         ensures answers { IfOk result (λ told. AnswersOnce self.old self.new told) }
+        // a line supervisor who folds what it is told knows where each board is
+        ensures replay { IfOk result (λ told. self.new.unvouched ≡ None → AgreesNext self.old self.new told) }
     {
         if self.spent {
             return Err(Memory);
@@ -112,6 +115,7 @@ impl Line {
         one_standing::laws::a_breach_is_told_only_behind_a_spoiled_text();
         line_openings::laws::a_machine_opens_exactly_when_announced();
         work_orders::laws::each_line_answers_once();
+        supervisor_replay::laws::each_line_keeps_the_replay_right();
         let mut told = self.state.do_line(number, line)?;
         self.index
             .follow(self.state.machines(), stepped(line), &mut told)?;

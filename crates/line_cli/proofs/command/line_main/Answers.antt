@@ -29,6 +29,9 @@ returns-clause-opens g c = c.a_machine_opens_exactly_when_announced.ensures
 pub returns-clause-answers : goal.returns-clause-answers
 returns-clause-answers g c = c.each_query_has_one_answer.ensures
 
+pub returns-clause-replay : goal.returns-clause-replay
+returns-clause-replay g c = c.the_replay_agrees_with_the_marks.ensures
+
 pub returns-clause-fit : goal.returns-clause-fit
 returns-clause-fit g c = scripts_are_fit
 

@@ -13,6 +13,7 @@ use Rattle.line_engine.proofs.Followed.{follows_as}
 use Rattle.line_engine.proofs.Counted.{line_steps, steps_as}
 use Rattle.line_engine.proofs.Keeping.{Step, step_follows, step_keeps, step_opens, step_seen}
 use Rattle.line_engine.proofs.Orders.{step_orders}
+use Rattle.line_engine.proofs.Replayed.{step_replays}
 use Rattle.line_engine.proofs.line.Line.step.Goals as goal
 use Rattle.line_engine.proofs.line.Line.step.Goals.{After-unspent-2}
 
@@ -84,3 +85,9 @@ returns-clause-answers c =
     (steps_as c.args.number c.args.line.now c.self.inside.state c.count.new.self c.follow.new.told
     c.self.inside.spent false c.unspent.ensures c.unspent-2.ensures c.if-self.false refl
     (step_of (goal.at.returns-clause-answers c).After-unspent-2).steps))
+
+pub returns-clause-replay : goal.returns-clause-replay
+returns-clause-replay c =
+    λ none.
+    rw (← c.self.view_is) (step_replays (step_of (goal.at.returns-clause-replay c).After-unspent-2)
+    c.each_line_keeps_the_replay_right.ensures c.self.inside.spent c.if-self.false none)

@@ -1,0 +1,430 @@
+-- The lines in which one machine makes a step: of no hand, and of a hand.
+use Rattle.std.proofs.Common.{
+  ◌≡◌,
+  ◌≢◌,
+  ◌≤◌,
+  ◌∙◌,
+  ◌⊎◌,
+  ◌++◌,
+  ◌+◌,
+  ◌-◌,
+  ◌==◌,
+  ◌||◌,
+  ℕ,
+  Bool,
+  true,
+  false,
+  List,
+  [],
+  ◌∷◌,
+  Option,
+  Some,
+  None,
+  Result,
+  Ok,
+  Err,
+  inl,
+  inr,
+  refl,
+  sym,
+  ap,
+  subst,
+  arith,
+  eq-eqb,
+  not,
+}
+use Rattle.std.specs.List.{AllByRecursion, list_any}
+use Rattle.std.proofs.lemmas.Bool.{false≢true}
+use Rattle.board_record.specs.Maker.{Maker, next_id}
+use Rattle.board_record.specs.declared.maker.IdsUsedUp.{IdsUsedUp}
+use Rattle.board_record.specs.declared.record.Record.{Record}
+use Rattle.board_record.specs.declared.sensed.Sensed.{Sensed}
+use Rattle.line_world.specs.FloorPlan.{machine_at}
+use Rattle.line_world.specs.declared.board.Board.{Board}
+use Rattle.line_script.specs.declared.line.ScriptLine.{ScriptLine}
+use Rattle.node_core.specs.Boards.{is_kept}
+use Rattle.node_core.specs.Event.{Event, Insert, Remove, Replace, event_of, with_new}
+use Rattle.node_core.specs.May as own
+use Rattle.node_core.specs.May.{may_of}
+use Rattle.node_core.specs.declared.input.No.{No}
+use Rattle.node_core.specs.Node.{NodeState, desk_of}
+use Rattle.node_core.specs.Step.{plain_step}
+use Rattle.node_core.specs.declared.input.Input.{Input}
+use Rattle.node_core.specs.declared.input.Input.TheVariants as inputs
+use Rattle.node_core.specs.declared.lane.Body.{Body as Machine}
+use Rattle.line_report.specs.declared.happening.Happening.{Happening}
+use Rattle.line_report.specs.declared.happening.Happening.TheVariants as happenings
+use Rattle.line_step.specs.FloorIds.{boards_of, made_by}
+use Rattle.line_step.specs.Numbered.{Stand, node_at, stand_at}
+use Rattle.line_step.specs.Reasons.{behind_own, is_here, may_do, may_remove, may_replace, no_if}
+use Rattle.line_report.specs.declared.happening.Reason.TheVariants as reasons
+use Rattle.line_step.specs.Shown.{standings_told}
+use Rattle.line_step.specs.State.{LineState, machine_in}
+use Rattle.line_step.specs.Steps.{MachineSteps, moment_of, unread_by}
+use Rattle.line_step.proofs.FloorLaws.{Goes, Holds as FloorHolds}
+use Rattle.line_step.proofs.Makers.{IsOld}
+use Rattle.line_step.proofs.Numbers.{machine_set_own, machine_within}
+use Rattle.one_standing.specs.Carried.{Trace, between_of, stand_of}
+use Rattle.one_standing.specs.Places.{at_machine, lies_at}
+use Rattle.one_standing.specs.Stands.{Stands}
+use Rattle.one_standing.specs.Standing.{HasOneStanding}
+use Rattle.one_standing.proofs.ApartFloor.{counted}
+use Rattle.one_standing.proofs.ApartHands.{IsHandless, step_still}
+use Rattle.one_standing.proofs.ApartStep.{
+  Parted,
+  apart_removed,
+  apart_replaced,
+  gone_count,
+  grown,
+}
+use Rattle.one_standing.proofs.LedgerWalk.{kept_ids}
+use Rattle.one_standing.proofs.LineForms.{numbered, own_first, there_may}
+use Rattle.one_standing.proofs.Mirroring.{node_there}
+use Rattle.supervisor_replay.specs.Replay.{IsWatched, Told, has_left, is_marked_at, nothing_told, told_of}
+use Rattle.supervisor_replay.proofs.Bodies.{brings_in, holds_it, keeps_it, takes_it, takes_out}
+use Rattle.supervisor_replay.proofs.Floors.{comes_not, may_bring, may_lose, stays_there}
+use Rattle.supervisor_replay.proofs.Hands.{
+  BringsIn,
+  IsTakenOut,
+  TakesOut,
+  brings_none,
+  in_inserted,
+  in_replaced,
+  ins_are,
+  is_removed,
+  is_replaced,
+  looks_brought,
+  looks_lost,
+  loses_none,
+  made_first,
+  out_before,
+  out_removed,
+  out_replaced,
+  outs_are,
+  plain_of,
+  step_any,
+  step_ins,
+  step_makes,
+  step_out,
+  step_outs,
+  with_standings,
+}
+use Rattle.supervisor_replay.proofs.Inserted.{inserted_kept}
+use Rattle.supervisor_replay.proofs.Lines.{
+  Agreed,
+  HandFacts,
+  IsUnknown,
+  Passing,
+  Starts,
+  handless_acts,
+  old_mark,
+  one_step,
+  seen_by,
+}
+use Rattle.supervisor_replay.proofs.Sights.{view_of}
+use Rattle.supervisor_replay.proofs.Stepped.{IsMarked, IsSeen, is_watched, own_step}
+
+-- ---- of no hand
+
+same_floor : (id : ℕ) (start next : LineState) → boards_of next ≡ boards_of start
+    → (view_of id next).off ≡ (view_of id start).off
+same_floor id start next same = ap (λ (boards : List Board). counted id boards == 0) same
+
+-- the line of the step is the last of its script line
+pub handless_facts : (id number j : ℕ) (input : Input) (before start next : LineState) (done : List Happening)
+    (told : Told) (left : ℕ → Bool) → IsWatched before → IsWatched next
+    → stand_at start (j + 1) ≡ stand_at before (j + 1) → FloorHolds start → IsHandless input
+    → (steps : MachineSteps number (j + 1) input start next done)
+    → HandFacts id number j input start next done told left steps
+handless_facts id number j input before start next done told left watched watched2 own floor free steps =
+    let none = handless_acts id number j input start next done steps free in
+    let still = step_still number (j + 1) input start next done free floor steps in
+    let same = same_floor id start next still.boards in
+    record {
+      seen = seen_by id number j input before start next next done steps watched watched2 own refl same
+          steps.node.supervised refl;
+      hand = λ is. absurd (none.0 is);
+      new = λ is. absurd (none.1 is);
+      out = λ is. absurd (none.0 is);
+      still = λ out brought. same;
+    }
+
+pub handless_line : (id number machine : ℕ) (input : Input) (t t2 : Trace) (before start next : LineState)
+    (done past : List Happening) → Passing id t t2 before next done past → Starts before start → FloorHolds start
+    → IsHandless input → MachineSteps number machine input start next done → Agreed id next (past ++ done)
+handless_line id number machine input t t2 before start next done past p s floor free steps =
+    numbered (λ (m : ℕ). MachineSteps number m input start next done → Agreed id next (past ++ done)) machine start
+    steps.node steps.there
+    (λ j own. one_step id number j input t t2 before start next done past p s own
+    (handless_facts id number j input before start next done (told_of id past) (λ gap. has_left gap id past) p.watched
+    p.watched2 (s.stands (j + 1)) floor free own))
+    steps
+
+pub same_line : (before : LineState) → Starts before before
+same_line before = record { stands = λ k. refl; boards = refl }
+
+-- ---- of a hand
+
+either : (b : Bool) → (b ≡ true) ⊎ (b ≡ false)
+either true = inl refl
+either false = inr refl
+
+false_by : (b : Bool) → (b ≡ true → ⊥) → b ≡ false
+false_by true not = absurd (not refl)
+false_by false not = refl
+
+-- what goes by hand was kept
+out_kept : (id number j : ℕ) (input : Input) (before next : LineState) (done : List Happening)
+    → (steps : MachineSteps number (j + 1) input before next done)
+    → ((old : ℕ) → TakesOut old (event_of steps.node.maker input steps.steps.lane.words)
+    → is_kept old steps.node.lane.body.kept ≡ true)
+    → list_any (takes_out id) (plain_of number (j + 1) input before next done steps) ≡ true
+    → keeps_it id steps.node.lane.body ≡ true
+out_kept id number j input before next done steps kept is =
+    let desk = desk_of steps.node (moment_of number) in
+    let unread : List Sensed = unread_by (j + 1) before.world in
+    let event : Event = event_of steps.node.maker input steps.steps.lane.words in
+    let out = outs_are id desk event _ (sym (step_outs id desk unread event steps.node.lane.body) ∙ is) in
+    sym (kept_ids id steps.node.lane.body.kept) ∙ kept id out
+
+-- nothing is known of what comes by hand
+new_unknown : (id number j : ℕ) (input : Input) (t t2 : Trace) (before next : LineState) (done past : List Happening)
+    → Passing id t t2 before next done past → (steps : MachineSteps number (j + 1) input before next done)
+    → list_any (brings_in id) (plain_of number (j + 1) input before next done steps) ≡ true
+    → (told_of id past ≡ nothing_told) × (((gap : ℕ) → has_left gap id past ≡ false)
+    × (((i : ℕ) → (view_of id before).kept i ≡ false)
+    × (((i : ℕ) → (view_of id before).held i ≡ false)
+    × ((i : ℕ) → (view_of id before).taken i ≡ false))))
+new_unknown id number j input t t2 before next done past p steps is =
+    let P : ℕ → Type 0 = λ made. (other : ℕ) → IsOld 1 before.machines other → other ≢ made in
+    let fresh : P id =
+    step_makes id number (j + 1) input before next done P steps
+    (made_first done (standings_told before next) P p.goes.fresh) is in
+    let never : IsOld 1 before.machines id → ⊥ = λ old. fresh id old refl in
+    let unknown : IsUnknown id past = elim p.was.known [ inl old ↦ absurd (never old) | inr un ↦ un ] in (
+      unknown.told,
+      (
+        unknown.left,
+        (
+          λ i. false_by ((view_of id before).kept i) (λ has. never (old_mark t before id i p.st (inl has))),
+          (
+            λ i. false_by ((view_of id before).held i) (λ has. never (old_mark t before id i p.st (inr (inl has)))),
+            λ i. false_by ((view_of id before).taken i) (λ has. never (old_mark t before id i p.st (inr (inr has)))),
+          ),
+        ),
+      ),
+    )
+
+-- what goes by hand is on the floor no more
+grown_here : (machine id : ℕ) (gone : ℕ → ℕ → Bool) → grown machine id gone machine id ≡ true
+grown_here machine id gone =
+    rw (eq-eqb machine machine refl, eq-eqb id id refl) (or_true (gone machine id)) where
+      or_true : (b : Bool) → (b || true) ≡ true
+      or_true true = refl
+      or_true false = refl
+
+out_off : (id number j : ℕ) (input : Input) (t t2 : Trace) (before next : LineState) (done past : List Happening)
+    → Passing id t t2 before next done past → (steps : MachineSteps number (j + 1) input before next done)
+    → keeps_it id steps.node.lane.body ≡ true
+    → list_any (takes_out id) (plain_of number (j + 1) input before next done steps) ≡ true
+    → (view_of id next).off ≡ true
+out_off id number j input t t2 before next done past p steps kept is =
+    let all : List Happening = done ++ standings_told before next in
+    let mine = own_step number j input before next done steps in
+    let here = p.one.kept_here (j + 1) id (ap (λ (n : NodeState). keeps_it id n.lane.body) mine.was ∙ kept) in
+    let t3 : Trace = record t { gone = grown (j + 1) id t.gone } in
+    let parted : Parted t before = record { apart = p.st.keeps.apart; olds = p.st.olds } in
+    let none : counted id (boards_of next) ≡ 0 =
+    elim (out_before (standings_told before next) (step_out id number (j + 1) input before next done steps is)) [
+      | is_removed told ↦ gone_count t3 next (j + 1) id
+          (apart_removed t t3 before next all (j + 1) id (at_machine (j + 1)) p.st.ids p.goes told (lies_at here)
+          (λ k y. refl) parted) (grown_here (j + 1) id t.gone)
+      | is_replaced new told ↦ gone_count t3 next (j + 1) id
+          (apart_replaced t t3 before next all (j + 1) id new (at_machine (j + 1)) p.st.ids p.goes told (lies_at here)
+          (λ k y. refl) parted) (grown_here (j + 1) id t.gone)
+    ] in
+    ap (λ (n : ℕ). n == 0) none
+
+-- and a board that no hand touches is where it was
+same_count : (a b : ℕ) → a ≤ b → b ≤ a → (a == 0) ≡ (b == 0)
+same_count a b one two = let same : a ≡ b = omega (arith, one, two) in ap (λ (n : ℕ). n == 0) same
+
+untouched : (id number j : ℕ) (input : Input) (t t2 : Trace) (before next : LineState) (done past : List Happening)
+    → Passing id t t2 before next done past → (steps : MachineSteps number (j + 1) input before next done)
+    → list_any (takes_out id) (plain_of number (j + 1) input before next done steps) ≡ false
+    → list_any (brings_in id) (plain_of number (j + 1) input before next done steps) ≡ false
+    → (view_of id next).off ≡ (view_of id before).off
+untouched id number j input t t2 before next done past p steps out brought =
+    let all : List Happening = done ++ standings_told before next in
+    let loses : list_any (may_lose id) all ≡ false =
+    with_standings (may_lose id) (loses_none id) done before next
+    ∙ step_any (may_lose id) (takes_out id) (looks_lost id) (λ message. refl) (λ signal on. refl) number (j + 1) input
+    before next done steps ∙ out in
+    let brings : list_any (may_bring id) all ≡ false =
+    with_standings (may_bring id) (brings_none id) done before next
+    ∙ step_any (may_bring id) (brings_in id) (looks_brought id) (λ message. refl) (λ signal on. refl) number (j + 1) input
+    before next done steps ∙ brought in
+    same_count (counted id (boards_of next)) (counted id (boards_of before))
+    (comes_not id before next all p.goes brings) (stays_there id before next all p.goes loses)
+
+-- the machine is supervised, or no hand changes its boards
+hand_seen : (id number j : ℕ) (input : Input) (t t2 : Trace) (before next : LineState) (done past : List Happening)
+    → Passing id t t2 before next done past → (steps : MachineSteps number (j + 1) input before next done)
+    → (list_any (takes_out id) (plain_of number (j + 1) input before next done steps) ≡ true
+    → steps.node.supervised ≡ true)
+    → (list_any (brings_in id) (plain_of number (j + 1) input before next done steps) ≡ true
+    → steps.node.supervised ≡ true)
+    → (on : Bool) → steps.node.supervised ≡ on → IsSeen id number j input before next done steps
+hand_seen id number j input t t2 before next done past p steps out brought true is = is_watched is
+hand_seen id number j input t t2 before next done past p steps out brought false is =
+    let outs = list_any (takes_out id) (plain_of number (j + 1) input before next done steps) in
+    let ins = list_any (brings_in id) (plain_of number (j + 1) input before next done steps) in
+    let no_out : outs ≡ false = false_by outs (λ has. false≢true (sym is ∙ out has)) in
+    let no_in : ins ≡ false = false_by ins (λ has. false≢true (sym is ∙ brought has)) in
+    seen_by id number j input before before next next done steps p.watched p.watched2 refl refl
+    (untouched id number j input t t2 before next done past p steps no_out no_in) false is
+
+-- a machine that keeps a board is supervised
+kept_watched : (s : LineState) (machine id : ℕ) → IsWatched s → keeps_it id (node_at s machine).lane.body ≡ true
+    → (node_at s machine).supervised ≡ true
+kept_watched s machine id watched kept = watched machine id (or_first (is_marked_rest s machine id) kept) where
+  is_marked_rest : LineState → ℕ → ℕ → Bool
+  is_marked_rest s machine id = holds_it id (node_at s machine).lane.body || takes_it id (node_at s machine).lane.body
+
+  or_first : {a : Bool} (b : Bool) → a ≡ true → (a || b) ≡ true
+  or_first b is = rw is refl
+
+hand_line : (id number j : ℕ) (input : Input) (t t2 : Trace) (before next : LineState) (done past : List Happening)
+    → Passing id t t2 before next done past → (steps : MachineSteps number (j + 1) input before next done)
+    → ((old : ℕ) → TakesOut old (event_of steps.node.maker input steps.steps.lane.words)
+    → is_kept old steps.node.lane.body.kept ≡ true)
+    → (list_any (brings_in id) (plain_of number (j + 1) input before next done steps) ≡ true
+    → steps.node.supervised ≡ true)
+    → Agreed id next (past ++ done)
+hand_line id number j input t t2 before next done past p steps kept brought =
+    let mine = own_step number j input before next done steps in
+    let hand = out_kept id number j input before next done steps kept in
+    let watched : list_any (takes_out id) (plain_of number (j + 1) input before next done steps) ≡ true
+    → steps.node.supervised ≡ true =
+    λ is. ap (λ (n : NodeState). n.supervised) (sym mine.was)
+    ∙ kept_watched before (j + 1) id p.watched (ap (λ (n : NodeState). keeps_it id n.lane.body) mine.was ∙ hand is) in
+    one_step id number j input t t2 before before next done past p (same_line before) steps (record {
+      seen = hand_seen id number j input t t2 before next done past p steps watched brought steps.node.supervised refl;
+      hand = hand;
+      new = new_unknown id number j input t t2 before next done past p steps;
+      out = λ is. out_off id number j input t t2 before next done past p steps (hand is) is;
+      still = untouched id number j input t t2 before next done past p steps;
+    })
+
+-- ---- the three hands
+
+-- an insertion takes none out
+insert_out : (old : ℕ) (barcode : Option (List ℕ)) (found : Result ℕ IdsUsedUp) {X : Type 0}
+    → TakesOut old (with_new found (λ id. Insert id barcode)) → X
+insert_out old barcode (Ok id) out = elim out [ ]
+insert_out old barcode (Err why) out = elim out [ ]
+
+insert_event : (id : ℕ) (barcode : Option (List ℕ)) (found : Result ℕ IdsUsedUp)
+    → BringsIn id (with_new found (λ new. Insert new barcode))
+    → with_new found (λ new. Insert new barcode) ≡ Insert id barcode
+insert_event id barcode (Ok new) (in_inserted) = refl
+insert_event id barcode (Err why) is = elim is [ ]
+
+pub insert_line : (id number machine : ℕ) (barcode : Option (List ℕ)) (t t2 : Trace) (before next : LineState)
+    (done past : List Happening) → Passing id t t2 before next done past
+    → MachineSteps number machine (inputs.Insert barcode) before next done → Agreed id next (past ++ done)
+insert_line id number machine barcode t t2 before next done past p steps =
+    numbered (λ (m : ℕ). MachineSteps number m (inputs.Insert barcode) before next done → Agreed id next (past ++ done))
+    machine before steps.node steps.there (λ j own.
+    hand_line id number j (inputs.Insert barcode) t t2 before next done past p own
+    (λ old out. insert_out old barcode (next_id own.node.maker) out)
+    (λ is. inserted_watched id number j barcode before next done own p.watched2 is)) steps where
+      inserted_watched : (id number j : ℕ) (barcode : Option (List ℕ)) (before next : LineState) (done : List Happening)
+          → (steps : MachineSteps number (j + 1) (inputs.Insert barcode) before next done) → IsWatched next
+          → list_any (brings_in id) (plain_of number (j + 1) (inputs.Insert barcode) before next done steps) ≡ true
+          → steps.node.supervised ≡ true
+      inserted_watched id number j barcode before next done steps watched is =
+          let desk = desk_of steps.node (moment_of number) in
+          let unread : List Sensed = unread_by (j + 1) before.world in
+          let event : Event = event_of steps.node.maker (inputs.Insert barcode) steps.steps.lane.words in
+          let mine = own_step number j (inputs.Insert barcode) before next done steps in
+          let made = ins_are id desk event _ (sym (step_ins id desk unread event steps.node.lane.body) ∙ is) in
+          let same : event ≡ Insert id barcode = insert_event id barcode (next_id steps.node.maker) made in
+          let kept : keeps_it id (node_at next (j + 1)).lane.body ≡ true =
+          ap (keeps_it id) mine.now
+          ∙ ap (λ (e : Event). keeps_it id (plain_step desk unread e steps.node.lane.body).body) same
+          ∙ inserted_kept desk unread id barcode steps.node.lane.body in
+          let next_is : node_at next (j + 1) ≡ steps.next =
+          node_there (j + 1) next steps.next (ap (machine_in (j + 1)) steps.after_is
+          ∙ machine_set_own (j + 1) before steps.node steps.next steps.there) in
+          sym steps.steps.supervised ∙ ap (λ (n : NodeState). n.supervised) (sym next_is)
+          ∙ kept_watched next (j + 1) id watched kept
+
+-- what may be taken out is kept
+kept_by_may : (kept : Bool) (why : No) → own.no_if (not kept) why own.may_do ≡ own.may_do → kept ≡ true
+kept_by_may true why is = refl
+kept_by_may false why is = cc
+
+may_kept : (node : NodeState) (id : ℕ) → may_of node (inputs.Remove id) ≡ own.may_do
+    → is_kept id node.lane.body.kept ≡ true
+may_kept node id may = kept_by_may (is_kept id node.lane.body.kept) _ may
+
+removal_kept : (machine id : ℕ) (before : LineState) (node : NodeState) → machine_in machine before ≡ Some node
+    → may_remove machine id before ≡ may_do → is_kept id node.lane.body.kept ≡ true
+removal_kept machine id before node there may =
+    may_kept node id (own_first (may_of node (inputs.Remove id)) _
+    (there_may (machine_in machine before) node (λ n. behind_own (may_of n (inputs.Remove id))
+    (no_if (not (is_here machine id before.world)) reasons.NotHere may_do)) there may))
+
+replacing_kept : (machine id : ℕ) (before : LineState) (node : NodeState) → machine_in machine before ≡ Some node
+    → may_replace machine id before ≡ may_do → is_kept id node.lane.body.kept ≡ true
+replacing_kept machine id before node there may =
+    may_kept node id (own_first (may_of node (inputs.Remove id)) _
+    (there_may (machine_in machine before) node (λ n. behind_own (may_of n (inputs.Remove id))
+    (no_if (not (is_here machine id before.world)) reasons.NotHere (behind_own (may_of n (inputs.Replace id)) may_do)))
+    there may))
+
+remove_out : (old id : ℕ) (kept : List Record) → is_kept id kept ≡ true → TakesOut old (Remove id)
+    → is_kept old kept ≡ true
+remove_out _ id kept is out_removed = is
+
+remove_in : {X : Type 0} (id old : ℕ) → BringsIn id (Remove old) → X
+remove_in id old is = elim is [ ]
+
+pub remove_line : (id number machine old : ℕ) (t t2 : Trace) (before next : LineState) (done past : List Happening)
+    → Passing id t t2 before next done past → may_remove machine old before ≡ may_do
+    → MachineSteps number machine (inputs.Remove old) before next done → Agreed id next (past ++ done)
+remove_line id number machine old t t2 before next done past p may steps =
+    numbered (λ (m : ℕ). is_kept old steps.node.lane.body.kept ≡ true
+    → (own : MachineSteps number m (inputs.Remove old) before next done)
+    → own.node ≡ steps.node → Agreed id next (past ++ done)) machine before steps.node steps.there
+    (λ j kept own same.
+    hand_line id number j (inputs.Remove old) t t2 before next done past p own
+    (λ other out. remove_out other old own.node.lane.body.kept
+    (ap (λ (n : NodeState). is_kept old n.lane.body.kept) same ∙ kept) out)
+    (λ is. remove_in id old (ins_are id (desk_of own.node (moment_of number)) (Remove old) _
+    (sym (step_ins id (desk_of own.node (moment_of number)) (unread_by (j + 1) before.world) (Remove old) own.node.lane.body) ∙ is))))
+    (removal_kept machine old before steps.node steps.there may) steps refl
+
+replace_out : (other old : ℕ) (found : Result ℕ IdsUsedUp) (kept : List Record) → is_kept old kept ≡ true
+    → TakesOut other (with_new found (Replace old)) → is_kept other kept ≡ true
+replace_out other old (Ok new) kept is out_replaced = is
+replace_out other old (Err why) kept is out = elim out [ ]
+
+pub replace_line : (id number machine old : ℕ) (t t2 : Trace) (before next : LineState) (done past : List Happening)
+    → Passing id t t2 before next done past → may_replace machine old before ≡ may_do
+    → MachineSteps number machine (inputs.Replace old) before next done → Agreed id next (past ++ done)
+replace_line id number machine old t t2 before next done past p may steps =
+    numbered (λ (m : ℕ). is_kept old steps.node.lane.body.kept ≡ true
+    → (own : MachineSteps number m (inputs.Replace old) before next done)
+    → own.node ≡ steps.node → Agreed id next (past ++ done)) machine before steps.node steps.there
+    (λ j kept own same.
+    (let mine : is_kept old own.node.lane.body.kept ≡ true =
+    ap (λ (n : NodeState). is_kept old n.lane.body.kept) same ∙ kept in
+    let was = (own_step number j (inputs.Replace old) before next done own).was in
+    hand_line id number j (inputs.Replace old) t t2 before next done past p own
+    (λ other out. replace_out other old (next_id own.node.maker) own.node.lane.body.kept mine out)
+    (λ is. ap (λ (n : NodeState). n.supervised) (sym was)
+    ∙ kept_watched before (j + 1) old p.watched
+    (ap (λ (n : NodeState). keeps_it old n.lane.body) was ∙ (sym (kept_ids old own.node.lane.body.kept) ∙ mine)))))
+    (replacing_kept machine old before steps.node steps.there may) steps refl
