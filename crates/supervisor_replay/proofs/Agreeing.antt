@@ -37,18 +37,14 @@ use Rattle.std.specs.Prelude.{take}
 use Rattle.std.specs.List.{AllByRecursion}
 use Rattle.std.proofs.lemmas.Bool.{false≢true}
 use Rattle.line_script.specs.declared.line.ScriptLine.{ScriptLine}
-use Rattle.standings.specs.Marks.{has_at, has_mark, intake, is_same_mark, kept, outlet}
-use Rattle.standings.specs.declared.mark.Mark.{Mark}
+use Rattle.standings.specs.Marks.{has_mark, intake, kept, outlet}
 use Rattle.standings.specs.declared.mark.Mark.TheVariants.{Kept, Outlet, Intake}
 use Rattle.line_report.specs.declared.happening.Happening.{Happening}
 use Rattle.line_step.specs.Lies.{has_lie, is_lie, tells_lie}
 use Rattle.line_step.specs.Lines.{LineSteps}
-use Rattle.line_step.specs.Numbered.{node_at}
 use Rattle.line_step.specs.Runs.{IsRun, Point, all_told, state_behind}
 use Rattle.line_step.specs.Shown.{standings_told}
-use Rattle.line_step.specs.State.{LineState, marks_in, no_line, owned_by}
-use Rattle.line_step.proofs.FloorLaws.{Goes}
-use Rattle.line_step.proofs.Makers.{IsOld}
+use Rattle.line_step.specs.State.{LineState, marks_in, no_line}
 use Rattle.one_standing.specs.Carried.{Trace}
 use Rattle.one_standing.specs.Stands.{Stands}
 use Rattle.one_standing.specs.Waits.{AreWaiting}
@@ -62,28 +58,18 @@ use Rattle.one_standing.proofs.LineRun.{AreStood, Stood, line_stood, lines_after
 use Rattle.line_step.proofs.Vouching.{lies_remembered}
 use Rattle.one_standing.proofs.OneStand.{one_standing_of}
 use Rattle.one_standing.proofs.RestMore.{counted_stands}
-use Rattle.supervisor_replay.specs.Along.{AgreesAlong, AgreesNext}
-use Rattle.supervisor_replay.specs.Replay.{
-  Agrees,
-  AreWatched,
-  At,
-  IsOnlyMark,
-  IsWatched,
-  KeepAgreeing,
-  Nowhere,
-  ReplayAgrees,
-  Way,
-  has_board,
-  has_left,
-  is_marked_at,
-  told_of,
-}
-use Rattle.supervisor_replay.proofs.Bodies.{holds_it, keeps_it, takes_it}
-use Rattle.supervisor_replay.proofs.Lines.{Agreed, IsUnknown, Passing, still_agrees}
+use Rattle.supervisor_replay.specs.Along.{AgreesAlong}
+use Rattle.handover_in.specs.State.{board_of_phase as held_in}
+use Rattle.handover_in.specs.declared.phase.Phase.{Phase as InPhase}
+use Rattle.node_core.specs.Own.{id_of}
+use Rattle.standings.specs.Marks.{is_held}
+use Rattle.supervisor_replay.specs.Replay.{has_left, Agrees, AreWatched, At, IsOnlyMark, IsWatched, KeepAgreeing, Nowhere, ReplayAgrees, Way, is_marked_at, told_of}
+use Rattle.supervisor_replay.proofs.Since.{left_since}
+use Rattle.supervisor_replay.proofs.Lines.{Agreed, still_agrees}
+use Rattle.supervisor_replay.proofs.Never.{Never, left_was, never_step}
 use Rattle.supervisor_replay.proofs.Running.{does_agree}
 use Rattle.supervisor_replay.proofs.Sights.{sole_of, view_of}
 use Rattle.supervisor_replay.proofs.Silent.{standings_silent}
-use Rattle.supervisor_replay.proofs.Views.{Holds, IsSame}
 
 -- ---- what the marks say
 
@@ -107,27 +93,53 @@ not_true false never = refl
 at_not_way : {X : Type 0} (machine gap : ℕ) → At machine ≡ Way gap → X
 at_not_way machine gap is = cc
 
+-- what has left was not started since, where the intake below holds it: above machine 1 there is
+-- none
+since_then : (t : Trace) (id gap : ℕ) (s : LineState) (past : List Happening) → Stands t s
+    → (view_of id s).taken (gap + 1) ≡ true → ((j : ℕ) → Never id j s past)
+    → has_left gap id past ≡ true
+    → left_since gap id past ≡ true
+since_then t id zero s past st taken never left =
+    absurd (false≢true
+    (sym (ap (λ (i : InPhase). is_held id (id_of (held_in i))) (st.rest 0 refl).intake) ∙
+    taken))
+since_then t id (suc j) s past st taken never left =
+    let same : j + 1 ≡ suc j = omega arith in
+    subst (λ (gap : ℕ). has_left gap id past ≡ true
+    → left_since gap id past ≡ true) same (never j).still left
+
 -- in terms of the view
-agrees_of : (t : Trace) (id : ℕ) (s : LineState) (past : List Happening) → Stands t s → HasOneStanding s
-    → Agreed id s past → Agrees past s id
-agrees_of t id s past st one was =
+agrees_of : (t : Trace) (id : ℕ) (s : LineState) (past : List Happening) → Stands t s
+    → HasOneStanding s
+    → Agreed id s past → ((j : ℕ) → Never id j s past) → Agrees past s id
+agrees_of t id s past st one was never =
     let h = was.holds in
-    let kept_is : (m : ℕ) → has_mark (Kept m) (marks_in s id) ≡ (view_of id s).kept m = λ m. mark_at_machine s kept m id in
-    let held_is : (m : ℕ) → has_mark (Outlet m) (marks_in s id) ≡ (view_of id s).held m = λ m. mark_at_machine s outlet m id in
-    let taken_is : (m : ℕ) → has_mark (Intake m) (marks_in s id) ≡ (view_of id s).taken m = λ m. mark_at_machine s intake m id in
+    let kept_is : (m : ℕ) → has_mark (Kept m) (marks_in s id) ≡ (view_of id s).kept m =
+    λ m. mark_at_machine s kept m id in
+    let held_is : (m : ℕ) → has_mark (Outlet m) (marks_in s id) ≡ (view_of id s).held m =
+    λ m. mark_at_machine s outlet m id in
+    let taken_is : (m : ℕ) → has_mark (Intake m) (marks_in s id) ≡ (view_of id s).taken m =
+    λ m. mark_at_machine s intake m id in
     record {
       at = λ machine place.
-          or_right (has_mark (Kept machine) (marks_in s id)) (has_mark (Outlet machine) (marks_in s id)) (λ none.
+          or_right (has_mark (Kept machine) (marks_in s id))
+          (has_mark (Outlet machine) (marks_in s id)) (λ none.
           held_is machine ∙ h.at machine place (sym (kept_is machine) ∙ none));
-      is_at = λ machine has. elim (either_true (has_mark (Kept machine) (marks_in s id)) (has_mark (Outlet machine) (marks_in s id)) has) [
-        | inl mine ↦ h.kept_at machine (sym (kept_is machine) ∙ mine)
-        | inr mine ↦ h.held_at machine (sym (held_is machine) ∙ mine)
-      ];
-      way = λ gap place. ((h.way gap place).0, only gap place (h.way gap place).1 kept_is held_is taken_is);
+      is_at = λ machine has.
+          elim (either_true (has_mark (Kept machine) (marks_in s id))
+          (has_mark (Outlet machine) (marks_in s id)) has) [
+            | inl mine ↦ h.kept_at machine (sym (kept_is machine) ∙ mine)
+            | inr mine ↦ h.held_at machine (sym (held_is machine) ∙ mine)
+          ];
+      way = λ gap place. (
+        left_was gap id past (h.way gap place).0,
+        only gap place (h.way gap place).1 kept_is held_is taken_is,
+      );
       is_on_way = λ gap left alone.
-          h.on_way gap left
-          (sym (taken_is (gap + 1)) ∙ alone (Intake (gap + 1)) ∙ eq-eqb (gap + 1) (gap + 1) refl)
-          (λ i. sym (kept_is i) ∙ alone (Kept i)) (λ i. sym (held_is i) ∙ alone (Outlet i));
+          (let taken : (view_of id s).taken (gap + 1) ≡ true =
+          sym (taken_is (gap + 1)) ∙ alone (Intake (gap + 1)) ∙ eq-eqb (gap + 1) (gap + 1) refl in
+          h.on_way gap (since_then t id gap s past st taken never left) taken
+          (λ i. sym (kept_is i) ∙ alone (Kept i)) (λ i. sym (held_is i) ∙ alone (Outlet i)));
     } where
       only : (gap : ℕ) → (told_of id past).place ≡ Way gap → (view_of id s).taken (gap + 1) ≡ true
           → ((m : ℕ) → has_mark (Kept m) (marks_in s id) ≡ (view_of id s).kept m)
@@ -135,9 +147,11 @@ agrees_of t id s past st one was =
           → ((m : ℕ) → has_mark (Intake m) (marks_in s id) ≡ (view_of id s).taken m)
           → IsOnlyMark (Intake (gap + 1)) (marks_in s id)
       only gap place taken kept_is held_is taken_is (Kept m) =
-          kept_is m ∙ not_true ((view_of id s).kept m) (λ has. at_not_way m gap (sym (was.holds.kept_at m has) ∙ place))
+          kept_is m ∙ not_true ((view_of id s).kept m) (λ has.
+          at_not_way m gap (sym (was.holds.kept_at m has) ∙ place))
       only gap place taken kept_is held_is taken_is (Outlet m) =
-          held_is m ∙ not_true ((view_of id s).held m) (λ has. at_not_way m gap (sym (was.holds.held_at m has) ∙ place))
+          held_is m ∙ not_true ((view_of id s).held m) (λ has.
+          at_not_way m gap (sym (was.holds.held_at m has) ∙ place))
       only gap place taken kept_is held_is taken_is (Intake m) =
           taken_is m
           ∙ same_tests ((view_of id s).taken m) (m == gap + 1)
@@ -150,25 +164,29 @@ agrees_of t id s past st one was =
 abbrev counted_to : ℕ → LineState → LineState
 counted_to lines s = record s { lines = lines }
 
-stood_uncounted : (t : Trace) (next : LineState) (lines : ℕ) → next.lines ≤ 1000000 → Stands t (counted_to lines next)
+stood_uncounted : (t : Trace) (next : LineState) (lines : ℕ) → next.lines ≤ 1000000
+    → Stands t (counted_to lines next)
     → Stands t next
 stood_uncounted t next lines few st = counted_stands t (counted_to lines next) next.lines few st
 
 front_honest : (a b : List Happening) → tells_lie (a ++ b) ≡ false → tells_lie a ≡ false
 front_honest [] b is = refl
 front_honest (happening ∷ a) b is = by (is_lie happening) is (λ rest. front_honest a b rest) where
-  by : (lies : Bool) → (lies || tells_lie (a ++ b)) ≡ false → (tells_lie (a ++ b) ≡ false → tells_lie a ≡ false)
+  by : (lies : Bool) → (lies || tells_lie (a ++ b)) ≡ false
+      → (tells_lie (a ++ b) ≡ false → tells_lie a ≡ false)
       → (lies || tells_lie a) ≡ false
   by true rest next = rest
   by false rest next = next rest
 
 -- the count is none of what is looked at
-counted_agrees : (id : ℕ) (next : LineState) (lines : ℕ) (past done told : List Happening) (before : LineState)
+counted_agrees : (id : ℕ) (next : LineState) (lines : ℕ) (past done told : List Happening)
+    (before : LineState)
     → told ≡ done ++ standings_told before next → Agreed id next (past ++ done)
     → Agreed id (counted_to lines next) (past ++ told)
 counted_agrees id next lines past done told before is was =
     subst (λ (ts : List Happening). Agreed id (counted_to lines next) ts)
-    (append_assoc past done (standings_told before next) ∙ ap (λ (ts : List Happening). past ++ ts) (sym is))
+    (append_assoc past done (standings_told before next) ∙ ap (λ (ts : List Happening). past
+    ++ ts) (sym is))
     (still_agrees id next (counted_to lines next) (past ++ done) (standings_told before next)
     (standings_silent before next)
     (record {
@@ -180,18 +198,24 @@ counted_agrees id next lines past done told before is was =
       off = refl;
     }) (λ x old. old) was)
 
-steps_agree : (alone : SaysAlone) (id number : ℕ) (line : ScriptLine) (before after : LineState) (told past : List Happening)
-    → Stood before → Stood after → after.lines ≤ 1000000 → tells_lie told ≡ false → IsWatched before → IsWatched after
-    → LineSteps number line before after told → Agreed id before past → Agreed id after (past ++ told)
-steps_agree alone id number line before after told past was now few honest watched watched2 steps agreed =
+steps_agree : (alone : SaysAlone) (id number : ℕ) (line : ScriptLine) (before after : LineState)
+    (told past : List Happening)
+    → Stood before → Stood after → after.lines ≤ 1000000 → tells_lie told ≡ false
+    → IsWatched before → IsWatched after
+    → LineSteps number line before after told → Agreed id before past
+    → Agreed id after (past ++ told)
+steps_agree alone id number line before after told past was now few honest watched watched2 steps
+    agreed =
     let next : LineState = steps.next in
     let done : List Happening = steps.done in
     let t : Trace = was.trace in
     let t2 : Trace = now.trace in
     let counted : Stands t2 (counted_to (next.lines + 1) next) =
     subst (λ (s : LineState). Stands t2 s) steps.after_is now.stands in
-    let within : next.lines + 1 ≤ 1000000 = subst (λ (s : LineState). s.lines ≤ 1000000) steps.after_is few in
-    let st2 : Stands t2 next = stood_uncounted t2 next (next.lines + 1) (omega (arith, within)) counted in
+    let within : next.lines + 1 ≤ 1000000 =
+    subst (λ (s : LineState). s.lines ≤ 1000000) steps.after_is few in
+    let st2 : Stands t2 next =
+    stood_uncounted t2 next (next.lines + 1) (omega (arith, within)) counted in
     let waits : AreWaiting (counted_to (next.lines + 1) next) =
     subst (λ (s : LineState). AreWaiting s) steps.after_is now.waits in
     let seen : IsWatched (counted_to (next.lines + 1) next) =
@@ -251,6 +275,7 @@ none_agreed id = record {
     leaves = λ j held leaving lost. not_here (none_marked id j).1.0 held;
     on_floor = λ j place off. nowhere_way j place;
     over = λ j left taken. absurd (false≢true left);
+    behind = λ k left i above. absurd (false≢true left);
   };
   known = inr (record { told = refl; left = λ gap. refl });
 }
@@ -264,68 +289,135 @@ none_watched machine id marked = not_here (none_by machine id) marked where
 lines_few : (s : LineState) → Stood s → s.lines ≤ 1000000
 lines_few s stood = stood.stands.together.short
 
-run_agrees : (alone : SaysAlone) (s : LineState) (asked : List ScriptLine) (points : List Point) (n : ℕ)
-    (past : List Happening) → Stood s → IsRun s asked points → AreStood (take n points)
-    → has_lie (take n points) ≡ false → IsWatched s → AreWatched (take n points)
-    → ((id : ℕ) → Agreed id s past) → KeepAgreeing past (take n points)
-run_agrees alone s asked points zero past was run all honest watched seen agreed = tt
-run_agrees alone s [] [] (suc n) past was run all honest watched seen agreed = tt
-run_agrees alone s [] (point ∷ points) (suc n) past was run all honest watched seen agreed = absurd run
-run_agrees alone s (line ∷ asked) [] (suc n) past was run all honest watched seen agreed = absurd run
-run_agrees alone s (line ∷ asked) (point ∷ points) (suc n) past was run all honest watched seen agreed =
-    let first : tells_lie point.told ≡ false = or_first (tells_lie point.told) (has_lie (take n points)) honest in
-    let rest : has_lie (take n points) ≡ false = or_second (tells_lie point.told) (has_lie (take n points)) honest in
+-- that what has left is not started again, behind the next line
+next_never : SaysAlone
+    → (id j number : ℕ) (line : ScriptLine) (before after : LineState) (told past : List Happening)
+    → number ≤ 1000000 → IsFitLine line → Stood before → LineSteps number line before after told
+    → Agreed id after (past ++ told) → Never id j before past → Never id j after (past ++ told)
+next_never alone id j number line before after told past few fit was steps agreed never =
+    never_step alone id j number line before after told past few fit was steps
+    (λ left. (agreed.holds.behind (j + 1) left (j + 1) (omega arith)).0) never
+
+none_never : (id j : ℕ) → Never id j no_line []
+none_never id j = record {
+  still = λ left. absurd (false≢true left);
+  free = λ left. absurd (false≢true left);
+}
+
+run_agrees : (alone : SaysAlone) (s : LineState) (asked : List ScriptLine) (points : List Point)
+    (n : ℕ)
+    (past : List Happening) → AllByRecursion IsFitLine asked → s.lines + length asked ≤ 1000000
+    → Stood s
+    → IsRun s asked points → AreStood (take n points) → has_lie (take n points) ≡ false
+    → IsWatched s
+    → AreWatched (take n points) → ((id : ℕ) → Agreed id s past) → ((id j : ℕ) → Never id j s past)
+    → KeepAgreeing past (take n points)
+run_agrees alone s asked points zero past fit few was run all honest watched seen agreed never = tt
+run_agrees alone s [] [] (suc n) past fit few was run all honest watched seen agreed never = tt
+run_agrees alone s [] (point ∷ points)
+    (suc n) past fit few was run all honest watched seen agreed never = absurd run
+run_agrees alone s (line ∷ asked) []
+    (suc n) past fit few was run all honest watched seen agreed never = absurd run
+run_agrees alone s (line ∷ asked) (point ∷ points)
+    (suc n) past fit few was run all honest watched seen agreed never =
+    let here : s.lines + 1 ≤ 1000000 = omega (arith, few) in
+    let left : point.after.lines + length asked ≤ 1000000 =
+    omega (arith, few, lines_after (s.lines + 1) line s point.after point.told run.0) in
+    let first : tells_lie point.told ≡ false =
+    or_first (tells_lie point.told) (has_lie (take n points)) honest in
+    let rest : has_lie (take n points) ≡ false =
+    or_second (tells_lie point.told) (has_lie (take n points)) honest in
     let next : (id : ℕ) → Agreed id point.after (past ++ point.told) =
-    λ id. steps_agree alone id (s.lines + 1) line s point.after point.told past was all.0 (lines_few point.after all.0)
-    first watched seen.0 run.0 (agreed id) in (
+    λ id. steps_agree alone id (s.lines + 1) line s point.after point.told past was all.0
+    (lines_few point.after all.0)
+    first watched seen.0 run.0 (agreed id) in
+    let later : (id j : ℕ) → Never id j point.after (past ++ point.told) =
+    λ id j. next_never alone id j
+    (s.lines + 1) line s point.after point.told past here fit.0 was run.0 (next id)
+    (never id j) in (
       λ id. agrees_of all.0.trace id point.after (past ++ point.told) all.0.stands
-          (one_standing_of all.0.trace point.after all.0.stands) (next id),
-      run_agrees alone point.after asked points n (past ++ point.told) all.0 run.1 all.1 rest seen.0 seen.1 next,
+          (one_standing_of all.0.trace point.after all.0.stands) (next id) (later id),
+      run_agrees alone point.after asked points n (past
+          ++ point.told) fit.1 left all.0 run.1 all.1 rest seen.0 seen.1 next later,
     )
 
 -- THE LAW
 pub replay_agrees : SaysAlone → ConnectsBear → ReplayAgrees
 replay_agrees alone connects asked points n fit few run honest watched =
-    run_agrees alone no_line asked points n [] none_stood run
-    (run_stood alone connects no_line asked points n fit (omega (arith, few)) none_stood run honest) honest none_watched
-    watched none_agreed
+    run_agrees alone no_line asked points n [] fit (omega (arith, few)) none_stood run
+    (run_stood alone connects no_line asked points n fit
+    (omega (arith, few)) none_stood run honest) honest none_watched
+    watched none_agreed none_never
 
 -- ---- the next line behind a run
 
 -- behind a whole run
-behind_run : (alone : SaysAlone) (s : LineState) (asked : List ScriptLine) (points : List Point) (past : List Happening)
-    → ConnectsBear → AllByRecursion IsFitLine asked → s.lines + length asked ≤ 1000000 → Stood s → IsRun s asked points
+behind_run : (alone : SaysAlone) (s : LineState) (asked : List ScriptLine) (points : List Point)
+    (past : List Happening)
+    → ConnectsBear → AllByRecursion IsFitLine asked → s.lines + length asked ≤ 1000000 → Stood s
+    → IsRun s asked points
     → has_lie points ≡ false → IsWatched s → AreWatched points → ((id : ℕ) → Agreed id s past)
+    → ((id j : ℕ) → Never id j s past)
     → Stood (state_behind s points) × (IsWatched (state_behind s points)
-    × ((id : ℕ) → Agreed id (state_behind s points) (past ++ all_told points)))
-behind_run alone s [] [] past connects fit few was run honest watched seen agreed =
-    (was, (watched, λ id. subst (λ (ts : List Happening). Agreed id s ts) (sym (append-nil past)) (agreed id)))
-behind_run alone s [] (point ∷ points) past connects fit few was run honest watched seen agreed = absurd run
-behind_run alone s (line ∷ asked) [] past connects fit few was run honest watched seen agreed = absurd run
-behind_run alone s (line ∷ asked) (point ∷ points) past connects fit few was run honest watched seen agreed =
-    let first : tells_lie point.told ≡ false = or_first (tells_lie point.told) (has_lie points) honest in
+    × (((id : ℕ) → Agreed id (state_behind s points) (past ++ all_told points))
+    × ((id j : ℕ) → Never id j (state_behind s points) (past ++ all_told points))))
+behind_run alone s [] [] past connects fit few was run honest watched seen agreed never = (
+  was,
+  (
+    watched,
+    (
+      λ id. subst (λ (ts : List Happening). Agreed id s ts) (sym (append-nil past))
+          (agreed id),
+      λ id j. subst (λ (ts : List Happening). Never id j s ts) (sym (append-nil past))
+          (never id j),
+    ),
+  ),
+)
+behind_run alone s []
+    (point ∷ points) past connects fit few was run honest watched seen agreed never = absurd run
+behind_run alone s (line ∷ asked) [] past connects fit few was run honest watched seen agreed never
+    = absurd run
+behind_run alone s (line ∷ asked)
+    (point ∷ points) past connects fit few was run honest watched seen agreed never =
+    let first : tells_lie point.told ≡ false =
+    or_first (tells_lie point.told) (has_lie points) honest in
     let rest : has_lie points ≡ false = or_second (tells_lie point.told) (has_lie points) honest in
     let here : s.lines + 1 ≤ 1000000 = omega (arith, few) in
     let stood : Stood point.after =
-    line_stood alone connects (s.lines + 1) line s point.after point.told refl here fit.0 first was run.0 in
+    line_stood alone connects
+    (s.lines + 1) line s point.after point.told refl here fit.0 first was run.0 in
     let left : point.after.lines + length asked ≤ 1000000 =
     omega (arith, few, lines_after (s.lines + 1) line s point.after point.told run.0) in
     let next : (id : ℕ) → Agreed id point.after (past ++ point.told) =
-    λ id. steps_agree alone id (s.lines + 1) line s point.after point.told past was stood (lines_few point.after stood)
+    λ id. steps_agree alone id (s.lines + 1) line s point.after point.told past was stood
+    (lines_few point.after stood)
     first watched seen.0 run.0 (agreed id) in
+    let once : (id j : ℕ) → Never id j point.after (past ++ point.told) =
+    λ id j. next_never alone id j
+    (s.lines + 1) line s point.after point.told past here fit.0 was run.0 (next id)
+    (never id j) in
+    let same = append_assoc past point.told (all_told points) in
     let later =
-    behind_run alone point.after asked points (past ++ point.told) connects fit.1 left stood run.1 rest seen.0 seen.1 next in (
+    behind_run alone point.after asked points (past
+    ++ point.told) connects fit.1 left stood run.1 rest seen.0 seen.1 next
+    once in (
       later.0,
       (
         later.1.0,
-        λ id.
-            subst (λ (ts : List Happening). Agreed id (state_behind point.after points) ts)
-            (append_assoc past point.told (all_told points)) (later.1.1 id),
+        (
+          λ id. subst
+              (λ (ts : List Happening). Agreed id (state_behind point.after points) ts) same
+              (later.1.1.0 id),
+          λ id j. subst
+              (λ (ts : List Happening). Never id j (state_behind point.after points) ts) same
+              (later.1.1.1 id j),
+        ),
       ),
     )
 
 -- a run whose last line remembers no lie told none
-honest_run : (asked : List ScriptLine) (points : List Point) (s : LineState) → IsRun no_line asked points
+honest_run : (asked : List ScriptLine) (points : List Point) (s : LineState)
+    → IsRun no_line asked points
     → state_behind no_line points ≡ s → s.unvouched ≡ None → has_lie points ≡ false
 honest_run asked points s run behind none =
     sym (lies_remembered asked points run)
@@ -337,15 +429,19 @@ lies_first : (points : List Point) (point : Point) → has_lie (points ++ point 
 lies_first [] point is = (refl, or_first (tells_lie point.told) false is)
 lies_first (first ∷ points) point is =
     let here = or_first (tells_lie first.told) (has_lie (points ++ point ∷ [])) is in
-    let rest = lies_first points point (or_second (tells_lie first.told) (has_lie (points ++ point ∷ [])) is) in
+    let rest =
+    lies_first points point
+    (or_second (tells_lie first.told) (has_lie (points ++ point ∷ [])) is) in
     (none_both (tells_lie first.told) (has_lie points) here rest.0, rest.1) where
       none_both : (a b : Bool) → a ≡ false → b ≡ false → (a || b) ≡ false
       none_both false b one two = two
       none_both true b one two = one
 
-run_more : (s : LineState) (asked : List ScriptLine) (points : List Point) (line : ScriptLine) (point : Point)
+run_more : (s : LineState) (asked : List ScriptLine) (points : List Point) (line : ScriptLine)
+    (point : Point)
     → IsRun s asked points
-    → LineSteps ((state_behind s points).lines + 1) line (state_behind s points) point.after point.told
+    → LineSteps ((state_behind s points).lines + 1) line
+    (state_behind s points) point.after point.told
     → IsRun s (asked ++ line ∷ []) (points ++ point ∷ [])
 run_more s [] [] line point run steps = (steps, tt)
 run_more s [] (first ∷ points) line point run steps = absurd run
@@ -363,39 +459,62 @@ run_lines s (line ∷ asked) (point ∷ points) run =
     let one = lines_after (s.lines + 1) line s point.after point.told run.0 in
     omega (arith, later, one)
 
-last_behind : (s : LineState) (points : List Point) (point : Point) → state_behind s (points ++ point ∷ []) ≡ point.after
+last_behind : (s : LineState) (points : List Point) (point : Point)
+    → state_behind s (points ++ point ∷ []) ≡ point.after
 last_behind s [] point = refl
 last_behind s (first ∷ points) point = last_behind first.after points point
 
-next_agrees : (alone : SaysAlone) → ConnectsBear → (line : ScriptLine) (after : LineState) (told : List Happening)
-    (asked : List ScriptLine) (points : List Point) → AllByRecursion IsFitLine asked → IsFitLine line
+next_agrees : (alone : SaysAlone) → ConnectsBear
+    → (line : ScriptLine) (after : LineState) (told : List Happening)
+    (asked : List ScriptLine) (points : List Point) → AllByRecursion IsFitLine asked
+    → IsFitLine line
     → (state_behind no_line points).lines + 1 ≤ 1000000 → IsRun no_line asked points
-    → LineSteps ((state_behind no_line points).lines + 1) line (state_behind no_line points) after told
-    → after.unvouched ≡ None → AreWatched points → IsWatched after → (id : ℕ) → Agrees (all_told points ++ told) after id
-next_agrees alone connects line after told asked points fit fits few run steps none seen watched id =
+    → LineSteps ((state_behind no_line points).lines + 1) line
+    (state_behind no_line points) after told
+    → after.unvouched ≡ None → AreWatched points → IsWatched after → (id : ℕ)
+    → Agrees (all_told points ++ told) after id
+next_agrees alone connects line after told asked points fit fits few run steps none seen watched id
+    =
     let point : Point = record { told = told; after = after } in
     let whole : IsRun no_line (asked ++ line ∷ []) (points ++ point ∷ []) =
     run_more no_line asked points line point run steps in
     let honest : has_lie (points ++ point ∷ []) ≡ false =
-    honest_run (asked ++ line ∷ []) (points ++ point ∷ []) after whole (last_behind no_line points point) none in
+    honest_run (asked ++ line ∷ []) (points ++ point ∷ []) after whole
+    (last_behind no_line points point) none in
     let parts = lies_first points point honest in
-    let count : (state_behind no_line points).lines ≡ 0 + length asked = run_lines no_line asked points run in
+    let count : (state_behind no_line points).lines ≡ 0 + length asked =
+    run_lines no_line asked points run in
     let within : 0 + length asked ≤ 1000000 = omega (arith, count, few) in
-    let before = behind_run alone no_line asked points [] connects fit within none_stood run parts.0 none_watched seen none_agreed in
+    let before =
+    behind_run alone no_line asked points [] connects fit within none_stood run parts.0
+    none_watched seen none_agreed
+    none_never in
     let stood : Stood after =
-    line_stood alone connects ((state_behind no_line points).lines + 1) line (state_behind no_line points) after told refl
+    line_stood alone connects ((state_behind no_line points).lines + 1) line
+    (state_behind no_line points) after told refl
     few fits parts.1 before.0 steps in
-    agrees_of stood.trace id after (all_told points ++ told) stood.stands (one_standing_of stood.trace after stood.stands)
-    (steps_agree alone id ((state_behind no_line points).lines + 1) line (state_behind no_line points) after told
-    (all_told points) before.0 stood (lines_few after stood) parts.1 before.1.0 watched steps (before.1.1 id))
+    let next : Agreed id after (all_told points ++ told) =
+    steps_agree alone id ((state_behind no_line points).lines + 1) line
+    (state_behind no_line points) after told
+    (all_told points) before.0 stood (lines_few after stood) parts.1 before.1.0 watched steps
+    (before.1.1.0 id) in
+    agrees_of stood.trace id after (all_told points ++ told) stood.stands
+    (one_standing_of stood.trace after stood.stands)
+    next
+    (λ j.
+    next_never alone id j ((state_behind no_line points).lines + 1) line
+    (state_behind no_line points) after told
+    (all_told points) few fits before.0 steps next (before.1.1.1 id j))
 
 -- THE LAW of a line
 pub agrees_along : SaysAlone → ConnectsBear → AgreesAlong
 agrees_along alone connects line before after told few fits steps none = record {
   behind = λ asked points fit run behind seen watched id.
-      (let at : LineSteps ((state_behind no_line points).lines + 1) line (state_behind no_line points) after told =
+      (let at : LineSteps ((state_behind no_line points).lines + 1) line
+      (state_behind no_line points) after told =
       subst (λ (s : LineState). LineSteps (s.lines + 1) line s after told) (sym behind) steps in
       let within : (state_behind no_line points).lines + 1 ≤ 1000000 =
       subst (λ (s : LineState). s.lines + 1 ≤ 1000000) (sym behind) few in
-      next_agrees alone connects line after told asked points fit fits within run at none seen watched id);
+      next_agrees alone connects line after told asked points fit fits within run at none seen
+      watched id);
 }

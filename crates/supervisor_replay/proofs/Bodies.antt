@@ -17,8 +17,9 @@ use Rattle.custody.specs.Words.{events_at}
 use Rattle.standings.specs.Marks.{has_id, is_held}
 use Rattle.line_report.specs.declared.happening.Happening.TheVariants as happenings
 use Rattle.line_history.proofs.Stepping.{IsJustStarted}
-use Rattle.supervisor_replay.specs.Replay.{Told, left_with, nothing_told, with_happening}
-use Rattle.supervisor_replay.proofs.Views.{View}
+use Rattle.supervisor_replay.specs.Replay.{Told, nothing_told, with_happening}
+use Rattle.supervisor_replay.proofs.Since.{since_with}
+use Rattle.supervisor_replay.proofs.Views.{IsFrom, View}
 
 -- ---- what a machine's acts tell of an id
 
@@ -30,7 +31,7 @@ told_acts id machine (act ∷ others) told =
 abbrev pub left_acts : ℕ → ℕ → ℕ → List Act → Bool → Bool
 left_acts gap id machine [] left = left
 left_acts gap id machine (act ∷ others) left =
-    left_acts gap id machine others (left_with gap id (happenings.Done machine act) left)
+    left_acts gap id machine others (since_with gap id (happenings.Done machine act) left)
 
 -- ---- a machine, as a view has it
 
@@ -92,9 +93,11 @@ pub record IsBeside (id j : ℕ) (place : Place) (v : View) (told : Told) (left 
   pub upstream : is_upstream place ≡ true → v.taken (j + 1) ≡ true
       → (v.missing (j + 1) ≡ false) × ((v.held j ≡ true → v.leaving j ≡ false) × (v.held j ≡ false → v.off ≡ false → v.kept j ≡ true))
   pub away : is_away place ≡ true → v.taken (j + 1) ≡ true → v.missing (j + 1) ≡ true
-  -- what settled, so that the intake holds it no more or holds it anew, the one above has not
+  -- what settled, so that the intake holds it no more or holds it anew, the one above has not, and
+  -- it is on the floor
   pub alone : v.taken (j + 1) ≡ true → (takes_it id now ≡ false) ⊎ IsJustStarted now.intake.phase
-      → (keeps_it id now ≡ true) ⊎ (holds_it id now ≡ true) → (v.kept j ≡ false) × (v.held j ≡ false)
+      → (keeps_it id now ≡ true) ⊎ (holds_it id now ≡ true)
+      → (v.kept j ≡ false) × ((v.held j ≡ false) × (off ≡ false))
   -- nothing is known of an id that comes by hand
   pub new : list_any (brings_in id) made ≡ true
       → (told ≡ nothing_told) × (((i : ℕ) → left i ≡ false) × (((i : ℕ) → v.kept i ≡ false) × (((i : ℕ) → v.held i ≡ false) × ((i : ℕ) → v.taken i ≡ false))))
@@ -102,3 +105,5 @@ pub record IsBeside (id j : ℕ) (place : Place) (v : View) (told : Told) (left 
   pub still : list_any (takes_out id) made ≡ false → list_any (brings_in id) made ≡ false → off ≡ v.off
   -- a start is of a board that is on the floor where the outlet above holds it
   pub there : takes_it id now ≡ true → IsJustStarted now.intake.phase → v.held j ≡ true → off ≡ false
+  -- and of one that the machine above keeps or holds, or that is off the floor
+  pub from : takes_it id now ≡ true → IsJustStarted now.intake.phase → IsFrom j v off

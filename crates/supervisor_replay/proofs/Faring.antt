@@ -1,9 +1,9 @@
 -- What was told of a board stays right, whatever becomes of it.
-use Rattle.std.proofs.Common.{◌≡◌, ◌≢◌, ◌⊎◌, ◌∙◌, ◌+◌, ℕ, Bool, true, false, inl, inr, refl, subst, sym, ap, arith, eq-eqb, ne_eqb}
+use Rattle.std.proofs.Common.{◌≡◌, ◌≢◌, ◌≤◌, ◌⊎◌, ◌∙◌, ◌+◌, ℕ, Bool, true, false, inl, inr, refl, subst, sym, ap, arith, eq-eqb, ne_eqb}
 use Rattle.hermes_vertical.specs.declared.message.Passing.TheVariants.{ByHand, Transferred}
 use Rattle.line_step.proofs.Numbers.{same_or_not}
 use Rattle.supervisor_replay.specs.Replay.{At, Nowhere, Told, Way, Whereabouts, departs, nothing_told, on_its_way, taken_from}
-use Rattle.supervisor_replay.proofs.Views.{Fares, HasAsBefore, HasNone, Holds, IsApart, IsMoved, IsPlaced, IsSame, IsSole, IsStarted, Same, SetAt, TakesAsBefore, View, fares_leaves, fares_lost, fares_missing, fares_new, fares_removed, fares_settles, fares_so, fares_upstream, has_none, kept_or_held}
+use Rattle.supervisor_replay.proofs.Views.{Fares, HasAsBefore, HasNone, Holds, IsApart, IsFrom, IsMoved, IsPlaced, IsSame, IsSole, IsStarted, Same, SetAt, TakesAsBefore, View, fares_leaves, fares_lost, fares_missing, fares_new, fares_removed, fares_settles, fares_so, fares_upstream, has_none, kept_or_held}
 
 -- ---- the same, of machines that have the board, in their list or at their outlet
 
@@ -59,8 +59,21 @@ right_of v told left h = record {
   over = λ i left taken. has_not v i (h.over i left taken).0 (h.over i left taken).1;
 }
 
-holds_of : (v : View) (told : Told) (left : ℕ → Bool) → Right v told left → Holds v told left
-holds_of v told left r = record {
+-- what has left is at no machine above, nor taken there but where it is off the floor
+record HasPassed (v : View) (left : ℕ → Bool) : Type 0 where
+  has : (k i : ℕ) → left k ≡ true → i ≤ k → Has v i → ⊥
+  takes : (k i : ℕ) → left k ≡ true → i ≤ k → v.taken i ≡ true → v.off ≡ true
+
+passed_of : (v : View) (told : Told) (left : ℕ → Bool) → Holds v told left → HasPassed v left
+passed_of v told left h = record {
+  has = λ k i gone above.
+      has_not v i (h.behind k gone i above).0 (h.behind k gone i above).1.0;
+  takes = λ k i gone above. (h.behind k gone i above).1.1;
+}
+
+holds_of : (v : View) (told : Told) (left : ℕ → Bool) → Right v told left → HasPassed v left
+    → Holds v told left
+holds_of v told left r passed = record {
   kept_at = λ i is. r.has_at i (inl is);
   held_at = λ i is. r.has_at i (inr is);
   at = λ i place not. elim (r.at_has i place) [ inl is ↦ absurd (not_both is not) | inr is ↦ is ];
@@ -73,6 +86,10 @@ holds_of v told left r = record {
   over = λ i left taken. (
     is_false (v.kept i) (λ is. r.over i left taken (inl is)),
     is_false (v.held i) (λ is. r.over i left taken (inr is)),
+  );
+  behind = λ k gone i above. (
+    is_false (v.kept i) (λ is. passed.has k i gone above (inl is)),
+    (is_false (v.held i) (λ is. passed.has k i gone above (inr is)), passed.takes k i gone above),
   );
 }
 
@@ -494,7 +511,7 @@ right_behind r sole placed apart (fares_leaves held leaving none takes off is se
     right_left r sole placed apart held leaving none takes off is set
 right_behind r sole placed apart (fares_lost held none takes off is same) =
     right_gone r sole apart (inr held) none takes (λ gone. off ∙ r.off gone) is same
-right_behind r sole placed apart (fares_settles taken kept held free has off is same) =
+right_behind r sole placed apart (fares_settles taken kept held on free has off is same) =
     right_settled r sole apart taken kept held has off is
 right_behind r sole placed apart (fares_missing taken missing has free off is same) =
     right_missing r sole placed apart taken missing has free off is same
@@ -505,11 +522,101 @@ right_behind r sole placed apart (fares_new nothing none kept held taken has fre
 right_behind r sole placed apart (fares_removed kept none takes off is same) =
     right_gone r sole apart (inl kept) none takes (λ _. off) is same
 
+-- ---- what has left stays below
+
+-- the machines have no more than before, and the board doesn't come back to the floor
+passed_less : {v w : View} {left left2 : ℕ → Bool} → HasPassed v left
+    → ((i : ℕ) → Has w i → Has v i) → ((i : ℕ) → w.taken i ≡ true → v.taken i ≡ true)
+    → (v.off ≡ true → w.off ≡ true) → Same left left2 → HasPassed w left2
+passed_less passed has takes off same = record {
+  has = λ k i gone above it. passed.has k i (sym (same k) ∙ gone) above (has i it);
+  takes = λ k i gone above it. off (passed.takes k i (sym (same k) ∙ gone) above (takes i it));
+}
+
+-- its machine has it no more
+was_before : {j : ℕ} {v w : View} → IsApart j v w → HasNone j w → (i : ℕ) → Has w i → Has v i
+was_before {j} {v} {w} apart none =
+    at_machine {P = λ i. Has w i → Has v i} (j + 1)
+    (λ it. absurd (has_not w (j + 1) none.kept none.held it)) (was_there apart)
+
+passed_so : {j : ℕ} {v w : View} {left left2 : ℕ → Bool} → HasPassed v left → IsApart j v w
+    → HasAsBefore j v w → ((i : ℕ) → w.taken i ≡ true → v.taken i ≡ true) → w.off ≡ v.off
+    → Same left left2 → HasPassed w left2
+passed_so {v = v} {w = w} passed apart has takes off same =
+    let stays : Stays v w = stays_of apart has in
+    passed_less passed stays.was takes (λ is. off ∙ is) same
+
+passed_gone : {j : ℕ} {v w : View} {left left2 : ℕ → Bool} → HasPassed v left → IsApart j v w
+    → HasNone j w → TakesAsBefore j v w → (v.off ≡ true → w.off ≡ true) → Same left left2
+    → HasPassed w left2
+passed_gone passed apart none takes off same =
+    passed_less passed (was_before apart none)
+    (λ i is. sym (taken_same apart takes i) ∙ is) off same
+
+-- it leaves: no machine has it, and only the intake below takes it
+passed_left : {j : ℕ} {v w : View} {told : Told} {left left2 : ℕ → Bool} → Right v told left
+    → HasPassed v left → IsSole v → IsApart j v w → v.held (j + 1) ≡ true → HasNone j w
+    → TakesAsBefore j v w → w.off ≡ v.off → SetAt (j + 1) true left left2 → HasPassed w left2
+passed_left {j} {v} {w} {left = left} {left2 = left2} r passed sole apart held none takes off set =
+    record {
+      has = λ k i gone above it. none_behind r apart (inr held) none i it;
+      takes = λ k i gone above is. elim (same_or_not k (j + 1)) [
+        | inl here ↦ absurd (let at : i ≡ j + 1 + 1 = sole.held_above (j + 1) i held (before i is)
+            in omega (arith, at, here, above))
+        | inr other ↦
+            off ∙ passed.takes k i (sym (set.there k other) ∙ gone) above (before i is)
+      ];
+    }
+  where
+    before : (i : ℕ) → w.taken i ≡ true → v.taken i ≡ true
+    before i is = sym (taken_same apart takes i) ∙ is
+
+-- it settles: it is on the floor, so it has not left below
+passed_settled : {j : ℕ} {v w : View} {left left2 : ℕ → Bool} → HasPassed v left → IsApart j v w
+    → v.taken (j + 1) ≡ true → v.off ≡ false → w.taken (j + 1) ≡ false → w.off ≡ v.off
+    → Same left left2 → HasPassed w left2
+passed_settled {j} {v} {w} {left} {left2} passed apart taken on free off same = record {
+  has = λ k i gone above it. elim (same_or_not i (j + 1)) [
+    | inl here ↦ not_both (passed.takes k i (was k gone) above (ap v.taken here ∙ taken)) on
+    | inr other ↦ passed.has k i (was k gone) above (was_there apart i other it)
+  ];
+  takes = λ k i gone above is.
+      off ∙ passed.takes k i (was k gone) above (taken_before apart free i is);
+}
+  where
+    was : (k : ℕ) → left2 k ≡ true → left k ≡ true
+    was k gone = sym (same k) ∙ gone
+
+passed_behind : {j : ℕ} {v w : View} {told told2 : Told} {left left2 : ℕ → Bool}
+    → Right v told left → HasPassed v left → IsSole v → IsApart j v w → Fares j v w told told2 left left2
+    → HasPassed w left2
+passed_behind r passed sole apart (fares_so has takes off is same) =
+    passed_so passed apart has (λ i on. sym (taken_same apart takes i) ∙ on) off same
+passed_behind r passed sole apart (fares_leaves held leaving none takes off is set) =
+    passed_left r passed sole apart held none takes off set
+passed_behind r passed sole apart (fares_lost held none takes off is same) =
+    passed_gone passed apart none takes (λ gone. off ∙ gone) same
+passed_behind r passed sole apart (fares_settles taken kept held on free has off is same) =
+    passed_settled passed apart taken on free off same
+passed_behind r passed sole apart (fares_missing taken missing has free off is same) =
+    passed_so passed apart has (taken_before apart free) off same
+passed_behind r passed sole apart (fares_upstream taken missing stays there has free off is same) =
+    passed_so passed apart has (taken_before apart free) off same
+passed_behind r passed sole apart (fares_new nothing none kept held taken has free is same) =
+    record {
+      has = λ k i gone above it. not_both (sym (same k) ∙ gone) (none k);
+      takes = λ k i gone above it. absurd (not_both (sym (same k) ∙ gone) (none k));
+    }
+passed_behind r passed sole apart (fares_removed kept none takes off is same) =
+    passed_gone passed apart none takes (λ gone. off) same
+
 pub faring : (j : ℕ) (v w : View) (told told2 : Told) (left left2 : ℕ → Bool) → Holds v told left
     → IsSole v → IsPlaced v → IsApart j v w → Fares j v w told told2 left left2
     → Holds w told2 left2
 faring j v w told told2 left left2 h sole placed apart fares =
-    holds_of w told2 left2 (right_behind (right_of v told left h) sole placed apart fares)
+    let r : Right v told left = right_of v told left h in
+    holds_of w told2 left2 (right_behind r sole placed apart fares)
+    (passed_behind r (passed_of v told left h) sole apart fares)
 
 -- ---- a start at its end
 
@@ -570,10 +677,35 @@ right_started {j} {v} {w} {told} {left} {left2} r started on = record {
     taken : (i : ℕ) → i ≢ j → w.taken (i + 1) ≡ v.taken (i + 1)
     taken i other = started.others (i + 1) (λ gap. other (same_gap i j gap))
 
+-- what has left below is started but where it is off the floor
+passed_started : {j : ℕ} {v w : View} {left left2 : ℕ → Bool} → HasPassed v left
+    → IsStarted j v w left left2 → HasPassed w left2
+passed_started {j} {v} {w} {left} {left2} passed started = record {
+  has = λ k i gone above it. passed.has k i (was k gone) above (stays.was i it);
+  takes = λ k i gone above is. started.off ∙ elim (same_or_not i (j + 1)) [
+    | inl here ↦ off_by k (was k gone) (omega (arith, above, here)) started.from
+    | inr other ↦ passed.takes k i (was k gone) above (sym (started.others i other) ∙ is)
+  ];
+}
+  where
+    stays : Stays v w
+    stays = has_same started.kept started.held
+
+    was : (k : ℕ) → left2 k ≡ true → left k ≡ true
+    was k gone =
+        let other : k ≢ j = λ here. not_both (sym (ap left2 here) ∙ gone) started.cleared.here in
+        sym (started.cleared.there k other) ∙ gone
+
+    off_by : (k : ℕ) → left k ≡ true → j ≤ k → IsFrom j v v.off → v.off ≡ true
+    off_by k gone above (inl kept) = absurd (passed.has k j gone above (inl kept))
+    off_by k gone above (inr (inl held)) = absurd (passed.has k j gone above (inr held))
+    off_by k gone above (inr (inr off)) = off
+
 pub starting : (j : ℕ) (v w : View) (told : Told) (left left2 : ℕ → Bool) → Holds v told left
     → IsStarted j v w left left2 → (w.kept j ≡ true → w.off ≡ false) → Holds w told left2
 starting j v w told left left2 h started on =
     holds_of w told left2 (right_started (right_of v told left h) started on)
+    (passed_started (passed_of v told left h) started)
 
 -- ---- a move on the floor
 
@@ -605,6 +737,8 @@ moving v w told left h sole placed moved =
       | inr on ↦ placed.beyond i held leaving on
     ])
     (sees_it r sole moved))
+    (passed_less (passed_of v told left h) stays.was (λ i is. sym (moved.taken i) ∙ is) moved.off
+    (λ _. refl))
   where
     r : Right v told left
     r = right_of v told left h
@@ -625,6 +759,8 @@ holds_as v w told left left2 same lefts h =
     (λ i held leaving there. same.taken (i + 1)
     ∙ r.leaves i (sym (same.held i) ∙ held) (sym (same.leaving i) ∙ leaving) there)
     (λ i place gone. same.missing (i + 1) ∙ r.on_floor i place (sym same.off ∙ gone)))
+    (passed_less (passed_of v told left h) stays.was (λ i is. sym (same.taken i) ∙ is)
+    (λ is. same.off ∙ is) lefts)
   where
     r : Right v told left
     r = right_of v told left h
@@ -643,7 +779,7 @@ had_before {j} {w = w} apart same (fares_leaves _ _ none _ _ _ _) k taken it =
     absurd (has_not w (j + 1) none.kept none.held it)
 had_before {j} {w = w} apart same (fares_lost _ none _ _ _ _) k taken it =
     absurd (has_not w (j + 1) none.kept none.held it)
-had_before apart same (fares_settles before _ _ free _ _ _ _) k taken it =
+had_before apart same (fares_settles before _ _ _ free _ _ _ _) k taken it =
     absurd (not_both (same ∙ before) free)
 had_before apart same (fares_missing before _ _ free _ _ _) k taken it =
     absurd (not_both (same ∙ before) free)
@@ -716,7 +852,7 @@ is_where : {j : ℕ} {v w : View} {told told2 : Told} {left left2 : ℕ → Bool
 is_where sole apart same (fares_so _ takes off _ _) = there_so apart takes off
 is_where sole apart same (fares_leaves _ _ _ takes off _ _) = there_so apart takes off
 is_where sole apart same (fares_lost _ _ takes off _ _) = there_so apart takes off
-is_where sole apart same (fares_settles before _ _ free _ _ _ _) =
+is_where sole apart same (fares_settles before _ _ _ free _ _ _ _) =
     absurd (not_both (same ∙ before) free)
 is_where sole apart same (fares_missing before _ _ free _ _ _) =
     absurd (not_both (same ∙ before) free)

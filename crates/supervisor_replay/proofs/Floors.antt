@@ -1,34 +1,5 @@
 -- Whether a board of an id is on the floor, behind a line: it comes by its insertion and goes by its removal alone.
-use Rattle.std.proofs.Common.{
-  ◌≡◌,
-  ◌≢◌,
-  ◌≤◌,
-  ◌∙◌,
-  ◌⊎◌,
-  ◌+◌,
-  ◌++◌,
-  ◌==◌,
-  ◌||◌,
-  ℕ,
-  Bool,
-  true,
-  false,
-  List,
-  [],
-  ◌∷◌,
-  Option,
-  Some,
-  None,
-  inl,
-  inr,
-  refl,
-  sym,
-  ap,
-  subst,
-  arith,
-  eqb-true,
-  ne_eqb,
-}
+use Rattle.std.proofs.Common.{◌≡◌, ◌≤◌, ◌==◌, ◌||◌, ℕ, Bool, true, false, List, [], ◌∷◌, Option, Some, None, refl, sym, subst, arith, eqb-true}
 use Rattle.std.specs.List.{list_any}
 use Rattle.line_base.specs.declared.states.Side.TheVariants.{Entry, Exit}
 use Rattle.line_world.specs.Boards.{ChangesId, LosesBoard}

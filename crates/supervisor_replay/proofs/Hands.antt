@@ -1,33 +1,7 @@
 -- Which boards are put in and taken out by hand in a machine's step, and which of it the report tells.
-use Rattle.std.proofs.Common.{
-  ◌≡◌,
-  ◌∙◌,
-  ◌⊎◌,
-  ◌++◌,
-  ◌+◌,
-  ◌==◌,
-  ◌||◌,
-  ℕ,
-  Bool,
-  true,
-  false,
-  List,
-  [],
-  ◌∷◌,
-  Option,
-  Some,
-  None,
-  inl,
-  inr,
-  refl,
-  sym,
-  ap,
-  subst,
-  eqb-true,
-}
+use Rattle.std.proofs.Common.{◌≡◌, ◌∙◌, ◌++◌, ◌==◌, ◌||◌, ℕ, Bool, true, false, List, [], ◌∷◌, Option, Some, None, refl, sym, ap, subst, eqb-true}
 use Rattle.std.specs.List.{AllByRecursion, flat_map, list_any}
 use Rattle.std.proofs.lemmas.Bool.{false≢true}
-use Rattle.line_base.specs.declared.states.Quality.TheVariants as qualities
 use Rattle.line_base.specs.declared.states.Side.{Side}
 use Rattle.line_base.specs.declared.states.Side.TheVariants.{Entry, Exit}
 use Rattle.board_record.specs.declared.sensed.Sensed.{Sensed}
@@ -66,7 +40,7 @@ use Rattle.node_core.specs.Event.{
 }
 use Rattle.node_core.specs.Reads.{all_read}
 use Rattle.node_core.specs.Step.{plain_step}
-use Rattle.node_core.specs.Supervising.{supervises, watch_of, with_tells}
+use Rattle.node_core.specs.Supervising.{supervises, watch_of}
 use Rattle.node_core.specs.declared.act.Act.{Act}
 use Rattle.node_core.specs.declared.act.Act.TheVariants as acts
 use Rattle.node_core.specs.declared.act.Signal.{Signal}

@@ -12,13 +12,8 @@ use Rattle.node_core.specs.declared.act.Act.{Act}
 use Rattle.node_core.specs.declared.act.Act.TheVariants as acts
 use Rattle.line_step.specs.Acts.{Effect, act_did, acts_did, answers, cut_told, sent_by}
 use Rattle.line_step.specs.World.{WorldParts, end_of, link_at, link_of}
-use Rattle.supervisor_replay.specs.Replay.{
-  Told,
-  left_after,
-  left_with,
-  told_after,
-  with_happening,
-}
+use Rattle.supervisor_replay.specs.Replay.{Told, told_after, with_happening}
+use Rattle.supervisor_replay.proofs.Since.{since_after, since_with}
 use Rattle.supervisor_replay.proofs.Bodies.{left_acts, told_acts}
 
 -- ---- happenings behind others
@@ -30,11 +25,11 @@ after_append id (happening ∷ first) second told =
     after_append id first second (with_happening id happening told)
 
 pub left_after_append : (gap id : ℕ) (first second : List Happening) (left : Bool)
-    → left_after gap id (first ++ second) left
-    ≡ left_after gap id second (left_after gap id first left)
+    → since_after gap id (first ++ second) left
+    ≡ since_after gap id second (since_after gap id first left)
 left_after_append gap id [] second left = refl
 left_after_append gap id (happening ∷ first) second left =
-    left_after_append gap id first second (left_with gap id happening left)
+    left_after_append gap id first second (since_with gap id happening left)
 
 -- ---- an act
 
@@ -46,7 +41,7 @@ cut_silent id link sent.Flows told = refl
 cut_silent id link sent.Vanishes told = refl
 
 cut_keeps : (gap id link : ℕ) (how : Sent) (left : Bool)
-    → left_after gap id (cut_told link how) left ≡ left
+    → since_after gap id (cut_told link how) left ≡ left
 cut_keeps gap id link sent.Cuts left = refl
 cut_keeps gap id link sent.Flows left = refl
 cut_keeps gap id link sent.Vanishes left = refl
@@ -62,7 +57,7 @@ sends_silent id machine false side message world told =
 
 sends_keep : (gap id machine : ℕ) (test : Bool) (side : Side) (message : Message)
     (world : WorldParts) (left : Bool)
-    → left_after gap id (sent_by test machine side message world).told left ≡ left
+    → since_after gap id (sent_by test machine side message world).told left ≡ left
 sends_keep gap id machine true side message world left =
     cut_keeps gap id machine (answer_sent (canonical message) (link_at machine world)) left
 sends_keep gap id machine false side message world left =
@@ -78,8 +73,8 @@ act_told id machine second (acts.Drive side on) world told = refl
 act_told id machine second _ world told = refl
 
 act_left : (gap id machine : ℕ) (second : Bool) (act : Act) (world : WorldParts) (left : Bool)
-    → left_after gap id (act_did second machine act world).told left
-    ≡ left_with gap id (happenings.Done machine act) left
+    → since_after gap id (act_did second machine act world).told left
+    ≡ since_with gap id (happenings.Done machine act) left
 act_left gap id machine second (acts.Sends side message) world left =
     sends_keep gap id machine (answers second side message) side message world left
 act_left gap id machine second (acts.Drive side on) world left = refl
@@ -102,13 +97,13 @@ acts_told id machine second (act ∷ made) world told =
 
 pub acts_left : (gap id machine : ℕ) (second : Bool) (made : List Act) (world : WorldParts)
     (left : Bool)
-    → left_after gap id (acts_did second machine made world).told left
+    → since_after gap id (acts_did second machine made world).told left
     ≡ left_acts gap id machine made left
 acts_left gap id machine second [] world left = refl
 acts_left gap id machine second (act ∷ made) world left =
     let one : Effect = act_did second machine act world in
     let rest : List Happening = (acts_did second machine made one.world).told in
     left_after_append gap id one.told rest left
-    ∙ ap (left_after gap id rest) (act_left gap id machine second act world left)
+    ∙ ap (since_after gap id rest) (act_left gap id machine second act world left)
     ∙ acts_left gap id machine second made one.world
-    (left_with gap id (happenings.Done machine act) left)
+    (since_with gap id (happenings.Done machine act) left)

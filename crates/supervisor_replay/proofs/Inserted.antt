@@ -1,25 +1,5 @@
 -- A board that is inserted is kept behind the step.
-use Rattle.std.proofs.Common.{
-  ◌≡◌,
-  ◌∙◌,
-  ◌++◌,
-  ◌||◌,
-  ◌==◌,
-  ℕ,
-  Bool,
-  true,
-  false,
-  List,
-  [],
-  ◌∷◌,
-  Option,
-  Some,
-  None,
-  refl,
-  sym,
-  ap,
-  eq-eqb,
-}
+use Rattle.std.proofs.Common.{◌≡◌, ◌∙◌, ◌++◌, ◌||◌, ◌==◌, ℕ, Bool, true, false, List, [], ◌∷◌, Option, Some, None, refl, ap, eq-eqb}
 use Rattle.std.specs.Prelude.{slice_get}
 use Rattle.board_record.specs.declared.record.Record.{Record}
 use Rattle.board_record.specs.declared.sensed.Sensed.{Sensed}
@@ -33,24 +13,7 @@ use Rattle.handover_out.specs.State.{OutState}
 use Rattle.handover_out.specs.Table.{IsOutletRow, offers as offers_row, revokes}
 use Rattle.handover_out.specs.declared.input.OutInput.TheVariants as out_input
 use Rattle.handover_out.proofs.Rows.{row_is}
-use Rattle.node_core.specs.Announces.{
-  announces,
-  offer,
-  offer_by,
-  offers_now,
-  readies_now,
-  ready,
-  ready_by,
-  revoke,
-  revoke_by,
-  revokes_now,
-  start,
-  start_by,
-  starts_now,
-  unreadies_now,
-  unready,
-  unready_by,
-}
+use Rattle.node_core.specs.Announces.{announces, offer, offer_by, offers_now, readies_now, ready, ready_by, revoke, revoke_by, revokes_now, start_by, starts_now, unreadies_now, unready, unready_by}
 use Rattle.node_core.specs.Desk.{Desk}
 use Rattle.node_core.specs.Event.{Insert, event_did}
 use Rattle.node_core.specs.Halves.{given_back, intake_row_did, outlet_row_did, settled}

@@ -1,33 +1,5 @@
 -- A line in which a connection is made: both its machines make a step.
-use Rattle.std.proofs.Common.{
-  ◌≡◌,
-  ◌≢◌,
-  ◌≤◌,
-  ◌<◌,
-  ◌∙◌,
-  ◌⊎◌,
-  ◌++◌,
-  ◌+◌,
-  ◌-◌,
-  ◌==◌,
-  ℕ,
-  Bool,
-  true,
-  false,
-  List,
-  Option,
-  Some,
-  None,
-  inl,
-  inr,
-  refl,
-  sym,
-  ap,
-  subst,
-  arith,
-  not,
-  ltb-true,
-}
+use Rattle.std.proofs.Common.{◌≡◌, ◌≢◌, ◌<◌, ◌∙◌, ◌⊎◌, ◌++◌, ◌+◌, ◌-◌, ◌==◌, ℕ, Bool, true, false, List, Option, Some, None, inl, inr, refl, sym, ap, subst, arith, not, ltb-true}
 use Rattle.std.proofs.lemmas.Bool.{false≢true}
 use Rattle.line_base.specs.declared.states.Side.TheVariants.{Entry}
 use Rattle.line_world.specs.declared.board.Board.{Board}
@@ -53,7 +25,6 @@ use Rattle.line_step.specs.Reasons.{behind_own, has_neighbour, if_there, may_con
 use Rattle.line_step.specs.State.{LineState, machine_in}
 use Rattle.line_step.specs.Steps.{MachineSteps, moment_of, unread_by}
 use Rattle.line_step.specs.World.{link_at}
-use Rattle.line_step.proofs.FloorLaws.{Holds as FloorHolds}
 use Rattle.line_step.proofs.Makers.{IsOld}
 use Rattle.one_standing.specs.Carried.{Trace}
 use Rattle.one_standing.specs.Stands.{Stands}
@@ -65,8 +36,9 @@ use Rattle.one_standing.proofs.LineForms.{own_first, passed, there_may}
 use Rattle.one_standing.proofs.LineJoins.{still_connecting}
 use Rattle.line_history.proofs.Stepping.{IsJustStarted}
 use Rattle.line_history.proofs.View.{connecting_stand}
-use Rattle.supervisor_replay.specs.Replay.{Told, has_left, left_after, nothing_told, told_after, told_of}
-use Rattle.supervisor_replay.proofs.Bodies.{brings_in, holds_it, keeps_it, takes_it, takes_out}
+use Rattle.supervisor_replay.specs.Replay.{Told, nothing_told, told_after, told_of}
+use Rattle.supervisor_replay.proofs.Since.{left_since, since_after}
+use Rattle.supervisor_replay.proofs.Bodies.{holds_it, keeps_it, takes_it}
 use Rattle.supervisor_replay.proofs.Faring.{holds_as}
 use Rattle.supervisor_replay.proofs.Lines.{
   Agreed,
@@ -82,7 +54,7 @@ use Rattle.supervisor_replay.proofs.Lines.{
   unknown_parts,
 }
 use Rattle.supervisor_replay.proofs.Connecting.{connect_takes}
-use Rattle.supervisor_replay.proofs.Sights.{different_of, kept_on, placed_of, sole_of, view_of}
+use Rattle.supervisor_replay.proofs.Sights.{kept_on, placed_of, sole_of, view_of}
 use Rattle.supervisor_replay.proofs.Silent.{left_join, told_join}
 use Rattle.supervisor_replay.proofs.Stepped.{
   Around,
@@ -95,7 +67,7 @@ use Rattle.supervisor_replay.proofs.Stepped.{
   step_behind,
 }
 use Rattle.supervisor_replay.proofs.Turns.{handless_facts}
-use Rattle.supervisor_replay.proofs.Views.{Holds, IsPlaced, IsSole, View}
+use Rattle.supervisor_replay.proofs.Views.{Holds}
 
 -- ---- the first step: the machine that calls
 
@@ -169,6 +141,7 @@ call_around id number j t t2 before between next done past earlier told left c =
       out = λ is. absurd (none.0 is);
       still = λ out brought. same;
       there = λ holds started. absurd (never started);
+      from = λ takes started. absurd (never started);
       on = λ kept. same ∙ floor ∙ kept_on t before id (j + 1) p.st
           (sym (ap (λ (s : Stand). keeps_it id s.node.lane.body)
           (mine.others (j + 1) apart ∙ connecting_stand (j + 1) (j + 1 + 1) before)) ∙ kept);
@@ -183,7 +156,7 @@ known_next : (id j : ℕ) (start between next : LineState) (done : List Happenin
     → (IsMarked (view_of id between) (j + 1) → IsOld 1 next.machines id)
     → IsOld 1 next.machines id ⊎ ((told ≡ nothing_told) × ((gap : ℕ) → left gap ≡ false))
     → IsOld 1 next.machines id ⊎ ((told_after id done told ≡ nothing_told)
-    × ((gap : ℕ) → left_after gap id done (left gap) ≡ false))
+    × ((gap : ℕ) → since_after gap id done (left gap) ≡ false))
 known_next id j start between next done told left behind before after (inl old) = inl old
 known_next id j start between next done told left behind before after (inr un) =
     elim behind.known [
@@ -215,7 +188,7 @@ joined_by id number j input t t2 before between next done past earlier later c f
     let s : Starts before start = call_start j before still.boards in
     let same = same_start id before start s in
     let told : Told = told_of id past in
-    let left : ℕ → Bool = λ gap. has_left gap id past in
+    let left : ℕ → Bool = λ gap. left_since gap id past in
     let around = call_around id number j t t2 before between next done past earlier told left c in
     let one : Behind id (j + 1) start between earlier told left =
     step_behind id number (j + 1) inputs.Connect t before start between earlier told left c.first around
@@ -243,7 +216,7 @@ joined_by id number j input t t2 before between next done past earlier later c f
     let floor : (view_of id between).off ≡ (view_of id before).off =
     ap (λ (boards : List Board). counted id boards == 0) (then.boards ∙ still.boards) in
     let told1 : Told = told_after id earlier told in
-    let left1 : ℕ → Bool = λ gap. left_after gap id earlier (left gap) in
+    let left1 : ℕ → Bool = λ gap. since_after gap id earlier (left gap) in
     let two : Behind id j between next later told1 left1 =
     step_behind id number j input t before between next later told1 left1 second
     (last_around id number j input t t2 before between next later told1 left1 p.st p.st2 p.one2 own above floor second
@@ -261,10 +234,10 @@ joined_by id number j input t t2 before between next done past earlier later c f
     (λ now. old_mark t2 next id (j + 1) p.st2 now) first_known in
     agreed_by id next past done
     (both_holds (sym (ap (λ (ts : List Happening). told_after id ts told) is ∙ told_join id earlier later told))
-    (λ gap. ap (λ (ts : List Happening). left_after gap id ts (left gap)) is ∙ left_join gap id earlier later (left gap))
+    (λ gap. ap (λ (ts : List Happening). since_after gap id ts (left gap)) is ∙ left_join gap id earlier later (left gap))
     two.holds)
     (both_known (ap (λ (ts : List Happening). told_after id ts told) is ∙ told_join id earlier later told)
-    (λ gap. ap (λ (ts : List Happening). left_after gap id ts (left gap)) is ∙ left_join gap id earlier later (left gap))
+    (λ gap. ap (λ (ts : List Happening). since_after gap id ts (left gap)) is ∙ left_join gap id earlier later (left gap))
     second_known) where
       old_next : {U : Type 0} → IsOld 1 before.machines id ⊎ U → IsOld 1 next.machines id ⊎ U
       old_next (inl old) = inl (c.passing.goes.olds id old)

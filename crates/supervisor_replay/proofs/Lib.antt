@@ -26,3 +26,11 @@ pub mod Silence
 pub mod Starting
 pub mod Running
 pub mod Agreeing
+pub mod Free
+pub mod LinkDown
+pub mod Receiving
+pub mod Sending
+pub mod DownForms
+pub mod Leaves
+pub mod Never
+pub mod Since

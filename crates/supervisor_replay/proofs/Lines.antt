@@ -1,37 +1,6 @@
 -- A line of a script keeps what was told of an id right.
-use Rattle.std.proofs.Common.{
-  ◌≡◌,
-  ◌≢◌,
-  ◌≤◌,
-  ◌∙◌,
-  ◌⊎◌,
-  ◌++◌,
-  ◌+◌,
-  ◌-◌,
-  ◌==◌,
-  ◌||◌,
-  ℕ,
-  Bool,
-  true,
-  false,
-  List,
-  [],
-  ◌∷◌,
-  Option,
-  Some,
-  None,
-  Result,
-  Ok,
-  Err,
-  inl,
-  inr,
-  refl,
-  sym,
-  ap,
-  subst,
-  arith,
-}
-use Rattle.std.specs.List.{AllByRecursion, list_any}
+use Rattle.std.proofs.Common.{◌≡◌, ◌≢◌, ◌∙◌, ◌⊎◌, ◌++◌, ◌+◌, ◌==◌, ◌||◌, ℕ, Bool, true, false, List, inl, inr, refl, sym, ap, subst, arith}
+use Rattle.std.specs.List.{list_any}
 use Rattle.std.proofs.lemmas.Bool.{false≢true}
 use Rattle.board_record.specs.Maker.{Maker}
 use Rattle.node_core.specs.declared.word.Word.{Word}
@@ -41,40 +10,28 @@ use Rattle.line_step.proofs.Numbers.{machine_set_own}
 use Rattle.one_standing.proofs.Mirroring.{node_there}
 use Rattle.line_history.proofs.OfferingStep.{IsNoHand}
 use Rattle.board_record.specs.declared.sensed.Sensed.{Sensed}
-use Rattle.node_core.specs.Event.{Event, Insert, Remove, Replace, event_of}
+use Rattle.node_core.specs.Event.{Event, event_of}
 use Rattle.node_core.specs.Node.{NodeState, desk_of}
-use Rattle.node_core.specs.Own.{own_of}
 use Rattle.node_core.specs.declared.input.Input.{Input}
 use Rattle.node_core.specs.declared.input.Input.TheVariants as inputs
-use Rattle.node_core.specs.declared.lane.Body.{Body as Machine}
-use Rattle.standings.specs.Marks.{is_held}
 use Rattle.line_report.specs.declared.happening.Happening.{Happening}
-use Rattle.line_step.specs.FloorIds.{boards_of, made_by}
+use Rattle.line_step.specs.FloorIds.{boards_of}
 use Rattle.line_step.specs.Numbered.{Stand, node_at, stand_at}
 use Rattle.line_step.specs.Shown.{standings_told}
 use Rattle.line_step.specs.State.{LineState, machine_in}
 use Rattle.line_step.specs.Steps.{MachineSteps, moment_of, unread_by}
-use Rattle.line_step.proofs.FloorLaws.{Goes, Holds as FloorHolds}
+use Rattle.line_step.proofs.FloorLaws.{Goes}
 use Rattle.line_step.proofs.Makers.{IsOld}
-use Rattle.one_standing.specs.Carried.{Trace, stand_of}
+use Rattle.one_standing.specs.Carried.{Trace}
 use Rattle.one_standing.specs.Facts.{HasCustodyFacts, is_taken_at}
 use Rattle.one_standing.specs.Stands.{Stands}
 use Rattle.one_standing.specs.Standing.{HasOneStanding, is_held_at, is_kept_at}
 use Rattle.one_standing.proofs.ApartFloor.{counted}
-use Rattle.one_standing.proofs.ApartHands.{IsHandless, step_still}
+use Rattle.one_standing.proofs.ApartHands.{IsHandless}
 use Rattle.one_standing.proofs.LedgerMarks.{mark_old}
 use Rattle.one_standing.proofs.MarksOf.{has_intake, has_kept, has_outlet, id_held, id_kept}
-use Rattle.line_history.proofs.Stepping.{IsJustStarted}
-use Rattle.supervisor_replay.specs.Replay.{
-  IsWatched,
-  Told,
-  has_left,
-  is_marked_at,
-  left_after,
-  nothing_told,
-  told_after,
-  told_of,
-}
+use Rattle.supervisor_replay.specs.Replay.{IsWatched, Told, nothing_told, told_after, told_of}
+use Rattle.supervisor_replay.proofs.Since.{left_since, since_after}
 use Rattle.supervisor_replay.proofs.Bodies.{
   brings_in,
   holds_it,
@@ -85,28 +42,17 @@ use Rattle.supervisor_replay.proofs.Bodies.{
   will_leave,
 }
 use Rattle.supervisor_replay.proofs.Faring.{holds_as, moving}
-use Rattle.supervisor_replay.proofs.Hands.{
-  BringsIn,
-  TakesOut,
-  in_inserted,
-  in_replaced,
-  ins_are,
-  out_removed,
-  out_replaced,
-  outs_are,
-  plain_of,
-  step_ins,
-  step_outs,
-}
+use Rattle.supervisor_replay.proofs.Hands.{BringsIn, TakesOut, ins_are, outs_are, plain_of, step_ins, step_outs}
 use Rattle.supervisor_replay.proofs.Sights.{
   alone_of,
+  has_on,
   kept_on,
   placed_of,
   sole_of,
+  started_from,
   started_there,
   view_of,
 }
-use Rattle.supervisor_replay.proofs.Moved.{moves_move}
 use Rattle.supervisor_replay.proofs.Silent.{IsSilent, left_join, told_join}
 use Rattle.supervisor_replay.proofs.Stepped.{
   Around,
@@ -120,17 +66,17 @@ use Rattle.supervisor_replay.proofs.Stepped.{
   sole_as,
   step_behind,
 }
-use Rattle.supervisor_replay.proofs.Views.{Holds, IsMoved, IsSame, View}
+use Rattle.supervisor_replay.proofs.Views.{Holds, IsFrom, IsMoved, IsSame, View}
 
 -- ---- what holds between the lines
 
 -- nothing was told of an id
 pub record IsUnknown (id : ℕ) (past : List Happening) : Type 0 where
   pub told : told_of id past ≡ nothing_told
-  pub left : (gap : ℕ) → has_left gap id past ≡ false
+  pub left : (gap : ℕ) → left_since gap id past ≡ false
 
 pub record Agreed (id : ℕ) (s : LineState) (past : List Happening) : Type 0 where
-  pub holds : Holds (view_of id s) (told_of id past) (λ gap. has_left gap id past)
+  pub holds : Holds (view_of id s) (told_of id past) (λ gap. left_since gap id past)
   pub known : IsOld 1 s.machines id ⊎ IsUnknown id past
 
 -- a line of a script, of an id
@@ -176,14 +122,14 @@ told_is : (id : ℕ) (past done : List Happening)
 told_is id past done = told_join id past done nothing_told
 
 left_is : (gap id : ℕ) (past done : List Happening)
-    → has_left gap id (past ++ done) ≡ left_after gap id done (has_left gap id past)
+    → left_since gap id (past ++ done) ≡ since_after gap id done (left_since gap id past)
 left_is gap id past done = left_join gap id past done false
 
 unknown_silent : (id : ℕ) (past done : List Happening) → IsSilent done → IsUnknown id past
     → IsUnknown id (past ++ done)
 unknown_silent id past done silent un = record {
   told = told_is id past done ∙ silent.told id (told_of id past) ∙ un.told;
-  left = λ gap. left_is gap id past done ∙ silent.left gap id (has_left gap id past) ∙ un.left gap;
+  left = λ gap. left_is gap id past done ∙ silent.left gap id (left_since gap id past) ∙ un.left gap;
 }
 
 known_silent : (id : ℕ) (before next : LineState) (past done : List Happening) → IsSilent done
@@ -198,11 +144,11 @@ pub still_agrees : (id : ℕ) (before next : LineState) (past done : List Happen
     → ((x : ℕ) → IsOld 1 before.machines x → IsOld 1 next.machines x)
     → Agreed id before past → Agreed id next (past ++ done)
 still_agrees id before next past done silent same olds was = record {
-  holds = subst (λ (x : Told). Holds (view_of id next) x (λ gap. has_left gap id (past ++ done)))
+  holds = subst (λ (x : Told). Holds (view_of id next) x (λ gap. left_since gap id (past ++ done)))
       (sym (told_is id past done ∙ silent.told id (told_of id past)))
-      (holds_as (view_of id before) (view_of id next) (told_of id past) (λ gap. has_left gap id past)
-      (λ gap. has_left gap id (past ++ done)) same
-      (λ gap. left_is gap id past done ∙ silent.left gap id (has_left gap id past)) was.holds);
+      (holds_as (view_of id before) (view_of id next) (told_of id past) (λ gap. left_since gap id past)
+      (λ gap. left_since gap id (past ++ done)) same
+      (λ gap. left_is gap id past done ∙ silent.left gap id (left_since gap id past)) was.holds);
   known = known_silent id before next past done silent olds was.known;
 }
 
@@ -210,12 +156,12 @@ pub moved_agrees : (id : ℕ) (t t2 : Trace) (before next : LineState) (done pas
     → Passing id t t2 before next done past → IsSilent done
     → IsMoved (view_of id before) (view_of id next) → Agreed id next (past ++ done)
 moved_agrees id t t2 before next done past p silent moved = record {
-  holds = subst (λ (x : Told). Holds (view_of id next) x (λ gap. has_left gap id (past ++ done)))
+  holds = subst (λ (x : Told). Holds (view_of id next) x (λ gap. left_since gap id (past ++ done)))
       (sym (told_is id past done ∙ silent.told id (told_of id past)))
-      (holds_as (view_of id next) (view_of id next) (told_of id past) (λ gap. has_left gap id past)
-      (λ gap. has_left gap id (past ++ done)) (same_self (view_of id next))
-      (λ gap. left_is gap id past done ∙ silent.left gap id (has_left gap id past))
-      (moving (view_of id before) (view_of id next) (told_of id past) (λ gap. has_left gap id past) p.was.holds
+      (holds_as (view_of id next) (view_of id next) (told_of id past) (λ gap. left_since gap id past)
+      (λ gap. left_since gap id (past ++ done)) (same_self (view_of id next))
+      (λ gap. left_is gap id past done ∙ silent.left gap id (left_since gap id past))
+      (moving (view_of id before) (view_of id next) (told_of id past) (λ gap. left_since gap id past) p.was.holds
       (sole_of t before id p.st p.one) (placed_of t2 next id p.st2 p.one2 p.facts2) moved));
   known = known_silent id before next past done silent p.goes.olds p.was.known;
 }
@@ -223,15 +169,15 @@ moved_agrees id t t2 before next done past p silent moved = record {
 -- of the same, from what holds of the parts
 pub agreed_by : (id : ℕ) (next : LineState) (past done : List Happening)
     → Holds (view_of id next) (told_after id done (told_of id past))
-    (λ gap. left_after gap id done (has_left gap id past))
+    (λ gap. since_after gap id done (left_since gap id past))
     → IsOld 1 next.machines id ⊎ ((told_after id done (told_of id past) ≡ nothing_told)
-    × ((gap : ℕ) → left_after gap id done (has_left gap id past) ≡ false))
+    × ((gap : ℕ) → since_after gap id done (left_since gap id past) ≡ false))
     → Agreed id next (past ++ done)
 agreed_by id next past done holds known = record {
-  holds = subst (λ (x : Told). Holds (view_of id next) x (λ gap. has_left gap id (past ++ done)))
+  holds = subst (λ (x : Told). Holds (view_of id next) x (λ gap. left_since gap id (past ++ done)))
       (sym (told_is id past done))
       (holds_as (view_of id next) (view_of id next) (told_after id done (told_of id past))
-      (λ gap. left_after gap id done (has_left gap id past)) (λ gap. has_left gap id (past ++ done))
+      (λ gap. since_after gap id done (left_since gap id past)) (λ gap. left_since gap id (past ++ done))
       (same_self (view_of id next)) (λ gap. left_is gap id past done) holds);
   known = elim known [
     | inl old ↦ inl old
@@ -244,7 +190,7 @@ agreed_by id next past done holds known = record {
 
 pub unknown_parts : (id : ℕ) (s : LineState) (past : List Happening)
     → IsOld 1 s.machines id ⊎ IsUnknown id past
-    → IsOld 1 s.machines id ⊎ ((told_of id past ≡ nothing_told) × ((gap : ℕ) → has_left gap id past ≡ false))
+    → IsOld 1 s.machines id ⊎ ((told_of id past ≡ nothing_told) × ((gap : ℕ) → left_since gap id past ≡ false))
 unknown_parts id s past (inl old) = inl old
 unknown_parts id s past (inr un) = inr (un.told, un.left)
 
@@ -333,6 +279,16 @@ pub record HandFacts (id number j : ℕ) (input : Input) (start next : LineState
       → list_any (brings_in id) (plain_of number (j + 1) input start next done steps) ≡ false
       → (view_of id next).off ≡ (view_of id start).off
 
+-- the machine above has what it had
+from_above : (id j : ℕ) (start next : LineState) → stand_at next j ≡ stand_at start j
+    → IsFrom j (view_of id next) (view_of id next).off
+    → IsFrom j (view_of id start) (view_of id next).off
+from_above id j start next up (inl kept) =
+    inl (ap (λ (s : Stand). keeps_it id s.node.lane.body) (sym up) ∙ kept)
+from_above id j start next up (inr (inl held)) =
+    inr (inl (ap (λ (s : Stand). holds_it id s.node.lane.body) (sym up) ∙ held))
+from_above id j start next up (inr (inr gone)) = inr (inr gone)
+
 -- the last step of a line: the machine above it is as it was
 pub last_around : (id number j : ℕ) (input : Input) (t t2 : Trace) (before start next : LineState) (done : List Happening)
     (told : Told) (left : ℕ → Bool) → Stands t before → Stands t2 next → HasOneStanding next
@@ -355,7 +311,10 @@ last_around id number j input t t2 before start next done told left st st2 one2 
       alone = λ taken ends has.
           (let none = alone_of t2 next id j st2 one2 has in (
             ap (λ (s : Stand). keeps_it id s.node.lane.body) (sym up) ∙ none.0,
-            ap (λ (s : Stand). holds_it id s.node.lane.body) (sym up) ∙ none.1,
+            (
+              ap (λ (s : Stand). holds_it id s.node.lane.body) (sym up) ∙ none.1,
+              has_on t2 next id (j + 1) st2 mine.read has,
+            ),
           ));
       new = hands.new;
       out = hands.out;
@@ -363,6 +322,8 @@ last_around id number j input t t2 before start next done told left st st2 one2 
       there = λ takes starts holds.
           started_there t2 next id j st2 mine.read takes starts
           (ap (λ (s : Stand). holds_it id s.node.lane.body) up ∙ holds);
+      from = λ takes starts.
+          from_above id j start next up (started_from t2 next id j st2 mine.read takes starts);
       on = kept_on t2 next id j st2;
     }
 
@@ -451,7 +412,7 @@ known_step : (id j : ℕ) (t t2 : Trace) (before start next : LineState) (done p
     → (told : Told) (left : ℕ → Bool) → Behind id j start next done told left
     → IsOld 1 before.machines id ⊎ ((told ≡ nothing_told) × ((gap : ℕ) → left gap ≡ false))
     → IsOld 1 next.machines id ⊎ ((told_after id done told ≡ nothing_told)
-    × ((gap : ℕ) → left_after gap id done (left gap) ≡ false))
+    × ((gap : ℕ) → since_after gap id done (left gap) ≡ false))
 known_step id j t t2 before start next done past st st2 own olds told left behind (inl old) =
     inl (olds id old)
 known_step id j t t2 before start next done past st st2 own olds told left behind (inr un) =
@@ -470,12 +431,12 @@ known_step id j t t2 before start next done past st st2 own olds told left behin
 pub one_step : (id number j : ℕ) (input : Input) (t t2 : Trace) (before start next : LineState) (done past : List Happening)
     → Passing id t t2 before next done past → Starts before start
     → (steps : MachineSteps number (j + 1) input start next done)
-    → HandFacts id number j input start next done (told_of id past) (λ gap. has_left gap id past) steps
+    → HandFacts id number j input start next done (told_of id past) (λ gap. left_since gap id past) steps
     → Agreed id next (past ++ done)
 one_step id number j input t t2 before start next done past p s steps hands =
     let same = same_start id before start s in
     let told : Told = told_of id past in
-    let left : ℕ → Bool = λ gap. has_left gap id past in
+    let left : ℕ → Bool = λ gap. left_since gap id past in
     let around =
     last_around id number j input t t2 before start next done told left p.st p.st2 p.one2 (s.stands (j + 1)) (s.stands j)
     same.off steps hands in

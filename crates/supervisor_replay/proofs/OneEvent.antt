@@ -67,7 +67,8 @@ use Rattle.standings.specs.Ledger.{are_different}
 use Rattle.standings.specs.Marks.{is_held}
 use Rattle.one_standing.proofs.LedgerSteps.{all_of, dropped_ids, settled_ids}
 use Rattle.one_standing.proofs.LedgerTurns.{different_rest}
-use Rattle.supervisor_replay.specs.Replay.{Told, left_by_deed}
+use Rattle.supervisor_replay.specs.Replay.{Told}
+use Rattle.supervisor_replay.proofs.Since.{since_by_deed}
 use Rattle.supervisor_replay.proofs.Bodies.{brings_in, holds_it, keeps_it, takes_out}
 use Rattle.supervisor_replay.proofs.Events.{
   EntryTurn,
@@ -142,7 +143,7 @@ with_deed desk sees side e deed more =
 deed_is : {f : Told → Told} (id j : ℕ) (desk : Desk) (sees : Option Seen) (side : Side)
     (e : SensorEvent) (deed : Deed) (more : List Act) → list_all is_quiet more ≡ true
     → ((told : Told) → told_deed id (j + 1) sees deed told ≡ f told)
-    → ((gap : ℕ) (left : Bool) → left_by_deed gap id (j + 1) deed left ≡ left)
+    → ((gap : ℕ) (left : Bool) → since_by_deed gap id (j + 1) deed left ≡ left)
     → Says id j (with_deed desk sees side e deed more) f
 deed_is id j desk sees side e deed more quiet tells keeps =
     says_reads id j side e (with_tells desk (watching sees) (acts.Deed deed ∷ more))

@@ -1,45 +1,9 @@
 -- THE SUPERVISOR'S REPLAY AGREES, form by form, and over a run.
-use Rattle.std.proofs.Common.{
-  ◌≡◌,
-  ◌≢◌,
-  ◌≤◌,
-  ◌∙◌,
-  ◌⊎◌,
-  ◌++◌,
-  ◌+◌,
-  ◌==◌,
-  ◌||◌,
-  ℕ,
-  zero,
-  suc,
-  Bool,
-  true,
-  false,
-  List,
-  [],
-  ◌∷◌,
-  Option,
-  Some,
-  None,
-  Result,
-  Ok,
-  Err,
-  inl,
-  inr,
-  length,
-  refl,
-  sym,
-  ap,
-  subst,
-  arith,
-  append_assoc,
-  eqb-true,
-  eq-eqb,
-}
-use Rattle.std.specs.Prelude.{if◌then◌else◌, nat_lt, slice_index_or, take, ◌-◌}
+use Rattle.std.proofs.Common.{◌≡◌, ◌≤◌, ◌∙◌, ◌++◌, ◌+◌, ◌==◌, ◌||◌, ℕ, zero, suc, Bool, true, false, List, [], ◌∷◌, Option, Some, None, Ok, Err, length, refl, sym, ap, subst, arith}
+use Rattle.std.specs.Prelude.{if◌then◌else◌, nat_lt, slice_index_or, ◌-◌}
 use Rattle.board_record.specs.declared.sensed.Sensed.{Sensed}
 use Rattle.node_core.specs.Node.{NodeState}
-use Rattle.std.specs.List.{AllByRecursion, list_any}
+use Rattle.std.specs.List.{list_any}
 use Rattle.std.proofs.lemmas.Bool.{false≢true}
 use Rattle.line_base.specs.declared.states.Quality.{Quality}
 use Rattle.line_base.specs.declared.states.Side.{Side}
@@ -49,7 +13,6 @@ use Rattle.line_link.specs.declared.link.Sent.{Sent}
 use Rattle.line_link.specs.declared.link.Sent.TheVariants as sent
 use Rattle.line_script.specs.declared.line.ScriptLine.{ScriptLine}
 use Rattle.line_script.specs.declared.line.ScriptLine.TheVariants as lines
-use Rattle.line_world.specs.Boards.{boards_on}
 use Rattle.line_world.specs.FloorPlan.{AtMachine, FloorPlan, empty_machine, machine_at}
 use Rattle.line_world.specs.Moves.{floor_move}
 use Rattle.line_world.specs.declared.moves.Move.{Move}
@@ -57,77 +20,27 @@ use Rattle.line_world.specs.declared.moves.Move.TheVariants as moves
 use Rattle.node_core.specs.declared.input.Input.{Input}
 use Rattle.node_core.specs.declared.input.Input.TheVariants as inputs
 use Rattle.node_core.specs.declared.lane.Body.{Body as Machine}
-use Rattle.standings.specs.Marks.{has_mark, intake, is_same_mark, kept, outlet}
-use Rattle.standings.specs.declared.mark.Mark.{Mark}
-use Rattle.standings.specs.declared.mark.Mark.TheVariants.{Kept, Outlet, Intake}
 use Rattle.line_report.specs.declared.happening.Happening.{Happening}
 use Rattle.line_report.specs.declared.happening.Happening.TheVariants as happenings
 use Rattle.line_step.specs.FloorIds.{boards_of}
 use Rattle.line_step.specs.Acts.{cut_told}
-use Rattle.line_step.specs.Lies.{has_lie, tells_lie}
-use Rattle.line_step.specs.Lines.{
-  Becomes,
-  Connects,
-  Flows,
-  LineDoes,
-  LineSteps,
-  Moves,
-  Unless,
-  arrived,
-  cut_in,
-  lied,
-  move_told,
-  spoil_told,
-  spoiled,
-  unseen,
-  unvouched_told,
-}
-use Rattle.line_step.specs.Numbered.{node_at, stand_at}
+use Rattle.line_step.specs.Lies.{tells_lie}
+use Rattle.line_step.specs.Lines.{Becomes, Connects, Flows, LineDoes, Moves, Unless, arrived, lied, unseen, unvouched_told}
+use Rattle.line_step.specs.Numbered.{node_at}
 use Rattle.line_step.specs.Reasons.{May, may_do}
-use Rattle.line_step.specs.Runs.{IsRun, Point, all_told, state_behind}
 use Rattle.line_step.specs.Shown.{between_shown, kept_shown, shown, shown_from, standings_told, taken_below}
 use Rattle.node_core.specs.Own.{own_of}
-use Rattle.line_step.specs.State.{LineState, marks_in, no_line, one_more, with_world}
+use Rattle.line_step.specs.State.{LineState, one_more, with_world}
 use Rattle.line_step.specs.Steps.{MachineSteps}
 use Rattle.line_step.specs.World.{WorldParts, end_of, link_at, link_of, with_link}
-use Rattle.line_step.proofs.FloorLaws.{Goes, Holds as FloorHolds, steps-goes}
-use Rattle.line_step.proofs.Makers.{IsOld}
+use Rattle.line_step.proofs.FloorLaws.{Goes}
 use Rattle.line_step.proofs.Numbers.{floor_stays, same_or_not}
 use Rattle.one_standing.specs.Carried.{Trace}
-use Rattle.one_standing.specs.Reached.{IsReached}
-use Rattle.one_standing.specs.Stands.{Stands}
-use Rattle.one_standing.specs.Standing.{HasOneStanding, IsFitLine}
 use Rattle.one_standing.proofs.ApartFloor.{counted}
 use Rattle.one_standing.proofs.ApartHands.{IsHandless}
-use Rattle.one_standing.proofs.ApartStep.{does_goes}
-use Rattle.one_standing.proofs.Carrying.{SaysAlone}
-use Rattle.one_standing.proofs.FactsOf.{facts_of}
 use Rattle.one_standing.proofs.LedgerLine.{same_nodes}
-use Rattle.one_standing.proofs.LedgerMarks.{mark_at_machine}
-use Rattle.one_standing.proofs.LineForms.{ConnectsBear}
 use Rattle.one_standing.proofs.LineJoins.{still_connecting}
-use Rattle.one_standing.proofs.LineRun.{AreStood, Stood, line_stood, none_stood, run_stood}
-use Rattle.one_standing.proofs.OneStand.{one_standing_of}
-use Rattle.one_standing.proofs.RestMore.{counted_stands}
 use Rattle.line_history.proofs.View.{arrived_stand, more_body, unwilled}
-use Rattle.supervisor_replay.specs.Along.{AgreesAlong, AgreesNext}
-use Rattle.supervisor_replay.specs.Replay.{
-  Agrees,
-  AreWatched,
-  At,
-  IsOnlyMark,
-  IsWatched,
-  KeepAgreeing,
-  ReplayAgrees,
-  Told,
-  Way,
-  has_board,
-  has_left,
-  left_after,
-  nothing_told,
-  told_after,
-  told_of,
-}
 use Rattle.supervisor_replay.proofs.Bodies.{
   holds_it,
   keeps_it,
@@ -138,26 +51,10 @@ use Rattle.supervisor_replay.proofs.Bodies.{
 use Rattle.supervisor_replay.proofs.Floors.{comes_not, may_bring, may_lose, stays_there}
 use Rattle.supervisor_replay.proofs.Hands.{brings_none, loses_none, with_standings}
 use Rattle.supervisor_replay.proofs.Joined.{connect_line}
-use Rattle.supervisor_replay.proofs.Lines.{
-  Agreed,
-  IsUnknown,
-  Passing,
-  Starts,
-  moved_agrees,
-  same_self,
-  still_agrees,
-}
+use Rattle.supervisor_replay.proofs.Lines.{Agreed, Passing, moved_agrees, still_agrees}
 use Rattle.supervisor_replay.proofs.Moved.{moves_move}
-use Rattle.supervisor_replay.proofs.Sights.{sole_of, view_of}
-use Rattle.supervisor_replay.proofs.Silent.{
-  IsSilent,
-  both_silent,
-  cut_silent,
-  move_silent,
-  none_silent,
-  shown_silent,
-  standings_silent,
-}
+use Rattle.supervisor_replay.proofs.Sights.{view_of}
+use Rattle.supervisor_replay.proofs.Silent.{IsSilent, cut_silent, move_silent, none_silent, shown_silent}
 use Rattle.supervisor_replay.proofs.Turns.{
   handless_line,
   insert_line,
@@ -165,7 +62,7 @@ use Rattle.supervisor_replay.proofs.Turns.{
   replace_line,
   same_line,
 }
-use Rattle.supervisor_replay.proofs.Views.{Holds, IsSame, View}
+use Rattle.supervisor_replay.proofs.Views.{IsSame}
 
 -- ---- lines in which no machine makes a step
 

@@ -53,6 +53,7 @@ use Rattle.custody.specs.Floor.{
   begun_unread,
   both_gone,
   both_unread,
+  gap_begun,
   gap_left,
   in_free,
   in_stopped,
@@ -118,6 +119,7 @@ use Rattle.one_standing.specs.Places.{
   at_machine,
   in_gap,
   lies_at,
+  lies_begun,
   lies_in,
   lies_left,
 }
@@ -153,7 +155,7 @@ use Rattle.supervisor_replay.proofs.Bodies.{
   takes_it,
   will_leave,
 }
-use Rattle.supervisor_replay.proofs.Views.{IsPlaced, IsSole, View}
+use Rattle.supervisor_replay.proofs.Views.{IsFrom, IsPlaced, IsSole, View}
 
 abbrev pub view_of : ℕ → LineState → View
 view_of id s = record {
@@ -527,3 +529,69 @@ started_there t s id j st unread takes started holds =
     let own = holding s id j holds in
     on_floor t s id (at_machine j) st
     (lies_at (part_lies_at (has_end t s st) st.keeps (in_front own.1 own.2 up)))
+
+-- it is of a board that the machine above keeps or holds, or that is off the floor
+from_by : (kept held off : Bool) → (held ≡ false → off ≡ false → kept ≡ true)
+    → (kept ≡ true) ⊎ ((held ≡ true) ⊎ (off ≡ true))
+from_by kept true off next = inr (inl refl)
+from_by kept false true next = inr (inr refl)
+from_by kept false false next = inl (next refl refl)
+
+pub started_from : (t : Trace) (s : LineState) (id j : ℕ) → Stands t s
+    → (machine_at s.world.floor (j + 1)).unread ≡ []
+    → takes_it id (node_at s (j + 1)).lane.body ≡ true
+    → IsJustStarted (node_at s (j + 1)).lane.body.intake.phase
+    → IsFrom j (view_of id s) (view_of id s).off
+started_from t s id j st unread takes started =
+    let n = near t s j st in
+    let up : is_upstream (t.ghost j).place ≡ true =
+    starts_upstream (rw unread at n.pair.in) started in
+    from_by ((view_of id s).kept j) ((view_of id s).held j) (view_of id s).off
+    (upstream_of t s id j st up takes).1.1
+
+-- ---- what a machine has that has read all events
+
+-- the board of its outlet is in its list still, or lies begun
+held_where : {o : Out} {drive : Bool} {p : Place} {b : Record} (q : Record)
+    → ExitFloor o [] drive p b → held_out o ≡ Some q → (is_upstream p ≡ true) ⊎ (p ≡ InGap)
+held_where q (out_idle taken apart) held = none_some q held
+held_where q (out_ended taken apart) held = none_some q held
+held_where q at_start held = inl refl
+held_where q begun_read held = inr refl
+held_where q stuck_begun held = inr refl
+
+begun_there : {lies : Gap} {b : Record} → GapAt lies InGap b
+    → lies ≡ gaps.Begun (record { id = Some b.id })
+begun_there gap_begun = refl
+
+lies_begun_at : (t : Trace) (s : LineState) (id j : ℕ) (q : Record) → Stands t s
+    → (t.ghost j).place ≡ InGap → held_above s j ≡ Some q → q.id ≡ id
+    → LiesIn id (between_of t s j).gap.lies
+lies_begun_at t s id j q st at held same =
+    let n = near t s j st in
+    let begun : (between_of t s j).gap.lies
+    ≡ gaps.Begun (record { id = Some (t.ghost j).board.id }) =
+    begun_there (rw at at n.pair.gap) in
+    subst (λ (x : ℕ). LiesIn x (between_of t s j).gap.lies) (ghost_named t s id j q st held same)
+    (subst (λ (l : Gap). LiesIn (t.ghost j).board.id l) (sym begun) lies_begun)
+
+held_on : (t : Trace) (s : LineState) (id j : ℕ) → Stands t s
+    → (machine_at s.world.floor j).unread ≡ [] → (view_of id s).held j ≡ true
+    → (view_of id s).off ≡ false
+held_on t s id j st unread held =
+    let n = near t s j st in
+    let own = holding s id j held in
+    elim (held_where own.0 (rw unread at n.pair.out) own.1) [
+      | inl up ↦ on_floor t s id (at_machine j) st
+          (lies_at (part_lies_at (has_end t s st) st.keeps (in_front own.1 own.2 up)))
+      | inr at ↦ on_floor t s id (in_gap j) st
+          (lies_in (lies_begun_at t s id j own.0 st at own.1 own.2))
+    ]
+
+-- what it keeps or holds is on the floor
+pub has_on : (t : Trace) (s : LineState) (id j : ℕ) → Stands t s
+    → (machine_at s.world.floor j).unread ≡ []
+    → ((view_of id s).kept j ≡ true) ⊎ ((view_of id s).held j ≡ true)
+    → (view_of id s).off ≡ false
+has_on t s id j st unread (inl kept) = kept_on t s id j st kept
+has_on t s id j st unread (inr held) = held_on t s id j st unread held

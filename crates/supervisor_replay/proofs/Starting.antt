@@ -44,7 +44,8 @@ use Rattle.node_core.specs.declared.lane.Body.{Body as Machine}
 use Rattle.node_core.specs.declared.supervising.Watch.{Watch}
 use Rattle.standings.specs.Marks.{has_id, is_held}
 use Rattle.line_history.proofs.Stepping.{IsJustStarted}
-use Rattle.supervisor_replay.specs.Replay.{Told, left_by_deed}
+use Rattle.supervisor_replay.specs.Replay.{Told}
+use Rattle.supervisor_replay.proofs.Since.{since_by_deed}
 use Rattle.supervisor_replay.proofs.Bodies.{
   brings_in,
   holds_it,
@@ -75,7 +76,15 @@ use Rattle.supervisor_replay.proofs.Tells.{
   tells_append,
   told_append,
 }
-use Rattle.supervisor_replay.proofs.Views.{IsApart, IsSame, IsStarted, View, put, with_here}
+use Rattle.supervisor_replay.proofs.Views.{
+  IsApart,
+  IsFrom,
+  IsSame,
+  IsStarted,
+  View,
+  put,
+  with_here,
+}
 
 -- ---- the acts
 
@@ -122,14 +131,14 @@ said_told id machine told (starts_one s) =
 
 start_left : {own end : Own} {was : Option Seen} {i : InPhase} {made : List Act}
     (gap id machine : ℕ) (left : Bool) (s : Started own end was i made)
-    → left_acts gap id machine made left ≡ left_by_deed gap id machine (deeds.Starts s.id) left
+    → left_acts gap id machine made left ≡ since_by_deed gap id machine (deeds.Starts s.id) left
 start_left gap id machine left s =
     let start : List Act = acts.Deed (deeds.Starts s.id) ∷ s.after in
     ap (λ (xs : List Act). left_acts gap id machine xs left) s.made_is
     ∙ left_append gap id machine s.before start left
     ∙ ap (left_acts gap id machine start)
     (quiet_left gap id machine s.before left (aside_quiet s.before s.quiet))
-    ∙ quiet_left gap id machine s.after (left_by_deed gap id machine (deeds.Starts s.id) left)
+    ∙ quiet_left gap id machine s.after (since_by_deed gap id machine (deeds.Starts s.id) left)
     (aside_quiet s.after s.silent)
 
 -- nothing comes or goes by hand
@@ -242,6 +251,15 @@ next_gap i j other same = other (omega (arith, same))
 above_apart : (j : ℕ) → j ≢ j + 1
 above_apart j = omega arith
 
+-- the machine above is as it was
+from_then : (id j : ℕ) (v : View) (off : Bool) (two : Machine) → IsFrom j v off
+    → IsFrom j (view_then id j two off v) off
+from_then id j v off two (inl kept) =
+    inl (put_there (j + 1) (keeps_it id two) v.kept j (above_apart j) ∙ kept)
+from_then id j v off two (inr (inl held)) =
+    inr (inl (put_there (j + 1) (holds_it id two) v.held j (above_apart j) ∙ held))
+from_then id j v off two (inr (inr gone)) = inr (inr gone)
+
 cleared : (a b left : Bool) → a ≡ true → b ≡ true → (if a && b then false else left) ≡ false
 cleared true true left one two = refl
 cleared true false left one two = absurd (let h : false ≡ true = two in cc)
@@ -261,9 +279,10 @@ start_ends : {made : List Act} (id j : ℕ) (v : View) (off : Bool) (two now : M
     (front last : ℕ
     → Bool) (s : Started (own_of two) (own_of now) (seen_of two) now.intake.phase made)
     → (takes_it id now ≡ true → IsJustStarted now.intake.phase → v.held j ≡ true → off ≡ false)
+    → (takes_it id now ≡ true → IsJustStarted now.intake.phase → IsFrom j v off)
     → ((gap : ℕ) → last gap ≡ left_acts gap id (j + 1) made (front gap)) → (s.id == id) ≡ true
     → IsStarted j (view_then id j two off v) (view_then id j now off v) front last
-start_ends id j v off two now front last s there left is =
+start_ends id j v off two now front last s there from left is =
     let taken : takes_it id now ≡ true = ap (is_held id) s.takes ∙ is in record {
       none = put_here (j + 1) (takes_it id two) v.taken ∙ ap (is_held id) s.free;
       taken = put_here (j + 1) (takes_it id now) v.taken ∙ taken;
@@ -278,6 +297,7 @@ start_ends id j v off two now front last s there left is =
       there = λ held.
           there taken s.just
           (sym (put_there (j + 1) (holds_it id two) v.held j (above_apart j)) ∙ held);
+      from = from_then id j v off two (from taken s.just);
       cleared = record {
         here = left j ∙ start_left j id (j + 1) (front j) s
             ∙ cleared (j + 1 == j + 1) (s.id == id) (front j) (eq-eqb (j + 1) (j + 1) refl) is;
@@ -306,17 +326,19 @@ pub said_ends : {made : List Act} (id j : ℕ) (v : View) (off : Bool) (two now 
     (front last : ℕ → Bool)
     → Announced (own_of two) (own_of now) (seen_of two) (seen_of now) now.intake.phase made
     → (takes_it id now ≡ true → IsJustStarted now.intake.phase → v.held j ≡ true → off ≡ false)
+    → (takes_it id now ≡ true → IsJustStarted now.intake.phase → IsFrom j v off)
     → ((gap : ℕ) → last gap ≡ left_acts gap id (j + 1) made (front gap))
     → Ends id j v off two now front last
-said_ends {made = made} id j v off two now front last (starts_none aside same seen) there left =
+said_ends {made = made} id j v off two now front last (starts_none aside same seen) there from
+    left =
     inl (
       same_then id j v off two now (ap (λ (o : Own). has_id id o.kept) same)
           (ap (λ (o : Own). is_held id o.held) same) (ap (λ (o : Own). is_held id o.taking) same)
           (ap is_gone_own seen),
       λ gap. left gap ∙ quiet_left gap id (j + 1) made (front gap) (aside_quiet made aside),
     )
-said_ends id j v off two now front last (starts_one s) there left =
+said_ends id j v off two now front last (starts_one s) there from left =
     by_test (s.id == id) refl where
       by_test : (test : Bool) → (s.id == id) ≡ test → Ends id j v off two now front last
-      by_test true is = inr (start_ends id j v off two now front last s there left is, s.just)
+      by_test true is = inr (start_ends id j v off two now front last s there from left is, s.just)
       by_test false is = inl (other_ends id j v off two now front last s left is)

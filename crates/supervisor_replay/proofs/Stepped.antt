@@ -1,36 +1,10 @@
 -- A step of a machine of the line keeps what was told of an id right.
-use Rattle.std.proofs.Common.{
-  ◌≡◌,
-  ◌≢◌,
-  ◌∙◌,
-  ◌⊎◌,
-  ◌++◌,
-  ◌+◌,
-  ◌==◌,
-  ◌||◌,
-  ℕ,
-  Bool,
-  true,
-  false,
-  List,
-  [],
-  ◌∷◌,
-  inl,
-  inr,
-  refl,
-  sym,
-  ap,
-  subst,
-  arith,
-  eq-eqb,
-  ne_eqb,
-}
+use Rattle.std.proofs.Common.{◌≡◌, ◌≢◌, ◌∙◌, ◌⊎◌, ◌+◌, ◌||◌, ℕ, Bool, true, false, List, [], ◌∷◌, inl, inr, refl, sym, ap, subst, eq-eqb, ne_eqb}
 use Rattle.std.specs.List.{list_any}
 use Rattle.line_base.specs.declared.states.Side.TheVariants.{Entry}
-use Rattle.board_record.specs.declared.sensed.Sensed.{Sensed}
 use Rattle.line_world.specs.FloorPlan.{machine_at}
 use Rattle.node_core.specs.Desk.{Desk}
-use Rattle.node_core.specs.Event.{Event, event_of}
+use Rattle.node_core.specs.Event.{event_of}
 use Rattle.node_core.specs.Node.{NodeState, desk_of}
 use Rattle.node_core.specs.Own.{own_of}
 use Rattle.node_core.specs.Step.{plain_step}
@@ -43,11 +17,9 @@ use Rattle.node_core.specs.declared.lane.Body.{Body as Machine}
 use Rattle.node_core.proofs.Signalling.{signals_pass}
 use Rattle.custody.specs.Floor.{EntryFloor}
 use Rattle.custody.specs.Pair.{Ghost}
-use Rattle.custody.specs.Place.{is_away, is_upstream}
 use Rattle.custody.specs.Words.{events_at}
 use Rattle.standings.specs.Ledger.{are_different}
 use Rattle.line_report.specs.declared.happening.Happening.{Happening}
-use Rattle.line_step.specs.FloorIds.{boards_of}
 use Rattle.line_step.specs.Numbered.{Stand, node_at, stand_at}
 use Rattle.line_step.specs.State.{LineState, machine_in}
 use Rattle.line_step.specs.Steps.{MachineSteps, is_second, moment_of, read_by, unread_by}
@@ -57,12 +29,12 @@ use Rattle.one_standing.proofs.Mirroring.{node_there}
 use Rattle.one_standing.specs.Carried.{Trace, between_of, stand_of}
 use Rattle.one_standing.specs.Relation.{Neighbours}
 use Rattle.one_standing.specs.Stands.{Stands}
-use Rattle.one_standing.proofs.ApartFloor.{counted}
 use Rattle.one_standing.proofs.LedgerSteps.{all_of}
 use Rattle.line_history.proofs.Floor.{none_unread}
 use Rattle.line_history.proofs.OfferingStep.{IsNoHand}
 use Rattle.line_history.proofs.Stepping.{IsJustStarted}
-use Rattle.supervisor_replay.specs.Replay.{Told, left_after, nothing_told, told_after}
+use Rattle.supervisor_replay.specs.Replay.{Told, nothing_told, told_after}
+use Rattle.supervisor_replay.proofs.Since.{since_after}
 use Rattle.supervisor_replay.proofs.Bodies.{
   IsBeside,
   IsHere,
@@ -89,25 +61,7 @@ use Rattle.supervisor_replay.proofs.Happenings.{acts_left, acts_told}
 use Rattle.supervisor_replay.proofs.Sights.{away_of, different_of, upstream_of, view_of}
 use Rattle.supervisor_replay.proofs.Steps.{StepFares, step_fares, step_silent, view_then}
 use Rattle.supervisor_replay.proofs.Tells.{left_append, told_append}
-use Rattle.supervisor_replay.proofs.Views.{
-  Fares,
-  Holds,
-  fares_leaves,
-  fares_lost,
-  fares_missing,
-  fares_new,
-  fares_removed,
-  fares_settles,
-  fares_so,
-  fares_upstream,
-  IsApart,
-  IsPlaced,
-  IsSame,
-  IsSole,
-  IsStarted,
-  View,
-  put,
-}
+use Rattle.supervisor_replay.proofs.Views.{Fares, Holds, fares_leaves, fares_lost, fares_missing, fares_new, fares_removed, fares_settles, fares_so, fares_upstream, IsFrom, IsPlaced, IsSame, IsSole, View, put}
 
 -- ---- what a step tells
 
@@ -137,10 +91,10 @@ step_told id number machine input before after told steps was =
 
 step_left : (gap id number machine : ℕ) (input : Input) (before after : LineState) (told : List Happening)
     → (steps : MachineSteps number machine input before after told) → (was : Bool)
-    → left_after gap id told was
+    → since_after gap id told was
     ≡ left_acts gap id machine (tells_in number machine input before after told steps) was
 step_left gap id number machine input before after told steps was =
-    ap (λ (ts : List Happening). left_after gap id ts was) steps.told_is
+    ap (λ (ts : List Happening). since_after gap id ts was) steps.told_is
     ∙ acts_left gap id machine (is_second input) steps.acts (read_by machine before.world) was
     ∙ ap (λ (xs : List Act). left_acts gap id machine xs was) steps.steps.told
     ∙ signals_pass (λ (xs : List Act). left_acts gap id machine xs was) (λ front signal on.
@@ -253,7 +207,8 @@ pub record Around (id number j : ℕ) (input : Input) (t : Trace) (before start 
       ⊎ IsJustStarted (node_at next (j + 1)).lane.body.intake.phase
       → (keeps_it id (node_at next (j + 1)).lane.body ≡ true)
       ⊎ (holds_it id (node_at next (j + 1)).lane.body ≡ true)
-      → ((view_of id start).kept j ≡ false) × ((view_of id start).held j ≡ false)
+      → ((view_of id start).kept j ≡ false)
+      × (((view_of id start).held j ≡ false) × ((view_of id next).off ≡ false))
   pub new : list_any (brings_in id) (plain_of number (j + 1) input start next done steps) ≡ true
       → (told ≡ nothing_told) × (((i : ℕ) → left i ≡ false)
       × (((i : ℕ) → (view_of id start).kept i ≡ false)
@@ -267,6 +222,9 @@ pub record Around (id number j : ℕ) (input : Input) (t : Trace) (before start 
   pub there : takes_it id (node_at next (j + 1)).lane.body ≡ true
       → IsJustStarted (node_at next (j + 1)).lane.body.intake.phase
       → (view_of id start).held j ≡ true → (view_of id next).off ≡ false
+  pub from : takes_it id (node_at next (j + 1)).lane.body ≡ true
+      → IsJustStarted (node_at next (j + 1)).lane.body.intake.phase
+      → IsFrom j (view_of id start) (view_of id next).off
   -- and so is what the machine above keeps
   pub on : (view_of id next).kept j ≡ true → (view_of id next).off ≡ false
 
@@ -330,13 +288,18 @@ beside_of id number j input t before start next done told left steps a now is =
       alone = λ has ends own.
           subst (λ (b : Machine). (takes_it id b ≡ false) ⊎ IsJustStarted b.intake.phase
           → (keeps_it id b ≡ true) ⊎ (holds_it id b ≡ true)
-          → ((view_of id start).kept j ≡ false) × ((view_of id start).held j ≡ false)) is (a.alone has) ends own;
+          → ((view_of id start).kept j ≡ false)
+          × (((view_of id start).held j ≡ false) × ((view_of id next).off ≡ false))) is
+          (a.alone has) ends own;
       new = a.new;
       out = a.out;
       still = a.still;
       there = λ takes starts holds.
           subst (λ (b : Machine). takes_it id b ≡ true → IsJustStarted b.intake.phase
           → (view_of id start).held j ≡ true → (view_of id next).off ≡ false) is a.there takes starts holds;
+      from = λ takes starts.
+          subst (λ (b : Machine). takes_it id b ≡ true → IsJustStarted b.intake.phase
+          → IsFrom j (view_of id start) (view_of id next).off) is a.from takes starts;
     }
 
 -- what becomes of the board in the step
@@ -380,7 +343,7 @@ fares_of id number j input t before start next done told left steps a (is_unwatc
     (view_of id next).off unwatched none
     (subst (λ (b : Machine). ((x : ℕ) → keeps_it x b ≡ false)
     ⊎ IsNoHand (event_of steps.node.maker input steps.steps.lane.words)) own.now then)
-    (here_of id number j input start next done steps) same beside.there
+    (here_of id number j input start next done steps) same beside.there beside.from
 
 -- ---- THE STEP
 
@@ -395,7 +358,7 @@ known_by : {j : ℕ} {v w : View} {told told2 : Told} {left left2 : ℕ → Bool
 known_by (fares_so has takes off same lefts) = inl (same, lefts)
 known_by (fares_leaves held leaving none takes off same set) = inr (inl (inr (inl held)))
 known_by (fares_lost held none takes off same lefts) = inr (inl (inr (inl held)))
-known_by (fares_settles taken kept held none has off same lefts) = inr (inl (inr (inr taken)))
+known_by (fares_settles taken kept held on none has off same lefts) = inr (inl (inr (inr taken)))
 known_by (fares_missing taken missing has none off same lefts) = inr (inl (inr (inr taken)))
 known_by (fares_upstream taken seen left held has none off same lefts) = inr (inl (inr (inr taken)))
 known_by (fares_new unknown none kept held taken now takes same lefts) = inr (inr now)
@@ -404,7 +367,7 @@ known_by (fares_removed kept none takes off same lefts) = inr (inl (inl kept))
 -- what it leaves
 pub record Behind (id j : ℕ) (start next : LineState) (done : List Happening) (told : Told) (left : ℕ → Bool) : Type 0 where
   pub holds : Holds (view_of id next) (told_after id done told)
-      (λ gap. left_after gap id done (left gap))
+      (λ gap. since_after gap id done (left gap))
   -- where the intake holds what it held, and starts nothing
   pub sole : (view_of id next).taken (j + 1) ≡ (view_of id start).taken (j + 1)
       → (IsJustStarted (node_at next (j + 1)).lane.body.intake.phase → ⊥)
@@ -412,7 +375,7 @@ pub record Behind (id j : ℕ) (start next : LineState) (done : List Happening) 
       → IsSole (view_of id next) × IsPlaced (view_of id next)
   -- where something is told of the id, the machine has a mark of it before the step or behind it
   pub known : ((told_after id done told ≡ told)
-      × ((gap : ℕ) → left_after gap id done (left gap) ≡ left gap))
+      × ((gap : ℕ) → since_after gap id done (left gap) ≡ left gap))
       ⊎ (IsMarked (view_of id start) (j + 1) ⊎ IsMarked (view_of id next) (j + 1))
 
 same_both : {u v w : View} → IsSame u v → IsSame v w → IsSame u w
@@ -462,12 +425,12 @@ step_behind id number j input t before start next done told left steps a h sole 
     let same = then_view id number j input start next done steps now own.now in
     let told_is : told_after id done told ≡ f.told2 =
     step_told id number (j + 1) input start next done steps told ∙ f.told_is in
-    let lefts : (gap : ℕ) → left_after gap id done (left gap) ≡ left_acts gap id (j + 1) all (left gap) =
+    let lefts : (gap : ℕ) → since_after gap id done (left gap) ≡ left_acts gap id (j + 1) all (left gap) =
     λ gap. step_left gap id number (j + 1) input start next done steps (left gap) in
     elim f.ends [
       | inl so ↦ record {
-        holds = subst (λ (x : Told). Holds (view_of id next) x (λ gap. left_after gap id done (left gap))) (sym told_is)
-            (holds_as f.one (view_of id next) f.told2 f.left2 (λ gap. left_after gap id done (left gap))
+        holds = subst (λ (x : Told). Holds (view_of id next) x (λ gap. since_after gap id done (left gap))) (sym told_is)
+            (holds_as f.one (view_of id next) f.told2 f.left2 (λ gap. since_after gap id done (left gap))
             (same_both so.0 same) (λ gap. lefts gap ∙ so.1 gap) one);
         sole = λ taken starts apart.
             (let here : f.one.taken (j + 1) ≡ v.taken (j + 1) = sym ((same_both so.0 same).taken (j + 1)) ∙ taken in
@@ -486,9 +449,9 @@ step_behind id number j input t before start next done told left steps a h sole 
         ];
       }
       | inr begun ↦ record {
-        holds = subst (λ (x : Told). Holds (view_of id next) x (λ gap. left_after gap id done (left gap))) (sym told_is)
+        holds = subst (λ (x : Told). Holds (view_of id next) x (λ gap. since_after gap id done (left gap))) (sym told_is)
             (holds_as last (view_of id next) f.told2 (λ gap. left_acts gap id (j + 1) all (left gap))
-            (λ gap. left_after gap id done (left gap)) same lefts
+            (λ gap. since_after gap id done (left gap)) same lefts
             (starting j f.one last f.told2 f.left2 (λ gap. left_acts gap id (j + 1) all (left gap)) one begun.0
             (λ kept. a.on (same.kept j ∙ kept))));
         sole = λ taken starts apart. absurd (starts (subst (λ (b : Machine). IsJustStarted b.intake.phase) (sym own.now) begun.1));

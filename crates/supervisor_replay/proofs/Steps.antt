@@ -164,6 +164,7 @@ use Rattle.supervisor_replay.proofs.Views.{
   HasAsBefore,
   HasNone,
   IsApart,
+  IsFrom,
   IsSame,
   IsStarted,
   TakesAsBefore,
@@ -212,7 +213,7 @@ record Around (id j : ℕ) (unread : List Sensed) (place : Place) (v : View) (to
       × (v.held j ≡ false → v.off ≡ false → v.kept j ≡ true))
   away : is_away place ≡ true → v.taken (j + 1) ≡ true → v.missing (j + 1) ≡ true
   alone : v.taken (j + 1) ≡ true → takes_it id two ≡ false → HasIt id two
-      → (v.kept j ≡ false) × (v.held j ≡ false)
+      → (v.kept j ≡ false) × ((v.held j ≡ false) × (off ≡ false))
   new : list_any (brings_in id) met ≡ true
       → (told ≡ nothing_told)
       × (((i : ℕ) → left i ≡ false)
@@ -287,8 +288,9 @@ read_so_fares {id = id} {j = j} {v = v} {told = told} {left = left} {two = two} 
     let both = says_both id j first second sa s in
     let taken : v.taken (j + 1) ≡ true = a.here.taken ∙ sym ts ∙ t in
     let alone = a.alone taken u it in
-    fares_settles taken alone.0 alone.1 (then_taken id j two off v u) (then_it id j two off v it)
-    (a.still out in_hand) (both.told told) (λ gap. both.left gap (left gap))
+    let same = a.still out in_hand in
+    fares_settles taken alone.0 alone.1.0 (sym same ∙ alone.1.1) (then_taken id j two off v u)
+    (then_it id j two off v it) same (both.told told) (λ gap. both.left gap (left gap))
 read_so_fares {id = id} {j = j} {v = v} {told = told} {left = left} {two = two} {first = first}
     {second = second} {off = off} a hs ts sa (met_missing t u away h s out in_hand) =
     let both = says_both id j first second sa s in
@@ -399,9 +401,10 @@ both_fare {id = id} {j = j} {v = v} {told = told} {left = left} {two = two} {fir
     let taken : v.taken (j + 1) ≡ true = a.here.taken ∙ t in
     let has = still_it it so.still in
     let alone = a.alone taken (so.taken ∙ u) has in
-    fares_settles taken alone.0 alone.1 (then_taken id j two off v (so.taken ∙ u))
-    (then_it id j two off v has)
-    (a.still so.out so.coming) (both.told told) (λ gap. both.left gap (left gap))
+    let same = a.still so.out so.coming in
+    fares_settles taken alone.0 alone.1.0 (sym same ∙ alone.1.1)
+    (then_taken id j two off v (so.taken ∙ u)) (then_it id j two off v has) same
+    (both.told told) (λ gap. both.left gap (left gap))
 both_fare {id = id} {j = j} {v = v} {told = told} {left = left} {two = two} {first = first}
     {second = second} {off = off} a (read_missing t u away h s) m =
     let so = taken_so a t u m in
@@ -540,9 +543,10 @@ step_ends : {id j : ℕ} {v : View} {told : Told} {left : ℕ → Bool} {off : B
     → Announced (own_of two) (own_of now) (seen_of two) (seen_of now) now.intake.phase said
     → all ≡ front ++ said
     → (takes_it id now ≡ true → IsJustStarted now.intake.phase → v.held j ≡ true → off ≡ false)
+    → (takes_it id now ≡ true → IsJustStarted now.intake.phase → IsFrom j v off)
     → StepFares id j v told left all now off
 step_ends {id = id} {j = j} {v = v} {told = told} {left = left} {off = off} two now front said all
-    fares says is there =
+    fares says is there from =
     let left2 : ℕ → Bool = λ gap. left_acts gap id (j + 1) front (left gap) in record {
       one = view_then id j two off v;
       told2 = told_acts id (j + 1) front told;
@@ -553,7 +557,7 @@ step_ends {id = id} {j = j} {v = v} {told = told} {left = left} {off = off} two 
           ∙ told_append id (j + 1) front said told
           ∙ said_told id (j + 1) (told_acts id (j + 1) front told) says;
       ends = said_ends id j v off two now left2 (λ gap.
-          left_acts gap id (j + 1) all (left gap)) says there
+          left_acts gap id (j + 1) all (left gap)) says there from
           (λ gap. ap (λ (xs : List Act). left_acts gap id (j + 1) xs (left gap)) is
           ∙ left_append gap id (j + 1) front said (left gap));
     }
@@ -645,7 +649,7 @@ step_fares id j desk unread event body v told left drive off place board watched
     (step_tells desk (watch_of desk body) (watch_of desk one)
     (all_read desk unread body).acts met.acts said.acts read.watch
     (λ w. said_as desk w (announced desk met.body)))
-    beside.there
+    beside.there beside.from
 
 -- ---- a machine that is not supervised
 
@@ -661,6 +665,8 @@ FaresBehind id j desk event body v told left off read =
     → (takes_it id (behind_read desk event read).body ≡ true
     → IsJustStarted (behind_read desk event read).body.intake.phase → v.held j ≡ true
     → off ≡ false)
+    → (takes_it id (behind_read desk event read).body ≡ true
+    → IsJustStarted (behind_read desk event read).body.intake.phase → IsFrom j v off)
     → StepFares id j v told left
     (with_tells desk (watch_of desk body) (behind_read desk event read).acts)
     (behind_read desk event read).body off
@@ -702,7 +708,7 @@ silent_by : (id j : ℕ) (desk : Desk) (unread : List Sensed) (event : Event) (b
     × ((holds_it x body ≡ false) × (takes_it x body ≡ false)))
     → IsHere id j body unread v → off ≡ v.off
     → FaresBehind id j desk event body v told left off (done body (reading unread))
-silent_by id j desk unread event body v told left off none here same kept there =
+silent_by id j desk unread event body v told left off none here same kept there from =
     let met : Done = event_did desk event body in
     let said : Done = announces desk met.body in
     let says = announced desk met.body in
@@ -718,7 +724,7 @@ silent_by id j desk unread event body v told left off none here same kept there 
     ∙ ap (λ (xs : List Act). (xs ++ with_tells desk next met.acts)
     ++ said.acts) (reading_tells desk watch unread)
     ∙ ap (λ (xs : List Act). (reading unread ++ xs) ++ said.acts) (silent.0.tells desk next))
-    there
+    there from
 
 -- a machine that is not supervised and has no mark before the step, to which nothing comes by
 -- hand, tells nothing of the id; it may start it at its end
@@ -732,10 +738,12 @@ pub step_silent : (id j : ℕ) (desk : Desk) (unread : List Sensed) (event : Eve
     → (takes_it id (plain_step desk unread event body).body ≡ true
     → IsJustStarted (plain_step desk unread event body).body.intake.phase → v.held j ≡ true
     → off ≡ false)
+    → (takes_it id (plain_step desk unread event body).body ≡ true
+    → IsJustStarted (plain_step desk unread event body).body.intake.phase → IsFrom j v off)
     → StepFares id j v told left
     (with_tells desk (watch_of desk body) (plain_step desk unread event body).acts)
     (plain_step desk unread event body).body off
-step_silent id j desk unread event body v told left off unwatched none kept here same there =
+step_silent id j desk unread event body v told left off unwatched none kept here same there from =
     subst (FaresBehind id j desk event body v told left off)
     (sym (read_nothing desk unread body none))
-    (silent_by id j desk unread event body v told left off none here same) kept there
+    (silent_by id j desk unread event body v told left off none here same) kept there from

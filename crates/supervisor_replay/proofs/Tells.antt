@@ -54,14 +54,8 @@ use Rattle.node_core.specs.declared.act.Deed.{Deed}
 use Rattle.node_core.specs.declared.act.Deed.TheVariants as deeds
 use Rattle.node_core.specs.declared.act.Setting.TheVariants as settings
 use Rattle.node_core.specs.declared.supervising.Watch.{Watch}
-use Rattle.supervisor_replay.specs.Replay.{
-  At,
-  Told,
-  departs,
-  left_by_deed,
-  left_with,
-  with_happening,
-}
+use Rattle.supervisor_replay.specs.Replay.{At, Told, departs, with_happening}
+use Rattle.supervisor_replay.proofs.Since.{since_by_deed, since_with}
 use Rattle.supervisor_replay.proofs.Bodies.{brings_in, left_acts, takes_out, told_acts}
 use Rattle.supervisor_replay.proofs.Parts.{Says, SaysLeft}
 
@@ -96,7 +90,7 @@ pub left_append : (gap id machine : ℕ) (first second : List Act) (left : Bool)
     ≡ left_acts gap id machine second (left_acts gap id machine first left)
 left_append gap id machine [] second left = refl
 left_append gap id machine (act ∷ first) second left =
-    left_append gap id machine first second (left_with gap id (happenings.Done machine act) left)
+    left_append gap id machine first second (since_with gap id (happenings.Done machine act) left)
 
 -- ---- acts of which nothing is told, behind which the watch is as before
 
@@ -145,7 +139,7 @@ quiet_by id machine (acts.Tells message) told is = absurd (false≢true is)
 quiet_by id machine _ told is = refl
 
 quiet_gap : (gap id machine : ℕ) (act : Act) (left : Bool) → is_quiet act ≡ true
-    → left_with gap id (happenings.Done machine act) left ≡ left
+    → since_with gap id (happenings.Done machine act) left ≡ left
 quiet_gap gap id machine (acts.Deed (deeds.Leaves other)) left is = absurd (false≢true is)
 quiet_gap gap id machine (acts.Deed (deeds.Starts other)) left is = absurd (false≢true is)
 quiet_gap gap id machine _ left is = refl
@@ -308,9 +302,9 @@ deed_told id machine desk seen deed more told all =
 pub deed_left : (gap id machine : ℕ) (desk : Desk) (seen : Option Seen) (deed : Deed)
     (more : List Act) (left : Bool) → list_all is_quiet more ≡ true
     → left_acts gap id machine (with_tells desk (watching seen) (acts.Deed deed ∷ more)) left
-    ≡ left_by_deed gap id machine deed left
+    ≡ since_by_deed gap id machine deed left
 deed_left gap id machine desk seen deed more left all =
-    let now : Bool = left_by_deed gap id machine deed left in
+    let now : Bool = since_by_deed gap id machine deed left in
     ap (λ (xs : List Act). left_acts gap id machine xs left) (deed_tells desk seen deed more all)
     ∙ left_append gap id machine (tells_deed desk seen deed) more now
     ∙ quiet_left gap id machine more (left_acts gap id machine (tells_deed desk seen deed) now) all
@@ -320,7 +314,7 @@ deed_left gap id machine desk seen deed more left all =
 pub deed_says : {f : Told → Told} (id j : ℕ) (desk : Desk) (seen : Option Seen) (deed : Deed)
     (more : List Act) → list_all is_quiet more ≡ true
     → ((told : Told) → told_deed id (j + 1) seen deed told ≡ f told)
-    → ((gap : ℕ) (left : Bool) → left_by_deed gap id (j + 1) deed left ≡ left)
+    → ((gap : ℕ) (left : Bool) → since_by_deed gap id (j + 1) deed left ≡ left)
     → Says id j (with_tells desk (watching seen) (acts.Deed deed ∷ more)) f
 deed_says id j desk seen deed more all tells keeps = record {
   told = λ told. deed_told id (j + 1) desk seen deed more told all ∙ tells told;

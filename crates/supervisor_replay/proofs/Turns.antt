@@ -1,47 +1,12 @@
 -- The lines in which one machine makes a step: of no hand, and of a hand.
-use Rattle.std.proofs.Common.{
-  ◌≡◌,
-  ◌≢◌,
-  ◌≤◌,
-  ◌∙◌,
-  ◌⊎◌,
-  ◌++◌,
-  ◌+◌,
-  ◌-◌,
-  ◌==◌,
-  ◌||◌,
-  ℕ,
-  Bool,
-  true,
-  false,
-  List,
-  [],
-  ◌∷◌,
-  Option,
-  Some,
-  None,
-  Result,
-  Ok,
-  Err,
-  inl,
-  inr,
-  refl,
-  sym,
-  ap,
-  subst,
-  arith,
-  eq-eqb,
-  not,
-}
-use Rattle.std.specs.List.{AllByRecursion, list_any}
+use Rattle.std.proofs.Common.{◌≡◌, ◌≢◌, ◌≤◌, ◌∙◌, ◌⊎◌, ◌++◌, ◌+◌, ◌==◌, ◌||◌, ℕ, Bool, true, false, List, Option, Some, Result, Ok, Err, inl, inr, refl, sym, ap, arith, eq-eqb, not}
+use Rattle.std.specs.List.{list_any}
 use Rattle.std.proofs.lemmas.Bool.{false≢true}
-use Rattle.board_record.specs.Maker.{Maker, next_id}
+use Rattle.board_record.specs.Maker.{next_id}
 use Rattle.board_record.specs.declared.maker.IdsUsedUp.{IdsUsedUp}
 use Rattle.board_record.specs.declared.record.Record.{Record}
 use Rattle.board_record.specs.declared.sensed.Sensed.{Sensed}
-use Rattle.line_world.specs.FloorPlan.{machine_at}
 use Rattle.line_world.specs.declared.board.Board.{Board}
-use Rattle.line_script.specs.declared.line.ScriptLine.{ScriptLine}
 use Rattle.node_core.specs.Boards.{is_kept}
 use Rattle.node_core.specs.Event.{Event, Insert, Remove, Replace, event_of, with_new}
 use Rattle.node_core.specs.May as own
@@ -51,23 +16,19 @@ use Rattle.node_core.specs.Node.{NodeState, desk_of}
 use Rattle.node_core.specs.Step.{plain_step}
 use Rattle.node_core.specs.declared.input.Input.{Input}
 use Rattle.node_core.specs.declared.input.Input.TheVariants as inputs
-use Rattle.node_core.specs.declared.lane.Body.{Body as Machine}
 use Rattle.line_report.specs.declared.happening.Happening.{Happening}
-use Rattle.line_report.specs.declared.happening.Happening.TheVariants as happenings
-use Rattle.line_step.specs.FloorIds.{boards_of, made_by}
-use Rattle.line_step.specs.Numbered.{Stand, node_at, stand_at}
+use Rattle.line_step.specs.FloorIds.{boards_of}
+use Rattle.line_step.specs.Numbered.{node_at, stand_at}
 use Rattle.line_step.specs.Reasons.{behind_own, is_here, may_do, may_remove, may_replace, no_if}
 use Rattle.line_report.specs.declared.happening.Reason.TheVariants as reasons
 use Rattle.line_step.specs.Shown.{standings_told}
 use Rattle.line_step.specs.State.{LineState, machine_in}
 use Rattle.line_step.specs.Steps.{MachineSteps, moment_of, unread_by}
-use Rattle.line_step.proofs.FloorLaws.{Goes, Holds as FloorHolds}
+use Rattle.line_step.proofs.FloorLaws.{Holds as FloorHolds}
 use Rattle.line_step.proofs.Makers.{IsOld}
-use Rattle.line_step.proofs.Numbers.{machine_set_own, machine_within}
-use Rattle.one_standing.specs.Carried.{Trace, between_of, stand_of}
+use Rattle.line_step.proofs.Numbers.{machine_set_own}
+use Rattle.one_standing.specs.Carried.{Trace}
 use Rattle.one_standing.specs.Places.{at_machine, lies_at}
-use Rattle.one_standing.specs.Stands.{Stands}
-use Rattle.one_standing.specs.Standing.{HasOneStanding}
 use Rattle.one_standing.proofs.ApartFloor.{counted}
 use Rattle.one_standing.proofs.ApartHands.{IsHandless, step_still}
 use Rattle.one_standing.proofs.ApartStep.{
@@ -80,35 +41,11 @@ use Rattle.one_standing.proofs.ApartStep.{
 use Rattle.one_standing.proofs.LedgerWalk.{kept_ids}
 use Rattle.one_standing.proofs.LineForms.{numbered, own_first, there_may}
 use Rattle.one_standing.proofs.Mirroring.{node_there}
-use Rattle.supervisor_replay.specs.Replay.{IsWatched, Told, has_left, is_marked_at, nothing_told, told_of}
+use Rattle.supervisor_replay.specs.Replay.{IsWatched, Told, nothing_told, told_of}
+use Rattle.supervisor_replay.proofs.Since.{left_since}
 use Rattle.supervisor_replay.proofs.Bodies.{brings_in, holds_it, keeps_it, takes_it, takes_out}
 use Rattle.supervisor_replay.proofs.Floors.{comes_not, may_bring, may_lose, stays_there}
-use Rattle.supervisor_replay.proofs.Hands.{
-  BringsIn,
-  IsTakenOut,
-  TakesOut,
-  brings_none,
-  in_inserted,
-  in_replaced,
-  ins_are,
-  is_removed,
-  is_replaced,
-  looks_brought,
-  looks_lost,
-  loses_none,
-  made_first,
-  out_before,
-  out_removed,
-  out_replaced,
-  outs_are,
-  plain_of,
-  step_any,
-  step_ins,
-  step_makes,
-  step_out,
-  step_outs,
-  with_standings,
-}
+use Rattle.supervisor_replay.proofs.Hands.{BringsIn, TakesOut, brings_none, in_inserted, ins_are, is_removed, is_replaced, looks_brought, looks_lost, loses_none, made_first, out_before, out_removed, out_replaced, outs_are, plain_of, step_any, step_ins, step_makes, step_out, step_outs, with_standings}
 use Rattle.supervisor_replay.proofs.Inserted.{inserted_kept}
 use Rattle.supervisor_replay.proofs.Lines.{
   Agreed,
@@ -122,7 +59,7 @@ use Rattle.supervisor_replay.proofs.Lines.{
   seen_by,
 }
 use Rattle.supervisor_replay.proofs.Sights.{view_of}
-use Rattle.supervisor_replay.proofs.Stepped.{IsMarked, IsSeen, is_watched, own_step}
+use Rattle.supervisor_replay.proofs.Stepped.{IsSeen, is_watched, own_step}
 
 -- ---- of no hand
 
@@ -156,7 +93,7 @@ handless_line id number machine input t t2 before start next done past p s floor
     numbered (λ (m : ℕ). MachineSteps number m input start next done → Agreed id next (past ++ done)) machine start
     steps.node steps.there
     (λ j own. one_step id number j input t t2 before start next done past p s own
-    (handless_facts id number j input before start next done (told_of id past) (λ gap. has_left gap id past) p.watched
+    (handless_facts id number j input before start next done (told_of id past) (λ gap. left_since gap id past) p.watched
     p.watched2 (s.stands (j + 1)) floor free own))
     steps
 
@@ -191,7 +128,7 @@ out_kept id number j input before next done steps kept is =
 new_unknown : (id number j : ℕ) (input : Input) (t t2 : Trace) (before next : LineState) (done past : List Happening)
     → Passing id t t2 before next done past → (steps : MachineSteps number (j + 1) input before next done)
     → list_any (brings_in id) (plain_of number (j + 1) input before next done steps) ≡ true
-    → (told_of id past ≡ nothing_told) × (((gap : ℕ) → has_left gap id past ≡ false)
+    → (told_of id past ≡ nothing_told) × (((gap : ℕ) → left_since gap id past ≡ false)
     × (((i : ℕ) → (view_of id before).kept i ≡ false)
     × (((i : ℕ) → (view_of id before).held i ≡ false)
     × ((i : ℕ) → (view_of id before).taken i ≡ false))))

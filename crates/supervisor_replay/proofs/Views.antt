@@ -1,6 +1,6 @@
 -- What the marks of one id along a line have to do with what a supervisor was told of it: of functions of the machines'
 -- numbers, with no line in it.
-use Rattle.std.proofs.Common.{◌≡◌, ◌+◌, ◌≢◌, ◌⊎◌, ◌==◌, if◌then◌else◌, ℕ, Bool, true, false}
+use Rattle.std.proofs.Common.{◌≡◌, ◌+◌, ◌≢◌, ◌≤◌, ◌⊎◌, ◌==◌, if◌then◌else◌, ℕ, Bool, true, false}
 use Rattle.hermes_vertical.specs.declared.message.Passing.TheVariants.{ByHand, Transferred}
 use Rattle.supervisor_replay.specs.Replay.{At, Told, Way, departs, nothing_told}
 
@@ -34,6 +34,10 @@ pub record Holds (v : View) (told : Told) (left : ℕ → Bool) : Type 0 where
   -- what has left is with the machine above no more
   pub over : (j : ℕ) → left j ≡ true → v.taken (j + 1) ≡ true
       → (v.kept j ≡ false) × (v.held j ≡ false)
+  -- a board that has left is at no machine above the gap, and taken by none of their intakes, but
+  -- where it is off the floor
+  pub behind : (k : ℕ) → left k ≡ true → (i : ℕ) → i ≤ k
+      → (v.kept i ≡ false) × ((v.held i ≡ false) × (v.taken i ≡ true → v.off ≡ true))
 
 -- the marks of the id have one standing
 pub record IsSole (v : View) : Type 0 where
@@ -95,9 +99,9 @@ pub data Fares (j : ℕ) (v w : View) (told told2 : Told) (left left2 : ℕ → 
       → SetAt (j + 1) true left left2 → Fares j v w told told2 left left2
   fares_lost : v.held (j + 1) ≡ true → HasNone j w → TakesAsBefore j v w → w.off ≡ v.off
       → told2 ≡ departs (j + 1) ByHand told → Same left left2 → Fares j v w told told2 left left2
-  -- it settles: the machine above has nothing of it
+  -- it settles: it is on the floor, and the machine above has nothing of it
   fares_settles : v.taken (j + 1) ≡ true → v.kept j ≡ false → v.held j ≡ false
-      → w.taken (j + 1) ≡ false → (w.kept (j + 1) ≡ true) ⊎ (w.held (j + 1) ≡ true)
+      → v.off ≡ false → w.taken (j + 1) ≡ false → (w.kept (j + 1) ≡ true) ⊎ (w.held (j + 1) ≡ true)
       → w.off ≡ v.off → told2 ≡ record told { place = At (j + 1) } → Same left left2
       → Fares j v w told told2 left left2
   -- it is dropped, since it was taken out
@@ -143,6 +147,10 @@ pub record IsSame (v w : View) : Type 0 where
   pub missing : (i : ℕ) → w.missing i ≡ v.missing i
   pub off : w.off ≡ v.off
 
+-- the machine above has the board, or it is off the floor
+abbrev pub IsFrom : ℕ → View → Bool → Type 0
+IsFrom j v off = (v.kept j ≡ true) ⊎ ((v.held j ≡ true) ⊎ (off ≡ true))
+
 -- a start at the end of the step, of a board that is on the floor where the outlet above holds it
 pub record IsStarted (j : ℕ) (v w : View) (left left2 : ℕ → Bool) : Type 0 where
   pub none : v.taken (j + 1) ≡ false
@@ -154,6 +162,7 @@ pub record IsStarted (j : ℕ) (v w : View) (left left2 : ℕ → Bool) : Type 0
   pub missing : (i : ℕ) → i ≢ j + 1 → w.missing i ≡ v.missing i
   pub off : w.off ≡ v.off
   pub there : v.held j ≡ true → v.off ≡ false
+  pub from : IsFrom j v v.off
   pub cleared : SetAt j false left left2
 
 -- ---- what a move on the floor does

@@ -9,8 +9,9 @@ use Rattle.line_step.specs.State.{LineState, no_line}
 use Rattle.one_standing.specs.Standing.{IsFitLine}
 use Rattle.supervisor_replay.specs.Replay.{Agrees, AreWatched, IsWatched}
 
--- behind any run that led to the state before a line, in which each machine is supervised before its first mark, and behind
--- the line: what a supervisor folds from all that was told, and what the line tells, says where each board is
+-- behind any run that led to the state before a line, in which each machine is supervised before
+-- its first mark, and behind the line: what a supervisor folds from all that was told, and what
+-- the line tells, says where each board is
 pub record AgreesNext (before after : LineState) (told : List Happening) : Type 0 where
   pub behind : (asked : List ScriptLine) (points : List Point)
       → AllByRecursion IsFitLine asked → IsRun no_line asked points
@@ -21,6 +22,7 @@ pub record AgreesNext (before after : LineState) (told : List Happening) : Type 
 -- a board come or go unseen
 abbrev pub AgreesAlong : Type 0
 AgreesAlong =
-    (line : ScriptLine) (before after : LineState) (told : List Happening) → before.lines + 1 ≤ 1000000
+    (line : ScriptLine) (before after : LineState) (told : List Happening)
+    → before.lines + 1 ≤ 1000000
     → IsFitLine line → LineSteps (before.lines + 1) line before after told → after.unvouched ≡ None
     → AgreesNext before after told

@@ -1,4 +1,5 @@
--- THE SUPERVISOR'S REPLAY: where each board is, by what a line supervisor is told and nothing else.
+-- THE SUPERVISOR'S REPLAY: where each board is, by what a line supervisor is told and nothing
+-- else.
 use Rattle.std.specs.Prelude.{
   ◌≡◌,
   ℕ,
@@ -18,7 +19,7 @@ use Rattle.std.specs.Prelude.{
   length,
   take,
 }
-use Rattle.std.specs.List.{AllByRecursion}
+use Rattle.std.specs.List.{AllByRecursion, list_any}
 use Rattle.hermes_vertical.specs.declared.message.Passing.{Passing}
 use Rattle.hermes_vertical.specs.declared.message.Passing.TheVariants.{
   Transferred,
@@ -29,7 +30,6 @@ use Rattle.hermes_vertical.specs.declared.message.Vertical.{Vertical}
 use Rattle.hermes_vertical.specs.declared.message.Vertical.TheVariants as bodies
 use Rattle.line_script.specs.declared.line.ScriptLine.{ScriptLine}
 use Rattle.node_core.specs.declared.act.Act.TheVariants as acts
-use Rattle.node_core.specs.declared.act.Deed.{Deed}
 use Rattle.node_core.specs.declared.act.Deed.TheVariants as deeds
 use Rattle.line_report.specs.declared.happening.Happening.{Happening}
 use Rattle.line_report.specs.declared.happening.Happening.TheVariants as happenings
@@ -64,7 +64,8 @@ abbrev pub on_its_way : Bool → ℕ → Whereabouts
 on_its_way true machine = Nowhere
 on_its_way false machine = Way machine
 
--- it departs by a hand: from the machine that tells it, or from the way to it. One that the machine above has still is lost
+-- it departs by a hand: from the machine that tells it, or from the way to it. One that the
+-- machine above has still is lost
 abbrev pub taken_from : ℕ → Whereabouts → Told → Told
 taken_from machine (At at) told =
     if at == machine then record told { place = Nowhere }
@@ -102,26 +103,14 @@ told_of id reported = told_after id reported nothing_told
 
 -- ---- what it is compared with
 
--- the machine above a gap told that a board has left it, in the board's last handover there: `leaves m id`, behind which the
--- machine below has not started the board again
-abbrev pub left_by_deed : ℕ → ℕ → ℕ → Deed → Bool → Bool
-left_by_deed gap id machine (deeds.Leaves other) left = ((machine == gap) && (other == id)) || left
-left_by_deed gap id machine (deeds.Starts other) left =
-    if (machine == gap + 1) && (other == id) then false else left
-left_by_deed gap id machine _ left = left
-
-abbrev pub left_with : ℕ → ℕ → Happening → Bool → Bool
-left_with gap id (happenings.Done machine (acts.Deed deed)) left =
-    left_by_deed gap id machine deed left
-left_with gap id _ left = left
-
-abbrev pub left_after : ℕ → ℕ → List Happening → Bool → Bool
-left_after gap id [] left = left
-left_after gap id (happening ∷ others) left =
-    left_after gap id others (left_with gap id happening left)
+-- it was reported that a board has left the machine above a gap: `leaves m id`
+abbrev pub leaves_at : ℕ → ℕ → Happening → Bool
+leaves_at gap id (happenings.Done machine (acts.Deed (deeds.Leaves other))) =
+    (machine == gap) && (other == id)
+leaves_at gap id _ = false
 
 abbrev pub has_left : ℕ → ℕ → List Happening → Bool
-has_left gap id reported = left_after gap id reported false
+has_left gap id reported = list_any (leaves_at gap id) reported
 
 -- a machine keeps the board or its outlet holds it
 abbrev pub has_board : ℕ → List Mark → Bool
@@ -131,8 +120,9 @@ has_board machine marks = has_mark (Kept machine) marks || has_mark (Outlet mach
 abbrev pub IsOnlyMark : Mark → List Mark → Type 0
 IsOnlyMark mark marks = (other : Mark) → has_mark other marks ≡ is_same_mark other mark
 
--- what a supervisor folds of an id says where it is, exactly as the marks do: at a machine that has it; on its way from one
--- that it has left, where the intake of the machine below alone holds it; so of every other id it says nowhere
+-- what a supervisor folds of an id says where it is, exactly as the marks do: at a machine that
+-- has it; on its way from one that it has left, where the intake of the machine below alone holds
+-- it; so of every other id it says nowhere
 pub record Agrees (reported : List Happening) (s : LineState) (id : ℕ) : Type 0 where
   pub at : (machine : ℕ) → (told_of id reported).place ≡ At machine
       → has_board machine (marks_in s id) ≡ true
@@ -165,9 +155,9 @@ KeepAgreeing past (point ∷ points) =
     ((id : ℕ) → Agrees (past ++ point.told) point.after id)
     × KeepAgreeing (past ++ point.told) points
 
--- THE LAW: where each machine is supervised before its first mark, it holds after each line of every script, up to the first
--- one that told what was not so, or let a board come or go unseen. A script has at most 1,000,000 lines, and its barcodes are
--- texts
+-- THE LAW: where each machine is supervised before its first mark, it holds after each line of
+-- every script, up to the first one that told what was not so, or let a board come or go unseen. A
+-- script has at most 1,000,000 lines, and its barcodes are texts
 abbrev pub ReplayAgrees : Type 0
 ReplayAgrees =
     (asked : List ScriptLine) (points : List Point) (n : ℕ) → AllByRecursion IsFitLine asked

@@ -3,11 +3,13 @@
 ghost use Rattle.supervisor_replay.specs.Along.{AgreesAlong};
 ghost use Rattle.supervisor_replay.specs.Replay.{ReplayAgrees};
 
-/// The supervisor's replay agrees: where each machine is supervised before its first mark, what a supervisor folds from the
-/// `tells` lines says of every id where its board is, exactly as the marks do: at the machine that keeps it or whose outlet
-/// holds it; on its way where it has left a machine and the intake of the next one alone holds it; and else nowhere. So it is
-/// after each line of a script, up to the first one that told of a sensor event that was not, or let a board come or go unseen.
-/// It says nothing of a line behind a `lie` or an `unseen`, and nothing of a script of more than 1,000,000 lines.
+/// The supervisor's replay agrees: where each machine is supervised before its first mark, what a
+/// supervisor folds from the `tells` lines says of every id where its board is, exactly as the
+/// marks do: at the machine that keeps it or whose outlet holds it; on its way where it has left a
+/// machine and the intake of the next one alone holds it; and else nowhere. So it is after each
+/// line of a script, up to the first one that told of a sensor event that was not, or let a board
+/// come or go unseen. It says nothing of a line behind a `lie` or an `unseen`, and nothing of a
+/// script of more than 1,000,000 lines.
 pub fn the_replay_agrees_with_the_marks()
     ensures { ReplayAgrees }
 {
@@ -18,8 +20,8 @@ pub fn the_replay_agrees_with_the_marks()
     link_messages::laws::the_words_behind_a_nul_are_fit();
 }
 
-/// The same of the next line behind a run of a script: what is folded from all that was told before it, and from what it
-/// tells, agrees with the marks behind it.
+/// The same of the next line behind a run of a script: what is folded from all that was told
+/// before it, and from what it tells, agrees with the marks behind it.
 pub fn each_line_keeps_the_replay_right()
     ensures { AgreesAlong }
 {
