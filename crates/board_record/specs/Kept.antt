@@ -9,4 +9,9 @@ pub record Shelf : Type 0 where
 
 -- the records with the quality of the one at this place changed, and nothing else
 abbrev pub with_quality : List Record → ℕ → Quality → List Record
-with_quality boards place quality = elim (slice_get boards place) [ None ↦ boards | Some board ↦ slice_set boards place (record board { quality = quality }) ]
+with_quality boards place quality =
+    elim (slice_get boards place) [
+      | None ↦ boards
+      | Some board ↦ slice_set boards place
+          (record board { quality = quality })
+    ]

@@ -20,7 +20,11 @@ pub struct Kept {
 impl Model for Kept {
     ghost Value = { Shelf };
 
-    ghost view = { λ kept. record { boards = kept.boards.items; spare = vec_capacity kept.boards - vec_len kept.boards } };
+    ghost view = { λ kept.
+        record {
+          boards = kept.boards.items;
+          spare = vec_capacity kept.boards - vec_len kept.boards;
+        } };
 }
 
 impl Kept {

@@ -7,15 +7,20 @@ use Rattle.handover_in.specs.State.{board_of_phase as held_in, passes_offers_ove
 use Rattle.handover_in.specs.declared.phase.Phase.{Phase as In}
 use Rattle.custody.specs.Words.{BoardAvailable, DownWord, RevokeBoardAvailable, TransportFinished, UpWord, UpstreamService, starts_in}
 
--- each offer in flight that will not be passed over has the property Q. The flag: offers are passed over until an
--- end of a transfer is heard
+-- each offer in flight that will not be passed over has the property Q. The flag: offers are
+-- passed over until an end of a transfer is heard
 pub data OpenAll (Q : Record → Type 0) : Bool → List DownWord → Type 0 where
   open_none : {b : Bool} → OpenAll Q b []
-  open_new : {r : Record} {ws : List DownWord} → Q r → OpenAll Q false ws → OpenAll Q false (BoardAvailable r ∷ ws)
-  open_passed : {r : Record} {ws : List DownWord} → OpenAll Q true ws → OpenAll Q true (BoardAvailable r ∷ ws)
-  open_back : {b : Bool} {ws : List DownWord} → OpenAll Q b ws → OpenAll Q b (RevokeBoardAvailable ∷ ws)
-  open_end : {b : Bool} {e : Transfer} {x : ℕ} {ws : List DownWord} → OpenAll Q false ws → OpenAll Q b (TransportFinished e x ∷ ws)
-  open_service : {b : Bool} {ws : List DownWord} → OpenAll Q b ws → OpenAll Q b (UpstreamService ∷ ws)
+  open_new : {r : Record} {ws : List DownWord} → Q r → OpenAll Q false ws
+      → OpenAll Q false (BoardAvailable r ∷ ws)
+  open_passed : {r : Record} {ws : List DownWord} → OpenAll Q true ws
+      → OpenAll Q true (BoardAvailable r ∷ ws)
+  open_back : {b : Bool} {ws : List DownWord} → OpenAll Q b ws
+      → OpenAll Q b (RevokeBoardAvailable ∷ ws)
+  open_end : {b : Bool} {e : Transfer} {x : ℕ} {ws : List DownWord} → OpenAll Q false ws
+      → OpenAll Q b (TransportFinished e x ∷ ws)
+  open_service : {b : Bool} {ws : List DownWord} → OpenAll Q b ws
+      → OpenAll Q b (UpstreamService ∷ ws)
 
 -- and so has the offer that was heard
 pub data OfferIs (Q : Record → Type 0) : Option Record → Type 0 where
@@ -27,29 +32,36 @@ pub data Kept : ℕ → List Record → Type 0 where
   kept_first : {r : Record} {ks : List Record} → Kept r.id (r ∷ ks)
   kept_later : {x : ℕ} {r : Record} {ks : List Record} → Kept x ks → Kept x (r ∷ ks)
 
--- an offered record is that of the touched front of the kept boards, or its id is on the floor no more; once the link
--- doesn't stand, its board is kept or gone. `Gone` is a fact over the whole line: the id was used, and no board on the
--- floor has it. So it only grows
+-- an offered record is that of the touched front of the kept boards, or its id is on the floor no
+-- more; once the link doesn't stand, its board is kept or gone. `Gone` is a fact over the whole
+-- line: the id was used, and no board on the floor has it. So it only grows
 pub data Named (Gone : ℕ → Type 0) : Bool → List Record → Option ℕ → Record → Type 0 where
   named_front : {r : Record} {ks : List Record} → Named Gone true (r ∷ ks) (Some r.id) r
-  named_gone : {b : Bool} {ks : List Record} {t : Option ℕ} {r : Record} → Gone r.id → Named Gone b ks t r
-  named_kept : {ks : List Record} {t : Option ℕ} {r : Record} → Kept r.id ks → Named Gone false ks t r
+  named_gone : {b : Bool} {ks : List Record} {t : Option ℕ} {r : Record} → Gone r.id
+      → Named Gone b ks t r
+  named_kept : {ks : List Record} {t : Option ℕ} {r : Record} → Kept r.id ks
+      → Named Gone false ks t r
 
--- all that is offered on a link, and, while its start is on its way, the record that the intake took
-pub record Contents (Gone : ℕ → Type 0) (b : Bool) (kept : List Record) (touched : Option ℕ) (i : In) (f : Option Record) (up : List UpWord) (down : List DownWord) : Type 0 where
+-- all that is offered on a link, and, while its start is on its way, the record that the intake
+-- took
+pub record Contents (Gone : ℕ → Type 0) (b : Bool) (kept : List Record) (touched : Option ℕ)
+    (i : In) (f : Option Record) (up : List UpWord) (down : List DownWord) : Type 0 where
   pub offers : OpenAll (Named Gone b kept touched) (passes_offers_over i) down
   pub offer : OfferIs (Named Gone b kept touched) f
-  pub start : (r : Record) → b ≡ true → held_in i ≡ Some r → starts_in up ≢ [] → Named Gone true kept touched r
+  pub start : (r : Record) → b ≡ true → held_in i ≡ Some r → starts_in up ≢ []
+      → Named Gone true kept touched r
 
--- what is offered is the front of the kept boards. This holds after each event but a removal or a replacement of the
--- front, which the revocation of the same step mends
+-- what is offered is the front of the kept boards. This holds after each event but a removal or a
+-- replacement of the front, which the revocation of the same step mends
 pub data OffersFront : Option ℕ → List Record → Type 0 where
   offers_nothing : {ks : List Record} → OffersFront None ks
   offers_front : {r : Record} {ks : List Record} → OffersFront (Some r.id) (r ∷ ks)
 
--- the record that a machine brings to a start: the front of its kept boards, where that board is offered
+-- the record that a machine brings to a start: the front of its kept boards, where that board is
+-- offered
 pub data Looks : Option ℕ → List Record → ℕ → Option Record → Type 0 where
-  looks_front : {o : Option ℕ} {q : Record} {ks : List Record} {z : ℕ} → is_id o z ≡ true → Looks o (q ∷ ks) z (Some q)
+  looks_front : {o : Option ℕ} {q : Record} {ks : List Record} {z : ℕ} → is_id o z ≡ true
+      → Looks o (q ∷ ks) z (Some q)
   looks_past : {o : Option ℕ} {ks : List Record} {z : ℕ} → is_id o z ≡ false → Looks o ks z None
 
 -- the front, where a test passes: what a machine brings to a start that would open its outlet

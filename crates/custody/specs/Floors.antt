@@ -18,24 +18,49 @@ use Rattle.custody.specs.Pair.{Body, Ghost, LinkState, Pair}
 use Rattle.custody.specs.Place.{MovesPlace, Place}
 use Rattle.custody.specs.Steps.{intake, outlet}
 
--- what is around a gap, by its parts: the boards and unread events upstream, what lies in the gap with the drives of
--- exit and entry, the boards and unread events downstream
-abbrev pub parts_around : List Board → List Sensed → Gap → Bool → Bool → List Board → List Sensed → Around
-parts_around ub uu lies xd ed db du = record { up = record { boards = ub; unread = uu }; between = record { lies = lies; exit_drive = xd; entry_drive = ed }; down = record { boards = db; unread = du } }
+-- what is around a gap, by its parts: the boards and unread events upstream, what lies in the gap
+-- with the drives of exit and entry, the boards and unread events downstream
+abbrev pub parts_around : List Board → List Sensed → Gap → Bool → Bool → List Board → List Sensed
+    → Around
+parts_around ub uu lies xd ed db du =
+    record {
+      up = record { boards = ub; unread = uu };
+      between = record { lies = lies; exit_drive = xd; entry_drive = ed };
+      down =
+          record { boards = db; unread = du };
+    }
 
--- a link and its two machines after a move: the board is where the move takes it, and all else is as it was but what is
--- around the gap
-pub record Lifted (step : Move) (l : LinkState) (g : Ghost) (kept : List Record) (j : In) (q : Place) (kept2 : List Record) (o2 : Out) (p2 : Place) (a : Around) : Type 0 where
+-- a link and its two machines after a move: the board is where the move takes it, and all else is
+-- as it was but what is around the gap
+pub record Lifted (step : Move) (l : LinkState) (g : Ghost) (kept : List Record) (j : In)
+    (q : Place) (kept2 : List Record) (o2 : Out) (p2 : Place) (a : Around) : Type 0 where
   pub place : Place
   pub moves : MovesPlace step g.place place
   pub pair : Pair (record { place = place; board = g.board }) (record l { around = a })
   pub body : Body l.outlet.phase place kept j q a.up.boards
   pub below : Body o2 p2 kept2 l.intake.phase place a.down.boards
-  pub lets : (last : Option Record) → LetGo g.place l.outlet.phase g.board last → LetGo place l.outlet.phase g.board last
+  pub lets : (last : Option Record) → LetGo g.place l.outlet.phase g.board last
+      → LetGo place l.outlet.phase g.board last
 
 -- a new link, between machines that have nothing
 abbrev pub nobody : Record
 nobody = plain_record 0 [] None
 
 abbrev pub new_link : LinkState
-new_link = record { exit = NotConnected; outlet = outlet out.Idle None None false; entry = NotConnected; intake = intake inn.Idle None false; stands = false; around = record { up = record { boards = []; unread = [] }; between = record { lies = gaps.Free; exit_drive = false; entry_drive = false }; down = record { boards = []; unread = [] } }; up = []; down = [] }
+new_link =
+    record {
+      exit = NotConnected;
+      outlet = outlet out.Idle None None false;
+      entry = NotConnected;
+      intake = intake inn.Idle None false;
+      stands = false;
+      around =
+          record {
+            up = record { boards = []; unread = [] };
+            between = record { lies = gaps.Free; exit_drive = false; entry_drive = false };
+            down =
+                record { boards = []; unread = [] };
+          };
+      up = [];
+      down = [];
+    }

@@ -15,13 +15,15 @@ use Rattle.custody.specs.Place.{Place, is_inside, is_upstream}
 use Rattle.custody.specs.Talks.{Talks}
 use Rattle.custody.specs.Words.{down_words, events_at, up_words}
 
--- where the board of the handover is, and which it is. Nobody keeps it: whoever proves the relation names it
+-- where the board of the handover is, and which it is. Nobody keeps it: whoever proves the
+-- relation names it
 pub record Ghost : Type 0 where
   pub place : Place
   pub board : Record
 
--- the exit of a machine, the entry of the next one, and what is between them: whether the link stands and the exit
--- has a session, the gap with the machines on either side of it, and the messages that are sent and not heard yet
+-- the exit of a machine, the entry of the next one, and what is between them: whether the link
+-- stands and the exit has a session, the gap with the machines on either side of it, and the
+-- messages that are sent and not heard yet
 pub record LinkState : Type 0 where
   pub exit : SessionState
   pub outlet : OutState
@@ -34,10 +36,13 @@ pub record LinkState : Type 0 where
 
 -- the relation of a link: each side's floor, the gap, and how the two ends stand to one another
 pub record Pair (g : Ghost) (l : LinkState) : Type 0 where
-  pub out : ExitFloor l.outlet.phase (events_at sides.Exit l.around.up.unread) l.around.between.exit_drive g.place g.board
-  pub «in» : EntryFloor l.intake.phase (events_at sides.Entry l.around.down.unread) l.around.between.entry_drive g.place g.board
+  pub out : ExitFloor l.outlet.phase
+      (events_at sides.Exit l.around.up.unread) l.around.between.exit_drive g.place g.board
+  pub «in» : EntryFloor l.intake.phase
+      (events_at sides.Entry l.around.down.unread) l.around.between.entry_drive g.place g.board
   pub gap : GapAt l.around.between.lies g.place g.board
-  pub talk : Talks l.stands l.exit l.outlet.phase l.outlet.offered l.outlet.ready l.entry l.intake.phase l.intake.offer l.intake.ready g.place (up_words l.up) (down_words l.down)
+  pub talk : Talks l.stands l.exit l.outlet.phase l.outlet.offered l.outlet.ready l.entry
+      l.intake.phase l.intake.offer l.intake.ready g.place (up_words l.up) (down_words l.down)
 
 abbrev pub board_of : Record → Board
 board_of r = record { id = Some r.id }
@@ -48,10 +53,13 @@ part None _ = []
 part (Some r) true = board_of r ∷ []
 part (Some r) false = []
 
--- the relation of a machine: its boards are, from the front, the outlet's, those that are kept, the intake's. The
--- outlet and its place are of the link below, the intake and its place of the link above
-pub record Body (o : Out) (p : Place) (kept : List Record) (i : In) (q : Place) (boards : List Board) : Type 0 where
-  pub same : boards ≡ part (held_out o) (is_upstream p) ++ (map board_of kept ++ part (held_in i) (is_inside q))
+-- the relation of a machine: its boards are, from the front, the outlet's, those that are kept,
+-- the intake's. The outlet and its place are of the link below, the intake and its place of the
+-- link above
+pub record Body (o : Out) (p : Place) (kept : List Record) (i : In) (q : Place)
+    (boards : List Board) : Type 0 where
+  pub same : boards ≡ part (held_out o) (is_upstream p)
+      ++ (map board_of kept ++ part (held_in i) (is_inside q))
 
 -- the boards of a machine up to the kept ones
 abbrev pub listed : Out → Place → List Record → List Board

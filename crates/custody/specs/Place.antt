@@ -1,10 +1,12 @@
--- Where the board of a handover is. No machine keeps it: it joins what the two sides of a gap can know.
+-- Where the board of a handover is. No machine keeps it: it joins what the two sides of a gap can
+-- know.
 use Rattle.std.specs.Prelude.{Bool, false, true}
 use Rattle.line_world.specs.declared.moves.Move.{Move}
 use Rattle.line_world.specs.declared.moves.Move.TheVariants as moves
 
--- upstream, and never begun in this handover; upstream again, or removed there; begun in the gap; wholly across
--- it; inside downstream; taken out by hand while it was begun; taken out by hand while it was across
+-- upstream, and never begun in this handover; upstream again, or removed there; begun in the gap;
+-- wholly across it; inside downstream; taken out by hand while it was begun; taken out by hand
+-- while it was across
 pub data Place : Type 0 where
   Fresh : Place
   Home : Place

@@ -14,27 +14,45 @@ use Rattle.custody.specs.Place.{Place}
 use Rattle.custody.specs.Shape.{Shape}
 use Rattle.custody.specs.Words.{DownWord, DownstreamService, StopTransport, UpWord, UpstreamService}
 
--- the link stands; the exit's session, outlet, offered, ready; the entry's session, intake, offer, ready; the place;
--- the words to the outlet, and those to the intake
-pub data Talks : Bool → SessionState → Out → Option ℕ → Bool → SessionState → In → Option Record → Bool → Place → List UpWord → List DownWord → Type 0 where
+-- the link stands; the exit's session, outlet, offered, ready; the entry's session, intake, offer,
+-- ready; the place; the words to the outlet, and those to the intake
+pub data Talks : Bool → SessionState → Out → Option ℕ → Bool → SessionState → In → Option Record
+    → Bool → Place → List UpWord → List DownWord → Type 0 where
   -- both sessions stand
-  live : {o : Out} {of : Option ℕ} {rd : Bool} {i : In} {f : Option Record} {ri : Bool} {p : Place} {up : List UpWord} {down : List DownWord}
+  live : {o : Out} {of : Option ℕ} {rd : Bool} {i : In} {f : Option Record} {ri : Bool} {p : Place}
+      {up : List UpWord} {down : List DownWord}
       → Shape o of rd i f ri p up down → Talks true Standing o of rd Standing i f ri p up down
-  -- the connection is new: the downstream machine's description is on its way. A board that is stuck upstream is
-  -- held beside a free intake only, and one that waits inside beside a free outlet only
-  shaking_idle : {p : Place} → Talks true Handshake out.Idle None false Handshake inn.Idle None false p (DownstreamService ∷ []) []
-  shaking_waiting : {w : Record} {p : Place} → Talks true Handshake out.Idle None false Handshake (inn.Waiting w seen.Complete false) None false p (DownstreamService ∷ []) []
-  shaking_stuck : {q : Record} {p : Place} → Talks true Handshake (out.Stuck q false false) None false Handshake inn.Idle None false p (DownstreamService ∷ []) []
+  -- the connection is new: the downstream machine's description is on its way. A board that is
+  -- stuck upstream is held beside a free intake only, and one that waits inside beside a free
+  -- outlet only
+  shaking_idle : {p : Place}
+      → Talks true Handshake out.Idle None false Handshake inn.Idle None false p
+      (DownstreamService ∷ []) []
+  shaking_waiting : {w : Record} {p : Place}
+      → Talks true Handshake out.Idle None false Handshake
+      (inn.Waiting w seen.Complete false) None false p (DownstreamService ∷ []) []
+  shaking_stuck : {q : Record} {p : Place}
+      → Talks true Handshake (out.Stuck q false false) None false Handshake inn.Idle None false p
+      (DownstreamService ∷ []) []
   -- the upstream machine answered with its own, and may offer behind it
   described : {of : Option ℕ} {p : Place} {rest : List DownWord} → Offers None rest of
-      → Talks true Standing out.Idle of false Handshake inn.Idle None false p [] (UpstreamService ∷ rest)
-  described_waiting : {of : Option ℕ} {w : Record} {p : Place} {rest : List DownWord} → Offers None rest of
-      → Talks true Standing out.Idle of false Handshake (inn.Waiting w seen.Complete false) None false p [] (UpstreamService ∷ rest)
+      → Talks true Standing out.Idle of false Handshake inn.Idle None false p []
+      (UpstreamService ∷ rest)
+  described_waiting : {of : Option ℕ} {w : Record} {p : Place} {rest : List DownWord}
+      → Offers None rest of
+      → Talks true Standing out.Idle of false Handshake
+      (inn.Waiting w seen.Complete false) None false p [] (UpstreamService ∷ rest)
   -- a start, with or without its stop, is still to be heard, and its intake has dropped the board
-  apart_start : {of : Option ℕ} {rd : Bool} {y : SessionState} {p : Place} {up : List UpWord} {x : ℕ}
-      → Starts rd up x [] → Away y → Talks false Standing out.Idle of rd y inn.Idle None false p up []
-  apart_start_stop : {of : Option ℕ} {rd : Bool} {y : SessionState} {p : Place} {up : List UpWord} {x : ℕ}
-      → Starts rd up x (StopTransport x ∷ []) → Away y → Talks false Standing out.Idle of rd y inn.Idle None false p up []
+  apart_start : {of : Option ℕ} {rd : Bool} {y : SessionState} {p : Place} {up : List UpWord}
+      {x : ℕ}
+      → Starts rd up x [] → Away y
+      → Talks false Standing out.Idle of rd y inn.Idle None false p up []
+  apart_start_stop : {of : Option ℕ} {rd : Bool} {y : SessionState} {p : Place} {up : List UpWord}
+      {x : ℕ}
+      → Starts rd up x (StopTransport x ∷ []) → Away y
+      → Talks false Standing out.Idle of rd y inn.Idle None false p up []
   -- each end by itself
-  apart : {b : Bool} {x : SessionState} {o : Out} {of : Option ℕ} {rd : Bool} {y : SessionState} {i : In} {f : Option Record} {ri : Bool} {p : Place} {up : List UpWord} {down : List DownWord}
+  apart : {b : Bool} {x : SessionState} {o : Out} {of : Option ℕ} {rd : Bool} {y : SessionState}
+      {i : In} {f : Option Record} {ri : Bool} {p : Place} {up : List UpWord}
+      {down : List DownWord}
       → Exit b x o of rd up → Entry b y i f ri p down → Talks false x o of rd y i f ri p up down

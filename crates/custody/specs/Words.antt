@@ -1,4 +1,5 @@
--- What the outlet of a link hears and what its intake hears: the messages that decide about a handover, as words.
+-- What the outlet of a link hears and what its intake hears: the messages that decide about a
+-- handover, as words.
 use Rattle.std.specs.Prelude.{Bool, List, None, Option, Some, [], false, true, ℕ, ◌++◌, ◌∷◌}
 use Rattle.line_base.specs.declared.states.SensorEvent.{SensorEvent}
 use Rattle.line_base.specs.declared.states.Side.{Side}
@@ -13,8 +14,8 @@ use Rattle.handover_out.specs.declared.act.OutSend.TheVariants as out_sends
 use Rattle.handover_in.specs.declared.act.InSend.{InSend}
 use Rattle.handover_in.specs.declared.act.InSend.TheVariants as in_sends
 
--- a word to the outlet, from the downstream machine. What a StopTransport says of the transfer decides nothing
--- there, so it is no part of the word
+-- a word to the outlet, from the downstream machine. What a StopTransport says of the transfer
+-- decides nothing there, so it is no part of the word
 pub data UpWord : Type 0 where
   MachineReady : UpWord
   RevokeMachineReady : UpWord
@@ -29,7 +30,8 @@ pub data DownWord : Type 0 where
   TransportFinished : Transfer → ℕ → DownWord
   UpstreamService : DownWord
 
--- the words of messages, in order. CheckAlive, Notification and whatever neither half takes are no words
+-- the words of messages, in order. CheckAlive, Notification and whatever neither half takes are no
+-- words
 abbrev pub before_up : Horizontal → List UpWord → List UpWord
 before_up (message.MachineReady _) ws = MachineReady ∷ ws
 before_up message.RevokeMachineReady ws = RevokeMachineReady ∷ ws
@@ -69,8 +71,8 @@ in_says (Some (in_sends.Start id)) = StartTransport id ∷ []
 in_says (Some (in_sends.Stop _ id)) = StopTransport id ∷ []
 in_says None = []
 
--- what is said goes behind what is in flight, where the link stands, and else it vanishes. The first case is
--- about what is said, so that nothing said is nothing changed on any link
+-- what is said goes behind what is in flight, where the link stands, and else it vanishes. The
+-- first case is about what is said, so that nothing said is nothing changed on any link
 abbrev pub sent : {A : Type 0} → List A → Bool → List A → List A
 sent [] _ ws = ws
 sent (x ∷ xs) true ws = ws ++ (x ∷ xs)

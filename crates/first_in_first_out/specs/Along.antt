@@ -7,13 +7,16 @@ use Rattle.line_step.specs.State.{LineState}
 use Rattle.one_standing.specs.Reached.{IsReached}
 use Rattle.first_in_first_out.specs.Order.{GoesInOrder, held_and_kept}
 
--- of each machine: from what its outlet holds and what it keeps before the line, which is its order there
+-- of each machine: from what its outlet holds and what it keeps before the line, which is its
+-- order there
 pub record GoInOrder (before after : LineState) (told : List Happening) : Type 0 where
-  pub each : (machine : ℕ) → 1 ≤ machine → GoesInOrder machine (held_and_kept before machine) before after told
+  pub each : (machine : ℕ) → 1 ≤ machine
+      → GoesInOrder machine (held_and_kept before machine) before after told
 
 -- THE LAW: over the next line behind a run of a script, while no line told what was not so, or let
 -- a board come or go unseen
 abbrev pub OrderAlong : Type 0
 OrderAlong =
     (line : ScriptLine) (before after : LineState) (told : List Happening) → IsReached before
-    → LineSteps (before.lines + 1) line before after told → after.unvouched ≡ None → GoInOrder before after told
+    → LineSteps (before.lines + 1) line before after told → after.unvouched ≡ None
+    → GoInOrder before after told

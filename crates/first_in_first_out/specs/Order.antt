@@ -1,7 +1,7 @@
 -- FIRST IN, FIRST OUT: each machine lets its boards go in the order in which they came to it.
 --
--- The order of a machine is folded from the report alone, as if nobody knew of records. What the machine's outlet holds and
--- what it keeps is this order, and no other.
+-- The order of a machine is folded from the report alone, as if nobody knew of records. What the
+-- machine's outlet holds and what it keeps is this order, and no other.
 use Rattle.std.specs.Prelude.{List, Some, [], false, if◌then◌else◌, length, slice_get, take, ℕ, ◌++◌, ◌==◌, ◌∷◌, ◌≡◌, ◌≤◌}
 use Rattle.std.specs.List.{AllByRecursion}
 use Rattle.line_world.specs.FloorPlan.{gap_at}
@@ -24,8 +24,9 @@ use Rattle.one_standing.specs.Told.{IsTold}
 
 -- ---- the order of a machine
 
--- a board that is inserted, or settles, comes last; another that replaces one comes in its place; one that is removed, that
--- leaves, or is lost, goes. (A board that opens or returns is in the order before and behind.)
+-- a board that is inserted, or settles, comes last; another that replaces one comes in its place;
+-- one that is removed, that leaves, or is lost, goes. (A board that opens or returns is in the
+-- order before and behind.)
 abbrev pub order_with : List ℕ → Act → List ℕ
 order_with order (acts.Inserts id) = order ++ id ∷ []
 order_with order (acts.Deed (deeds.Settles id)) = order ++ id ∷ []
@@ -35,15 +36,18 @@ order_with order (acts.Deed (deeds.Leaves id)) = without_id id order
 order_with order (acts.Deed (deeds.Loses id)) = without_id id order
 order_with order _ = order
 
--- it goes by what this machine did: `settles` at the gap above it, `leaves` and `loses` at the gap below it
+-- it goes by what this machine did: `settles` at the gap above it, `leaves` and `loses` at the gap
+-- below it
 abbrev pub order_by : ℕ → List ℕ → Happening → List ℕ
-order_by machine order (happenings.Done other act) = if other == machine then order_with order act else order
+order_by machine order (happenings.Done other act) =
+    if other == machine then order_with order act else order
 order_by machine order _ = order
 
 -- the order behind what is told
 abbrev pub order_behind : ℕ → List ℕ → List Happening → List ℕ
 order_behind machine order [] = order
-order_behind machine order (happening ∷ told) = order_behind machine (order_by machine order happening) told
+order_behind machine order (happening ∷ told) =
+    order_behind machine (order_by machine order happening) told
 
 -- THE ORDER of a machine: of all that was told
 abbrev pub order_of : ℕ → List Happening → List ℕ
@@ -53,13 +57,15 @@ order_of machine told = order_behind machine [] told
 
 -- what a machine's outlet holds, if anything, and then what the machine keeps
 abbrev pub held_and_kept : LineState → ℕ → List ℕ
-held_and_kept s machine = one_of (owned_by (node_at s machine)).held ++ (owned_by (node_at s machine)).kept
+held_and_kept s machine =
+    one_of (owned_by (node_at s machine)).held ++ (owned_by (node_at s machine)).kept
 
 -- a machine tells that a board has left
 abbrev pub leaves : ℕ → ℕ → Happening
 leaves machine id = happenings.Done machine (acts.Deed (deeds.Leaves id))
 
--- a board that lay begun in a gap lies across it: its id is the one that the outlet there holds, the first of the order
+-- a board that lay begun in a gap lies across it: its id is the one that the outlet there holds,
+-- the first of the order
 pub record MovesTheFirst (gap : ℕ) (order : List ℕ) (before after : LineState) : Type 0 where
   pub board : Board
   pub id : ℕ
@@ -69,14 +75,18 @@ pub record MovesTheFirst (gap : ℕ) (order : List ℕ) (before after : LineStat
   pub held : (owned_by (node_at before gap)).held ≡ Some id
   pub first : slice_get order 0 ≡ Some id
 
--- over a line before which this was the order of a machine: behind it the outlet holds, and the machine keeps, what is the
--- order then; wherever the machine tells that a board has left, this board was the first of the order; and where a board
--- makes the move `left` in the gap below the machine, it is the first of the order too
-pub record GoesInOrder (machine : ℕ) (order : List ℕ) (before after : LineState) (told : List Happening) : Type 0 where
+-- over a line before which this was the order of a machine: behind it the outlet holds, and the
+-- machine keeps, what is the order then; wherever the machine tells that a board has left, this
+-- board was the first of the order; and where a board makes the move `left` in the gap below the
+-- machine, it is the first of the order too
+pub record GoesInOrder (machine : ℕ) (order : List ℕ) (before after : LineState)
+    (told : List Happening) : Type 0 where
   pub records : held_and_kept after machine ≡ order_behind machine order told
-  pub leaves_first : (earlier later : List Happening) (id : ℕ) → told ≡ earlier ++ leaves machine id ∷ later
+  pub leaves_first : (earlier later : List Happening) (id : ℕ)
+      → told ≡ earlier ++ leaves machine id ∷ later
       → slice_get (order_behind machine order earlier) 0 ≡ Some id
-  pub moves_first : IsTold (happenings.Moved machine moves.Left) told → MovesTheFirst machine order before after
+  pub moves_first : IsTold (happenings.Moved machine moves.Left) told
+      → MovesTheFirst machine order before after
 
 -- ---- the law
 
@@ -87,10 +97,12 @@ KeepsOrder machine past s (point ∷ points) =
     GoesInOrder machine (order_of machine past) s point.after point.told
     × KeepsOrder machine (past ++ point.told) point.after points
 
--- THE LAW: so it is of each machine, which are numbered from 1, over every script, up to the first line that told what was
--- not so, or let a board come or go unseen. A script has at most 1,000,000 lines, and its barcodes are texts
+-- THE LAW: so it is of each machine, which are numbered from 1, over every script, up to the first
+-- line that told what was not so, or let a board come or go unseen. A script has at most 1,000,000
+-- lines, and its barcodes are texts
 abbrev pub FirstInFirstOut : Type 0
 FirstInFirstOut =
-    (asked : List ScriptLine) (points : List Point) (n machine : ℕ) → AllByRecursion IsFitLine asked → length asked ≤ 1000000
+    (asked : List ScriptLine) (points : List Point) (n machine : ℕ)
+    → AllByRecursion IsFitLine asked → length asked ≤ 1000000
     → IsRun no_line asked points → has_lie (take n points) ≡ false → 1 ≤ machine
     → KeepsOrder machine [] no_line (take n points)

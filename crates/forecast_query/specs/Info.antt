@@ -27,4 +27,11 @@ info_of board = record {
 
 -- quality, flip, product and barcodes of a board that is to come, and no id
 abbrev pub forecast_of : Record → Info
-forecast_of board = record no_info { quality = Some board.quality; flip = Some board.flip; product = board.product; top = board.top; bottom = board.bottom }
+forecast_of board =
+    record no_info {
+      quality = Some board.quality;
+      flip = Some board.flip;
+      product = board.product;
+      top = board.top;
+      bottom = board.bottom;
+    }

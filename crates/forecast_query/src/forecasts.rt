@@ -47,7 +47,8 @@ impl Forecasts {
         ensures room { OnErr result (length self.old < most_forecasts) }
 
         // what is kept are the last of all that were told
-        ensures told { OnOk result ((told : List Told) → self.old ≡ last most_forecasts told → self.new ≡ last most_forecasts (told ++ info ∷ [])) }
+        ensures told { OnOk result ((told : List Told) → self.old ≡ last most_forecasts told
+            → self.new ≡ last most_forecasts (told ++ info ∷ [])) }
     {
         self.keep(info)
     }

@@ -9,14 +9,18 @@ use line_base::Text;
 /// side. `None` exactly where no board has, or nothing is asked for.
 pub fn find(kept: &[Record], top: Option<&Text>, bottom: Option<&Text>) -> Option<usize>
     ensures answer { result ≡ first_match kept.now (option_copied top.entry) (option_copied bottom.entry) }
-    ensures first { IfSome result (λ place. IsFirstMatch kept.now (option_copied top.entry) (option_copied bottom.entry) place) }
-    ensures none { IfNone result (MatchesNone kept.now (option_copied top.entry) (option_copied bottom.entry)) }
+    ensures first { IfSome result
+        (λ place.
+        IsFirstMatch kept.now (option_copied top.entry) (option_copied bottom.entry) place) }
+    ensures none { IfNone result
+        (MatchesNone kept.now (option_copied top.entry) (option_copied bottom.entry)) }
 {
     first_asked(kept, top, bottom)
 }
 
 fn first_asked(kept: &[Record], top: Option<&Text>, bottom: Option<&Text>) -> Option<usize>
-    ensures { result ≡ first_match kept.now (option_copied top.entry) (option_copied bottom.entry) }
+    ensures { result ≡ first_match kept.now (option_copied top.entry)
+        (option_copied bottom.entry) }
 {
     if top.is_none() && bottom.is_none() {
         return None;
@@ -26,7 +30,8 @@ fn first_asked(kept: &[Record], top: Option<&Text>, bottom: Option<&Text>) -> Op
 
 /// The place of the first board that has what is asked for, if something is.
 fn first_with(kept: &[Record], top: Option<&Text>, bottom: Option<&Text>) -> Option<usize>
-    ensures { result ≡ place_from 0 kept.now (option_copied top.entry) (option_copied bottom.entry) }
+    ensures { result ≡ place_from 0 kept.now (option_copied top.entry)
+        (option_copied bottom.entry) }
 {
     for (place, board) in kept.iter().enumerate() {
         if has_barcode(&board.top, top) && has_barcode(&board.bottom, bottom) {

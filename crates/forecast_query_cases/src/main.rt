@@ -1,9 +1,10 @@
 //! The cases of forecasts and of questions for boards: each line has words, and is written again
 //! with the answer.
 //!
-//! `forecasts 70` adds so many forecasts with the products 1, 2, .. and tells how many are kept and
-//! the first and the last. `find a - x:y p:-` asks for a top and a bottom barcode among boards, each
-//! given by its own two. `info a b` and `forecast a b` tell of a board with these barcodes.
+//! `forecasts 70` adds so many forecasts with the products 1, 2, .. and tells how many are kept
+//! and the first and the last. `find a - x:y p:-` asks for a top and a bottom barcode among
+//! boards, each given by its own two. `info a b` and `forecast a b` tell of a board with these
+//! barcodes.
 #![tactic(auto)]
 
 mod asked;

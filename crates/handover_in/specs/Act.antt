@@ -33,8 +33,22 @@ stops board own = record nothing { send = stop board own; drive = Some false }
 
 -- the board is the machine's: whether its stop is said now, and what becomes of the drive
 abbrev pub settles : Record → Option InSend → Option Bool → InAct
-settles board send drive = record { deed = Some (Settles board.id); send = send; drive = drive; keep = Some board; taken = false }
+settles board send drive =
+    record {
+      deed = Some (Settles board.id);
+      send = send;
+      drive = drive;
+      keep = Some board;
+      taken = false;
+    }
 
 -- the board didn't come, and this is what the sensors saw of it
 abbrev pub drops : Record → Seen → Option InSend → Option Bool → InAct
-drops board own send drive = record { deed = Some (Drops board.id); send = send; drive = drive; keep = None; taken = is_taken own }
+drops board own send drive =
+    record {
+      deed = Some (Drops board.id);
+      send = send;
+      drive = drive;
+      keep = None;
+      taken = is_taken own;
+    }

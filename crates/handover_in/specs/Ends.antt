@@ -40,7 +40,8 @@ learned_after l _ None = l
 
 abbrev pub learned_after_all : Learned → InState → List InInput → Learned
 learned_after_all l s [] = l
-learned_after_all l s (input ∷ inputs) = learned_after_all (learned_after l input (intake_row s input)) (step s input).after inputs
+learned_after_all l s (input ∷ inputs) =
+    learned_after_all (learned_after l input (intake_row s input)) (step s input).after inputs
 
 -- the neighbour said that its end of the handover is over for a board that has begun
 abbrev pub HasLeft : Option Transfer → Type 0
@@ -51,7 +52,8 @@ HasLeft heard = (heard ≡ Some said.Complete) ⊎ (heard ≡ Some said.Incomple
 -- where the sensors saw that it didn't come, or that it was taken out
 abbrev pub IsLearned : Learned → InInput → InAct → Option InDeed → Type 0
 IsLearned l input _ (Some (Settles _)) = (l.own ≡ Complete) × (HasLeft l.heard ⊎ (input ≡ Stand))
-IsLearned l _ act (Some (Drops _)) = ((l.own ≡ NotStarted) ⊎ (l.own ≡ Taken)) × (act.taken ≡ is_taken l.own)
+IsLearned l _ act (Some (Drops _)) =
+    ((l.own ≡ NotStarted) ⊎ (l.own ≡ Taken)) × (act.taken ≡ is_taken l.own)
 IsLearned _ _ act _ = act.taken ≡ false
 
 -- the drive is as the phase has it: on while a board is taken in, and off else, but that it may
@@ -66,7 +68,8 @@ IsDriven (Waiting _ _ false) on = on ≡ false
 -- whether the drive is on after a list of inputs, as it was last switched
 abbrev pub drive_after_all : Bool → InState → List InInput → Bool
 drive_after_all drive s [] = drive
-drive_after_all drive s (input ∷ inputs) = drive_after_all (unwrap_or (step s input).act.drive drive) (step s input).after inputs
+drive_after_all drive s (input ∷ inputs) =
+    drive_after_all (unwrap_or (step s input).act.drive drive) (step s input).after inputs
 
 -- the phases that come up: a transport runs only before the board is inside or taken out, and
 -- after a close a board is waited for that lies between the machines, or is inside and of which

@@ -26,4 +26,5 @@ is_own _ = false
 -- what is sent over a list of inputs
 abbrev pub all_sent : InState → List InInput → List InSend
 all_sent s [] = []
-all_sent s (input ∷ inputs) = option_to_list (step s input).act.send ++ all_sent (step s input).after inputs
+all_sent s (input ∷ inputs) =
+    option_to_list (step s input).act.send ++ all_sent (step s input).after inputs

@@ -48,7 +48,8 @@ offer_by offer _ _ None = offer
 
 abbrev pub offer_after_all : Option Record → InState → List InInput → Option Record
 offer_after_all offer s [] = offer
-offer_after_all offer s (input ∷ inputs) = offer_after_all (offer_by offer s input (intake_row s input)) (step s input).after inputs
+offer_after_all offer s (input ∷ inputs) =
+    offer_after_all (offer_by offer s input (intake_row s input)) (step s input).after inputs
 
 abbrev pub ready_by : Bool → InInput → Option InRow → Bool
 ready_by ready input (Some _) = ready_after ready input
@@ -56,4 +57,5 @@ ready_by ready _ None = ready
 
 abbrev pub ready_after_all : Bool → InState → List InInput → Bool
 ready_after_all ready s [] = ready
-ready_after_all ready s (input ∷ inputs) = ready_after_all (ready_by ready input (intake_row s input)) (step s input).after inputs
+ready_after_all ready s (input ∷ inputs) =
+    ready_after_all (ready_by ready input (intake_row s input)) (step s input).after inputs

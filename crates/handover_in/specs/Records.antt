@@ -30,7 +30,8 @@ all_in s (input ∷ inputs) = goes_in (step s input).act.deed s ++ all_in (step 
 -- and those that come out
 abbrev pub all_out : InState → List InInput → List Record
 all_out s [] = []
-all_out s (input ∷ inputs) = comes_out (step s input).act.deed s (step s input).act ++ all_out (step s input).after inputs
+all_out s (input ∷ inputs) =
+    comes_out (step s input).act.deed s (step s input).act ++ all_out (step s input).after inputs
 
 -- the board that is held after a deed
 abbrev pub held_by : Option ℕ → Option InDeed → Option ℕ
@@ -42,7 +43,8 @@ held_by held None = held
 -- the board that is held after the deeds of a list of inputs
 abbrev pub held_by_all : Option ℕ → InState → List InInput → Option ℕ
 held_by_all held s [] = held
-held_by_all held s (input ∷ inputs) = held_by_all (held_by held (step s input).act.deed) (step s input).after inputs
+held_by_all held s (input ∷ inputs) =
+    held_by_all (held_by held (step s input).act.deed) (step s input).after inputs
 
 abbrev pub id_of : Option Record → Option ℕ
 id_of = option_map (λ board. board.id)

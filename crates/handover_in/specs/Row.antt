@@ -53,21 +53,29 @@ unready_row Idle s = only_if s.ready (row (record s { ready = false }) (sends Re
 unready_row _ _ = None
 
 abbrev pub start_row : Phase → Option Record → Bool → Option InRow
-start_row Idle (Some board) true = row (record { phase = Taking board NotStarted false; offer = None; ready = false }) (starts board.id)
+start_row Idle (Some board) true =
+    row (record { phase = Taking board NotStarted false; offer = None; ready = false })
+    (starts board.id)
 start_row _ _ _ = None
 
 abbrev pub board_available_row : Phase → InState → Record → Option InRow
-board_available_row Idle s board = only_if (is_none s.offer) (row (record s { offer = Some board }) nothing)
-board_available_row (Taking _ _ true) s board = only_if (is_none s.offer) (row (record s { offer = Some board }) nothing)
-board_available_row (Stopped _ _ (Some _)) s board = only_if (is_none s.offer) (row (record s { offer = Some board }) nothing)
+board_available_row Idle s board =
+    only_if (is_none s.offer) (row (record s { offer = Some board }) nothing)
+board_available_row (Taking _ _ true) s board =
+    only_if (is_none s.offer) (row (record s { offer = Some board }) nothing)
+board_available_row (Stopped _ _ (Some _)) s board =
+    only_if (is_none s.offer) (row (record s { offer = Some board }) nothing)
 board_available_row (Taking _ _ false) s _ = row s nothing
 board_available_row (Stopped _ _ None) s _ = row s nothing
 board_available_row (Waiting _ _ _) _ _ = None
 
 abbrev pub revoke_board_available_row : Phase → InState → Option InRow
-revoke_board_available_row Idle s = only_if (is_some s.offer) (row (record s { offer = None }) nothing)
-revoke_board_available_row (Taking _ _ true) s = only_if (is_some s.offer) (row (record s { offer = None }) nothing)
-revoke_board_available_row (Stopped _ _ (Some _)) s = only_if (is_some s.offer) (row (record s { offer = None }) nothing)
+revoke_board_available_row Idle s =
+    only_if (is_some s.offer) (row (record s { offer = None }) nothing)
+revoke_board_available_row (Taking _ _ true) s =
+    only_if (is_some s.offer) (row (record s { offer = None }) nothing)
+revoke_board_available_row (Stopped _ _ (Some _)) s =
+    only_if (is_some s.offer) (row (record s { offer = None }) nothing)
 revoke_board_available_row (Taking _ _ false) s = row s nothing
 revoke_board_available_row (Stopped _ _ None) s = row s nothing
 revoke_board_available_row (Waiting _ _ _) _ = None
@@ -75,7 +83,8 @@ revoke_board_available_row (Waiting _ _ _) _ = None
 -- the transport was running as the neighbour said that it ended
 abbrev pub ends_running : InEnd → InState → Record → Seen → Transfer → Option InRow
 ends_running Drop s board own _ = row (over s) (drops board own (stop board own) (Some false))
-ends_running _ s board own heard = row (goes_on s (Stopped board own (Some heard))) (stops board own)
+ends_running _ s board own heard =
+    row (goes_on s (Stopped board own (Some heard))) (stops board own)
 
 -- a complete transfer goes on until the board is inside
 abbrev pub finishes_running : Transfer → InState → Record → Seen → Option InRow
@@ -89,16 +98,23 @@ ends_stopped Drop s board own _ = row (over s) (drops board own None None)
 ends_stopped Wait s board own heard = row (goes_on s (Stopped board own (Some heard))) nothing
 
 abbrev pub finished_row : Phase → InState → Transfer → ℕ → Option InRow
-finished_row (Taking board own false) s heard id = only_if (board.id == id) (finishes_running heard s board own)
-finished_row (Stopped board own None) s heard id = only_if (board.id == id) (ends_stopped (in_ends own heard) s board own heard)
+finished_row (Taking board own false) s heard id =
+    only_if (board.id == id) (finishes_running heard s board own)
+finished_row (Stopped board own None) s heard id =
+    only_if (board.id == id) (ends_stopped (in_ends own heard) s board own heard)
 finished_row _ _ _ _ = None
 
 abbrev pub taking_row : InState → Record → Seen → Bool → SensorEvent → Option InRow
-taking_row s board _ true sensor.Full = row (over s) (settles board (stop board Complete) (Some false))
-taking_row s board _ false sensor.Full = row (goes_on s (Stopped board Complete None)) (stops board Complete)
-taking_row s board Incomplete true sensor.Taken = row (over s) (drops board Taken (stop board Taken) (Some false))
-taking_row s board Incomplete false sensor.Taken = row (goes_on s (Stopped board Taken None)) (stops board Taken)
-taking_row s board own heard event = row (goes_on s (Taking board (own_after own event) heard)) nothing
+taking_row s board _ true sensor.Full =
+    row (over s) (settles board (stop board Complete) (Some false))
+taking_row s board _ false sensor.Full =
+    row (goes_on s (Stopped board Complete None)) (stops board Complete)
+taking_row s board Incomplete true sensor.Taken =
+    row (over s) (drops board Taken (stop board Taken) (Some false))
+taking_row s board Incomplete false sensor.Taken =
+    row (goes_on s (Stopped board Taken None)) (stops board Taken)
+taking_row s board own heard event =
+    row (goes_on s (Taking board (own_after own event) heard)) nothing
 
 -- `own` is what the sensors have seen after the event
 abbrev pub stopped_row : InState → Record → Seen → Option Transfer → Option InRow
@@ -125,7 +141,8 @@ complete_if true = Some transfer.Complete
 complete_if false = None
 
 abbrev pub fault_row : Phase → InState → Option InRow
-fault_row (Taking board own heard) s = row (goes_on s (Stopped board own (complete_if heard))) (stops board own)
+fault_row (Taking board own heard) s =
+    row (goes_on s (Stopped board own (complete_if heard))) (stops board own)
 fault_row _ s = row s nothing
 
 -- the drive runs on for a board that has left
@@ -144,8 +161,10 @@ closes_stopped board own left = row (closed (Waiting board own left)) nothing
 
 abbrev pub closed_row : Phase → Option InRow
 closed_row Idle = row (closed Idle) nothing
-closed_row (Taking board NotStarted _) = row (closed Idle) (drops board NotStarted None (Some false))
-closed_row (Taking board own heard) = row (closed (Waiting board own heard)) (record nothing { drive = off_unless heard })
+closed_row (Taking board NotStarted _) =
+    row (closed Idle) (drops board NotStarted None (Some false))
+closed_row (Taking board own heard) =
+    row (closed (Waiting board own heard)) (record nothing { drive = off_unless heard })
 closed_row (Stopped board own heard) = closes_stopped board own (is_complete heard)
 closed_row (Waiting board own heard) = row (closed (Waiting board own heard)) nothing
 

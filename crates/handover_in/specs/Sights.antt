@@ -38,4 +38,5 @@ own_at own _ None = own
 
 abbrev pub own_by_all : Option Seen → InState → List InInput → Option Seen
 own_by_all own s [] = own
-own_by_all own s (input ∷ inputs) = own_by_all (own_at own input (intake_row s input)) (step s input).after inputs
+own_by_all own s (input ∷ inputs) =
+    own_by_all (own_at own input (intake_row s input)) (step s input).after inputs

@@ -18,12 +18,19 @@ pub data IsUnderWay : Seen → Type 0 where
 -- an intake is ready only while no handover is open, and has an offer only where it takes offers.
 -- Its phase is one that comes up: a transport runs only while its board is under way; once the end
 -- was heard of a transport that has stopped, the two ends don't settle it; and beyond a close a
--- board is waited for that lies between the machines, or is inside and nobody said that it has left
+-- board is waited for that lies between the machines, or is inside and nobody said that it has
+-- left
 pub data IsIntakeTogether : InState → Type 0 where
   together_idle : {o : Option Record} {r : Bool} → IsIntakeTogether (state_of Idle o r)
-  together_taking : {board : Record} {own : Seen} → IsUnderWay own → IsIntakeTogether (state_of (Taking board own false) None false)
-  together_heard : {o : Option Record} {board : Record} {own : Seen} → IsUnderWay own → IsIntakeTogether (state_of (Taking board own true) o false)
-  together_stopped : {board : Record} {own : Seen} → IsIntakeTogether (state_of (Stopped board own None) None false)
-  together_ended : {o : Option Record} {board : Record} {own : Seen} {n : Transfer} → in_ends own n ≡ Wait → IsIntakeTogether (state_of (Stopped board own (Some n)) o false)
-  together_between : {board : Record} {heard : Bool} → IsIntakeTogether (state_of (Waiting board Incomplete heard) None false)
-  together_inside : {board : Record} → IsIntakeTogether (state_of (Waiting board Complete false) None false)
+  together_taking : {board : Record} {own : Seen} → IsUnderWay own
+      → IsIntakeTogether (state_of (Taking board own false) None false)
+  together_heard : {o : Option Record} {board : Record} {own : Seen} → IsUnderWay own
+      → IsIntakeTogether (state_of (Taking board own true) o false)
+  together_stopped : {board : Record} {own : Seen}
+      → IsIntakeTogether (state_of (Stopped board own None) None false)
+  together_ended : {o : Option Record} {board : Record} {own : Seen} {n : Transfer}
+      → in_ends own n ≡ Wait → IsIntakeTogether (state_of (Stopped board own (Some n)) o false)
+  together_between : {board : Record} {heard : Bool}
+      → IsIntakeTogether (state_of (Waiting board Incomplete heard) None false)
+  together_inside : {board : Record}
+      → IsIntakeTogether (state_of (Waiting board Complete false) None false)

@@ -15,8 +15,10 @@ use transfer_state::{InEnd, in_ends};
 
 impl State {
     pub(crate) fn finish(&mut self, heard: Transfer, id: BoardId) -> Result<InAct, InBreach>
-        ensures row { IfOk result (λ act. finished_row self.old.phase self.old heard id ≡ row self.new act) }
-        ensures breach { IfErr result (λ why. (finished_row self.old.phase self.old heard id ≡ None) × (why ≡ InBreach.TransportFinished)) }
+        ensures row { IfOk result
+            (λ act. finished_row self.old.phase self.old heard id ≡ row self.new act) }
+        ensures breach { IfErr result (λ why. (finished_row self.old.phase self.old heard id ≡ None)
+            × (why ≡ InBreach.TransportFinished)) }
         ensures unchanged { OnErr result (self.new ≡ self.old) }
     {
         if !self.awaits_finish(id) {

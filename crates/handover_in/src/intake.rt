@@ -45,8 +45,8 @@ impl Intake {
         }
     }
 
-    /// What stands together in every intake: it is ready only while no handover is open, and has an
-    /// offer only where it takes offers; and its phase is one that comes up.
+    /// What stands together in every intake: it is ready only while no handover is open, and has
+    /// an offer only where it takes offers; and its phase is one that comes up.
     ///
     /// It does nothing: a caller that knows that the intake is ready, and that a board is offered,
     /// knows behind it that `Unready` and `Start` have their row.
@@ -54,7 +54,8 @@ impl Intake {
     pub fn together(&self)
         ensures together { IsIntakeTogether self.now }
         ensures unready { self.now.ready ≡ true → IsGiven self.now InInput.Unready }
-        ensures start { self.now.ready ≡ true → IsSome self.now.offer → IsGiven self.now InInput.Start }
+        ensures start { self.now.ready ≡ true → IsSome self.now.offer
+            → IsGiven self.now InInput.Start }
     {
         let _state = &self.state;
     }
@@ -149,7 +150,8 @@ impl Intake {
     pub fn apply(&mut self, input: InInput) -> Result<InAct, InBreach>
         requires { IsGiven self.old input }
         ensures row { IfOk result (λ act. intake_row self.old input ≡ row self.new act) }
-        ensures breach { IfErr result (λ why. (intake_row self.old input ≡ None) × (breach_of input ≡ Some why)) }
+        ensures breach { IfErr result (λ why. (intake_row self.old input ≡ None)
+            × (breach_of input ≡ Some why)) }
         ensures unchanged { OnErr result (self.new ≡ self.old) }
     {
         self.state.meet(input)

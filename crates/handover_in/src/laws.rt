@@ -23,14 +23,16 @@ ghost use Rattle.handover_in.specs.Ends.{nothing_yet, learned_after, learned_aft
 /// The plain program that `Intake::apply` meets computes exactly the rows of the intake table.
 #[tactic(auto, using(crate::proofs::Rows::rows_exactly))]
 pub fn rows_are_those_of_the_table()
-    ensures { (s : InState) (input : Input) (row : InRow) → (intake_row s input ≡ Some row) ↔ IsIntakeRow s input row }
+    ensures { (s : InState) (input : Input) (row : InRow)
+        → (intake_row s input ≡ Some row) ↔ IsIntakeRow s input row }
 {}
 
 /// The table has a row for what is no message exactly where it is given: for what the machine
 /// says and starts on its condition, and for each sensor event, fault, close and new connection.
 #[tactic(auto, using(crate::proofs::IntakeLaws::given_exactly))]
 pub fn rows_stand_where_given()
-    ensures { (s : InState) (input : Input) → breach_of input ≡ None → IsSome (intake_row s input) ↔ IsGiven s input }
+    ensures { (s : InState) (input : Input) → breach_of input ≡ None
+        → IsSome (intake_row s input) ↔ IsGiven s input }
 {}
 
 /// What stands together in an intake stands together after every row: it is ready only while no
@@ -38,10 +40,13 @@ pub fn rows_stand_where_given()
 /// says or starts has its row, whatever the phase.
 #[tactic(auto, using(crate::proofs::Together::kept, crate::proofs::Together::offer_taken, crate::proofs::Together::unready_given, crate::proofs::Together::start_given))]
 pub fn rows_keep_what_stands_together()
-    ensures row { (s : InState) (input : Input) (row : InRow) → intake_row s input ≡ Some row → IsIntakeTogether s → IsIntakeTogether row.after }
-    ensures offer { (s : InState) → IsIntakeTogether s → IsSome s.offer → takes_offers s.phase ≡ true }
+    ensures row { (s : InState) (input : Input) (row : InRow) → intake_row s input ≡ Some row
+        → IsIntakeTogether s → IsIntakeTogether row.after }
+    ensures offer { (s : InState) → IsIntakeTogether s → IsSome s.offer
+        → takes_offers s.phase ≡ true }
     ensures unready { (s : InState) → IsIntakeTogether s → s.ready ≡ true → IsGiven s Unready }
-    ensures start { (s : InState) → IsIntakeTogether s → s.ready ≡ true → IsSome s.offer → IsGiven s Start }
+    ensures start { (s : InState) → IsIntakeTogether s → s.ready ≡ true → IsSome s.offer
+        → IsGiven s Start }
 {}
 
 /// Without a connection an intake is idle or waits for a board. There its events, faults and
@@ -49,9 +54,14 @@ pub fn rows_keep_what_stands_together()
 /// nothing.
 #[tactic(auto, using(crate::proofs::Deeds::unlinked_silent, crate::proofs::Deeds::all_silent, crate::proofs::Deeds::close_silent))]
 pub fn without_a_connection_nothing_is_sent()
-    ensures step { (s : InState) (input : Input) → is_unlinked_phase s.phase ≡ true → is_own input ≡ true → ((step s input).act.send ≡ None) × (is_unlinked_phase (step s input).after.phase ≡ true) }
-    ensures run { (s : InState) (inputs : List Input) → is_unlinked_phase s.phase ≡ true → list_all is_own inputs ≡ true → (all_sent s inputs ≡ []) × (is_unlinked_phase (after_all s inputs).phase ≡ true) }
-    ensures close { (s : InState) → ((step s Closed).act.send ≡ None) × (is_unlinked_phase (step s Closed).after.phase ≡ true) }
+    ensures step { (s : InState) (input : Input) → is_unlinked_phase s.phase ≡ true
+        → is_own input ≡ true → ((step s input).act.send ≡ None)
+        × (is_unlinked_phase (step s input).after.phase ≡ true) }
+    ensures run { (s : InState) (inputs : List Input) → is_unlinked_phase s.phase ≡ true
+        → list_all is_own inputs ≡ true → (all_sent s inputs ≡ [])
+        × (is_unlinked_phase (after_all s inputs).phase ≡ true) }
+    ensures close { (s : InState) → ((step s Closed).act.send ≡ None)
+        × (is_unlinked_phase (step s Closed).after.phase ≡ true) }
 {}
 
 /// A deed names its record: `Starts` that of the offer, which is held then, and `Settles` and
@@ -59,7 +69,8 @@ pub fn without_a_connection_nothing_is_sent()
 /// that was held. Without a deed the held record stays.
 #[tactic(auto, using(crate::proofs::Deeds::deeds_name))]
 pub fn deeds_name_their_record()
-    ensures { (s : InState) (input : Input) → NamesRecord s (step s input) (step s input).act.deed }
+    ensures { (s : InState) (input : Input)
+        → NamesRecord s (step s input) (step s input).act.deed }
 {}
 
 /// A record that goes in comes out as it was, once and in order: over any list of inputs, the
@@ -67,45 +78,58 @@ pub fn deeds_name_their_record()
 /// dropped, and the one that is still held.
 #[tactic(auto, using(crate::proofs::IntakeLaws::records_balance))]
 pub fn records_come_out_as_they_were()
-    ensures { (s : InState) (inputs : List Input) → list_of (held s) ++ all_in s inputs ≡ all_out s inputs ++ list_of (held (after_all s inputs)) }
+    ensures { (s : InState) (inputs : List Input)
+        → list_of (held s) ++ all_in s inputs ≡ all_out s inputs
+        ++ list_of (held (after_all s inputs)) }
 {}
 
 /// A record is held exactly from the start of its transport to the deed that ends its handover:
 /// `Settles` or `Drops`.
 #[tactic(auto, using(crate::proofs::IntakeLaws::holds_by_deeds))]
 pub fn holds_from_start_to_end()
-    ensures { (s : InState) (inputs : List Input) → id_of (held (after_all s inputs)) ≡ held_by_all (id_of (held s)) s inputs }
+    ensures { (s : InState) (inputs : List Input)
+        → id_of (held (after_all s inputs)) ≡ held_by_all (id_of (held s)) s inputs }
 {}
 
-/// A transport starts exactly where the machine says so while no handover is open, it is ready, and
-/// a board is offered.
+/// A transport starts exactly where the machine says so while no handover is open, it is ready,
+/// and a board is offered.
 #[tactic(auto, using(crate::proofs::IntakeLaws::starts_exactly))]
 pub fn starts_where_ready_and_offered()
-    ensures { (s : InState) (input : Input) → is_start (step s input).act.deed ≡ starts_at s input }
+    ensures { (s : InState) (input : Input)
+        → is_start (step s input).act.deed ≡ starts_at s input }
 {}
 
 /// The offer is the record that the last offer brought, and it and the readiness follow from what
 /// was met: a start and a close clear both.
 #[tactic(auto, using(crate::proofs::IntakeLaws::clears_exactly))]
 pub fn starts_and_closes_clear_offers()
-    ensures offer { (s : InState) (input : Input) (row : InRow) → intake_row s input ≡ Some row → row.after.offer ≡ offer_after s input }
-    ensures ready { (s : InState) (input : Input) (row : InRow) → intake_row s input ≡ Some row → row.after.ready ≡ ready_after s.ready input }
+    ensures offer { (s : InState) (input : Input) (row : InRow) → intake_row s input ≡ Some row
+        → row.after.offer ≡ offer_after s input }
+    ensures ready { (s : InState) (input : Input) (row : InRow) → intake_row s input ≡ Some row
+        → row.after.ready ≡ ready_after s.ready input }
 {}
 
 /// And so they do over any list of inputs.
 #[tactic(auto, using(crate::proofs::Sights::offers_after_all, crate::proofs::Sights::readies_after_all))]
 pub fn offers_follow_from_what_was_met()
-    ensures offer { (s : InState) (inputs : List Input) → (after_all s inputs).offer ≡ offer_after_all s.offer s inputs }
-    ensures ready { (s : InState) (inputs : List Input) → (after_all s inputs).ready ≡ ready_after_all s.ready s inputs }
+    ensures offer { (s : InState) (inputs : List Input)
+        → (after_all s inputs).offer ≡ offer_after_all s.offer s inputs }
+    ensures ready { (s : InState) (inputs : List Input)
+        → (after_all s inputs).ready ≡ ready_after_all s.ready s inputs }
 {}
 
 /// What the sensors saw of the held board follows from the events since its start: over any list
 /// of inputs, and over a list of events alone, as long as the board is held.
 #[tactic(auto, using(crate::proofs::Sights::sees_by_events, crate::proofs::Sights::held_sees_all, crate::proofs::Sights::own_append))]
 pub fn sights_follow_from_the_events()
-    ensures inputs { (s : InState) (inputs : List Input) → own_of_phase (after_all s inputs).phase ≡ own_by_all (own_of_phase s.phase) s inputs }
-    ensures events { (s : InState) (events : List Event) → IsSome (held (after_all s (all_sensed events))) → own_of_phase (after_all s (all_sensed events)).phase ≡ option_map (λ own. own_after_all own events) (own_of_phase s.phase) }
-    ensures append { (own : Sight) (first rest : List Event) → own_after_all own (first ++ rest) ≡ own_after_all (own_after_all own first) rest }
+    ensures inputs { (s : InState) (inputs : List Input)
+        → own_of_phase (after_all s inputs).phase ≡ own_by_all (own_of_phase s.phase) s inputs }
+    ensures events { (s : InState) (events : List Event)
+        → IsSome (held (after_all s (all_sensed events)))
+        → own_of_phase (after_all s (all_sensed events)).phase
+        ≡ option_map (λ own. own_after_all own events) (own_of_phase s.phase) }
+    ensures append { (own : Sight) (first rest : List Event)
+        → own_after_all own (first ++ rest) ≡ own_after_all (own_after_all own first) rest }
 {}
 
 /// A deed is as it was learned, looking back over what was met since the transport started.
@@ -116,7 +140,12 @@ pub fn sights_follow_from_the_events()
 /// which.
 #[tactic(auto, using(crate::proofs::IntakeLaws::deeds_are_learned))]
 pub fn deeds_are_as_they_were_learned()
-    ensures { (inputs : List Input) (input : Input) → IsLearned (learned_after (learned_after_all nothing_yet at_rest inputs) input (intake_row (after_all at_rest inputs) input)) input (step (after_all at_rest inputs) input).act (step (after_all at_rest inputs) input).act.deed }
+    ensures { (inputs : List Input) (input : Input)
+        → IsLearned
+        (learned_after (learned_after_all nothing_yet at_rest inputs) input
+        (intake_row (after_all at_rest inputs) input)) input
+        (step (after_all at_rest inputs) input).act
+        (step (after_all at_rest inputs) input).act.deed }
 {}
 
 /// Which phases come up: a transport runs only until the board is inside or was taken out, and a
@@ -131,5 +160,6 @@ pub fn phases_that_come_up()
 /// whose connection was closed. Else it is off.
 #[tactic(auto, using(crate::proofs::IntakeLaws::drive_is_driven))]
 pub fn drive_runs_while_taking()
-    ensures { (inputs : List Input) → IsDriven (after_all at_rest inputs).phase (drive_after_all false at_rest inputs) }
+    ensures { (inputs : List Input)
+        → IsDriven (after_all at_rest inputs).phase (drive_after_all false at_rest inputs) }
 {}

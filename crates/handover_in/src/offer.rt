@@ -48,8 +48,10 @@ impl State {
     }
 
     pub(crate) fn board_available(&mut self, board: Record) -> Result<InAct, InBreach>
-        ensures row { IfOk result (λ act. board_available_row self.old.phase self.old board ≡ row self.new act) }
-        ensures breach { IfErr result (λ why. (board_available_row self.old.phase self.old board ≡ None) × (why ≡ InBreach.BoardAvailable)) }
+        ensures row { IfOk result
+            (λ act. board_available_row self.old.phase self.old board ≡ row self.new act) }
+        ensures breach { IfErr result (λ why. (board_available_row self.old.phase self.old board ≡ None)
+            × (why ≡ InBreach.BoardAvailable)) }
         ensures unchanged { OnErr result (self.new ≡ self.old) }
     {
         if self.passes_offers_over() {
@@ -63,8 +65,10 @@ impl State {
     }
 
     pub(crate) fn revoke_board_available(&mut self) -> Result<InAct, InBreach>
-        ensures row { IfOk result (λ act. revoke_board_available_row self.old.phase self.old ≡ row self.new act) }
-        ensures breach { IfErr result (λ why. (revoke_board_available_row self.old.phase self.old ≡ None) × (why ≡ InBreach.RevokeBoardAvailable)) }
+        ensures row { IfOk result
+            (λ act. revoke_board_available_row self.old.phase self.old ≡ row self.new act) }
+        ensures breach { IfErr result (λ why. (revoke_board_available_row self.old.phase self.old ≡ None)
+            × (why ≡ InBreach.RevokeBoardAvailable)) }
         ensures unchanged { OnErr result (self.new ≡ self.old) }
     {
         if self.passes_offers_over() {

@@ -49,7 +49,8 @@ impl State {
 
     fn come_in(&mut self, board: Record, heard: bool) -> InAct
         requires { self.old.phase ≡ Idle }
-        ensures { taking_row self.old board Seen.NotStarted heard SensorEvent.Full ≡ row self.new result }
+        ensures { taking_row self.old board Seen.NotStarted heard SensorEvent.Full
+            ≡ row self.new result }
     {
         let said = stop(&board, Seen::Complete);
         if heard {
@@ -66,7 +67,8 @@ impl State {
 
     fn be_taken(&mut self, board: Record, heard: bool) -> InAct
         requires { self.old.phase ≡ Idle }
-        ensures { taking_row self.old board Seen.Incomplete heard SensorEvent.Taken ≡ row self.new result }
+        ensures { taking_row self.old board Seen.Incomplete heard SensorEvent.Taken
+            ≡ row self.new result }
     {
         let said = stop(&board, Seen::Taken);
         if heard {

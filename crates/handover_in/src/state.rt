@@ -45,7 +45,8 @@ impl State {
     pub(crate) fn meet(&mut self, input: InInput) -> Result<InAct, InBreach>
         requires { IsGiven self.old input }
         ensures row { IfOk result (λ act. intake_row self.old input ≡ row self.new act) }
-        ensures breach { IfErr result (λ why. (intake_row self.old input ≡ None) × (breach_of input ≡ Some why)) }
+        ensures breach { IfErr result (λ why. (intake_row self.old input ≡ None)
+            × (breach_of input ≡ Some why)) }
         ensures unchanged { OnErr result (self.new ≡ self.old) }
     {
         match input {

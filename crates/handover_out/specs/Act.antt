@@ -26,10 +26,13 @@ finished false _ _ = None
 -- a handover is over: what became of the board, whether the neighbour is told how it ended, and
 -- what becomes of the drive
 abbrev pub leaves : Record → Option OutSend → Option Bool → OutAct
-leaves board send drive = record { deed = Some (Leaves board.id); send = send; drive = drive; back = None }
+leaves board send drive =
+    record { deed = Some (Leaves board.id); send = send; drive = drive; back = None }
 
 abbrev pub returns : Record → Option OutSend → Option Bool → OutAct
-returns board send drive = record { deed = Some (Returns board.id); send = send; drive = drive; back = Some board }
+returns board send drive =
+    record { deed = Some (Returns board.id); send = send; drive = drive; back = Some board }
 
 abbrev pub loses : Record → Option OutSend → Option Bool → OutAct
-loses board send drive = record { deed = Some (Loses board.id); send = send; drive = drive; back = None }
+loses board send drive =
+    record { deed = Some (Loses board.id); send = send; drive = drive; back = None }

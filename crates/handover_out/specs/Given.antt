@@ -11,7 +11,8 @@ use Rattle.handover_out.specs.State.{OutState, name_of_phase, would_open}
 abbrev pub IsGiven : OutState → OutInput → Type 0
 IsGiven s (Offer _) = (name_of_phase s.phase ≡ names.Idle) × (s.offered ≡ None)
 IsGiven s Revoke = (name_of_phase s.phase ≡ names.Idle) × IsSome s.offered
-IsGiven s (Start id board) = (IsSome board ↔ IsTrue (would_open s id)) × IfSome board (λ board. board.id ≡ id)
+IsGiven s (Start id board) =
+    (IsSome board ↔ IsTrue (would_open s id)) × IfSome board (λ board. board.id ≡ id)
 IsGiven _ _ = Unit {0}
 
 -- the breach that is named after a message

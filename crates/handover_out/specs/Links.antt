@@ -8,8 +8,8 @@ use Rattle.handover_out.specs.declared.phase.Phase.TheVariants.{Idle, Stuck}
 use Rattle.handover_out.specs.State.{OutState}
 use Rattle.handover_out.specs.Run.{step}
 
--- no handover is under way on a connection: none at all, or a board lies between the machines and its connection was
--- closed
+-- no handover is under way on a connection: none at all, or a board lies between the machines and
+-- its connection was closed
 abbrev pub is_unlinked_phase : Phase → Bool
 is_unlinked_phase Idle = true
 is_unlinked_phase (Stuck _ linked _) = not linked
@@ -25,4 +25,5 @@ is_own _ = false
 -- what is sent over a list of inputs, in order
 abbrev pub all_sent : OutState → List OutInput → List OutSend
 all_sent s [] = []
-all_sent s (input ∷ inputs) = option_to_list (step s input).act.send ++ all_sent (step s input).after inputs
+all_sent s (input ∷ inputs) =
+    option_to_list (step s input).act.send ++ all_sent (step s input).after inputs

@@ -52,7 +52,8 @@ ready_after ready _ = ready
 abbrev pub touched_after : OutState → OutInput → OutState → Option ℕ
 touched_after _ (Offer id) _ = Some id
 touched_after _ Closed _ = None
-touched_after old _ new = if not (is_idle_phase old.phase) && is_idle_phase new.phase then None else old.touched
+touched_after old _ new =
+    if not (is_idle_phase old.phase) && is_idle_phase new.phase then None else old.touched
 
 -- the same where there is a row, and where there is none
 abbrev pub offered_at : Bool → Option ℕ → OutInput → Option ℕ
@@ -67,9 +68,11 @@ ready_at false ready _ = ready
 abbrev pub offered_after_all : Option ℕ → OutState → List OutInput → Option ℕ
 offered_after_all offered s [] = offered
 offered_after_all offered s (input ∷ inputs) =
-    offered_after_all (offered_at (is_some (outlet_row s input)) offered input) (step s input).after inputs
+    offered_after_all (offered_at (is_some (outlet_row s input)) offered input)
+    (step s input).after inputs
 
 abbrev pub ready_after_all : Bool → OutState → List OutInput → Bool
 ready_after_all ready s [] = ready
 ready_after_all ready s (input ∷ inputs) =
-    ready_after_all (ready_at (is_some (outlet_row s input)) ready input) (step s input).after inputs
+    ready_after_all (ready_at (is_some (outlet_row s input)) ready input)
+    (step s input).after inputs

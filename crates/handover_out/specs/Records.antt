@@ -32,12 +32,14 @@ comes_out _ _ _ = []
 -- the records that go into an outlet over a list of inputs, in order
 abbrev pub all_in : OutState → List OutInput → List Record
 all_in s [] = []
-all_in s (input ∷ inputs) = goes_in (step s input).act.deed input ++ all_in (step s input).after inputs
+all_in s (input ∷ inputs) =
+    goes_in (step s input).act.deed input ++ all_in (step s input).after inputs
 
 -- and those that come out
 abbrev pub all_out : OutState → List OutInput → List Record
 all_out s [] = []
-all_out s (input ∷ inputs) = comes_out (step s input).act.deed s (step s input).act ++ all_out (step s input).after inputs
+all_out s (input ∷ inputs) =
+    comes_out (step s input).act.deed s (step s input).act ++ all_out (step s input).after inputs
 
 -- the board that is held after a deed
 abbrev pub held_by : Option ℕ → Option OutDeed → Option ℕ
@@ -50,7 +52,8 @@ held_by held _ = held
 -- the board that is held after the deeds of a list of inputs
 abbrev pub held_by_all : Option ℕ → OutState → List OutInput → Option ℕ
 held_by_all held s [] = held
-held_by_all held s (input ∷ inputs) = held_by_all (held_by held (step s input).act.deed) (step s input).after inputs
+held_by_all held s (input ∷ inputs) =
+    held_by_all (held_by held (step s input).act.deed) (step s input).after inputs
 
 abbrev pub id_of : Option Record → Option ℕ
 id_of = option_map (λ board. board.id)

@@ -49,11 +49,14 @@ abbrev pub closed : Phase → OutState
 closed phase = record { phase = phase; offered = None; touched = None; ready = false }
 
 abbrev pub offer_row : Phase → OutState → ℕ → Option OutRow
-offer_row Idle s id = row_if (is_none s.offered) (record s { offered = Some id; touched = Some id }) (sends BoardAvailable)
+offer_row Idle s id =
+    row_if (is_none s.offered) (record s { offered = Some id; touched = Some id })
+    (sends BoardAvailable)
 offer_row _ _ _ = None
 
 abbrev pub revoke_row : Phase → OutState → Option OutRow
-revoke_row Idle s = row_if (is_some s.offered) (record s { offered = None }) (sends RevokeBoardAvailable)
+revoke_row Idle s =
+    row_if (is_some s.offered) (record s { offered = None }) (sends RevokeBoardAvailable)
 revoke_row _ _ = None
 
 abbrev pub machine_ready_row : Phase → OutState → Option OutRow
@@ -66,14 +69,21 @@ revoke_machine_ready_row _ _ = None
 
 -- the record is there exactly where the start opens
 abbrev pub start_row : Phase → OutState → ℕ → Option Record → Option OutRow
-start_row Idle s id (Some board) = row_if (would_open s id) (started s (Moving board false)) (record nothing { deed = Some (Opens board.id); drive = Some true })
-start_row Idle s id None = row_if (s.ready && not (would_open s id)) (started s (Ended id)) (record nothing { deed = Some (Refuses id); send = Some (Finished NotStarted id) })
+start_row Idle s id (Some board) =
+    row_if (would_open s id) (started s (Moving board false))
+    (record nothing { deed = Some (Opens board.id); drive = Some true })
+start_row Idle s id None =
+    row_if (s.ready && not (would_open s id)) (started s (Ended id))
+    (record nothing { deed = Some (Refuses id); send = Some (Finished NotStarted id) })
 start_row _ _ _ _ = None
 
 abbrev pub stop_row : Phase → OutState → ℕ → Option OutRow
-stop_row (Moving board false) s id = row_if (board.id == id) (over s) (returns board (Some (Finished NotStarted id)) (Some false))
-stop_row (Moving board true) s id = row_if (board.id == id) (goes_on s (Stuck board true true)) drive_off
-stop_row (Stuck board true false) s id = row_if (board.id == id) (goes_on s (Stuck board true true)) nothing
+stop_row (Moving board false) s id =
+    row_if (board.id == id) (over s) (returns board (Some (Finished NotStarted id)) (Some false))
+stop_row (Moving board true) s id =
+    row_if (board.id == id) (goes_on s (Stuck board true true)) drive_off
+stop_row (Stuck board true false) s id =
+    row_if (board.id == id) (goes_on s (Stuck board true true)) nothing
 stop_row (Ended mine) s id = row_if (mine == id) (over s) nothing
 stop_row _ _ _ = None
 
@@ -82,18 +92,28 @@ begun_row (Moving board false) s = row (goes_on s (Moving board true)) nothing
 begun_row _ s = row s nothing
 
 abbrev pub left_row : Phase → OutState → Option OutRow
-left_row (Moving board _) s = row (goes_on s (Ended board.id)) (leaves board (Some (Finished Complete board.id)) (Some false))
-left_row (Stuck board linked stopped) s = row (over_when_stuck s board.id linked stopped) (leaves board (finished linked Complete board.id) None)
+left_row (Moving board _) s =
+    row (goes_on s (Ended board.id))
+    (leaves board (Some (Finished Complete board.id)) (Some false))
+left_row (Stuck board linked stopped) s =
+    row (over_when_stuck s board.id linked stopped)
+    (leaves board (finished linked Complete board.id) None)
 left_row _ s = row s nothing
 
 abbrev pub back_row : Phase → OutState → Option OutRow
 back_row (Moving board true) s = row (goes_on s (Moving board false)) nothing
-back_row (Stuck board linked stopped) s = row (over_when_stuck s board.id linked stopped) (returns board (finished linked NotStarted board.id) None)
+back_row (Stuck board linked stopped) s =
+    row (over_when_stuck s board.id linked stopped)
+    (returns board (finished linked NotStarted board.id) None)
 back_row _ s = row s nothing
 
 abbrev pub taken_row : Phase → OutState → Option OutRow
-taken_row (Moving board true) s = row (goes_on s (Ended board.id)) (loses board (Some (Finished Incomplete board.id)) (Some false))
-taken_row (Stuck board linked stopped) s = row (over_when_stuck s board.id linked stopped) (loses board (finished linked Incomplete board.id) None)
+taken_row (Moving board true) s =
+    row (goes_on s (Ended board.id))
+    (loses board (Some (Finished Incomplete board.id)) (Some false))
+taken_row (Stuck board linked stopped) s =
+    row (over_when_stuck s board.id linked stopped)
+    (loses board (finished linked Incomplete board.id) None)
 taken_row _ s = row s nothing
 
 abbrev pub sensed_row : SensorEvent → OutState → Option OutRow
@@ -104,7 +124,9 @@ sensed_row sensor.Back s = back_row s.phase s
 sensed_row sensor.Taken s = taken_row s.phase s
 
 abbrev pub fault_row : Phase → OutState → Option OutRow
-fault_row (Moving board false) s = row (goes_on s (Ended board.id)) (returns board (Some (Finished NotStarted board.id)) (Some false))
+fault_row (Moving board false) s =
+    row (goes_on s (Ended board.id))
+    (returns board (Some (Finished NotStarted board.id)) (Some false))
 fault_row (Moving board true) s = row (goes_on s (Stuck board true false)) drive_off
 fault_row _ s = row s nothing
 

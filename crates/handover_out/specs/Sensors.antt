@@ -22,14 +22,17 @@ between_after between _ _ = between
 
 abbrev pub between_after_all : Bool → OutState → List OutInput → Bool
 between_after_all between s [] = between
-between_after_all between s (input ∷ inputs) = between_after_all (between_after between input (step s input).act.deed) (step s input).after inputs
+between_after_all between s (input ∷ inputs) =
+    between_after_all (between_after between input (step s input).act.deed)
+    (step s input).after inputs
 
 -- a deed is as the sensors have it: a board that leaves was seen to leave, one that is lost was
 -- taken out from between the machines, and one that is given back lies between them no more
 abbrev pub IsSensed : Bool → OutInput → Option OutDeed → Type 0
 IsSensed _ input (Some (Leaves _)) = input ≡ Sensed Left
 IsSensed between input (Some (Loses _)) = (input ≡ Sensed Taken) × (between ≡ true)
-IsSensed between input (Some (Returns id)) = between_after between input (Some (Returns id)) ≡ false
+IsSensed between input (Some (Returns id)) =
+    between_after between input (Some (Returns id)) ≡ false
 IsSensed _ _ _ = Unit {0}
 
 -- how far the transfer got by the outlet's own sensors
@@ -49,4 +52,5 @@ is_moving _ = false
 -- whether the drive is on after a list of inputs, as it was last switched
 abbrev pub drive_after_all : Bool → OutState → List OutInput → Bool
 drive_after_all drive s [] = drive
-drive_after_all drive s (input ∷ inputs) = drive_after_all (unwrap_or (step s input).act.drive drive) (step s input).after inputs
+drive_after_all drive s (input ∷ inputs) =
+    drive_after_all (unwrap_or (step s input).act.drive drive) (step s input).after inputs

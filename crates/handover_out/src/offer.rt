@@ -29,7 +29,8 @@ impl State {
 
     pub(crate) fn machine_ready(&mut self) -> Result<OutAct, OutBreach>
         ensures row { IfOk result (λ act. machine_ready_row self.old.phase self.old ≡ row self.new act) }
-        ensures breach { IfErr result (λ why. (machine_ready_row self.old.phase self.old ≡ None) × (why ≡ OutBreach.MachineReady)) }
+        ensures breach { IfErr result (λ why. (machine_ready_row self.old.phase self.old ≡ None)
+            × (why ≡ OutBreach.MachineReady)) }
         ensures unchanged { OnErr result (self.new ≡ self.old) }
     {
         match self.phase {
@@ -42,8 +43,10 @@ impl State {
     }
 
     pub(crate) fn revoke_machine_ready(&mut self) -> Result<OutAct, OutBreach>
-        ensures row { IfOk result (λ act. revoke_machine_ready_row self.old.phase self.old ≡ row self.new act) }
-        ensures breach { IfErr result (λ why. (revoke_machine_ready_row self.old.phase self.old ≡ None) × (why ≡ OutBreach.RevokeMachineReady)) }
+        ensures row { IfOk result
+            (λ act. revoke_machine_ready_row self.old.phase self.old ≡ row self.new act) }
+        ensures breach { IfErr result (λ why. (revoke_machine_ready_row self.old.phase self.old ≡ None)
+            × (why ≡ OutBreach.RevokeMachineReady)) }
         ensures unchanged { OnErr result (self.new ≡ self.old) }
     {
         match self.phase {

@@ -49,8 +49,8 @@ impl Outlet {
     /// ready, only while no handover is open; and the board that is offered, or held while its
     /// connection stands, is the one last offered.
     ///
-    /// It does nothing: a caller that knows that a board is offered knows behind it that `Revoke` has
-    /// its row, whatever the phase.
+    /// It does nothing: a caller that knows that a board is offered knows behind it that `Revoke`
+    /// has its row, whatever the phase.
     #[tactic(auto, using(crate::proofs::Together::revoke_given))]
     pub fn together(&self)
         ensures together { IsOutletTogether self.now }
@@ -127,7 +127,8 @@ impl Outlet {
     pub fn apply(&mut self, input: OutInput) -> Result<OutAct, OutBreach>
         requires { IsGiven self.old input }
         ensures row { IfOk result (λ act. outlet_row self.old input ≡ row self.new act) }
-        ensures breach { IfErr result (λ why. (outlet_row self.old input ≡ None) × (breach_of input ≡ Some why)) }
+        ensures breach { IfErr result (λ why. (outlet_row self.old input ≡ None)
+            × (breach_of input ≡ Some why)) }
         ensures unchanged { OnErr result (self.new ≡ self.old) }
     {
         self.state.meet(input)

@@ -29,7 +29,13 @@ impl Model for State {
 
     ghost Value = { OutState };
 
-    ghost view = { λ state. record { phase = state.phase; offered = state.offered; touched = state.touched; ready = state.ready } };
+    ghost view = { λ state.
+        record {
+          phase = state.phase;
+          offered = state.offered;
+          touched = state.touched;
+          ready = state.ready;
+        } };
 
     ghost inverse = { λ value. record { phase = value.phase; offered = value.offered; touched = value.touched; ready = value.ready } };
 }
@@ -51,7 +57,8 @@ impl State {
     pub(crate) fn meet(&mut self, input: OutInput) -> Result<OutAct, OutBreach>
         requires { IsGiven self.old input }
         ensures row { IfOk result (λ act. outlet_row self.old input ≡ row self.new act) }
-        ensures breach { IfErr result (λ why. (outlet_row self.old input ≡ None) × (breach_of input ≡ Some why)) }
+        ensures breach { IfErr result (λ why. (outlet_row self.old input ≡ None)
+            × (breach_of input ≡ Some why)) }
         ensures unchanged { OnErr result (self.new ≡ self.old) }
     {
         match input {

@@ -14,7 +14,8 @@ impl State {
     pub(crate) fn start(&mut self, id: BoardId, board: Option<Record>) -> Result<OutAct, OutBreach>
         requires { IsSome board ↔ IsTrue (would_open self.old id) }
         ensures row { IfOk result (λ act. start_row self.old.phase self.old id board ≡ row self.new act) }
-        ensures breach { IfErr result (λ why. (start_row self.old.phase self.old id board ≡ None) × (why ≡ OutBreach.StartTransport)) }
+        ensures breach { IfErr result (λ why. (start_row self.old.phase self.old id board ≡ None)
+            × (why ≡ OutBreach.StartTransport)) }
         ensures unchanged { OnErr result (self.new ≡ self.old) }
     {
         if !self.is_idle() || !self.ready {
@@ -53,7 +54,8 @@ impl State {
 
     pub(crate) fn stop(&mut self, id: BoardId) -> Result<OutAct, OutBreach>
         ensures row { IfOk result (λ act. stop_row self.old.phase self.old id ≡ row self.new act) }
-        ensures breach { IfErr result (λ why. (stop_row self.old.phase self.old id ≡ None) × (why ≡ OutBreach.StopTransport)) }
+        ensures breach { IfErr result (λ why. (stop_row self.old.phase self.old id ≡ None)
+            × (why ≡ OutBreach.StopTransport)) }
         ensures unchanged { OnErr result (self.new ≡ self.old) }
     {
         if !self.awaits_stop(id) {

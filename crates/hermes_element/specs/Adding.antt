@@ -5,7 +5,8 @@ use Rattle.hermes_element.specs.Canonical.{depth_of}
 use Rattle.hermes_element.specs.declared.refusal.ChildError.{ChildError}
 use Rattle.hermes_element.specs.declared.refusal.ChildError.TheVariants as errors
 
--- the child stands behind the others; or it has four levels of elements, or memory is wanting, and nothing has changed
+-- the child stands behind the others; or it has four levels of elements, or memory is wanting, and
+-- nothing has changed
 abbrev pub Adds : Forest → Tree → Forest → Result (Unit {0}) ChildError → Type 0
 Adds old child new (Ok _) = (new ≡ add old child) × (depth_of child.children ≤ 2)
 Adds old child new (Err errors.Deep) = (new ≡ old) × (depth_of child.children ≡ 3)

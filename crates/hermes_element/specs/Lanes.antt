@@ -8,7 +8,9 @@ AllPassBetween test bytes at end = (k : ℕ) → at ≤ k → k < end → test (
 
 -- the first `run` of the `n` bytes from an index pass the test, and the next one of them doesn't
 abbrev pub IsRunIn : (ℕ → Bool) → List ℕ → ℕ → ℕ → ℕ → Type 0
-IsRunIn test bytes at n run = ((run ≤ n) × AllPassBetween test bytes at (at + run)) × (run < n → test (slice_index bytes (at + run)) ≡ false)
+IsRunIn test bytes at n run =
+    ((run ≤ n) × AllPassBetween test bytes at (at + run))
+    × (run < n → test (slice_index bytes (at + run)) ≡ false)
 
 -- the index of the lowest bit that is set, or `n`
 abbrev pub first_set : ℕ → ℕ → ℕ

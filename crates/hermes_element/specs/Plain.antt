@@ -1,4 +1,5 @@
--- The plain form of a document, by cases: what a document is made of, its bytes, and what each part may hold.
+-- The plain form of a document, by cases: what a document is made of, its bytes, and what each
+-- part may hold.
 use Rattle.std.specs.Prelude.{◌≡◌, ℕ, ◌<◌, ◌==◌, ◌||◌, ◌&&◌, not, Bool, true, List, [], ◌∷◌, ◌++◌, Option, Some, None, length, nat_le, nat_lt}
 use Rattle.std.specs.List.{list_all, flat_map}
 use Rattle.std.specs.Char.{encode_utf8}
@@ -127,12 +128,14 @@ pub data Content : Type 0 where
 abbrev pub content_text : Content → List ℕ
 content_text (last gap) = gap
 content_text (empty gap tag rest) = gap ++ (tag_text tag ++ (47 ∷ 62 ∷ [])) ++ content_text rest
-content_text (full gap tag inside end rest) = gap ++ (tag_text tag ++ (62 ∷ []) ++ content_text inside ++ end_text end) ++ content_text rest
+content_text (full gap tag inside end rest) =
+    gap ++ (tag_text tag ++ (62 ∷ []) ++ content_text inside ++ end_text end) ++ content_text rest
 
 abbrev pub IsContent : Content → Type 0
 IsContent (last gap) = AreBlanks gap
 IsContent (empty gap tag rest) = AreBlanks gap × IsTag tag × IsContent rest
-IsContent (full gap tag inside end rest) = AreBlanks gap × IsTag tag × IsContent inside × IsEndTag end × IsContent rest
+IsContent (full gap tag inside end rest) =
+    AreBlanks gap × IsTag tag × IsContent inside × IsEndTag end × IsContent rest
 
 -- ---- documents: an optional declaration, blanks, one element, and nothing after it
 
@@ -142,7 +145,8 @@ pub data Root : Type 0 where
 
 abbrev pub root_text : Root → List ℕ
 root_text (lone tag) = tag_text tag ++ (47 ∷ 62 ∷ [])
-root_text (holding tag inside end) = tag_text tag ++ (62 ∷ []) ++ content_text inside ++ end_text end
+root_text (holding tag inside end) =
+    tag_text tag ++ (62 ∷ []) ++ content_text inside ++ end_text end
 
 abbrev pub IsRoot : Root → Type 0
 IsRoot (lone tag) = IsTag tag

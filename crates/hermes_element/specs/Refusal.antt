@@ -22,8 +22,10 @@ pub record FailsAt (bytes : List ℕ) (at : ℕ) : Type 0 where
 -- what follows a `<`
 abbrev pub markup_reason : List ℕ → Why
 markup_reason rest =
-    cond (starts_with nat_eq rest (codes "!--")) why.Comment (cond (starts_with nat_eq rest (codes "![CDATA[")) why.CData
-    (cond (starts_with nat_eq rest (codes "!DOCTYPE")) why.Doctype (cond (starts_with nat_eq rest (codes "?")) why.Instruction why.Character)))
+    cond (starts_with nat_eq rest (codes "!--")) why.Comment
+    (cond (starts_with nat_eq rest (codes "![CDATA[")) why.CData
+    (cond (starts_with nat_eq rest (codes "!DOCTYPE")) why.Doctype
+    (cond (starts_with nat_eq rest (codes "?")) why.Instruction why.Character)))
 
 abbrev pub is_after_open : List ℕ → ℕ → Bool
 is_after_open bytes at = nat_lt 0 at && slice_index bytes (at - 1) == 60
@@ -31,7 +33,8 @@ is_after_open bytes at = nat_lt 0 at && slice_index bytes (at - 1) == 60
 -- the first reason that fits
 abbrev pub shape_reason : List ℕ → ℕ → Why
 shape_reason bytes at =
-    cond (at == length bytes) why.Unended (cond (is_after_open bytes at) (markup_reason (drop at bytes)) why.Character)
+    cond (at == length bytes) why.Unended
+    (cond (is_after_open bytes at) (markup_reason (drop at bytes)) why.Character)
 
 pub record IsUnplain (bytes : List ℕ) (at : ℕ) (reason : Why) : Type 0 where
   pub unplain : IsDocument bytes → ⊥

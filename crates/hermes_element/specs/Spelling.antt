@@ -18,7 +18,8 @@ pub record Spells (bytes : List ℕ) (tree : Tree) : Type 0 where
 -- what reading bytes answers
 abbrev pub ReadsElement : List ℕ → Result Tree ElementError → Type 0
 ReadsElement bytes (Ok tree) = Spells bytes tree
-ReadsElement bytes (Err (errors.Refused at reason)) = IsRefused bytes at reason × ((tree : Tree) → Spells bytes tree → ⊥)
+ReadsElement bytes (Err (errors.Refused at reason)) =
+    IsRefused bytes at reason × ((tree : Tree) → Spells bytes tree → ⊥)
 ReadsElement bytes (Err errors.Memory) = Unit {0}
 
 -- the answer is this element, unless memory ran out

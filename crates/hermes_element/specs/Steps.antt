@@ -1,4 +1,5 @@
--- What the parts of the reader answer: each goes on with the reading machine from where it is called to where it ends.
+-- What the parts of the reader answer: each goes on with the reading machine from where it is
+-- called to where it ends.
 use Rattle.std.specs.Prelude.{◌≡◌, ◌≢◌, ◌⊎◌, ℕ, zero, suc, ◌+◌, ◌/◌, ◌%◌, ◌<◌, ◌≤◌, Bool, true, false, List, [], ◌∷◌, ◌++◌, Some, None, Result, Ok, Err, length, drop, slice_index, slice_range}
 use Rattle.std.specs.Char.{encode_utf8}
 use Rattle.line_base.specs.Text.{is_allowed_char}
@@ -40,7 +41,16 @@ Meets outcome stops.Memory = Unit {0}
 -- in a value
 abbrev pub valuing : Build → List ℕ → ℕ → List ℕ → Bool → Build
 valuing c key start value after_cr =
-    record c { scratch = record { key = key; value = value; start = start; after_cr = after_cr; word = []; mark = 0 } }
+    record c {
+      scratch = record {
+        key = key;
+        value = value;
+        start = start;
+        after_cr = after_cr;
+        word = [];
+        mark = 0;
+      };
+    }
 
 -- an escape of at least one letter or digit ends here
 abbrev pub IsGood : List ℕ → ℕ → ℕ → Type 0
@@ -51,7 +61,8 @@ abbrev pub ReadsReference : List ℕ → ℕ → Result (ℕ × ℕ) Stop → Ty
 ReadsReference bytes at (Ok read) =
     (quote depth start : ℕ) (key value : List ℕ) (after_cr : Bool) (c : Build) → 38 ≢ quote
     → run_at (places.Value quote) depth (valuing c key start value after_cr) at bytes
-    ≡ run_at (places.Value quote) depth (valuing c key start (value ++ encode_utf8 read.0) false) read.1 bytes
+    ≡ run_at (places.Value quote) depth
+    (valuing c key start (value ++ encode_utf8 read.0) false) read.1 bytes
 ReadsReference bytes at (Err stop) =
     (quote depth start : ℕ) (key value : List ℕ) (after_cr : Bool) (c : Build) → 38 ≢ quote
     → Meets (run_at (places.Value quote) depth (valuing c key start value after_cr) at bytes) stop
@@ -61,7 +72,8 @@ abbrev pub ReadsWide : List ℕ → ℕ → ℕ → Result ℕ Stop → Type 0
 ReadsWide bytes quote at (Ok to) =
     (depth start : ℕ) (key value : List ℕ) (after_cr : Bool) (c : Build)
     → run_at (places.Value quote) depth (valuing c key start value after_cr) at bytes
-    ≡ run_at (places.Value quote) depth (valuing c key start (value ++ slice_range bytes at to) false) to bytes
+    ≡ run_at (places.Value quote) depth
+    (valuing c key start (value ++ slice_range bytes at to) false) to bytes
 ReadsWide bytes quote at (Err stop) =
     (depth start : ℕ) (key value : List ℕ) (after_cr : Bool) (c : Build)
     → Meets (run_at (places.Value quote) depth (valuing c key start value after_cr) at bytes) stop
@@ -70,9 +82,12 @@ ReadsWide bytes quote at (Err stop) =
 abbrev pub ReadsPart : List ℕ → ℕ → ℕ → List ℕ → Bool → List ℕ → Result (ℕ × Bool) Stop → Type 0
 ReadsPart bytes quote at old after_cr new (Ok to) =
     (depth start : ℕ) (key : List ℕ) (c : Build)
-    → run_at (places.Value quote) depth (valuing c key start old after_cr) at bytes ≡ run_at (places.Value quote) depth (valuing c key start new to.1) to.0 bytes
+    → run_at (places.Value quote) depth (valuing c key start old after_cr) at bytes
+    ≡ run_at (places.Value quote) depth (valuing c key start new to.1) to.0 bytes
 ReadsPart bytes quote at old after_cr new (Err stop) =
-    (depth start : ℕ) (key : List ℕ) (c : Build) → Meets (run_at (places.Value quote) depth (valuing c key start old after_cr) at bytes) stop
+    (depth start : ℕ) (key : List ℕ) (c : Build)
+    → Meets (run_at (places.Value quote) depth (valuing c key start old after_cr) at bytes)
+    stop
 
 -- bytes are appended, or memory is wanting
 abbrev pub Puts : List ℕ → List ℕ → ℕ → Bool → List ℕ → Result (ℕ × Bool) Stop → Type 0
@@ -84,16 +99,21 @@ abbrev pub ReadsValue : List ℕ → ℕ → ℕ → Result (List ℕ × ℕ) St
 ReadsValue bytes quote at (Ok read) =
     (depth : ℕ) (key : List ℕ) (c : Build)
     → run_at (places.Value quote) depth (valuing c key at [] false) at bytes
-    ≡ run_at places.Quoted depth (in_tag c.roots c.stack (with_attribute c.tag key read.0 at)) read.1 bytes
+    ≡ run_at places.Quoted depth
+    (in_tag c.roots c.stack (with_attribute c.tag key read.0 at)) read.1 bytes
 ReadsValue bytes quote at (Err stop) =
-    (depth : ℕ) (key : List ℕ) (c : Build) → Meets (run_at (places.Value quote) depth (valuing c key at [] false) at bytes) stop
+    (depth : ℕ) (key : List ℕ) (c : Build)
+    → Meets (run_at (places.Value quote) depth (valuing c key at [] false) at bytes) stop
 
--- an attribute from its name's first byte to behind its value, in a tag that has `attributes` so far
+-- an attribute from its name's first byte to behind its value, in a tag that has `attributes` so
+-- far
 abbrev pub ReadsAttribute : List ℕ → List Attribute → ℕ → Result (Attribute × ℕ) Stop → Type 0
 ReadsAttribute bytes attributes at (Ok read) =
     (depth : ℕ) (roots : Forest) (stack : List Tree) (tag : Tree) → tag.attributes ≡ attributes
     → run_at places.Gap depth (in_tag roots stack tag) at bytes
-    ≡ run_at places.Quoted depth (in_tag roots stack (record tag { attributes = tag.attributes ++ read.0 ∷ [] })) read.1 bytes
+    ≡ run_at places.Quoted depth
+    (in_tag roots stack (record tag { attributes = tag.attributes ++ read.0 ∷ [] })) read.1
+    bytes
 ReadsAttribute bytes attributes at (Err stop) =
     (depth : ℕ) (roots : Forest) (stack : List Tree) (tag : Tree) → tag.attributes ≡ attributes
     → Meets (run_at places.Gap depth (in_tag roots stack tag) at bytes) stop
@@ -102,9 +122,12 @@ ReadsAttribute bytes attributes at (Err stop) =
 abbrev pub ReadsAttributes : List ℕ → ℕ → Result (List Attribute × ℕ) Stop → Type 0
 ReadsAttributes bytes at (Ok read) =
     (depth : ℕ) (roots : Forest) (stack : List Tree) (tag : Tree) → tag.attributes ≡ []
-    → run_at places.Quoted depth (in_tag roots stack tag) at bytes ≡ run_at places.Quoted depth (in_tag roots stack (record tag { attributes = read.0 })) read.1 bytes
+    → run_at places.Quoted depth (in_tag roots stack tag) at bytes
+    ≡ run_at places.Quoted depth
+    (in_tag roots stack (record tag { attributes = read.0 })) read.1 bytes
 ReadsAttributes bytes at (Err stop) =
-    (depth : ℕ) (roots : Forest) (stack : List Tree) (tag : Tree) → tag.attributes ≡ [] → Meets (run_at places.Quoted depth (in_tag roots stack tag) at bytes) stop
+    (depth : ℕ) (roots : Forest) (stack : List Tree) (tag : Tree) → tag.attributes ≡ []
+    → Meets (run_at places.Quoted depth (in_tag roots stack tag) at bytes) stop
 
 -- no blank stands at an index
 abbrev pub IsNoBlank : List ℕ → ℕ → Type 0
@@ -114,37 +137,47 @@ IsNoBlank bytes at = at < length bytes → is_blank (slice_index bytes at) ≡ f
 abbrev pub ReadsTag : List ℕ → ℕ → ℕ → Result (Tree × ℕ) Stop → Type 0
 ReadsTag bytes count at (Ok read) =
     (roots : Forest) (stack : List Tree) → length stack ≡ count
-    → run_at places.Open count (between roots stack) at bytes ≡ run_at places.Quoted count (in_tag roots stack read.0) read.1 bytes
+    → run_at places.Open count (between roots stack) at bytes
+    ≡ run_at places.Quoted count (in_tag roots stack read.0) read.1 bytes
 ReadsTag bytes count at (Err stop) =
-    (roots : Forest) (stack : List Tree) → length stack ≡ count → Meets (run_at places.Open count (between roots stack) at bytes) stop
+    (roots : Forest) (stack : List Tree) → length stack ≡ count
+    → Meets (run_at places.Open count (between roots stack) at bytes) stop
 
 -- the end of a start tag: the element ends with it, or its content begins
 abbrev pub tag_ended : Bool → Forest → List Tree → Tree → ℕ → ℕ → List ℕ → Outcome
-tag_ended true roots stack tag depth at bytes = run_at (after_element depth) depth (ended roots stack tag) at bytes
-tag_ended false roots stack tag depth at bytes = run_at places.Content (depth + 1) (between roots (stack ++ tag ∷ [])) at bytes
+tag_ended true roots stack tag depth at bytes =
+    run_at (after_element depth) depth (ended roots stack tag) at bytes
+tag_ended false roots stack tag depth at bytes =
+    run_at places.Content (depth + 1) (between roots (stack ++ tag ∷ [])) at bytes
 
 abbrev pub ReadsTagEnd : List ℕ → ℕ → Result (Bool × ℕ) Stop → Type 0
 ReadsTagEnd bytes at (Ok read) =
     (depth : ℕ) (roots : Forest) (stack : List Tree) (tag : Tree)
-    → run_at places.Quoted depth (in_tag roots stack tag) at bytes ≡ tag_ended read.0 roots stack tag depth read.1 bytes
+    → run_at places.Quoted depth (in_tag roots stack tag) at bytes
+    ≡ tag_ended read.0 roots stack tag depth read.1 bytes
 ReadsTagEnd bytes at (Err stop) =
-    (depth : ℕ) (roots : Forest) (stack : List Tree) (tag : Tree) → Meets (run_at places.Quoted depth (in_tag roots stack tag) at bytes) stop
+    (depth : ℕ) (roots : Forest) (stack : List Tree) (tag : Tree)
+    → Meets (run_at places.Quoted depth (in_tag roots stack tag) at bytes) stop
 
 -- a whole start tag, from its name's first byte on
 abbrev pub ReadsStart : List ℕ → ℕ → ℕ → Result (Tree × Bool × ℕ) Stop → Type 0
 ReadsStart bytes count at (Ok read) =
     (roots : Forest) (stack : List Tree) → length stack ≡ count
-    → run_at places.Open count (between roots stack) at bytes ≡ tag_ended read.1 roots stack read.0 count read.2 bytes
+    → run_at places.Open count (between roots stack) at bytes
+    ≡ tag_ended read.1 roots stack read.0 count read.2 bytes
 ReadsStart bytes count at (Err stop) =
-    (roots : Forest) (stack : List Tree) → length stack ≡ count → Meets (run_at places.Open count (between roots stack) at bytes) stop
+    (roots : Forest) (stack : List Tree) → length stack ≡ count
+    → Meets (run_at places.Open count (between roots stack) at bytes) stop
 
 -- the end tag of the innermost open element, from its name on
 abbrev pub ReadsEndTag : List ℕ → ℕ → Tree → Result ℕ Stop → Type 0
 ReadsEndTag bytes at top (Ok to) =
     (depth : ℕ) (roots : Forest) (stack : List Tree)
-    → run_at places.Close (depth + 1) (between roots (stack ++ top ∷ [])) at bytes ≡ run_at (after_element depth) depth (ended roots stack top) to bytes
+    → run_at places.Close (depth + 1) (between roots (stack ++ top ∷ [])) at bytes
+    ≡ run_at (after_element depth) depth (ended roots stack top) to bytes
 ReadsEndTag bytes at top (Err stop) =
-    (depth : ℕ) (roots : Forest) (stack : List Tree) → Meets (run_at places.Close (depth + 1) (between roots (stack ++ top ∷ [])) at bytes) stop
+    (depth : ℕ) (roots : Forest) (stack : List Tree)
+    → Meets (run_at places.Close (depth + 1) (between roots (stack ++ top ∷ [])) at bytes) stop
 
 -- before the root
 abbrev pub beginning : Build
@@ -152,7 +185,8 @@ beginning = between none []
 
 -- what stands before the root's name
 abbrev pub ReadsProlog : List ℕ → ℕ → Result ℕ Stop → Type 0
-ReadsProlog bytes at (Ok to) = run_at places.Prolog 0 beginning at bytes ≡ run_at places.Open 0 beginning to bytes
+ReadsProlog bytes at (Ok to) =
+    run_at places.Prolog 0 beginning at bytes ≡ run_at places.Open 0 beginning to bytes
 ReadsProlog bytes at (Err stop) = Meets (run_at places.Prolog 0 beginning at bytes) stop
 
 abbrev pub ReadsBegin : List ℕ → Result ℕ Stop → Type 0
@@ -169,16 +203,22 @@ abbrev pub as_forest : Tree → Forest
 as_forest tree = more tree.name tree.at tree.attributes tree.children none
 
 abbrev pub ReadsRoot : List ℕ → ℕ → Result (Tree × ℕ) Stop → Type 0
-ReadsRoot bytes at (Ok read) = run_at places.Open 0 beginning at bytes ≡ run_at places.End 0 (between (as_forest read.0) []) read.1 bytes
+ReadsRoot bytes at (Ok read) =
+    run_at places.Open 0 beginning at bytes
+    ≡ run_at places.End 0 (between (as_forest read.0) []) read.1 bytes
 ReadsRoot bytes at (Err stop) = Meets (run_at places.Open 0 beginning at bytes) stop
 
--- the next tag inside the root: `old` are open before it, and the root and `stack` behind it, or the root has ended
+-- the next tag inside the root: `old` are open before it, and the root and `stack` behind it, or
+-- the root has ended
 abbrev pub in_content : List Tree → ℕ → List ℕ → Outcome
 in_content stack at bytes = run_at places.Content (length stack) (between none stack) at bytes
 
-abbrev pub ReadsMarkup : List ℕ → ℕ → List Tree → Tree → List Tree → Result (Bool × ℕ) Stop → Type 0
-ReadsMarkup bytes at old root stack (Ok (false, to)) = in_content old at bytes ≡ in_content (root ∷ stack) to bytes
-ReadsMarkup bytes at old root stack (Ok (true, to)) = in_content old at bytes ≡ run_at places.End 0 (between (as_forest root) []) to bytes
+abbrev pub ReadsMarkup : List ℕ → ℕ → List Tree → Tree → List Tree → Result (Bool × ℕ) Stop
+    → Type 0
+ReadsMarkup bytes at old root stack (Ok (false, to)) =
+    in_content old at bytes ≡ in_content (root ∷ stack) to bytes
+ReadsMarkup bytes at old root stack (Ok (true, to)) =
+    in_content old at bytes ≡ run_at places.End 0 (between (as_forest root) []) to bytes
 ReadsMarkup bytes at old root stack (Err stop) = Meets (in_content old at bytes) stop
 
 -- behind the `</` of an end tag
@@ -186,8 +226,10 @@ abbrev pub in_close : List Tree → ℕ → List ℕ → Outcome
 in_close stack at bytes = run_at places.Close (length stack) (between none stack) at bytes
 
 abbrev pub ReadsClose : List ℕ → ℕ → List Tree → Tree → List Tree → Result (Bool × ℕ) Stop → Type 0
-ReadsClose bytes at old root stack (Ok (false, to)) = in_close old at bytes ≡ in_content (root ∷ stack) to bytes
-ReadsClose bytes at old root stack (Ok (true, to)) = in_close old at bytes ≡ run_at places.End 0 (between (as_forest root) []) to bytes
+ReadsClose bytes at old root stack (Ok (false, to)) =
+    in_close old at bytes ≡ in_content (root ∷ stack) to bytes
+ReadsClose bytes at old root stack (Ok (true, to)) =
+    in_close old at bytes ≡ run_at places.End 0 (between (as_forest root) []) to bytes
 ReadsClose bytes at old root stack (Err stop) = Meets (in_close old at bytes) stop
 
 -- a child is added to the innermost element, or memory is wanting
@@ -197,14 +239,18 @@ AddsLast old child new (Err stop) = stop ≡ stops.Memory
 
 -- the whole document
 abbrev pub ReadsDocument : List ℕ → Result Tree Stop → Type 0
-ReadsDocument bytes (Ok tree) = outcome bytes ≡ record { stop = None; built = Ok (between (as_forest tree) []) }
+ReadsDocument bytes (Ok tree) =
+    outcome bytes ≡ record { stop = None; built = Ok (between (as_forest tree) []) }
 ReadsDocument bytes (Err stop) = Meets (outcome bytes) stop
 
 -- what the outcome tells the caller
 abbrev pub ReadsOutcome : List ℕ → Result Tree ElementError → Type 0
-ReadsOutcome bytes (Ok tree) = outcome bytes ≡ record { stop = None; built = Ok (between (as_forest tree) []) }
+ReadsOutcome bytes (Ok tree) =
+    outcome bytes ≡ record { stop = None; built = Ok (between (as_forest tree) []) }
 ReadsOutcome bytes (Err (errors.Refused at reason)) =
-    ((stop_of places.Start 0 0 bytes ≡ Some at) × (reason ≡ shape_reason bytes at)) ⊎ ((stop_of places.Start 0 0 bytes ≡ None) × ((outcome bytes).built ≡ Err (at, reason)))
+    ((stop_of places.Start 0 0 bytes ≡ Some at)
+    × (reason ≡ shape_reason bytes at)) ⊎ ((stop_of places.Start 0 0 bytes ≡ None)
+    × ((outcome bytes).built ≡ Err (at, reason)))
 ReadsOutcome bytes (Err errors.Memory) = Unit {0}
 
 -- ---- a character of several bytes
@@ -228,5 +274,6 @@ pub record IsOne (bytes : List ℕ) : Type 0 where
 -- what the bytes of a character are when the machine stands at a place
 abbrev pub AtPlace : Place → ℕ → List ℕ → Type 0
 AtPlace (places.Value own) quote bytes = (own ≡ quote) × IsOne bytes
-AtPlace (places.Wide own floor bits left) quote bytes = (own ≡ quote) × IsPart floor bits left bytes × (0 < left) × (left < 4)
+AtPlace (places.Wide own floor bits left) quote bytes =
+    (own ≡ quote) × IsPart floor bits left bytes × (0 < left) × (left < 4)
 AtPlace _ quote bytes = ⊥

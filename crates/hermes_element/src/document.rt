@@ -218,7 +218,8 @@ fn add_last<'a>(
     stack: &mut Vec<LentElement<'a>>,
     element: LentElement<'a>,
 ) -> Result<(), Stop>
-    ensures { AddsLast (root.old ∷ stack.old.items) element.entry (root.new ∷ stack.new.items) result }
+    ensures { AddsLast (root.old ∷ stack.old.items) element.entry
+        (root.new ∷ stack.new.items) result }
 {
     let count = stack.as_slice().len();
     if count == 0 {
@@ -257,7 +258,8 @@ fn read_start_tag<'a>(
     }
 }
 
-/// Reads the end of a start tag. Answers whether the element ends with it, and the index behind it.
+/// Reads the end of a start tag. Answers whether the element ends with it, and the index behind
+/// it.
 fn read_tag_end(bytes: &[u8], at: usize) -> Result<(bool, usize), Stop>
     requires here { at ≤ length bytes.now }
     requires over { IsNoBlank bytes.now at }

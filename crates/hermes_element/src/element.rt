@@ -39,7 +39,12 @@ impl Model for Element {
 
     ghost coded = { tree_code };
 
-    ghost view = { λ a. record { name = a.name; at = a.at; attributes = a.attributes; children = a.children } };
+    ghost view = { λ a. record {
+      name = a.name;
+      at = a.at;
+      attributes = a.attributes;
+      children = a.children;
+    } };
 
     ghost size = { tree_size };
 

@@ -1,4 +1,5 @@
-//! Elements that are lent by the bytes that spell them. No name is copied, and no value whose bytes are plain.
+//! Elements that are lent by the bytes that spell them. No name is copied, and no value whose
+//! bytes are plain.
 ghost use Rattle.std.specs.Prelude.{◌≡◌, ℕ, List, [], ◌∷◌, ◌++◌, IfOk, OnOk, OnErr};
 ghost use Rattle.line_base.specs.Name.{IsName};
 ghost use Rattle.line_base.specs.Text.{IsText};
@@ -8,8 +9,8 @@ use line_base::{Memory, Name, Text};
 use std::alloc::Global;
 use std::marker::Model;
 
-/// How many attributes an element has room for from its first one on. No message's row of the table asks for more, and
-/// to grow the list twice cost more than the room does.
+/// How many attributes an element has room for from its first one on. No message's row of the
+/// table asks for more, and to grow the list twice cost more than the room does.
 const ROOM_FOR_ATTRIBUTES: usize = 16;
 
 /// An element, lent by its bytes. `at` is the index of its `<`.
@@ -37,7 +38,12 @@ impl<'a> Model for LentElement<'a> {
 
     ghost coded = { tree_code };
 
-    ghost view = { λ a. record { name = a.name; at = a.at; attributes = a.attributes; children = a.children } };
+    ghost view = { λ a. record {
+      name = a.name;
+      at = a.at;
+      attributes = a.attributes;
+      children = a.children;
+    } };
 
     ghost size = { tree_size };
 
@@ -214,8 +220,8 @@ impl<'a> LentName<'a> {
     }
 }
 
-/// The value of an attribute: lent where it is of plain bytes, else with bytes of its own. Plain are the
-/// ASCII bytes that stand for themselves.
+/// The value of an attribute: lent where it is of plain bytes, else with bytes of its own. Plain
+/// are the ASCII bytes that stand for themselves.
 #[derive(Drop)]
 pub struct LentValue<'a> {
     bytes: ValueBytes<'a>,

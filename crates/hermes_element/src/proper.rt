@@ -1,5 +1,5 @@
-//! What the types of an element's parts say of them. Each function states it: it goes over the part,
-//! and changes nothing.
+//! What the types of an element's parts say of them. Each function states it: it goes over the
+//! part, and changes nothing.
 
 ghost use Rattle.std.specs.List.{AllByRecursion};
 ghost use Rattle.hermes_element.specs.Canonical.{IsProper, IsProperAttribute};

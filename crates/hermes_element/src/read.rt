@@ -23,7 +23,8 @@ use std::alloc::Global;
 pub fn read_element(alloc: Global, bytes: &[u8]) -> Result<Element, ElementError>
     ensures answer { ReadsElement bytes.now result }
     ensures spelled { (tree : Tree) → Spells bytes.now tree → AnswersElement result tree }
-    ensures refused { (at : ℕ) (reason : Why) → IsRefused bytes.now at reason → AnswersRefusal result at reason }
+    ensures refused { (at : ℕ) (reason : Why) → IsRefused bytes.now at reason
+        → AnswersRefusal result at reason }
 {
     match read_lent(alloc, bytes) {
         Ok(lent) => match lent.own(alloc) {
@@ -41,7 +42,8 @@ pub fn read_element(alloc: Global, bytes: &[u8]) -> Result<Element, ElementError
 pub fn read_lent<'a>(alloc: Global, bytes: &'a [u8]) -> Result<LentElement<'a>, ElementError>
     ensures answer { ReadsElement bytes.now result }
     ensures spelled { (tree : Tree) → Spells bytes.now tree → AnswersElement result tree }
-    ensures refused { (at : ℕ) (reason : Why) → IsRefused bytes.now at reason → AnswersRefusal result at reason }
+    ensures refused { (at : ℕ) (reason : Why) → IsRefused bytes.now at reason
+        → AnswersRefusal result at reason }
     ensures levels { IfOk result (λ root. depth_of root.children ≤ 3) }
 {
     read_by_outcome(alloc, bytes)

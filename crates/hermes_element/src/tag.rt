@@ -19,8 +19,8 @@ const MOST_ATTRIBUTES: usize = 64;
 /// The most elements that are open where another one begins.
 const MOST_OPEN: usize = 4;
 
-/// Reads a start tag from its name on, where so many elements are open. Answers its element without
-/// children, and the index where its attributes and the blanks behind them end.
+/// Reads a start tag from its name on, where so many elements are open. Answers its element
+/// without children, and the index where its attributes and the blanks behind them end.
 pub(crate) fn read_tag<'a>(
     alloc: Global,
     bytes: &'a [u8],
@@ -56,8 +56,8 @@ pub(crate) fn read_tag<'a>(
     }
 }
 
-/// Reads the attributes of a start tag from behind its name. Answers them, and the index where they
-/// and the blanks behind them end.
+/// Reads the attributes of a start tag from behind its name. Answers them, and the index where
+/// they and the blanks behind them end.
 fn read_attributes<'a>(
     alloc: Global,
     bytes: &'a [u8],

@@ -107,7 +107,8 @@ fn read_escape(
     requires here { at < length bytes.now }
     requires escape { slice_index bytes.now at ≡ 38 }
     requires quote { is_quote quote ≡ true }
-    ensures reads { (after_cr : Bool) → ReadsPart bytes.now quote at value.old.items after_cr value.new.items result }
+    ensures reads { (after_cr : Bool)
+        → ReadsPart bytes.now quote at value.old.items after_cr value.new.items result }
     ensures within { IfOk result (λ to. (at < to.0) × (to.0 ≤ length bytes.now)) }
     ensures allowed { OnOk result (IsAllowed value.old.items → IsAllowed value.new.items) }
 {
@@ -130,7 +131,8 @@ fn read_character(
     requires here { at < length bytes.now }
     requires first { 128 ≤ slice_index bytes.now at }
     requires quote { is_quote quote ≡ true }
-    ensures reads { (after_cr : Bool) → ReadsPart bytes.now quote at value.old.items after_cr value.new.items result }
+    ensures reads { (after_cr : Bool)
+        → ReadsPart bytes.now quote at value.old.items after_cr value.new.items result }
     ensures within { IfOk result (λ to. (at < to.0) × (to.0 ≤ length bytes.now)) }
     ensures allowed { OnOk result (IsAllowed value.old.items → IsAllowed value.new.items) }
 {

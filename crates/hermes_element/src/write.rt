@@ -14,7 +14,8 @@ pub fn write_element(element: &Element, to: &mut Vec<u8>) -> Result<(), Memory>
     ensures written { OnOk result (to.new.items ≡ to.old.items ++ canonical element.now) }
     ensures unchanged { OnErr result (to.new.items ≡ to.old.items) }
     // what is written of a writable element is read as that element, up to the places
-    ensures reads_back { IsWritable element.now → (found : Tree) × Spells (canonical element.now) found × (unplaced found ≡ unplaced element.now) }
+    ensures reads_back { IsWritable element.now → (found : Tree)
+        × Spells (canonical element.now) found × (unplaced found ≡ unplaced element.now) }
 {
     element.reads_back();
     let mut spelling = Vec::new(*to.allocator());
@@ -42,7 +43,8 @@ fn append_element(element: &Element, to: &mut Vec<u8>) -> Result<(), Memory>
 }
 
 fn append_attributes(attributes: &[Attribute], to: &mut Vec<u8>) -> Result<(), Memory>
-    ensures { OnOk result (to.new.items ≡ to.old.items ++ flat_map canonical_attribute attributes.now) }
+    ensures { OnOk result
+        (to.new.items ≡ to.old.items ++ flat_map canonical_attribute attributes.now) }
 {
     for attribute in attributes {
         write_attribute(attribute.name.bytes(), attribute.value.bytes(), to)?;
@@ -54,7 +56,9 @@ fn append_attributes(attributes: &[Attribute], to: &mut Vec<u8>) -> Result<(), M
 /// is wanting, a part of it may stand there, behind what stood there before.
 pub fn write_attribute(name: &[u8], value: &[u8], to: &mut Vec<u8>) -> Result<(), Memory>
     ensures kept { StillStands to.old.items to.new.items }
-    ensures written { OnOk result (to.new.items ≡ to.old.items ++ canonical_attribute (record { name = name.now; value = value.now; at = 0 })) }
+    ensures written { OnOk result
+        (to.new.items ≡ to.old.items
+        ++ canonical_attribute (record { name = name.now; value = value.now; at = 0 })) }
 {
     append(to, b" ")?;
     append(to, name)?;

@@ -7,19 +7,22 @@ ghost use Rattle.hermes_frames.specs.Framed.{HasShortName};
 
 use hermes_horizontal::Message;
 
-/// What is written of this message is one message of a stream and nothing else, and has at most 65,536
-/// bytes, if it is writable: the lane and the code are at most 999,999,999, and the name in `Other` is
-/// none of the thirteen. That name has at most 65,480 bytes.
+/// What is written of this message is one message of a stream and nothing else, and has at most
+/// 65,536 bytes, if it is writable: the lane and the code are at most 999,999,999, and the name in
+/// `Other` is none of the thirteen. That name has at most 65,480 bytes.
 ///
 /// The call states the law: it goes over the message's parts, and changes nothing.
 pub fn text_is_one_frame(message: &Message)
-    ensures { IsWritable message.now → HasShortName message.now.body → IsOneFrame (canonical message.now) }
+    ensures { IsWritable message.now → HasShortName message.now.body
+        → IsOneFrame (canonical message.now) }
 {
     message.is_proper();
     proper_text_is_one_frame();
 }
 
-/// The same of every message whose parts are within what their types allow, as those of a program are.
+/// The same of every message whose parts are within what their types allow, as those of a program
+/// are.
 pub fn proper_text_is_one_frame()
-    ensures { (message : Message) → IsProperMessage message → IsWritable message → HasShortName message.body → IsOneFrame (canonical message) }
+    ensures { (message : Message) → IsProperMessage message → IsWritable message
+        → HasShortName message.body → IsOneFrame (canonical message) }
 {}

@@ -30,7 +30,8 @@ attribute_if attr (Some value) = attribute_of attr value ∷ []
 abbrev pub attributes_of : List Column → List (Option Value) → List Attribute
 attributes_of [] values = []
 attributes_of (column ∷ columns) [] = []
-attributes_of (column ∷ columns) (value ∷ values) = attribute_if column.attr value ++ attributes_of columns values
+attributes_of (column ∷ columns) (value ∷ values) =
+    attribute_if column.attr value ++ attributes_of columns values
 
 -- an empty element where the test holds, before others
 abbrev pub child_if : Bool → List ℕ → Forest → Forest
@@ -38,24 +39,39 @@ child_if test name rest = cond test (more name 0 [] none rest) rest
 
 abbrev pub feature_children : Features → Forest
 feature_children features =
-    child_if features.check_alive (codes "FeatureCheckAliveResponse") (child_if features.forecast (codes "FeatureBoardForecast")
-    (child_if features.query (codes "FeatureQueryBoardInfo") (child_if features.send (codes "FeatureSendBoardInfo") none)))
+    child_if features.check_alive (codes "FeatureCheckAliveResponse")
+    (child_if features.forecast (codes "FeatureBoardForecast")
+    (child_if features.query (codes "FeatureQueryBoardInfo")
+    (child_if features.send (codes "FeatureSendBoardInfo") none)))
 
 -- SupportedFeatures is always written in a service description
 abbrev pub children_of : Option Features → Forest
 children_of None = none
-children_of (Some features) = more (codes "SupportedFeatures") 0 [] (feature_children features) none
+children_of (Some features) =
+    more (codes "SupportedFeatures") 0 [] (feature_children features) none
 
 -- the element of a name with the values of a row of the table
 abbrev pub row_tree : List ℕ → List Column → List (Option Value) → Option Features → Tree
-row_tree name columns values features = record { name = name; at = 0; attributes = attributes_of columns values; children = children_of features }
+row_tree name columns values features =
+    record {
+      name = name;
+      at = 0;
+      attributes = attributes_of columns values;
+      children = children_of features;
+    }
 
 abbrev pub body_tree : Horizontal → Tree
-body_tree body = row_tree (name_of body) (columns_of (kind_of body)) (parts body) (features_of body)
+body_tree body =
+    row_tree (name_of body) (columns_of (kind_of body)) (parts body) (features_of body)
 
 abbrev pub root_of : List Attribute → Tree → Tree
 root_of attributes child =
-    record { name = codes "Hermes"; at = 0; attributes = attributes; children = more child.name child.at child.attributes child.children none }
+    record {
+      name = codes "Hermes";
+      at = 0;
+      attributes = attributes;
+      children = more child.name child.at child.attributes child.children none;
+    }
 
 -- the root of a message that was sent at this moment, or doesn't tell when
 abbrev pub stamped : Option ℤ → Tree → Tree
@@ -80,11 +96,13 @@ assignment_if attr (Some value) = assignment attr value
 abbrev pub assigned : List ℕ → List Column → List (Option Value) → List ℕ
 assigned front [] values = front
 assigned front (column ∷ columns) [] = front
-assigned front (column ∷ columns) (value ∷ values) = assigned (front ++ assignment_if column.attr value) columns values
+assigned front (column ∷ columns) (value ∷ values) =
+    assigned (front ++ assignment_if column.attr value) columns values
 
 -- the end of a message's start tag, and what follows it
 abbrev pub rest_spelling : List ℕ → Option Features → List ℕ
-rest_spelling name features = form.canonical_rest name (children_of features) (form.canonical_forest (children_of features))
+rest_spelling name features =
+    form.canonical_rest name (children_of features) (form.canonical_forest (children_of features))
 
 abbrev pub children_spelling : Horizontal → List ℕ
 children_spelling body = rest_spelling (name_of body) (features_of body)
@@ -94,7 +112,8 @@ body_spelling body = form.canonical (body_tree body)
 
 -- ---- writable messages
 
--- the lane and the code are numbers of at most 9 digits, and the name in Other is none of the thirteen
+-- the lane and the code are numbers of at most 9 digits, and the name in Other is none of the
+-- thirteen
 abbrev pub HasShortNumbers : Horizontal → Type 0
 HasShortNumbers (bodies.ServiceDescription service) = service.lane ≤ 999_999_999
 HasShortNumbers (bodies.Notification code severity text) = code.number ≤ 999_999_999

@@ -27,7 +27,9 @@ is_of attribute field = bytes_eq attribute.name (attr_text field.attr)
 -- with an attribute put to the first field of its name
 abbrev pub placed : Attribute → List Field → List Field
 placed attribute [] = []
-placed attribute (field ∷ fields) = if is_of attribute field then record field { found = Some attribute } ∷ fields else field ∷ placed attribute fields
+placed attribute (field ∷ fields) =
+    if is_of attribute field then record field { found = Some attribute } ∷ fields else field ∷
+    placed attribute fields
 
 -- with the first attribute of its name
 abbrev pub found_in : List Attribute → Field → Field
@@ -44,7 +46,9 @@ found_of attributes attr = found_in attributes (fresh attr)
 -- no two fields have one name, and nothing was found yet
 abbrev pub are_apart : List Field → Bool
 are_apart [] = true
-are_apart (field ∷ fields) = not (list_any (λ other. bytes_eq (attr_text field.attr) (attr_text other.attr)) fields) && are_apart fields
+are_apart (field ∷ fields) =
+    not (list_any (λ other. bytes_eq (attr_text field.attr) (attr_text other.attr)) fields)
+    && are_apart fields
 
 abbrev pub are_fresh : List Field → Bool
 are_fresh fields = list_all (λ field. is_none field.found) fields
@@ -60,14 +64,16 @@ abbrev pub said_by : ℕ → List Column → List Field → Result (List (Option
 said_by at [] fields = Ok []
 said_by at (column ∷ columns) [] = Ok []
 said_by at (column ∷ columns) (field ∷ fields) =
-    then_ok (value_at at column field.found) (λ value. mapped_ok (λ values. value ∷ values) (said_by at columns fields))
+    then_ok (value_at at column field.found) (λ value.
+    mapped_ok (λ values. value ∷ values) (said_by at columns fields))
 
 abbrev pub decimal_column : Field → Column
 decimal_column field = optional field.attr decimal
 
 abbrev pub head_columns : Bool → Field → Field → Field → Field → List Column
 head_columns whole id created_by quality_field flip_field =
-    required_if whole id.attr identity ∷ required_if whole created_by.attr text ∷ required_if whole quality_field.attr quality ∷ required_if whole flip_field.attr flip ∷ []
+    required_if whole id.attr identity ∷ required_if whole created_by.attr text ∷ required_if whole
+    quality_field.attr quality ∷ required_if whole flip_field.attr flip ∷ []
 
 -- a text that may be left out
 abbrev pub text_in : Field → Option Value
@@ -75,13 +81,19 @@ text_in field = option_map (λ attribute. worded attribute.value) field.found
 
 -- beside the board's maker
 abbrev pub head_parts : Field → Head → List (Option Value)
-head_parts created_by head = option_map identified head.id ∷ text_in created_by ∷ option_map of_quality head.quality ∷ option_map of_flip head.flip ∷ []
+head_parts created_by head =
+    option_map identified head.id ∷ text_in created_by ∷ option_map of_quality head.quality ∷
+    option_map of_flip head.flip ∷ []
 
 abbrev pub sizes_parts : Sizes → List (Option Value)
-sizes_parts sizes = option_map measured sizes.length ∷ option_map measured sizes.width ∷ option_map measured sizes.thickness ∷ option_map measured sizes.speed ∷ []
+sizes_parts sizes =
+    option_map measured sizes.length ∷ option_map measured sizes.width ∷ option_map measured
+    sizes.thickness ∷ option_map measured sizes.speed ∷ []
 
 abbrev pub clearances_parts : Clearances → List (Option Value)
-clearances_parts clearances = option_map measured clearances.top ∷ option_map measured clearances.bottom ∷ option_map measured clearances.weight ∷ []
+clearances_parts clearances =
+    option_map measured clearances.top ∷ option_map measured clearances.bottom ∷ option_map
+    measured clearances.weight ∷ []
 
 -- a field for each column of a board's row, with nothing found
 abbrev pub board_fields : List Field

@@ -1,4 +1,5 @@
--- What messages are made of: their kind, their name, and the values of their attributes in the order of the table.
+-- What messages are made of: their kind, their name, and the values of their attributes in the
+-- order of the table.
 use Rattle.std.specs.Prelude.{ℕ, List, [], ◌∷◌, Option, Some, None, option_map}
 use Rattle.line_base.specs.declared.states.Code.{Code}
 use Rattle.line_base.specs.declared.states.Quality.{Quality}
@@ -70,13 +71,16 @@ abbrev pub alive_parts : Option Ping → Option (List ℕ) → List (Option Valu
 alive_parts ping id = option_map of_ping ping ∷ option_map worded id ∷ []
 
 abbrev pub notice_parts : Code → Severity → List ℕ → List (Option Value)
-notice_parts code severity text = Some (numbered code.number) ∷ Some (of_severity severity) ∷ Some (worded text) ∷ []
+notice_parts code severity text =
+    Some (numbered code.number) ∷ Some (of_severity severity) ∷ Some (worded text) ∷ []
 
 abbrev pub info_parts : Info → List (Option Value)
 info_parts info =
-    option_map identified info.id ∷ option_map worded info.created_by ∷ option_map of_quality info.quality ∷ option_map of_flip info.flip
+    option_map identified info.id ∷ option_map worded info.created_by ∷ option_map of_quality
+    info.quality ∷ option_map of_flip info.flip
     ∷ option_map worded info.product ∷ option_map worded info.top ∷ option_map worded info.bottom
-    ∷ option_map measured info.length ∷ option_map measured info.width ∷ option_map measured info.thickness
+    ∷ option_map measured info.length ∷ option_map measured info.width ∷ option_map measured
+    info.thickness
     ∷ option_map measured info.speed ∷ option_map measured info.top_clearance
     ∷ option_map measured info.bottom_clearance ∷ option_map measured info.weight
     ∷ option_map worded info.order ∷ option_map worded info.batch ∷ []
@@ -125,7 +129,9 @@ no_info = record {
 
 abbrev pub service_parts : Service → List (Option Value)
 service_parts service =
-    Some (worded service.machine) ∷ Some (numbered service.lane) ∷ option_map worded service.interface ∷ Some (worded service.version) ∷ []
+    Some (worded service.machine) ∷ Some
+    (numbered service.lane) ∷ option_map worded service.interface ∷ Some
+    (worded service.version) ∷ []
 
 abbrev pub parts : Horizontal → List (Option Value)
 parts (bodies.CheckAlive ping id) = alive_parts ping id

@@ -17,7 +17,8 @@ use Rattle.hermes_horizontal.specs.Opened.{ReadsParts}
 pub use Rattle.hermes_horizontal.specs.Roots.{Refuses}
 
 -- a body of this kind, made of what its row of the table says of the attributes
-pub record FitsRow (kind : Kind) (at : ℕ) (attributes : List Attribute) (children : Forest) (body : Horizontal) : Type 0 where
+pub record FitsRow (kind : Kind) (at : ℕ) (attributes : List Attribute) (children : Forest)
+    (body : Horizontal) : Type 0 where
   pub of_kind : kind_of body ≡ kind
   pub values : values_of at attributes (columns_of kind) ≡ Ok (parts body)
   pub features : features_said kind children ≡ features_of body
@@ -25,7 +26,8 @@ pub record FitsRow (kind : Kind) (at : ℕ) (attributes : List Attribute) (child
 -- such a body, or the first refusal of the row
 abbrev pub ReadsRow : Kind → ℕ → List Attribute → Forest → Result Horizontal MessageError → Type 0
 ReadsRow kind at attributes children (Ok body) = FitsRow kind at attributes children body
-ReadsRow kind at attributes children (Err error) = Refuses (refusal_of_result (values_of at attributes (columns_of kind))) error
+ReadsRow kind at attributes children (Err error) =
+    Refuses (refusal_of_result (values_of at attributes (columns_of kind))) error
 
 -- what is told of a board, or the first refusal
 abbrev pub ReadsInfo : Result Info MessageError → Result (List (Option Value)) Refusal → Type 0

@@ -1,5 +1,5 @@
--- Which bytes spell a message of a channel, which are refused, where and why, and what reading answers: by what the one
--- element in the root says. The messages of both channels are spelled so.
+-- Which bytes spell a message of a channel, which are refused, where and why, and what reading
+-- answers: by what the one element in the root says. The messages of both channels are spelled so.
 use Rattle.std.specs.Prelude.{◌≡◌, ◌⊎◌, ◌≤◌, ℕ, ℤ, if◌then◌else◌, List, [], ◌∷◌, Option, Some, None, Result, Ok, Err, codes, option_map}
 use Rattle.std.specs.Str.{bytes_eq}
 use Rattle.hermes_element.specs.Element.{Tree, trees_of}
@@ -19,10 +19,12 @@ use Rattle.hermes_horizontal.specs.Said.{first_named, value_at}
 -- ---- which messages elements say, and which bytes spell them
 
 abbrev pub stamp_in : Tree → Result (Option Value) Refusal
-stamp_in tree = value_at tree.at stamp_column (first_named (attr_text stamp_column.attr) tree.attributes)
+stamp_in tree =
+    value_at tree.at stamp_column (first_named (attr_text stamp_column.attr) tree.attributes)
 
 -- the root is `Hermes`, tells the stamp or none, and holds one element, which says the body
-pub record SaysRoot {Body : Type 0} (SaysBody : Tree → Body → Type 0) (tree : Tree) (moment : Option ℤ) (said : Body) : Type 0 where
+pub record SaysRoot {Body : Type 0} (SaysBody : Tree → Body
+    → Type 0) (tree : Tree) (moment : Option ℤ) (said : Body) : Type 0 where
   pub root : tree.name ≡ codes "Hermes"
   pub stamp : stamp_in tree ≡ Ok (option_map timed moment)
   pub child : Tree
@@ -30,7 +32,8 @@ pub record SaysRoot {Body : Type 0} (SaysBody : Tree → Body → Type 0) (tree 
   pub body : SaysBody child said
 
 -- the bytes spell an element that says the message
-pub record SpellsBy {Message : Type 0} (Says : Tree → Message → Type 0) (bytes : List ℕ) (message : Message) : Type 0 where
+pub record SpellsBy {Message : Type 0} (Says : Tree → Message
+    → Type 0) (bytes : List ℕ) (message : Message) : Type 0 where
   pub tree : Tree
   pub element : form.Spells bytes tree
   pub says : Says tree message
@@ -48,11 +51,13 @@ first_of (Some refusal) later = Some refusal
 abbrev pub children_refusal_by : (Tree → Option Refusal) → ℕ → List Tree → Option Refusal
 children_refusal_by of_body at [] = Some (record { at = at; why = faults.Count })
 children_refusal_by of_body at (child ∷ []) = of_body child
-children_refusal_by of_body at (child ∷ other ∷ others) = Some (record { at = at; why = faults.Count })
+children_refusal_by of_body at (child ∷ other ∷ others) =
+    Some (record { at = at; why = faults.Count })
 
 abbrev pub refusal_by : (Tree → Option Refusal) → Tree → Option Refusal
 refusal_by of_body tree =
-    if bytes_eq tree.name (codes "Hermes") then first_of (refusal_of_result (stamp_in tree)) (children_refusal_by of_body tree.at (trees_of tree.children))
+    if bytes_eq tree.name (codes "Hermes") then first_of (refusal_of_result (stamp_in tree))
+    (children_refusal_by of_body tree.at (trees_of tree.children))
     else Some (record { at = tree.at; why = faults.Root })
 
 -- the bytes spell no element
@@ -62,16 +67,19 @@ pub record IsFormless (bytes : List ℕ) (at : ℕ) (why : Fault) : Type 0 where
   pub refused : form_refusal.IsRefused bytes at reason
 
 -- they spell an element that says no message
-pub record SaysNothingBy (refusal_of : Tree → Option Refusal) (bytes : List ℕ) (at : ℕ) (why : Fault) : Type 0 where
+pub record SaysNothingBy (refusal_of : Tree
+    → Option Refusal) (bytes : List ℕ) (at : ℕ) (why : Fault) : Type 0 where
   pub tree : Tree
   pub element : form.Spells bytes tree
   pub refused : refusal_of tree ≡ Some (record { at = at; why = why })
 
 abbrev pub IsRefusedFor : (Tree → Option Refusal) → List ℕ → ℕ → Fault → Type 0
-IsRefusedFor refusal_of bytes at why = IsFormless bytes at why ⊎ SaysNothingBy refusal_of bytes at why
+IsRefusedFor refusal_of bytes at why =
+    IsFormless bytes at why ⊎ SaysNothingBy refusal_of bytes at why
 
 -- the bytes are refused, at an index of at most this
-pub record IsRefusedNear (IsRefused : List ℕ → ℕ → Fault → Type 0) (bytes : List ℕ) (most : ℕ) : Type 0 where
+pub record IsRefusedNear (IsRefused : List ℕ → ℕ → Fault
+    → Type 0) (bytes : List ℕ) (most : ℕ) : Type 0 where
   pub at : ℕ
   pub why : Fault
   pub near : at ≤ most
@@ -85,14 +93,17 @@ Refuses refusal (errors.Refused at why) = refusal ≡ Some (record { at = at; wh
 Refuses refusal errors.Memory = Unit {0}
 
 -- a message that a root says, or its refusal
-abbrev pub ReadsRoot : {Message : Type 0} → (Tree → Message → Type 0) → (Tree → Option Refusal) → Tree → Result Message MessageError → Type 0
+abbrev pub ReadsRoot : {Message : Type 0} → (Tree → Message → Type 0) → (Tree → Option Refusal)
+    → Tree → Result Message MessageError → Type 0
 ReadsRoot Says refusal_of tree (Ok message) = Says tree message
 ReadsRoot Says refusal_of tree (Err error) = Refuses (refusal_of tree) error
 
 -- a message that the bytes spell, or their refusal where they spell none
-abbrev pub ReadsBy : {Message : Type 0} → (Tree → Message → Type 0) → (Tree → Option Refusal) → List ℕ → Result Message MessageError → Type 0
+abbrev pub ReadsBy : {Message : Type 0} → (Tree → Message → Type 0) → (Tree → Option Refusal)
+    → List ℕ → Result Message MessageError → Type 0
 ReadsBy Says refusal_of bytes (Ok message) = SpellsBy Says bytes message
-ReadsBy {Message} Says refusal_of bytes (Err (errors.Refused at why)) = IsRefusedFor refusal_of bytes at why × ((message : Message) → SpellsBy Says bytes message → ⊥)
+ReadsBy {Message} Says refusal_of bytes (Err (errors.Refused at why)) =
+    IsRefusedFor refusal_of bytes at why × ((message : Message) → SpellsBy Says bytes message → ⊥)
 ReadsBy Says refusal_of bytes (Err errors.Memory) = Unit {0}
 
 -- the answer is this message, unless memory ran out

@@ -1,4 +1,5 @@
--- THE TABLE of messages: the attributes of each in order, which of them are required, and what kind of value each has.
+-- THE TABLE of messages: the attributes of each in order, which of them are required, and what
+-- kind of value each has.
 use Rattle.std.specs.Prelude.{ℕ, Bool, true, false, if◌then◌else◌, List, [], ◌∷◌, codes}
 use Rattle.std.specs.Str.{bytes_eq}
 use Rattle.hermes_horizontal.specs.Values.{ValueKind, text, number, choice, identity, decimal, moment}
@@ -46,20 +47,24 @@ transfer = choice 1 3
 -- what may be told of a board beside who made it and how it is
 abbrev pub record_columns : List Column
 record_columns =
-    optional attrs.ProductTypeId text ∷ optional attrs.TopBarcode text ∷ optional attrs.BottomBarcode text
-    ∷ optional attrs.Length decimal ∷ optional attrs.Width decimal ∷ optional attrs.Thickness decimal
+    optional attrs.ProductTypeId text ∷ optional attrs.TopBarcode text ∷ optional
+    attrs.BottomBarcode text
+    ∷ optional attrs.Length decimal ∷ optional attrs.Width decimal ∷ optional attrs.Thickness
+    decimal
     ∷ optional attrs.ConveyorSpeed decimal ∷ optional attrs.TopClearanceHeight decimal
     ∷ optional attrs.BottomClearanceHeight decimal ∷ optional attrs.Weight decimal
     ∷ optional attrs.WorkOrderId text ∷ optional attrs.BatchId text ∷ []
 
--- an attribute that is required of an available board, and may be left out of a forecast and of board information
+-- an attribute that is required of an available board, and may be left out of a forecast and of
+-- board information
 abbrev pub required_if : Bool → Attr → ValueKind → Column
 required_if whole attr kind = record { attr = attr; required = whole; kind = kind }
 
 abbrev pub board_columns : Bool → List Column
 board_columns whole =
     required_if whole attrs.BoardId identity ∷ required_if whole attrs.BoardIdCreatedBy text
-    ∷ required_if whole attrs.FailedBoard quality ∷ required_if whole attrs.FlippedBoard flip ∷ record_columns
+    ∷ required_if whole attrs.FailedBoard quality ∷ required_if whole attrs.FlippedBoard flip ∷
+    record_columns
 
 abbrev pub transfer_columns : List Column
 transfer_columns = required attrs.TransferState transfer ∷ required attrs.BoardId identity ∷ []
@@ -69,12 +74,15 @@ abbrev pub alive_columns : List Column
 alive_columns = optional attrs.AliveType ping ∷ optional attrs.Id text ∷ []
 
 abbrev pub notice_columns : List Column
-notice_columns = required attrs.NotificationCode number ∷ required attrs.Severity severity ∷ required attrs.Description text ∷ []
+notice_columns =
+    required attrs.NotificationCode number ∷ required attrs.Severity severity ∷ required
+    attrs.Description text ∷ []
 
 abbrev pub columns_of : Kind → List Column
 columns_of kinds.CheckAlive = alive_columns
 columns_of kinds.ServiceDescription =
-    required attrs.MachineId text ∷ required attrs.LaneId number ∷ optional attrs.InterfaceId text ∷ required attrs.Version text ∷ []
+    required attrs.MachineId text ∷ required attrs.LaneId number ∷ optional attrs.InterfaceId text
+    ∷ required attrs.Version text ∷ []
 columns_of kinds.Notification = notice_columns
 columns_of kinds.BoardAvailable = board_columns true
 columns_of kinds.RevokeBoardAvailable = []
@@ -84,7 +92,8 @@ columns_of kinds.StartTransport = required attrs.BoardId identity ∷ []
 columns_of kinds.StopTransport = transfer_columns
 columns_of kinds.TransportFinished = transfer_columns
 columns_of kinds.BoardForecast = board_columns false
-columns_of kinds.QueryBoardInfo = optional attrs.TopBarcode text ∷ optional attrs.BottomBarcode text ∷ []
+columns_of kinds.QueryBoardInfo =
+    optional attrs.TopBarcode text ∷ optional attrs.BottomBarcode text ∷ []
 columns_of kinds.SendBoardInfo = board_columns false
 columns_of kinds.Other = []
 
@@ -109,13 +118,16 @@ kind_text kinds.Other = codes "Other"
 -- the thirteen messages that have a name of their own
 abbrev pub message_kinds : List Kind
 message_kinds =
-    kinds.CheckAlive ∷ kinds.ServiceDescription ∷ kinds.Notification ∷ kinds.BoardAvailable ∷ kinds.RevokeBoardAvailable
-    ∷ kinds.MachineReady ∷ kinds.RevokeMachineReady ∷ kinds.StartTransport ∷ kinds.StopTransport ∷ kinds.TransportFinished
+    kinds.CheckAlive ∷ kinds.ServiceDescription ∷ kinds.Notification ∷ kinds.BoardAvailable ∷
+    kinds.RevokeBoardAvailable
+    ∷ kinds.MachineReady ∷ kinds.RevokeMachineReady ∷ kinds.StartTransport ∷ kinds.StopTransport ∷
+    kinds.TransportFinished
     ∷ kinds.BoardForecast ∷ kinds.QueryBoardInfo ∷ kinds.SendBoardInfo ∷ []
 
 abbrev pub kind_among : List ℕ → List Kind → Kind
 kind_among name [] = kinds.Other
-kind_among name (kind ∷ others) = if bytes_eq name (kind_text kind) then kind else kind_among name others
+kind_among name (kind ∷ others) =
+    if bytes_eq name (kind_text kind) then kind else kind_among name others
 
 -- the message of this name; one of an unknown name is Other
 abbrev pub kind_named : List ℕ → Kind

@@ -25,7 +25,8 @@ mapped_ok f (Err refusal) = Err refusal
 -- the first attribute of a name
 abbrev pub first_named : List ℕ → List Attribute → Option Attribute
 first_named name [] = None
-first_named name (attribute ∷ rest) = if bytes_eq attribute.name name then Some attribute else first_named name rest
+first_named name (attribute ∷ rest) =
+    if bytes_eq attribute.name name then Some attribute else first_named name rest
 
 abbrev pub value_or_bad : ℕ → Attr → Option Value → Result (Option Value) Refusal
 value_or_bad at attr None = Err (record { at = at; why = faults.BadValue attr })
@@ -35,17 +36,21 @@ abbrev pub left_out : ℕ → Attr → Bool → Result (Option Value) Refusal
 left_out at attr true = Err (record { at = at; why = faults.Missing attr })
 left_out at attr false = Ok None
 
--- what an attribute of the table says in an element at this place: its value, or None where it may be left out.
--- It is refused at the element where it must not be, and at its first byte where it is no value of its kind
+-- what an attribute of the table says in an element at this place: its value, or None where it may
+-- be left out. It is refused at the element where it must not be, and at its first byte where it
+-- is no value of its kind
 abbrev pub value_at : ℕ → Column → Option Attribute → Result (Option Value) Refusal
 value_at at column None = left_out at column.attr column.required
-value_at at column (Some attribute) = value_or_bad attribute.at column.attr (read_as column.kind attribute.value)
+value_at at column (Some attribute) =
+    value_or_bad attribute.at column.attr (read_as column.kind attribute.value)
 
--- what the attributes of a row of the table say, or the first refusal; other attributes are passed over
+-- what the attributes of a row of the table say, or the first refusal; other attributes are passed
+-- over
 abbrev pub values_of : ℕ → List Attribute → List Column → Result (List (Option Value)) Refusal
 values_of at attributes [] = Ok []
 values_of at attributes (column ∷ columns) =
-    then_ok (value_at at column (first_named (attr_text column.attr) attributes)) (λ value. mapped_ok (λ values. value ∷ values) (values_of at attributes columns))
+    then_ok (value_at at column (first_named (attr_text column.attr) attributes)) (λ value.
+    mapped_ok (λ values. value ∷ values) (values_of at attributes columns))
 
 -- ---- the features of a service description: the names of the children of its first SupportedFeatures
 
@@ -62,4 +67,6 @@ features_listed trees = record {
 
 abbrev pub features_in : List Tree → Features
 features_in [] = features_listed []
-features_in (tree ∷ trees) = if bytes_eq tree.name (codes "SupportedFeatures") then features_listed (trees_of tree.children) else features_in trees
+features_in (tree ∷ trees) =
+    if bytes_eq tree.name (codes "SupportedFeatures") then features_listed
+    (trees_of tree.children) else features_in trees

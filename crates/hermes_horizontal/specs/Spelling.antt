@@ -1,4 +1,5 @@
--- Which bytes spell a horizontal message, which are refused, where and why, and what reading answers.
+-- Which bytes spell a horizontal message, which are refused, where and why, and what reading
+-- answers.
 use Rattle.std.specs.Prelude.{◌≡◌, ℕ, List, Option, Some, None, Result, Ok}
 use Rattle.hermes_element.specs.Element.{Tree, Forest, trees_of}
 use Rattle.hermes_horizontal.specs.declared.fault.Fault.{Fault}
@@ -38,7 +39,8 @@ Spells bytes message = SpellsBy Says bytes message
 -- ---- which elements say no message
 
 abbrev pub body_refusal : Tree → Option Refusal
-body_refusal child = refusal_of_result (values_of child.at child.attributes (columns_of (kind_named child.name)))
+body_refusal child =
+    refusal_of_result (values_of child.at child.attributes (columns_of (kind_named child.name)))
 
 abbrev pub children_refusal : ℕ → List Tree → Option Refusal
 children_refusal at trees = children_refusal_by body_refusal at trees

@@ -6,8 +6,8 @@ use Rattle.line_base.specs.Decimal.{decimal_of, decimal_text}
 use Rattle.line_base.specs.Moment.{moment_of, moment_text}
 use Rattle.board_record.specs.BoardId.{read_id, id_text}
 
--- a text, a number, a number of up to 64 bits, a number between two bounds that stands for one of several words, a board's
--- id, a decimal, a moment
+-- a text, a number, a number of up to 64 bits, a number between two bounds that stands for one of
+-- several words, a board's id, a decimal, a moment
 pub data ValueKind : Type 0 where
   text : ValueKind
   number : ValueKind
@@ -27,7 +27,10 @@ pub data Value : Type 0 where
 
 -- a long number is 1 to 20 digits, of a value that 64 bits hold
 abbrev pub long_number_of : List ℕ → Option ℕ
-long_number_of bytes = if is_digits 1 20 bytes then (if nat_le (value_of bytes) 18446744073709551615 then Some (value_of bytes) else None) else None
+long_number_of bytes =
+    if is_digits 1 20 bytes then
+    (if nat_le (value_of bytes) 18446744073709551615 then Some (value_of bytes) else None) else
+    None
 
 abbrev pub value_in : {A E : Type 0} → (A → Value) → Result A E → Option Value
 value_in value (Ok read) = Some (value read)

@@ -35,7 +35,9 @@ pub struct Notice {
 
 /// Reads the attributes of a CheckAlive.
 pub fn read_alive(alloc: Global, attributes: LentAttributes<'_>) -> Result<Alive, MessageError>
-    ensures { (at : ℕ) → ReadsParts (λ alive. alive_parts alive.ping alive.id) result (values_of at attributes.entry alive_columns) }
+    ensures { (at : ℕ)
+        → ReadsParts (λ alive. alive_parts alive.ping alive.id) result
+        (values_of at attributes.entry alive_columns) }
 {
     let fields = find_two(attributes, Attr::AliveType, Attr::Id);
     let [ping, id] = &fields;
@@ -50,7 +52,8 @@ pub fn read_notice(
     at: usize,
     attributes: LentAttributes<'_>,
 ) -> Result<Notice, MessageError>
-    ensures { ReadsParts (λ notice. notice_parts notice.code notice.severity notice.text) result (values_of at attributes.entry notice_columns) }
+    ensures { ReadsParts (λ notice. notice_parts notice.code notice.severity notice.text) result
+        (values_of at attributes.entry notice_columns) }
 {
     let fields = find_three(
         attributes,
@@ -72,7 +75,10 @@ pub fn read_notice(
 /// Appends the attributes of a CheckAlive.
 pub fn append_alive(ping: Option<Ping>, id: Option<&Text>, to: &mut Vec<u8>) -> Result<(), Memory>
     ensures kept { StillStands to.old.items to.new.items }
-    ensures written { OnOk result (to.new.items ≡ assigned to.old.items alive_columns (alive_parts ping (option_map (λ text. text.now) id.entry))) }
+    ensures written { OnOk result
+        (to.new.items
+        ≡ assigned to.old.items alive_columns
+        (alive_parts ping (option_map (λ text. text.now) id.entry))) }
 {
     append_optional_number(Attr::AliveType, ping.map(|ping| ping_number(ping)), to)?;
     append_optional_text(Attr::Id, id, to)
@@ -86,7 +92,8 @@ pub fn append_notice(
     to: &mut Vec<u8>,
 ) -> Result<(), Memory>
     ensures kept { StillStands to.old.items to.new.items }
-    ensures written { OnOk result (to.new.items ≡ assigned to.old.items notice_columns (notice_parts code severity text.now)) }
+    ensures written { OnOk result
+        (to.new.items ≡ assigned to.old.items notice_columns (notice_parts code severity text.now)) }
 {
     append_number(Attr::NotificationCode, code.number, to)?;
     append_number(Attr::Severity, severity_number(severity), to)?;

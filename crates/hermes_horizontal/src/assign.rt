@@ -30,7 +30,9 @@ pub fn append_text(attr: Attr, text: &Text, to: &mut Vec<u8>) -> Result<(), Memo
 
 pub fn append_optional_text(attr: Attr, text: Option<&Text>, to: &mut Vec<u8>) -> Result<(), Memory>
     ensures kept { StillStands to.old.items to.new.items }
-    ensures written { OnOk result (to.new.items ≡ to.old.items ++ assignment_if attr (option_map (λ text. worded text.now) text.entry)) }
+    ensures written { OnOk result
+        (to.new.items ≡ to.old.items
+        ++ assignment_if attr (option_map (λ text. worded text.now) text.entry)) }
 {
     match text {
         Some(text) => append_text(attr, text, to),
@@ -53,7 +55,8 @@ pub fn append_optional_number(
     to: &mut Vec<u8>,
 ) -> Result<(), Memory>
     ensures kept { StillStands to.old.items to.new.items }
-    ensures written { OnOk result (to.new.items ≡ to.old.items ++ assignment_if attr (option_map numbered number)) }
+    ensures written { OnOk result
+        (to.new.items ≡ to.old.items ++ assignment_if attr (option_map numbered number)) }
 {
     match number {
         Some(number) => append_number(attr, number, to),
@@ -72,7 +75,8 @@ pub fn append_id(attr: Attr, id: BoardId, to: &mut Vec<u8>) -> Result<(), Memory
 
 pub fn append_optional_id(attr: Attr, id: Option<BoardId>, to: &mut Vec<u8>) -> Result<(), Memory>
     ensures kept { StillStands to.old.items to.new.items }
-    ensures written { OnOk result (to.new.items ≡ to.old.items ++ assignment_if attr (option_map identified id)) }
+    ensures written { OnOk result
+        (to.new.items ≡ to.old.items ++ assignment_if attr (option_map identified id)) }
 {
     match id {
         Some(id) => append_id(attr, id, to),
@@ -96,7 +100,8 @@ pub fn append_optional_decimal(
     to: &mut Vec<u8>,
 ) -> Result<(), Memory>
     ensures kept { StillStands to.old.items to.new.items }
-    ensures written { OnOk result (to.new.items ≡ to.old.items ++ assignment_if attr (option_map measured decimal)) }
+    ensures written { OnOk result
+        (to.new.items ≡ to.old.items ++ assignment_if attr (option_map measured decimal)) }
 {
     match decimal {
         Some(decimal) => append_decimal(attr, decimal, to),
@@ -119,7 +124,8 @@ pub fn append_optional_moment(
     to: &mut Vec<u8>,
 ) -> Result<(), Memory>
     ensures kept { StillStands to.old.items to.new.items }
-    ensures written { OnOk result (to.new.items ≡ to.old.items ++ assignment_if attr (option_map timed moment)) }
+    ensures written { OnOk result
+        (to.new.items ≡ to.old.items ++ assignment_if attr (option_map timed moment)) }
 {
     match moment {
         Some(moment) => append_moment(attr, moment, to),

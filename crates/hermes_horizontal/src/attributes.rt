@@ -18,7 +18,8 @@ use line_base::{Memory, Transfer};
 /// Appends the attributes of a message in the order of its row of the table.
 pub fn append_attributes(body: &Horizontal, to: &mut Vec<u8>) -> Result<(), Memory>
     ensures kept { StillStands to.old.items to.new.items }
-    ensures written { OnOk result (to.new.items ≡ assigned to.old.items (columns_of (kind_of body.now)) (parts body.now)) }
+    ensures written { OnOk result
+        (to.new.items ≡ assigned to.old.items (columns_of (kind_of body.now)) (parts body.now)) }
 {
     match body {
         Horizontal::CheckAlive { ping, id } => append_alive(*ping, id.as_ref(), to),
@@ -49,7 +50,9 @@ pub fn append_attributes(body: &Horizontal, to: &mut Vec<u8>) -> Result<(), Memo
 
 fn append_service(service: &Service, to: &mut Vec<u8>) -> Result<(), Memory>
     ensures kept { StillStands to.old.items to.new.items }
-    ensures written { OnOk result (to.new.items ≡ assigned to.old.items (columns_of kinds.ServiceDescription) (service_parts service.now)) }
+    ensures written { OnOk result
+        (to.new.items ≡ assigned to.old.items (columns_of kinds.ServiceDescription)
+        (service_parts service.now)) }
 {
     append_text(Attr::MachineId, &service.machine, to)?;
     append_number(Attr::LaneId, service.lane, to)?;
@@ -59,7 +62,9 @@ fn append_service(service: &Service, to: &mut Vec<u8>) -> Result<(), Memory>
 
 fn append_transfer(state: Transfer, id: BoardId, to: &mut Vec<u8>) -> Result<(), Memory>
     ensures kept { StillStands to.old.items to.new.items }
-    ensures written { OnOk result (to.new.items ≡ assigned to.old.items transfer_columns (Some (of_transfer state) ∷ Some (identified id) ∷ [])) }
+    ensures written { OnOk result
+        (to.new.items ≡ assigned to.old.items transfer_columns
+        (Some (of_transfer state) ∷ Some (identified id) ∷ [])) }
 {
     append_number(Attr::TransferState, transfer_number(state), to)?;
     append_id(Attr::BoardId, id, to)

@@ -88,7 +88,9 @@ impl Board<'_> {
 /// Appends the attributes that tell of a board.
 pub fn append_board(board: &Board<'_>, to: &mut Vec<u8>) -> Result<(), Memory>
     ensures kept { StillStands to.old.items to.new.items }
-    ensures written { (whole : Bool) → OnOk result (to.new.items ≡ assigned to.old.items (board_columns whole) (board_parts board.now)) }
+    ensures written { (whole : Bool)
+        → OnOk result
+        (to.new.items ≡ assigned to.old.items (board_columns whole) (board_parts board.now)) }
 {
     let quality = optional_quality_number(board.quality);
     let flip = optional_flip_number(board.flip);

@@ -26,7 +26,8 @@ pub fn append_children(body: &Horizontal, to: &mut Vec<u8>) -> Result<(), Memory
 /// Appends the features that a description lists.
 pub fn append_features(features: Features, to: &mut Vec<u8>) -> Result<(), Memory>
     ensures kept { StillStands to.old.items to.new.items }
-    ensures written { OnOk result (to.new.items ≡ to.old.items ++ canonical_forest (children_of (Some features))) }
+    ensures written { OnOk result
+        (to.new.items ≡ to.old.items ++ canonical_forest (children_of (Some features))) }
 {
     if !has_any(features) {
         return append(to, b"<SupportedFeatures/>");
@@ -40,7 +41,8 @@ pub fn append_features(features: Features, to: &mut Vec<u8>) -> Result<(), Memor
 }
 
 fn has_any(features: Features) -> bool
-    ensures { result ≡ (features.check_alive || features.forecast || features.query || features.send) }
+    ensures { result
+        ≡ (features.check_alive || features.forecast || features.query || features.send) }
 {
     features.check_alive || features.forecast || features.query || features.send
 }

@@ -25,8 +25,8 @@ pub enum Fault {
 }
 
 impl Fault {
-    /// The text of a refusal for this reason at this index: the reason, ` at ` and the index. It is
-    /// what `MessageError::Refused` displays.
+    /// The text of a refusal for this reason at this index: the reason, ` at ` and the index. It
+    /// is what `MessageError::Refused` displays.
     pub fn text(self, alloc: Global, at: usize) -> Result<Text, Memory>
         ensures { IfOk result (λ text. text ≡ message_refusal_text self at) }
     {

@@ -39,7 +39,8 @@ impl<'a> Field<'a> {
     /// A text that must be there.
     #[inline]
     pub fn text(&self, at: usize) -> Result<&LentValue<'a>, Refusal>
-        ensures { Gives (λ text. Some (values.worded text.now)) result (value_at at (rows.required self.now.attr values.text) self.now.found) }
+        ensures { Gives (λ text. Some (values.worded text.now)) result
+            (value_at at (rows.required self.now.attr values.text) self.now.found) }
     {
         match &self.found {
             Some(attribute) => Ok(&attribute.value),
@@ -50,7 +51,8 @@ impl<'a> Field<'a> {
     /// Refuses a text that is not there where it is required.
     #[inline]
     pub fn check_text(&self, at: usize, required: bool) -> Result<(), Refusal>
-        ensures { Gives (λ _. text_in self.now) result (value_at at (rows.required_if required self.now.attr values.text) self.now.found) }
+        ensures { Gives (λ _. text_in self.now) result
+            (value_at at (rows.required_if required self.now.attr values.text) self.now.found) }
     {
         match &self.found {
             None if required => Err(missing(self.attr, at)),
@@ -61,7 +63,10 @@ impl<'a> Field<'a> {
     /// A text that may be left out.
     #[inline]
     pub fn optional_text(&self, alloc: Global) -> Result<Option<Text>, Memory>
-        ensures { (at : ℕ) → IfOk result (λ text. value_at at (rows.optional self.now.attr values.text) self.now.found ≡ Ok (option_map values.worded text)) }
+        ensures { (at : ℕ)
+            → IfOk result
+            (λ text. value_at at (rows.optional self.now.attr values.text) self.now.found
+            ≡ Ok (option_map values.worded text)) }
     {
         match &self.found {
             Some(attribute) => Ok(Some(attribute.value.text(alloc)?)),
@@ -71,7 +76,8 @@ impl<'a> Field<'a> {
 
     /// A number that must be there.
     pub fn number(&self, at: usize) -> Result<u32, Refusal>
-        ensures { Gives (λ number. Some (values.numbered number)) result (value_at at (rows.required self.now.attr values.number) self.now.found) }
+        ensures { Gives (λ number. Some (values.numbered number)) result
+            (value_at at (rows.required self.now.attr values.number) self.now.found) }
     {
         match &self.found {
             Some(attribute) => match read_number(attribute.value.bytes()) {
@@ -84,7 +90,9 @@ impl<'a> Field<'a> {
 
     /// A number that may be left out.
     pub fn optional_number(&self) -> Result<Option<u32>, Refusal>
-        ensures { (at : ℕ) → Gives (option_map values.numbered) result (value_at at (rows.optional self.now.attr values.number) self.now.found) }
+        ensures { (at : ℕ)
+            → Gives (option_map values.numbered) result
+            (value_at at (rows.optional self.now.attr values.number) self.now.found) }
     {
         match &self.found {
             Some(attribute) => match read_number(attribute.value.bytes()) {
@@ -97,7 +105,8 @@ impl<'a> Field<'a> {
 
     /// A long number that must be there.
     pub fn long_number(&self, at: usize) -> Result<u64, Refusal>
-        ensures { Gives (λ number. Some (values.numbered number)) result (value_at at (rows.required self.now.attr values.long_number) self.now.found) }
+        ensures { Gives (λ number. Some (values.numbered number)) result
+            (value_at at (rows.required self.now.attr values.long_number) self.now.found) }
     {
         match &self.found {
             Some(attribute) => match read_long_number(attribute.value.bytes()) {
@@ -110,7 +119,8 @@ impl<'a> Field<'a> {
 
     /// A number from `low` to `high` that must be there.
     pub fn choice(&self, at: usize, low: u32, high: u32) -> Result<u32, Refusal>
-        ensures value { Gives (λ number. Some (values.numbered number)) result (value_at at (rows.required self.now.attr (values.choice low high)) self.now.found) }
+        ensures value { Gives (λ number. Some (values.numbered number)) result
+            (value_at at (rows.required self.now.attr (values.choice low high)) self.now.found) }
         ensures within { IfOk result (λ number. (low ≤ number) × (number ≤ high)) }
     {
         match &self.found {
@@ -121,7 +131,8 @@ impl<'a> Field<'a> {
 
     /// An id that must be there.
     pub fn id(&self, at: usize) -> Result<BoardId, Refusal>
-        ensures { Gives (λ id. Some (values.identified id)) result (value_at at (rows.required self.now.attr values.identity) self.now.found) }
+        ensures { Gives (λ id. Some (values.identified id)) result
+            (value_at at (rows.required self.now.attr values.identity) self.now.found) }
     {
         match &self.found {
             Some(attribute) => id_in(self.attr, attribute),
@@ -131,7 +142,8 @@ impl<'a> Field<'a> {
 
     /// An id that must be there where it is required.
     pub fn id_if(&self, at: usize, required: bool) -> Result<Option<BoardId>, Refusal>
-        ensures { Gives (option_map values.identified) result (value_at at (rows.required_if required self.now.attr values.identity) self.now.found) }
+        ensures { Gives (option_map values.identified) result
+            (value_at at (rows.required_if required self.now.attr values.identity) self.now.found) }
     {
         match &self.found {
             Some(attribute) => Ok(Some(id_in(self.attr, attribute)?)),
@@ -141,7 +153,9 @@ impl<'a> Field<'a> {
 
     /// A decimal that may be left out.
     pub fn optional_decimal(&self) -> Result<Option<Decimal>, Refusal>
-        ensures { (at : ℕ) → Gives (option_map values.measured) result (value_at at (rows.optional self.now.attr values.decimal) self.now.found) }
+        ensures { (at : ℕ)
+            → Gives (option_map values.measured) result
+            (value_at at (rows.optional self.now.attr values.decimal) self.now.found) }
     {
         match &self.found {
             Some(attribute) => match Decimal::read(attribute.value.bytes()) {
@@ -154,7 +168,9 @@ impl<'a> Field<'a> {
 
     /// A moment that may be left out.
     pub fn optional_moment(&self) -> Result<Option<Moment>, Refusal>
-        ensures { (at : ℕ) → Gives (option_map values.timed) result (value_at at (rows.optional self.now.attr values.moment) self.now.found) }
+        ensures { (at : ℕ)
+            → Gives (option_map values.timed) result
+            (value_at at (rows.optional self.now.attr values.moment) self.now.found) }
     {
         match &self.found {
             Some(attribute) => match Moment::read(attribute.value.bytes()) {
@@ -167,7 +183,9 @@ impl<'a> Field<'a> {
 
     /// The type of a CheckAlive, which may be left out.
     pub fn optional_ping(&self) -> Result<Option<Ping>, Refusal>
-        ensures { (at : ℕ) → Gives (option_map of_ping) result (value_at at (rows.optional self.now.attr rows.ping) self.now.found) }
+        ensures { (at : ℕ)
+            → Gives (option_map of_ping) result
+            (value_at at (rows.optional self.now.attr rows.ping) self.now.found) }
     {
         match &self.found {
             Some(attribute) => match number_in(self.attr, attribute, 1, 2)? {
@@ -180,7 +198,8 @@ impl<'a> Field<'a> {
 
     /// A severity, which must be there.
     pub fn severity(&self, at: usize) -> Result<Severity, Refusal>
-        ensures { Gives (λ severity. Some (of_severity severity)) result (value_at at (rows.required self.now.attr rows.severity) self.now.found) }
+        ensures { Gives (λ severity. Some (of_severity severity)) result
+            (value_at at (rows.required self.now.attr rows.severity) self.now.found) }
     {
         match &self.found {
             Some(attribute) => match number_in(self.attr, attribute, 1, 4)? {
@@ -195,7 +214,8 @@ impl<'a> Field<'a> {
 
     /// A state of a transfer, which must be there.
     pub fn transfer(&self, at: usize) -> Result<Transfer, Refusal>
-        ensures { Gives (λ state. Some (of_transfer state)) result (value_at at (rows.required self.now.attr rows.transfer) self.now.found) }
+        ensures { Gives (λ state. Some (of_transfer state)) result
+            (value_at at (rows.required self.now.attr rows.transfer) self.now.found) }
     {
         match &self.found {
             Some(attribute) => match number_in(self.attr, attribute, 1, 3)? {
@@ -209,7 +229,8 @@ impl<'a> Field<'a> {
 
     /// A quality that must be there.
     pub fn quality(&self, at: usize) -> Result<Quality, Refusal>
-        ensures { Gives (λ quality. Some (of_quality quality)) result (value_at at (rows.required self.now.attr rows.quality) self.now.found) }
+        ensures { Gives (λ quality. Some (of_quality quality)) result
+            (value_at at (rows.required self.now.attr rows.quality) self.now.found) }
     {
         match &self.found {
             Some(attribute) => quality_in(self.attr, attribute),
@@ -219,7 +240,8 @@ impl<'a> Field<'a> {
 
     /// A quality that must be there where it is required.
     pub fn quality_if(&self, at: usize, required: bool) -> Result<Option<Quality>, Refusal>
-        ensures { Gives (option_map of_quality) result (value_at at (rows.required_if required self.now.attr rows.quality) self.now.found) }
+        ensures { Gives (option_map of_quality) result
+            (value_at at (rows.required_if required self.now.attr rows.quality) self.now.found) }
     {
         match &self.found {
             Some(attribute) => Ok(Some(quality_in(self.attr, attribute)?)),
@@ -229,7 +251,8 @@ impl<'a> Field<'a> {
 
     /// Which side is up; it must be there where it is required.
     pub fn flip_if(&self, at: usize, required: bool) -> Result<Option<Flip>, Refusal>
-        ensures { Gives (option_map of_flip) result (value_at at (rows.required_if required self.now.attr rows.flip) self.now.found) }
+        ensures { Gives (option_map of_flip) result
+            (value_at at (rows.required_if required self.now.attr rows.flip) self.now.found) }
     {
         match &self.found {
             Some(attribute) => match number_in(self.attr, attribute, 0, 2)? {
@@ -286,7 +309,8 @@ fn left_out<T>(attr: Attr, at: usize, required: bool) -> Result<Option<T>, Refus
 }
 
 fn id_in(attr: Attr, attribute: &LentAttribute<'_>) -> Result<BoardId, Refusal>
-    ensures { Gives (λ id. Some (values.identified id)) result (value_or_bad attribute.now.at attr (values.read_as values.identity attribute.now.value)) }
+    ensures { Gives (λ id. Some (values.identified id)) result
+        (value_or_bad attribute.now.at attr (values.read_as values.identity attribute.now.value)) }
 {
     match BoardId::read(attribute.value.bytes()) {
         Ok(id) => Ok(id),
@@ -295,7 +319,8 @@ fn id_in(attr: Attr, attribute: &LentAttribute<'_>) -> Result<BoardId, Refusal>
 }
 
 fn quality_in(attr: Attr, attribute: &LentAttribute<'_>) -> Result<Quality, Refusal>
-    ensures { Gives (λ quality. Some (of_quality quality)) result (value_or_bad attribute.now.at attr (values.read_as rows.quality attribute.now.value)) }
+    ensures { Gives (λ quality. Some (of_quality quality)) result
+        (value_or_bad attribute.now.at attr (values.read_as rows.quality attribute.now.value)) }
 {
     match number_in(attr, attribute, 0, 2)? {
         0 => Ok(Quality::Unknown),
@@ -306,7 +331,9 @@ fn quality_in(attr: Attr, attribute: &LentAttribute<'_>) -> Result<Quality, Refu
 
 /// A number from `low` to `high`.
 fn number_in(attr: Attr, attribute: &LentAttribute<'_>, low: u32, high: u32) -> Result<u32, Refusal>
-    ensures value { Gives (λ number. Some (values.numbered number)) result (value_or_bad attribute.now.at attr (values.read_as (values.choice low high) attribute.now.value)) }
+    ensures value { Gives (λ number. Some (values.numbered number)) result
+        (value_or_bad attribute.now.at attr
+        (values.read_as (values.choice low high) attribute.now.value)) }
     ensures within { IfOk result (λ number. (low ≤ number) × (number ≤ high)) }
 {
     match read_number(attribute.value.bytes()) {

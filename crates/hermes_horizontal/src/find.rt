@@ -52,7 +52,9 @@ pub fn find_two<'a>(attributes: LentAttributes<'a>, a: Attr, b: Attr) -> [Field<
 /// The attributes of three names.
 pub fn find_three<'a>(attributes: LentAttributes<'a>, a: Attr, b: Attr, c: Attr) -> [Field<'a>; 3]
     requires { IsTrue (are_apart (fresh a ∷ fresh b ∷ fresh c ∷ [])) }
-    ensures { result ≡ found_of attributes.entry a ∷ found_of attributes.entry b ∷ found_of attributes.entry c ∷ [] }
+    ensures { result
+        ≡ found_of attributes.entry a ∷ found_of attributes.entry b ∷ found_of attributes.entry c ∷
+        [] }
 {
     let mut fields = [Field::of(a), Field::of(b), Field::of(c)];
     find(attributes, fields.as_mut_slice());
@@ -68,7 +70,9 @@ pub fn find_four<'a>(
     d: Attr,
 ) -> [Field<'a>; 4]
     requires { IsTrue (are_apart (fresh a ∷ fresh b ∷ fresh c ∷ fresh d ∷ [])) }
-    ensures { result ≡ found_of attributes.entry a ∷ found_of attributes.entry b ∷ found_of attributes.entry c ∷ found_of attributes.entry d ∷ [] }
+    ensures { result
+        ≡ found_of attributes.entry a ∷ found_of attributes.entry b ∷ found_of attributes.entry c ∷
+        found_of attributes.entry d ∷ [] }
 {
     let mut fields = [Field::of(a), Field::of(b), Field::of(c), Field::of(d)];
     find(attributes, fields.as_mut_slice());
@@ -85,7 +89,9 @@ pub fn find_five<'a>(
     e: Attr,
 ) -> [Field<'a>; 5]
     requires { IsTrue (are_apart (fresh a ∷ fresh b ∷ fresh c ∷ fresh d ∷ fresh e ∷ [])) }
-    ensures { result ≡ found_of attributes.entry a ∷ found_of attributes.entry b ∷ found_of attributes.entry c ∷ found_of attributes.entry d ∷ found_of attributes.entry e ∷ [] }
+    ensures { result
+        ≡ found_of attributes.entry a ∷ found_of attributes.entry b ∷ found_of attributes.entry c ∷
+        found_of attributes.entry d ∷ found_of attributes.entry e ∷ [] }
 {
     let mut fields = [
         Field::of(a),

@@ -19,8 +19,8 @@ impl Message {
         parts_are_proper(self);
     }
 
-    /// What is written of this message is read as this message, if it is writable: the lane and the
-    /// code are at most 999,999,999, and the name in `Other` is none of the thirteen.
+    /// What is written of this message is read as this message, if it is writable: the lane and
+    /// the code are at most 999,999,999, and the name in `Other` is none of the thirteen.
     ///
     /// Nothing else is asked of it. The call states the law: it goes over the message's parts, and
     /// changes nothing.
@@ -31,12 +31,13 @@ impl Message {
         hermes_element::written_is_read();
     }
 
-    /// Two writable messages are equal exactly where what is written of them is: different ones are
-    /// never written as the same bytes.
+    /// Two writable messages are equal exactly where what is written of them is: different ones
+    /// are never written as the same bytes.
     ///
     /// The call states the law: it goes over the parts of both, and changes nothing.
     pub fn spells_apart(&self, other: &Message)
-        ensures { IsWritable self.now → IsWritable other.now → (canonical self.now ≡ canonical other.now) ↔ (self.now ≡ other.now) }
+        ensures { IsWritable self.now → IsWritable other.now
+            → (canonical self.now ≡ canonical other.now) ↔ (self.now ≡ other.now) }
     {
         self.reads_back();
         other.reads_back();
@@ -53,7 +54,8 @@ pub fn spelled_once()
 
 /// Bytes are refused at one place and for one reason at most.
 pub fn refused_once()
-    ensures { (bytes : List ℕ) (at place : ℕ) (why reason : Fault) → IsRefused bytes at why → IsRefused bytes place reason → (at ≡ place) × (why ≡ reason) }
+    ensures { (bytes : List ℕ) (at place : ℕ) (why reason : Fault) → IsRefused bytes at why
+        → IsRefused bytes place reason → (at ≡ place) × (why ≡ reason) }
 {
     hermes_element::spelled_once();
     hermes_element::refused_once();
@@ -62,7 +64,8 @@ pub fn refused_once()
 
 /// No bytes both spell a message and are refused.
 pub fn refused_or_spelled()
-    ensures { (bytes : List ℕ) (at : ℕ) (why : Fault) (message : Message) → IsRefused bytes at why → Spells bytes message → ⊥ }
+    ensures { (bytes : List ℕ) (at : ℕ) (why : Fault) (message : Message) → IsRefused bytes at why
+        → Spells bytes message → ⊥ }
 {
     hermes_element::spelled_once();
     hermes_element::refused_or_spelled();

@@ -1,5 +1,5 @@
-//! Horizontal messages: read exactly from the bytes of one element, refused with a place and a reason, and written in
-//! their one canonical spelling.
+//! Horizontal messages: read exactly from the bytes of one element, refused with a place and a
+//! reason, and written in their one canonical spelling.
 #![tactic(auto)]
 
 mod alike;

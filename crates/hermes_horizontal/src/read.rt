@@ -20,8 +20,10 @@ use std::alloc::Global;
 /// that memory was wanting for the message or, meanwhile, for its element.
 pub fn read_horizontal(alloc: Global, bytes: &[u8]) -> Result<Message, MessageError>
     ensures answer { ReadsMessage bytes.now result }
-    ensures spelled { (message : Message) → Spells bytes.now message → AnswersMessage result message }
-    ensures refused { (at : ℕ) (why : Fault) → IsRefused bytes.now at why → AnswersRefusal result at why }
+    ensures spelled { (message : Message) → Spells bytes.now message
+        → AnswersMessage result message }
+    ensures refused { (at : ℕ) (why : Fault) → IsRefused bytes.now at why
+        → AnswersRefusal result at why }
 {
     match read_lent(alloc, bytes) {
         Ok(root) => message_of(alloc, root),

@@ -52,7 +52,8 @@ pub fn body_of(alloc: Global, child: LentElement<'_>) -> Result<Horizontal, Mess
 }
 
 fn check_alive(alloc: Global, attributes: LentAttributes<'_>) -> Result<Horizontal, MessageError>
-    ensures { (at : ℕ) (children : Forest) → ReadsRow kinds.CheckAlive at attributes.entry children result }
+    ensures { (at : ℕ) (children : Forest)
+        → ReadsRow kinds.CheckAlive at attributes.entry children result }
 {
     let Alive { ping, id } = read_alive(alloc, attributes)?;
     Ok(Horizontal::CheckAlive { ping, id })
@@ -120,7 +121,8 @@ fn notification(
     at: usize,
     attributes: LentAttributes<'_>,
 ) -> Result<Horizontal, MessageError>
-    ensures { (children : Forest) → ReadsRow kinds.Notification at attributes.entry children result }
+    ensures { (children : Forest)
+        → ReadsRow kinds.Notification at attributes.entry children result }
 {
     let Notice {
         code,
@@ -135,7 +137,8 @@ fn notification(
 }
 
 fn machine_ready(at: usize, attributes: LentAttributes<'_>) -> Result<Horizontal, MessageError>
-    ensures { (children : Forest) → ReadsRow kinds.MachineReady at attributes.entry children result }
+    ensures { (children : Forest)
+        → ReadsRow kinds.MachineReady at attributes.entry children result }
 {
     let [quality] = &find_one(attributes, Attr::FailedBoard);
     let quality = quality.quality(at)?;
@@ -143,7 +146,8 @@ fn machine_ready(at: usize, attributes: LentAttributes<'_>) -> Result<Horizontal
 }
 
 fn start_transport(at: usize, attributes: LentAttributes<'_>) -> Result<Horizontal, MessageError>
-    ensures { (children : Forest) → ReadsRow kinds.StartTransport at attributes.entry children result }
+    ensures { (children : Forest)
+        → ReadsRow kinds.StartTransport at attributes.entry children result }
 {
     let [id] = &find_one(attributes, Attr::BoardId);
     let id = id.id(at)?;
@@ -151,7 +155,8 @@ fn start_transport(at: usize, attributes: LentAttributes<'_>) -> Result<Horizont
 }
 
 fn stop_transport(at: usize, attributes: LentAttributes<'_>) -> Result<Horizontal, MessageError>
-    ensures { (children : Forest) → ReadsRow kinds.StopTransport at attributes.entry children result }
+    ensures { (children : Forest)
+        → ReadsRow kinds.StopTransport at attributes.entry children result }
 {
     let fields = find_two(attributes, Attr::TransferState, Attr::BoardId);
     let [state, id] = &fields;
@@ -161,7 +166,8 @@ fn stop_transport(at: usize, attributes: LentAttributes<'_>) -> Result<Horizonta
 }
 
 fn transport_finished(at: usize, attributes: LentAttributes<'_>) -> Result<Horizontal, MessageError>
-    ensures { (children : Forest) → ReadsRow kinds.TransportFinished at attributes.entry children result }
+    ensures { (children : Forest)
+        → ReadsRow kinds.TransportFinished at attributes.entry children result }
 {
     let fields = find_two(attributes, Attr::TransferState, Attr::BoardId);
     let [state, id] = &fields;
@@ -174,7 +180,8 @@ fn query_board_info(
     alloc: Global,
     attributes: LentAttributes<'_>,
 ) -> Result<Horizontal, MessageError>
-    ensures { (at : ℕ) (children : Forest) → ReadsRow kinds.QueryBoardInfo at attributes.entry children result }
+    ensures { (at : ℕ) (children : Forest)
+        → ReadsRow kinds.QueryBoardInfo at attributes.entry children result }
 {
     let fields = find_two(attributes, Attr::TopBarcode, Attr::BottomBarcode);
     let [top, bottom] = &fields;
@@ -189,7 +196,8 @@ fn board_available(
     at: usize,
     attributes: LentAttributes<'_>,
 ) -> Result<Horizontal, MessageError>
-    ensures { (children : Forest) → ReadsRow kinds.BoardAvailable at attributes.entry children result }
+    ensures { (children : Forest)
+        → ReadsRow kinds.BoardAvailable at attributes.entry children result }
 {
     let board = info(alloc, at, attributes, true)?;
     Ok(Horizontal::BoardAvailable(record_of(board)))
@@ -200,7 +208,8 @@ fn board_forecast(
     at: usize,
     attributes: LentAttributes<'_>,
 ) -> Result<Horizontal, MessageError>
-    ensures { (children : Forest) → ReadsRow kinds.BoardForecast at attributes.entry children result }
+    ensures { (children : Forest)
+        → ReadsRow kinds.BoardForecast at attributes.entry children result }
 {
     Ok(Horizontal::BoardForecast(info(alloc, at, attributes, false)?))
 }
@@ -210,7 +219,8 @@ fn send_board_info(
     at: usize,
     attributes: LentAttributes<'_>,
 ) -> Result<Horizontal, MessageError>
-    ensures { (children : Forest) → ReadsRow kinds.SendBoardInfo at attributes.entry children result }
+    ensures { (children : Forest)
+        → ReadsRow kinds.SendBoardInfo at attributes.entry children result }
 {
     Ok(Horizontal::SendBoardInfo(info(alloc, at, attributes, false)?))
 }
@@ -283,7 +293,9 @@ fn read_head(
     quality: &Field<'_>,
     flip: &Field<'_>,
 ) -> Result<Head, Refusal>
-    ensures { Gives (head_parts created_by.now) result (said_by at (head_columns required id.now created_by.now quality.now flip.now) (id.now ∷ created_by.now ∷ quality.now ∷ flip.now ∷ [])) }
+    ensures { Gives (head_parts created_by.now) result
+        (said_by at (head_columns required id.now created_by.now quality.now flip.now)
+        (id.now ∷ created_by.now ∷ quality.now ∷ flip.now ∷ [])) }
 {
     let id = id.id_if(at, required)?;
     created_by.check_text(at, required)?;
@@ -307,7 +319,10 @@ fn read_sizes(
     thickness: &Field<'_>,
     speed: &Field<'_>,
 ) -> Result<Sizes, Refusal>
-    ensures { (at : ℕ) → Gives sizes_parts result (said_by at (map decimal_column (length.now ∷ width.now ∷ thickness.now ∷ speed.now ∷ [])) (length.now ∷ width.now ∷ thickness.now ∷ speed.now ∷ [])) }
+    ensures { (at : ℕ)
+        → Gives sizes_parts result
+        (said_by at (map decimal_column (length.now ∷ width.now ∷ thickness.now ∷ speed.now ∷ []))
+        (length.now ∷ width.now ∷ thickness.now ∷ speed.now ∷ [])) }
 {
     let length = length.optional_decimal()?;
     let width = width.optional_decimal()?;
@@ -334,7 +349,10 @@ fn read_clearances(
     bottom: &Field<'_>,
     weight: &Field<'_>,
 ) -> Result<Clearances, Refusal>
-    ensures { (at : ℕ) → Gives clearances_parts result (said_by at (map decimal_column (top.now ∷ bottom.now ∷ weight.now ∷ [])) (top.now ∷ bottom.now ∷ weight.now ∷ [])) }
+    ensures { (at : ℕ)
+        → Gives clearances_parts result
+        (said_by at (map decimal_column (top.now ∷ bottom.now ∷ weight.now ∷ []))
+        (top.now ∷ bottom.now ∷ weight.now ∷ [])) }
 {
     let top = top.optional_decimal()?;
     let bottom = bottom.optional_decimal()?;

@@ -15,7 +15,8 @@ pub record Held : Type 0 where
 abbrev pub held_in : Inside → Held
 held_in block = record { frame = take block.frame block.lent.items; waiting = block.ring.items }
 
--- the parts of a block have their room, and an end is still to be looked for behind `searched` alone
+-- the parts of a block have their room, and an end is still to be looked for behind `searched`
+-- alone
 pub record IsInOrder (block : Inside) : Type 0 where
   pub room : block.ring.capacity ≡ most_bytes
   pub lends : length block.lent.items ≡ most_bytes

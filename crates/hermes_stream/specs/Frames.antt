@@ -26,9 +26,11 @@ begins_with_end bytes = starts_with nat_eq bytes end_tag
 -- how many bytes there are through the first end of a message
 abbrev pub first_end : List ℕ → Option ℕ
 first_end [] = None
-first_end (b ∷ bytes) = if begins_with_end (b ∷ bytes) then Some 9 else option_map (λ n. n + 1) (first_end bytes)
+first_end (b ∷ bytes) =
+    if begins_with_end (b ∷ bytes) then Some 9 else option_map (λ n. n + 1) (first_end bytes)
 
--- what stands at the front of a stream: a message, a rest that may go on to one, or too many bytes without an end
+-- what stands at the front of a stream: a message, a rest that may go on to one, or too many bytes
+-- without an end
 pub data Answer : Type 0 where
   Frame : List ℕ → Answer
   NeedMore : Answer
@@ -51,8 +53,8 @@ answer_of bytes = answer_at (without_blanks bytes) (end_within (without_blanks b
 unfoldable pub left_of : List ℕ → List ℕ
 left_of bytes = drop (unwrap_or (end_within (without_blanks bytes)) 0) (without_blanks bytes)
 
--- the messages of a stream in order, and the rest behind them: fewer bytes than the most without an end,
--- or None, too long, where the most bytes stand without one
+-- the messages of a stream in order, and the rest behind them: fewer bytes than the most without
+-- an end, or None, too long, where the most bytes stand without one
 pub record Frames : Type 0 where
   pub messages : List (List ℕ)
   pub rest : Option (List ℕ)
@@ -61,7 +63,8 @@ pub record Frames : Type 0 where
 abbrev pub behind : List (List ℕ) → Frames → Frames
 behind messages frames = record { messages = messages ++ frames.messages; rest = frames.rest }
 
--- the frames of a stream: of what stands at its front, of what is left then, and of what is behind that
+-- the frames of a stream: of what stands at its front, of what is left then, and of what is behind
+-- that
 abbrev pub joined : Answer → List ℕ → Frames → Frames
 joined (Frame message) left later = behind (message ∷ []) later
 joined NeedMore left later = record { messages = []; rest = Some left }
@@ -70,9 +73,11 @@ joined TooLong left later = record { messages = []; rest = None }
 -- the frames of a stream of fewer than so many messages
 unfoldable pub frames_within : ℕ → List ℕ → Frames
 frames_within zero bytes = record { messages = []; rest = None }
-frames_within (suc more) bytes = joined (answer_of bytes) (left_of bytes) (frames_within more (left_of bytes))
+frames_within (suc more) bytes =
+    joined (answer_of bytes) (left_of bytes) (frames_within more (left_of bytes))
 
--- the frames of a stream. Each message has nine bytes at least, so there are fewer than bytes and one
+-- the frames of a stream. Each message has nine bytes at least, so there are fewer than bytes and
+-- one
 unfoldable pub frames_of : List ℕ → Frames
 frames_of bytes = frames_within (length bytes + 1) bytes
 

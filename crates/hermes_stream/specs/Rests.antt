@@ -7,4 +7,6 @@ use Rattle.hermes_stream.specs.contracts.cutter.Cutter.{the_row}
 
 -- the bytes that wait are those that the cut left
 abbrev pub RestsAsLeft : MutBor (List ℕ) → Fml
-RestsAsLeft cutter = follows_so the_row the_row cutter.ghost_name none (λ _ _. ⊤) (λ last. last ≡ left_of cutter.now)
+RestsAsLeft cutter =
+    follows_so the_row the_row cutter.ghost_name none (λ _ _. ⊤) (λ last.
+    last ≡ left_of cutter.now)

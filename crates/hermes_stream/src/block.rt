@@ -11,8 +11,8 @@ use std::alloc::Global;
 use std::fmt;
 use std::marker::Model;
 
-/// The bytes that wait, in a ring, and the frame that was cut last, in a block beside it: a frame is
-/// lent as one slice, and a ring's bytes may lie in two parts.
+/// The bytes that wait, in a ring, and the frame that was cut last, in a block beside it: a frame
+/// is lent as one slice, and a ring's bytes may lie in two parts.
 #[derive(Drop)]
 pub struct Block {
     ring: HeapCircularBuffer<u8>,
@@ -75,11 +75,12 @@ impl Block {
         self.ring.len()
     }
 
-    /// Adds the first bytes of a piece behind the bytes that wait, as many as there is room for, and
-    /// answers how many these are.
+    /// Adds the first bytes of a piece behind the bytes that wait, as many as there is room for,
+    /// and answers how many these are.
     pub fn fill(&mut self, piece: &[u8]) -> usize
         ensures count { result ≡ min (length piece.now) (most_bytes - length self.old.waiting) }
-        ensures held { self.new ≡ record { frame = []; waiting = self.old.waiting ++ take result piece.now } }
+        ensures held { self.new
+            ≡ record { frame = []; waiting = self.old.waiting ++ take result piece.now } }
         ensures bounded { length self.new.waiting ≤ most_bytes }
     {
         let count = self.ring.fill_from_slice(piece);
@@ -100,7 +101,11 @@ impl Block {
     pub fn cut(&mut self) -> Step
         ensures step { result ≡ step_of (answer_of self.old.waiting) }
         ensures bounded { length self.old.waiting ≤ most_bytes }
-        ensures held { self.new ≡ record { frame = message_in (answer_of self.old.waiting); waiting = left_of self.old.waiting } }
+        ensures held { self.new
+            ≡ record {
+              frame = message_in (answer_of self.old.waiting);
+              waiting = left_of self.old.waiting;
+            } }
     {
         self.drop_blanks();
         if let Some(count) = self.first_end() {
@@ -150,7 +155,8 @@ impl Block {
     /// Moves so many bytes from the front to where they are lent.
     fn move_out(&mut self, count: usize)
         requires { count ≤ length self.old.waiting }
-        ensures { self.new ≡ record { frame = take count self.old.waiting; waiting = drop count self.old.waiting } }
+        ensures { self.new
+            ≡ record { frame = take count self.old.waiting; waiting = drop count self.old.waiting } }
     {
         move_first(&mut self.ring, &mut self.lent, count);
         self.frame = count;

@@ -27,7 +27,8 @@ impl Model for Cutter {
 /// What stood at the front of the bytes that waited.
 #[derive(Clone, Copy, Debug, PartialEq, Eq)]
 pub enum Cut<'a> {
-    /// A message through its first `</Hermes>`, without the blanks before it. Its bytes wait no more.
+    /// A message through its first `</Hermes>`, without the blanks before it. Its bytes wait no
+    /// more.
     Frame(&'a [u8]),
     /// No end waits, and there is room for more bytes.
     NeedMore,

@@ -9,7 +9,8 @@ const END_TAG: &[u8] = b"</Hermes>";
 /// How many blanks stand before the first other byte of two parts, one behind the other.
 pub fn blanks_before(first: &[u8], second: &[u8]) -> usize
     ensures within { result ≤ length (first.now ++ second.now) }
-    ensures dropped { drop result (first.now ++ second.now) ≡ without_blanks (first.now ++ second.now) }
+    ensures dropped { drop result (first.now ++ second.now)
+        ≡ without_blanks (first.now ++ second.now) }
 {
     let blanks = blanks_of(first);
     if blanks < first.len() {
@@ -37,9 +38,9 @@ fn is_blank(byte: u8) -> bool
     matches!(byte, b' ' | b'\t' | b'\n' | b'\r')
 }
 
-/// How many bytes of two parts, one behind the other, there are through the first end of a message,
-/// where none ends within the first `searched`. Every end closes with a `>`, so it looks at the
-/// bytes before each of these alone.
+/// How many bytes of two parts, one behind the other, there are through the first end of a
+/// message, where none ends within the first `searched`. Every end closes with a `>`, so it looks
+/// at the bytes before each of these alone.
 pub fn find_end(first: &[u8], second: &[u8], searched: usize) -> Option<usize>
     requires within { searched ≤ length (first.now ++ second.now) }
     requires searched { IsSearched (first.now ++ second.now) searched }

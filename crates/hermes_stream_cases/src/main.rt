@@ -1,7 +1,8 @@
-//! The cases of the cut: each line says how a stream is fed to a cutter and spells its bytes, and is
-//! written again with what is cut from it. `pieces A B` feeds it in pieces of each length from A to
-//! B; `turned A B` feeds it whole to cutters whose ring ends so many bytes behind its first, from A
-//! to B. The answer says in how many of these ways the cutter says the same as in the first.
+//! The cases of the cut: each line says how a stream is fed to a cutter and spells its bytes, and
+//! is written again with what is cut from it. `pieces A B` feeds it in pieces of each length from
+//! A to B; `turned A B` feeds it whole to cutters whose ring ends so many bytes behind its first,
+//! from A to B. The answer says in how many of these ways the cutter says the same as in the
+//! first.
 #![tactic(auto)]
 
 ghost use Rattle.std.specs.Prelude.{◌<◌};

@@ -16,7 +16,8 @@ use Rattle.hermes_vertical.specs.Parts.{parts, features_of, kind_of, name_of}
 
 -- a message as an element; its places are all 0
 abbrev pub body_tree : Vertical → Tree
-body_tree body = row_tree (name_of body) (columns_of (kind_of body)) (parts body) (features_of body)
+body_tree body =
+    row_tree (name_of body) (columns_of (kind_of body)) (parts body) (features_of body)
 
 abbrev pub tree_of : VerticalMessage → Tree
 tree_of message = stamped message.stamp (body_tree message.body)

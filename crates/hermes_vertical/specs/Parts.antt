@@ -1,4 +1,5 @@
--- What messages are made of: their kind, their name, and the values of their attributes in the order of the table.
+-- What messages are made of: their kind, their name, and the values of their attributes in the
+-- order of the table.
 use Rattle.std.specs.Prelude.{ℕ, List, [], ◌∷◌, Option, Some, None, option_map}
 use Rattle.hermes_horizontal.specs.declared.message.Features.{Features}
 use Rattle.hermes_horizontal.specs.Parts.{alive_parts, notice_parts}
@@ -31,15 +32,20 @@ abbrev pub system_parts : System → List (Option Value)
 system_parts system = Some (worded system.system) ∷ Some (worded system.version) ∷ []
 
 abbrev pub passage_parts : Passage → List (Option Value)
-passage_parts passage = Some (worded passage.machine) ∷ Some (numbered passage.lane) ∷ Some (of_passing passage.how) ∷ Some (identified passage.id) ∷ []
+passage_parts passage =
+    Some (worded passage.machine) ∷ Some (numbered passage.lane) ∷ Some
+    (of_passing passage.how) ∷ Some (identified passage.id) ∷ []
 
 abbrev pub question_parts : Question → List (Option Value)
 question_parts (questions.Barcode barcode) = Some (worded barcode) ∷ None ∷ None ∷ None ∷ []
 question_parts (questions.Order order) = None ∷ Some (worded order) ∷ None ∷ None ∷ []
-question_parts (questions.Place magazine slot) = None ∷ None ∷ Some (worded magazine) ∷ Some (numbered slot) ∷ []
+question_parts (questions.Place magazine slot) =
+    None ∷ None ∷ Some (worded magazine) ∷ Some (numbered slot) ∷ []
 
 abbrev pub order_parts : ℕ → List ℕ → Option (List ℕ) → Option (List ℕ) → List (Option Value)
-order_parts query order batch product = Some (numbered query) ∷ Some (worded order) ∷ option_map worded batch ∷ option_map worded product ∷ []
+order_parts query order batch product =
+    Some (numbered query) ∷ Some
+    (worded order) ∷ option_map worded batch ∷ option_map worded product ∷ []
 
 abbrev pub parts : Vertical → List (Option Value)
 parts (bodies.SupervisoryServiceDescription system) = system_parts system

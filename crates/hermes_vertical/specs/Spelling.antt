@@ -1,4 +1,5 @@
--- Which bytes spell a supervisory message, which are refused, where and why, and what reading answers.
+-- Which bytes spell a supervisory message, which are refused, where and why, and what reading
+-- answers.
 use Rattle.std.specs.Prelude.{◌≡◌, ℕ, List, Option, Some, None, Result, Ok, Err}
 use Rattle.hermes_element.specs.Element.{Tree, Forest, trees_of}
 use Rattle.hermes_element.specs.declared.attribute.Attribute.{Attribute}
@@ -45,7 +46,8 @@ Spells bytes message = SpellsBy Says bytes message
 -- ---- which elements say no message
 
 abbrev pub body_refusal : Tree → Option Refusal
-body_refusal child = refusal_of_result (row_values child.at child.attributes (kind_named child.name))
+body_refusal child =
+    refusal_of_result (row_values child.at child.attributes (kind_named child.name))
 
 abbrev pub refusal_of : Tree → Option Refusal
 refusal_of tree = refusal_by body_refusal tree
@@ -71,12 +73,15 @@ ReadsBody child (Ok body) = SaysBody child body
 ReadsBody child (Err error) = Refuses (body_refusal child) error
 
 -- a body of this kind, made of what its row of the table says of the attributes
-pub record FitsRow (kind : VerticalKind) (at : ℕ) (attributes : List Attribute) (children : Forest) (body : Vertical) : Type 0 where
+pub record FitsRow (kind : VerticalKind) (at : ℕ) (attributes : List Attribute) (children : Forest)
+    (body : Vertical) : Type 0 where
   pub of_kind : kind_of body ≡ kind
   pub values : row_values at attributes kind ≡ Ok (parts body)
   pub features : features_said kind children ≡ features_of body
 
 -- such a body, or the first refusal of the row
-abbrev pub ReadsRow : VerticalKind → ℕ → List Attribute → Forest → Result Vertical MessageError → Type 0
+abbrev pub ReadsRow : VerticalKind → ℕ → List Attribute → Forest → Result Vertical MessageError
+    → Type 0
 ReadsRow kind at attributes children (Ok body) = FitsRow kind at attributes children body
-ReadsRow kind at attributes children (Err error) = Refuses (refusal_of_result (row_values at attributes kind)) error
+ReadsRow kind at attributes children (Err error) =
+    Refuses (refusal_of_result (row_values at attributes kind)) error

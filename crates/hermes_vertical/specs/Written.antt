@@ -5,5 +5,6 @@ use Rattle.hermes_vertical.specs.declared.attributes.Asked.{Asked}
 
 abbrev pub asked_parts : Asked → List (Option Value)
 asked_parts asked =
-    option_map (λ text. worded text.now) asked.barcode ∷ option_map (λ text. worded text.now) asked.order ∷ option_map (λ text. worded text.now) asked.magazine
+    option_map (λ text. worded text.now) asked.barcode ∷ option_map (λ text.
+    worded text.now) asked.order ∷ option_map (λ text. worded text.now) asked.magazine
     ∷ option_map numbered asked.slot ∷ []

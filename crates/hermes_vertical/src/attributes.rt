@@ -18,7 +18,8 @@ use line_base::{Memory, Text};
 /// Appends the attributes of a message in the order of its row of the table.
 pub fn append_attributes(body: &Vertical, to: &mut Vec<u8>) -> Result<(), Memory>
     ensures kept { StillStands to.old.items to.new.items }
-    ensures written { OnOk result (to.new.items ≡ assigned to.old.items (columns_of (kind_of body.now)) (parts body.now)) }
+    ensures written { OnOk result
+        (to.new.items ≡ assigned to.old.items (columns_of (kind_of body.now)) (parts body.now)) }
 {
     match body {
         Vertical::SupervisoryServiceDescription(system) => append_system(system, to),
@@ -46,7 +47,9 @@ pub fn append_attributes(body: &Vertical, to: &mut Vec<u8>) -> Result<(), Memory
 
 fn append_system(system: &System, to: &mut Vec<u8>) -> Result<(), Memory>
     ensures kept { StillStands to.old.items to.new.items }
-    ensures written { OnOk result (to.new.items ≡ assigned to.old.items (columns_of kinds.SupervisoryServiceDescription) (system_parts system.now)) }
+    ensures written { OnOk result
+        (to.new.items ≡ assigned to.old.items (columns_of kinds.SupervisoryServiceDescription)
+        (system_parts system.now)) }
 {
     append_text(Attr::SystemId, &system.system, to)?;
     append_text(Attr::Version, &system.version, to)
@@ -54,7 +57,8 @@ fn append_system(system: &System, to: &mut Vec<u8>) -> Result<(), Memory>
 
 fn append_passage(passage: &Passage, to: &mut Vec<u8>) -> Result<(), Memory>
     ensures kept { StillStands to.old.items to.new.items }
-    ensures written { OnOk result (to.new.items ≡ assigned to.old.items passage_columns (passage_parts passage.now)) }
+    ensures written { OnOk result
+        (to.new.items ≡ assigned to.old.items passage_columns (passage_parts passage.now)) }
 {
     append_text(Attr::MachineId, &passage.machine, to)?;
     append_number(Attr::LaneId, passage.lane, to)?;
@@ -80,7 +84,10 @@ fn append_order(
     to: &mut Vec<u8>,
 ) -> Result<(), Memory>
     ensures kept { StillStands to.old.items to.new.items }
-    ensures written { OnOk result (to.new.items ≡ assigned to.old.items (columns_of kinds.SendWorkOrderInfo) (order_parts query order.now (option_map (λ text. text.now) batch.entry) (option_map (λ text. text.now) product.entry))) }
+    ensures written { OnOk result
+        (to.new.items ≡ assigned to.old.items (columns_of kinds.SendWorkOrderInfo)
+        (order_parts query order.now (option_map (λ text. text.now) batch.entry)
+        (option_map (λ text. text.now) product.entry))) }
 {
     append_long_number(Attr::QueryId, query, to)?;
     append_text(Attr::WorkOrderId, order, to)?;
@@ -127,7 +134,8 @@ impl Asked<'_> {
 
 fn append_asked(asked: &Asked<'_>, to: &mut Vec<u8>) -> Result<(), Memory>
     ensures kept { StillStands to.old.items to.new.items }
-    ensures written { OnOk result (to.new.items ≡ assigned to.old.items question_columns (asked_parts asked.now)) }
+    ensures written { OnOk result
+        (to.new.items ≡ assigned to.old.items question_columns (asked_parts asked.now)) }
 {
     append_optional_text(Attr::Barcode, asked.barcode, to)?;
     append_optional_text(Attr::WorkOrderId, asked.order, to)?;

@@ -31,12 +31,13 @@ impl VerticalMessage {
         hermes_element::written_is_read();
     }
 
-    /// Two writable messages are equal exactly where what is written of them is: different ones are
-    /// never written as the same bytes.
+    /// Two writable messages are equal exactly where what is written of them is: different ones
+    /// are never written as the same bytes.
     ///
     /// The call states the law: it goes over the parts of both, and changes nothing.
     pub fn spells_apart(&self, other: &VerticalMessage)
-        ensures { IsWritable self.now → IsWritable other.now → (canonical self.now ≡ canonical other.now) ↔ (self.now ≡ other.now) }
+        ensures { IsWritable self.now → IsWritable other.now
+            → (canonical self.now ≡ canonical other.now) ↔ (self.now ≡ other.now) }
     {
         self.reads_back();
         other.reads_back();
@@ -53,7 +54,8 @@ pub fn spelled_once()
 
 /// Bytes are refused at one place and for one reason at most.
 pub fn refused_once()
-    ensures { (bytes : List ℕ) (at place : ℕ) (why reason : Fault) → IsRefused bytes at why → IsRefused bytes place reason → (at ≡ place) × (why ≡ reason) }
+    ensures { (bytes : List ℕ) (at place : ℕ) (why reason : Fault) → IsRefused bytes at why
+        → IsRefused bytes place reason → (at ≡ place) × (why ≡ reason) }
 {
     hermes_element::spelled_once();
     hermes_element::refused_once();
@@ -62,7 +64,8 @@ pub fn refused_once()
 
 /// No bytes both spell a message and are refused.
 pub fn refused_or_spelled()
-    ensures { (bytes : List ℕ) (at : ℕ) (why : Fault) (message : VerticalMessage) → IsRefused bytes at why → Spells bytes message → ⊥ }
+    ensures { (bytes : List ℕ) (at : ℕ) (why : Fault) (message : VerticalMessage)
+        → IsRefused bytes at why → Spells bytes message → ⊥ }
 {
     hermes_element::spelled_once();
     hermes_element::refused_or_spelled();

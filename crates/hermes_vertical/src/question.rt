@@ -10,8 +10,8 @@ use hermes_horizontal::columns::Field;
 use hermes_horizontal::{Attr, Fault, MessageError};
 use std::alloc::Global;
 
-/// What is asked for: by exactly a barcode, or exactly an order, or exactly a magazine and its slot.
-/// Else the number of the question is refused.
+/// What is asked for: by exactly a barcode, or exactly an order, or exactly a magazine and its
+/// slot. Else the number of the question is refused.
 pub fn read_question(
     alloc: Global,
     at: usize,
@@ -21,7 +21,8 @@ pub fn read_question(
     magazine: &Field<'_>,
     slot: &Field<'_>,
 ) -> Result<Question, MessageError>
-    ensures { ReadsParts question_parts result (question_said at query.now barcode.now order.now magazine.now slot.now) }
+    ensures { ReadsParts question_parts result
+        (question_said at query.now barcode.now order.now magazine.now slot.now) }
 {
     match (&barcode.found, &order.found, &magazine.found, &slot.found) {
         (Some(found), None, None, None) => Ok(Question::Barcode(found.value.text(alloc)?)),
@@ -36,7 +37,8 @@ pub fn read_question(
 }
 
 fn refused(at: usize, query: &Field<'_>) -> MessageError
-    ensures { result ≡ MessageError.Refused (place_of at query.now.found) (Fault.BadValue Attr.QueryId) }
+    ensures { result ≡ MessageError.Refused (place_of at query.now.found)
+        (Fault.BadValue Attr.QueryId) }
 {
     MessageError::Refused {
         at: place(at, query),

@@ -17,13 +17,15 @@ use std::alloc::Global;
 /// form of the element, the root's name, the Timestamp, the number of children, and then the
 /// attributes of the message in the order of its row in the table (`columns_of`), wherever they
 /// stand in the bytes. A question that isn't asked by exactly a barcode, or exactly an order, or
-/// exactly a magazine and a slot is a bad QueryId, just behind the test of its number. Attributes of
-/// other names and other children are passed over. `Memory` says that memory was wanting for the
-/// message or, meanwhile, for its element.
+/// exactly a magazine and a slot is a bad QueryId, just behind the test of its number. Attributes
+/// of other names and other children are passed over. `Memory` says that memory was wanting for
+/// the message or, meanwhile, for its element.
 pub fn read_vertical(alloc: Global, bytes: &[u8]) -> Result<VerticalMessage, MessageError>
     ensures answer { ReadsMessage bytes.now result }
-    ensures spelled { (message : VerticalMessage) → Spells bytes.now message → AnswersMessage result message }
-    ensures refused { (at : ℕ) (why : Fault) → IsRefused bytes.now at why → AnswersRefusal result at why }
+    ensures spelled { (message : VerticalMessage) → Spells bytes.now message
+        → AnswersMessage result message }
+    ensures refused { (at : ℕ) (why : Fault) → IsRefused bytes.now at why
+        → AnswersRefusal result at why }
 {
     match read_lent(alloc, bytes) {
         Ok(root) => message_of(alloc, root),

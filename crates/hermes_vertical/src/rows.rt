@@ -72,7 +72,8 @@ fn board_arrived(
     at: usize,
     attributes: LentAttributes<'_>,
 ) -> Result<Vertical, MessageError>
-    ensures { (children : Forest) → ReadsRow kinds.BoardArrived at attributes.entry children result }
+    ensures { (children : Forest)
+        → ReadsRow kinds.BoardArrived at attributes.entry children result }
 {
     Ok(Vertical::BoardArrived(passage(alloc, at, attributes)?))
 }
@@ -82,7 +83,8 @@ fn board_departed(
     at: usize,
     attributes: LentAttributes<'_>,
 ) -> Result<Vertical, MessageError>
-    ensures { (children : Forest) → ReadsRow kinds.BoardDeparted at attributes.entry children result }
+    ensures { (children : Forest)
+        → ReadsRow kinds.BoardDeparted at attributes.entry children result }
 {
     Ok(Vertical::BoardDeparted(passage(alloc, at, attributes)?))
 }
@@ -116,7 +118,8 @@ fn passage(
 
 /// How a board came or went, which must be there.
 fn passing(field: &Field<'_>, at: usize) -> Result<Passing, Refusal>
-    ensures { Gives (λ how. Some (of_passing how)) result (value_at at (required field.now.attr passing) field.now.found) }
+    ensures { Gives (λ how. Some (of_passing how)) result
+        (value_at at (required field.now.attr passing) field.now.found) }
 {
     match field.choice(at, 1, 3)? {
         1 => Ok(Passing::Transferred),
@@ -131,7 +134,8 @@ fn query_work_order_info(
     at: usize,
     attributes: LentAttributes<'_>,
 ) -> Result<Vertical, MessageError>
-    ensures { (children : Forest) → ReadsRow kinds.QueryWorkOrderInfo at attributes.entry children result }
+    ensures { (children : Forest)
+        → ReadsRow kinds.QueryWorkOrderInfo at attributes.entry children result }
 {
     let fields = find_five(
         attributes,
@@ -152,7 +156,8 @@ fn send_work_order_info(
     at: usize,
     attributes: LentAttributes<'_>,
 ) -> Result<Vertical, MessageError>
-    ensures { (children : Forest) → ReadsRow kinds.SendWorkOrderInfo at attributes.entry children result }
+    ensures { (children : Forest)
+        → ReadsRow kinds.SendWorkOrderInfo at attributes.entry children result }
 {
     let fields = find_four(
         attributes,
@@ -173,7 +178,8 @@ fn send_work_order_info(
 }
 
 fn check_alive(alloc: Global, attributes: LentAttributes<'_>) -> Result<Vertical, MessageError>
-    ensures { (at : ℕ) (children : Forest) → ReadsRow kinds.CheckAlive at attributes.entry children result }
+    ensures { (at : ℕ) (children : Forest)
+        → ReadsRow kinds.CheckAlive at attributes.entry children result }
 {
     let Alive { ping, id } = read_alive(alloc, attributes)?;
     Ok(Vertical::CheckAlive { ping, id })
@@ -184,7 +190,8 @@ fn notification(
     at: usize,
     attributes: LentAttributes<'_>,
 ) -> Result<Vertical, MessageError>
-    ensures { (children : Forest) → ReadsRow kinds.Notification at attributes.entry children result }
+    ensures { (children : Forest)
+        → ReadsRow kinds.Notification at attributes.entry children result }
 {
     let Notice {
         code,

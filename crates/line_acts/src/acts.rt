@@ -1,4 +1,5 @@
-//! What the acts of a machine do to the links and to the floor, and which of them the report tells.
+//! What the acts of a machine do to the links and to the floor, and which of them the report
+//! tells.
 
 ghost use Rattle.std.specs.Prelude.{◌≡◌, ◌∷◌, ◌++◌, IfOk, OnOk, length};
 ghost use Rattle.line_world.specs.FloorPlan.{IsMachine};
@@ -33,8 +34,11 @@ pub fn do_acts(
     told: &mut Happened,
 ) -> Result<(), Memory>
     requires { IsMachine world.old.floor teller.now.machine }
-    ensures world { OnOk result (world.new ≡ (acts_did teller.now.second teller.now.machine acts.now world.old).world) }
-    ensures told { OnOk result (told.new ≡ told.old ++ (acts_did teller.now.second teller.now.machine acts.now world.old).told) }
+    ensures world { OnOk result
+        (world.new ≡ (acts_did teller.now.second teller.now.machine acts.now world.old).world) }
+    ensures told { OnOk result
+        (told.new ≡ told.old
+        ++ (acts_did teller.now.second teller.now.machine acts.now world.old).told) }
     ensures machines { OnOk result (length world.new.floor.machines ≡ length world.old.floor.machines) }
 {
     for act in acts {
@@ -45,8 +49,11 @@ pub fn do_acts(
 
 fn do_act(teller: &Teller, act: &Act, world: &mut World, told: &mut Happened) -> Result<(), Memory>
     requires { IsMachine world.old.floor teller.now.machine }
-    ensures world { OnOk result (world.new ≡ (act_did teller.now.second teller.now.machine act.now world.old).world) }
-    ensures told { OnOk result (told.new ≡ told.old ++ (act_did teller.now.second teller.now.machine act.now world.old).told) }
+    ensures world { OnOk result
+        (world.new ≡ (act_did teller.now.second teller.now.machine act.now world.old).world) }
+    ensures told { OnOk result
+        (told.new ≡ told.old
+        ++ (act_did teller.now.second teller.now.machine act.now world.old).told) }
     ensures machines { OnOk result (length world.new.floor.machines ≡ length world.old.floor.machines) }
 {
     let cut = change(teller, act, world)?;
@@ -55,12 +62,15 @@ fn do_act(teller: &Teller, act: &Act, world: &mut World, told: &mut Happened) ->
 
 // ---- what an act does
 
-/// What an act does to the links and the floor. It answers the link that is cut because too much is on its way, which is all
-/// that the telling needs beside the act.
+/// What an act does to the links and the floor. It answers the link that is cut because too much
+/// is on its way, which is all that the telling needs beside the act.
 fn change(teller: &Teller, act: &Act, world: &mut World) -> Result<Option<u32>, Memory>
     requires { IsMachine world.old.floor teller.now.machine }
-    ensures world { IfOk result (λ _. world.new ≡ (act_did teller.now.second teller.now.machine act.now world.old).world) }
-    ensures told { IfOk result (λ cut. (act_did teller.now.second teller.now.machine act.now world.old).told ≡ told_with (is_drive act.now) teller.now.machine act.now cut) }
+    ensures world { IfOk result
+        (λ _. world.new ≡ (act_did teller.now.second teller.now.machine act.now world.old).world) }
+    ensures told { IfOk result
+        (λ cut. (act_did teller.now.second teller.now.machine act.now world.old).told
+        ≡ told_with (is_drive act.now) teller.now.machine act.now cut) }
     ensures machines { IfOk result (λ _. length world.new.floor.machines ≡ length world.old.floor.machines) }
 {
     let machine = teller.machine;
@@ -110,15 +120,23 @@ fn count(deed: Deed, world: &mut World) -> Result<(), Memory>
     }
 }
 
-/// A machine sends a message: the answer to a second connection flows though the link doesn't stand.
+/// A machine sends a message: the answer to a second connection flows though the link doesn't
+/// stand.
 fn send(
     teller: &Teller,
     side: Side,
     message: &Message,
     world: &mut World,
 ) -> Result<Option<u32>, Memory>
-    ensures world { IfOk result (λ _. world.new ≡ (sent_by (answers teller.now.second side message.now) teller.now.machine side message.now world.old).world) }
-    ensures told { IfOk result (λ cut. (sent_by (answers teller.now.second side message.now) teller.now.machine side message.now world.old).told ≡ happenings.Done teller.now.machine (acts.Sends side message.now) ∷ maybe_cut cut) }
+    ensures world { IfOk result
+        (λ _. world.new
+        ≡ (sent_by (answers teller.now.second side message.now) teller.now.machine side message.now
+        world.old).world) }
+    ensures told { IfOk result
+        (λ cut. (sent_by
+        (answers teller.now.second side message.now) teller.now.machine side message.now
+        world.old).told
+        ≡ happenings.Done teller.now.machine (acts.Sends side message.now) ∷ maybe_cut cut) }
     ensures machines { IfOk result (λ _. length world.new.floor.machines ≡ length world.old.floor.machines) }
 {
     let machine = teller.machine;
@@ -166,7 +184,8 @@ fn cut_of(link: u32, sent: Sent) -> Option<u32>
 
 /// Tells an act, unless it is a drive, and just behind it the link that it cut.
 fn tell_act(teller: &Teller, act: &Act, cut: Option<u32>, told: &mut Happened) -> Result<(), Memory>
-    ensures { OnOk result (told.new ≡ told.old ++ told_with (is_drive act.now) teller.now.machine act.now cut) }
+    ensures { OnOk result
+        (told.new ≡ told.old ++ told_with (is_drive act.now) teller.now.machine act.now cut) }
 {
     if is_drive(act) {
         return Ok(());

@@ -1,5 +1,5 @@
-//! What the acts of a machine do to the links of a line and to the floor under it, in code, and which of them the report
-//! tells. What that is, is defined in `line_step`.
+//! What the acts of a machine do to the links of a line and to the floor under it, in code, and
+//! which of them the report tells. What that is, is defined in `line_step`.
 #![tactic(auto)]
 
 mod act_copy;

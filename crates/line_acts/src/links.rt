@@ -19,7 +19,8 @@ pub fn place_of(links: &[Link], link: u32) -> Option<usize>
     Some(number - 1)
 }
 
-/// The link at a side of a machine: at the exit that of the machine's own number, at the entry the one before.
+/// The link at a side of a machine: at the exit that of the machine's own number, at the entry the
+/// one before.
 pub fn link_of(machine: u32, side: Side) -> u32
     ensures { result ≡ link_of machine side }
 {

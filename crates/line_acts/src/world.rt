@@ -20,10 +20,11 @@ use line_world::{Board, Floor, Move, MoveError, Sensors};
 use std::alloc::Global;
 use std::marker::Model;
 
-/// What the machines of a line meet outside of them: the links between neighbours, the floor, and how many handovers
-/// were opened and how many boards settled.
+/// What the machines of a line meet outside of them: the links between neighbours, the floor, and
+/// how many handovers were opened and how many boards settled.
 ///
-/// A link that isn't there, that before the first machine or behind the last, is one on which nothing is connected.
+/// A link that isn't there, that before the first machine or behind the last, is one on which
+/// nothing is connected.
 #[derive(Drop)]
 pub struct World {
     alloc: Global,
@@ -40,7 +41,13 @@ impl Model for World {
 
     ghost Value = { WorldParts };
 
-    ghost view = { λ world. record { links = world.links.items; floor = world.floor; opened = world.opened; settled = world.settled } };
+    ghost view = { λ world.
+        record {
+          links = world.links.items;
+          floor = world.floor;
+          opened = world.opened;
+          settled = world.settled;
+        } };
 }
 
 impl World {
@@ -58,12 +65,14 @@ impl World {
         }
     }
 
-    /// One machine more at the downstream end, with a link before it where it isn't the first. `Memory` where there is no
-    /// room for it.
+    /// One machine more at the downstream end, with a link before it where it isn't the first.
+    /// `Memory` where there is no room for it.
     pub fn add_machine(&mut self) -> Result<(), Memory>
         ensures floor { OnOk result (self.new.floor ≡ one_machine_more self.old.floor) }
-        ensures links { OnOk result (self.new.links ≡ links_more (length self.old.floor.machines) self.old.links) }
-        ensures counts { OnOk result ((self.new.opened ≡ self.old.opened) × (self.new.settled ≡ self.old.settled)) }
+        ensures links { OnOk result
+            (self.new.links ≡ links_more (length self.old.floor.machines) self.old.links) }
+        ensures counts { OnOk result ((self.new.opened ≡ self.old.opened)
+            × (self.new.settled ≡ self.old.settled)) }
     {
         let is_first = self.floor.machines() == 0;
         self.floor.add_machine()?;
@@ -99,7 +108,8 @@ impl World {
 
     /// How many bytes are on their way to a side.
     pub fn coming_to(&self, machine: u32, side: Side) -> usize
-        ensures count { result ≡ length (coming (flow_to (end_of side) (link_at (link_of machine side) self.now))) }
+        ensures count { result ≡ length
+            (coming (flow_to (end_of side) (link_at (link_of machine side) self.now))) }
         ensures bounded { result ≤ 1048576 }
     {
         match place_of(self.links.as_slice(), link_of(machine, side)) {
@@ -188,8 +198,11 @@ impl World {
 
     /// A machine sends a message at a side. `Memory` where there is no room for it.
     pub fn send(&mut self, machine: u32, side: Side, message: &Message) -> Result<Sent, Memory>
-        ensures after { IfOk result (λ _. self.new ≡ sends_on machine side (canonical message.now) self.old) }
-        ensures sent { IfOk result (λ sent. sent ≡ sent_of (end_of side) (canonical message.now) (link_at (link_of machine side) self.old)) }
+        ensures after { IfOk result
+            (λ _. self.new ≡ sends_on machine side (canonical message.now) self.old) }
+        ensures sent { IfOk result
+            (λ sent. sent ≡ sent_of (end_of side) (canonical message.now)
+            (link_at (link_of machine side) self.old)) }
         ensures machines { IfOk result (λ _. length self.new.floor.machines ≡ length self.old.floor.machines) }
     {
         spell(message, &mut self.text)?;
@@ -199,10 +212,12 @@ impl World {
         }
     }
 
-    /// A machine answers a second connection at its exit. `Memory` where there is no room for the answer.
+    /// A machine answers a second connection at its exit. `Memory` where there is no room for the
+    /// answer.
     pub fn answer(&mut self, machine: u32, message: &Message) -> Result<Sent, Memory>
         ensures after { IfOk result (λ _. self.new ≡ answers_on machine (canonical message.now) self.old) }
-        ensures sent { IfOk result (λ sent. sent ≡ answer_sent (canonical message.now) (link_at machine self.old)) }
+        ensures sent { IfOk result
+            (λ sent. sent ≡ answer_sent (canonical message.now) (link_at machine self.old)) }
         ensures machines { IfOk result (λ _. length self.new.floor.machines ≡ length self.old.floor.machines) }
     {
         spell(message, &mut self.text)?;
@@ -214,7 +229,9 @@ impl World {
 
     /// A machine closes at a side.
     pub fn close(&mut self, machine: u32, side: Side)
-        ensures after { self.new ≡ with_link (link_of machine side) (after_close (end_of side) (link_at (link_of machine side) self.old)) self.old }
+        ensures after { self.new
+            ≡ with_link (link_of machine side)
+            (after_close (end_of side) (link_at (link_of machine side) self.old)) self.old }
         ensures machines { length self.new.floor.machines ≡ length self.old.floor.machines }
     {
         if let Some(place) = place_of(self.links.as_slice(), link_of(machine, side)) {
@@ -234,7 +251,9 @@ impl World {
 
     /// Bytes arrive at a side.
     pub fn arrive(&mut self, machine: u32, side: Side, count: Option<u32>)
-        ensures after { self.new ≡ with_link (link_of machine side) (after_flow (end_of side) count (link_at (link_of machine side) self.old)) self.old }
+        ensures after { self.new
+            ≡ with_link (link_of machine side)
+            (after_flow (end_of side) count (link_at (link_of machine side) self.old)) self.old }
         ensures machines { length self.new.floor.machines ≡ length self.old.floor.machines }
     {
         if let Some(place) = place_of(self.links.as_slice(), link_of(machine, side)) {
@@ -264,11 +283,16 @@ impl World {
         }
     }
 
-    /// What flows to a side of a link that stands is spoiled. `Memory` where there is no room for it.
+    /// What flows to a side of a link that stands is spoiled. `Memory` where there is no room for
+    /// it.
     pub fn spoil(&mut self, machine: u32, side: Side) -> Result<Sent, Memory>
         requires { link_stands machine side self.old ≡ true }
-        ensures after { IfOk result (λ _. self.new ≡ with_link (link_of machine side) (after_spoil (end_of side) (link_at (link_of machine side) self.old)) self.old) }
-        ensures sent { IfOk result (λ sent. sent ≡ spoil_sent (end_of side) (link_at (link_of machine side) self.old)) }
+        ensures after { IfOk result
+            (λ _. self.new
+            ≡ with_link (link_of machine side)
+            (after_spoil (end_of side) (link_at (link_of machine side) self.old)) self.old) }
+        ensures sent { IfOk result
+            (λ sent. sent ≡ spoil_sent (end_of side) (link_at (link_of machine side) self.old)) }
     {
         match place_of(self.links.as_slice(), link_of(machine, side)) {
             Some(place) => self.links[place].spoil(end_of(side)),
@@ -325,11 +349,13 @@ impl World {
         self.floor.apply(gap as usize, step)
     }
 
-    /// Takes the sensor events that a machine hasn't read. `Memory` where there is no room for their list.
+    /// Takes the sensor events that a machine hasn't read. `Memory` where there is no room for
+    /// their list.
     pub fn read_all(&mut self, machine: u32) -> Result<Sensors, Memory>
         requires { IsMachine self.old.floor machine }
         ensures events { IfOk result (λ events. events ≡ (machine_at self.old.floor machine).unread) }
-        ensures after { OnOk result (self.new ≡ with_floor (with_unread self.old.floor machine []) self.old) }
+        ensures after { OnOk result
+            (self.new ≡ with_floor (with_unread self.old.floor machine []) self.old) }
         ensures machines { IfOk result (λ _. length self.new.floor.machines ≡ length self.old.floor.machines) }
     {
         self.floor.read_all(machine as usize)
@@ -338,16 +364,21 @@ impl World {
     /// A machine's sensors tell what was not so. `Memory` where there is no room for it.
     pub fn lie(&mut self, machine: u32, sensed: Sensed) -> Result<(), Memory>
         requires { IsMachine self.old.floor machine }
-        ensures { OnOk result (self.new ≡ with_floor (with_unread self.old.floor machine ((machine_at self.old.floor machine).unread ++ sensed ∷ [])) self.old) }
+        ensures { OnOk result
+            (self.new
+            ≡ with_floor
+            (with_unread self.old.floor machine
+            ((machine_at self.old.floor machine).unread ++ sensed ∷ [])) self.old) }
     {
         self.floor.lie(machine as usize, sensed)
     }
 
-    /// A board without id comes to a machine's back, or its front board goes, and no sensor sees it. `Memory` where there
-    /// is no room for it.
+    /// A board without id comes to a machine's back, or its front board goes, and no sensor sees
+    /// it. `Memory` where there is no room for it.
     pub fn unseen(&mut self, machine: u32, side: Side) -> Result<(), Memory>
         requires { IsMachine self.old.floor machine }
-        ensures { OnOk result (self.new ≡ with_floor (unseen_on machine side self.old.floor) self.old) }
+        ensures { OnOk result
+            (self.new ≡ with_floor (unseen_on machine side self.old.floor) self.old) }
     {
         match side {
             Side::Entry => self.floor.place(machine as usize, Board { id: None }),

@@ -62,11 +62,13 @@ pub record IsNumeral (numeral : Numeral) : Type 0 where
   pub exponent : IfSome numeral.exponent IsExponent
 
 abbrev pub numeral_text : Numeral → List ℕ
-numeral_text numeral = numeral.whole ++ (fraction_text numeral.fraction ++ exponent_text numeral.exponent)
+numeral_text numeral =
+    numeral.whole ++ (fraction_text numeral.fraction ++ exponent_text numeral.exponent)
 
 -- the value, as a fraction of whole numbers
 abbrev pub numerator_of : Numeral → ℕ
-numerator_of numeral = value_of (numeral.whole ++ numeral.fraction) * 10 ^ raise_of numeral.exponent
+numerator_of numeral =
+    value_of (numeral.whole ++ numeral.fraction) * 10 ^ raise_of numeral.exponent
 
 abbrev pub denominator_of : Numeral → ℕ
 denominator_of numeral = 10 ^ (length numeral.fraction + drop_of numeral.exponent)
@@ -122,7 +124,8 @@ limited millionths = if nat_lt millionths 1_000_000_000_000 then Some millionths
 abbrev pub scaled : List ℕ → List ℕ → Option (ℕ × ℕ) → Option ℕ
 scaled whole fraction None = None
 scaled whole fraction (Some powers) =
-    limited (nearest (value_of (whole ++ fraction) * 10 ^ powers.0 * 1_000_000) (10 ^ (length fraction + powers.1)))
+    limited (nearest (value_of (whole ++ fraction) * 10 ^ powers.0 * 1_000_000)
+    (10 ^ (length fraction + powers.1)))
 
 abbrev pub behind_whole : List ℕ → Option (List ℕ × List ℕ) → Option ℕ
 behind_whole whole None = None
@@ -130,7 +133,8 @@ behind_whole whole (Some parts) = scaled whole parts.0 (exponent_of parts.1)
 
 abbrev pub millionths_of : List ℕ → Option ℕ
 millionths_of bytes =
-    if is_digits 1 18 (front_digits bytes) then behind_whole (front_digits bytes) (fraction_of 20 (behind_digits bytes))
+    if is_digits 1 18 (front_digits bytes) then behind_whole (front_digits bytes)
+    (fraction_of 20 (behind_digits bytes))
     else None
 
 -- what reading bytes as a decimal answers
@@ -142,7 +146,8 @@ decimal_of bytes = ok_or (millionths_of bytes) (record {})
 -- the six digits of a number below a million
 abbrev pub six_digits : ℕ → List ℕ
 six_digits n =
-    digit (n / 100_000) ∷ digit (n / 10_000) ∷ digit (n / 1_000) ∷ digit (n / 100) ∷ digit (n / 10) ∷ digit n ∷ []
+    digit (n / 100_000) ∷ digit (n / 10_000) ∷ digit (n / 1_000) ∷ digit (n / 100) ∷ digit
+    (n / 10) ∷ digit n ∷ []
 
 -- a digit before others, unless it is a trailing zero
 abbrev pub before : ℕ → List ℕ → List ℕ

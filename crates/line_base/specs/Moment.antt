@@ -31,12 +31,14 @@ pub record IsShown (fields : Fields) : Type 0 where
 
 -- the milliseconds of a time of day
 abbrev pub time_millis : Fields → ℕ
-time_millis fields = ((fields.hour * 60 + fields.minute) * 60 + fields.second) * 1000 + fields.milli
+time_millis fields =
+    ((fields.hour * 60 + fields.minute) * 60 + fields.second) * 1000 + fields.milli
 
 -- the milliseconds since 1970-01-01T00:00:00.000 on the same civil clock
 abbrev pub millis_at : Fields → ℤ
 millis_at fields =
-    days_from_civil (pos fields.year) fields.month fields.day *ℤ pos 86_400_000 +ℤ pos (time_millis fields)
+    days_from_civil (pos fields.year) fields.month fields.day *ℤ pos 86_400_000 +ℤ pos
+    (time_millis fields)
 
 -- the milliseconds of the civil years 1 to 9999
 abbrev pub IsMomentMillis : ℤ → Type 0
@@ -50,7 +52,8 @@ fits form c = if form == 100 then is_ascii_digit c else form == c
 
 -- the bytes have the form: they are as many, and each fits
 abbrev pub has_form : List ℕ → List ℕ → Bool
-has_form form bytes = length form == length bytes && list_all (λ pair. fits pair.0 pair.1) (zip form bytes)
+has_form form bytes =
+    length form == length bytes && list_all (λ pair. fits pair.0 pair.1) (zip form bytes)
 
 -- the number that stands at a place of a text
 abbrev pub number_at : ℕ → ℕ → List ℕ → ℕ
@@ -115,7 +118,8 @@ behind_seconds seconds (Some parts) =
 
 abbrev pub millis_of : List ℕ → Option ℤ
 millis_of bytes =
-    if has_form seconds_form (take 19 bytes) then behind_seconds (take 19 bytes) (fraction_of 9 (drop 19 bytes))
+    if has_form seconds_form (take 19 bytes) then behind_seconds (take 19 bytes)
+    (fraction_of 9 (drop 19 bytes))
     else None
 
 -- what reading bytes as a moment answers
@@ -127,12 +131,14 @@ moment_of bytes = ok_or (millis_of bytes) (record {})
 -- the last of the years 1 to n that begins on or before a day
 unfoldable pub year_to : ℕ → ℤ → ℕ
 year_to zero day = 0
-year_to (suc n) day = if int_le (days_from_civil (pos (suc n)) 1 1) day then suc n else year_to n day
+year_to (suc n) day =
+    if int_le (days_from_civil (pos (suc n)) 1 1) day then suc n else year_to n day
 
 -- the last of the months 1 to n of a year that begins on or before a day
 unfoldable pub month_to : ℕ → ℕ → ℤ → ℕ
 month_to zero year day = 0
-month_to (suc n) year day = if int_le (days_from_civil (pos year) (suc n) 1) day then suc n else month_to n year day
+month_to (suc n) year day =
+    if int_le (days_from_civil (pos year) (suc n) 1) day then suc n else month_to n year day
 
 -- the date of a day, counted from 1970-01-01
 unfoldable pub year_of : ℤ → ℕ
@@ -159,7 +165,8 @@ fields_on day time = record {
 -- the fields of a moment
 abbrev pub fields_of : ℤ → Fields
 fields_of millis =
-    fields_on (int_div_euclid millis (pos 86_400_000)) (unsigned_abs (int_rem_euclid millis (pos 86_400_000)))
+    fields_on (int_div_euclid millis (pos 86_400_000))
+    (unsigned_abs (int_rem_euclid millis (pos 86_400_000)))
 
 -- the last digits of a number
 abbrev pub two_digits : ℕ → List ℕ
@@ -175,7 +182,8 @@ four_digits n = digit (n / 1_000) ∷ three_digits n
 abbrev pub fields_text : Fields → List ℕ
 fields_text fields =
     four_digits fields.year ++ (45 ∷ (two_digits fields.month ++ (45 ∷ (two_digits fields.day
-    ++ (84 ∷ (two_digits fields.hour ++ (58 ∷ (two_digits fields.minute ++ (58 ∷ (two_digits fields.second
+    ++ (84 ∷ (two_digits fields.hour
+    ++ (58 ∷ (two_digits fields.minute ++ (58 ∷ (two_digits fields.second
     ++ (46 ∷ three_digits fields.milli)))))))))))
 
 -- the text of a moment

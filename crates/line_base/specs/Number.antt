@@ -19,7 +19,8 @@ pub record IsDigits (low high : ℕ) (bytes : List ℕ) : Type 0 where
 
 -- the same as a test
 abbrev pub is_digits : ℕ → ℕ → List ℕ → Bool
-is_digits low high bytes = are_digits bytes && (nat_le low (length bytes) && nat_le (length bytes) high)
+is_digits low high bytes =
+    are_digits bytes && (nat_le low (length bytes) && nat_le (length bytes) high)
 
 -- what reading bytes as a number answers: a number is 1 to 9 digits
 abbrev pub number_of : List ℕ → Option ℕ

@@ -7,7 +7,9 @@ use Rattle.line_base.specs.declared.text.TextError.TheVariants as errors
 -- an allowed character: tab, line feed, carriage return, and all of Unicode's others but the
 -- control characters below space, the surrogates, U+FFFE and U+FFFF
 abbrev pub is_allowed_char : ℕ → Bool
-is_allowed_char c = c == 9 || c == 10 || c == 13 || (nat_le 0x20 c && nat_le c 0xD7FF) || (nat_le 0xE000 c && nat_le c 0xFFFD) || (nat_le 0x10000 c && nat_le c 0x10FFFF)
+is_allowed_char c =
+    c == 9 || c == 10 || c == 13 || (nat_le 0x20 c && nat_le c 0xD7FF)
+    || (nat_le 0xE000 c && nat_le c 0xFFFD) || (nat_le 0x10000 c && nat_le c 0x10FFFF)
 
 -- the bytes are UTF-8 of allowed characters
 pub record IsAllowed (bytes : List ℕ) : Type 0 where

@@ -42,7 +42,8 @@ impl Decimal {
     pub fn read(bytes: &[u8]) -> Result<Decimal, BadDecimal>
         ensures same { result ≡ decimal_of bytes.now }
         ensures found { IfOk result (λ millionths. IsDecimalText bytes.now millionths) }
-        ensures only { (millionths : ℕ) → IsDecimalText bytes.now millionths → result ≡ Ok millionths }
+        ensures only { (millionths : ℕ) → IsDecimalText bytes.now millionths
+            → result ≡ Ok millionths }
     {
         match read_millionths(bytes) {
             Some(millionths) => Ok(Decimal { millionths }),
@@ -50,8 +51,9 @@ impl Decimal {
         }
     }
 
-    /// Writes the whole part, and where the rest isn't zero a point and its digits without trailing
-    /// zeros. Leaves `to` as it was where memory is wanting. That text is read as this decimal.
+    /// Writes the whole part, and where the rest isn't zero a point and its digits without
+    /// trailing zeros. Leaves `to` as it was where memory is wanting. That text is read as this
+    /// decimal.
     pub fn write(self, to: &mut Vec<u8>) -> Result<(), Memory>
         ensures text { OnOk result (to.new.items ≡ to.old.items ++ decimal_text self) }
         ensures unchanged { OnErr result (to.new.items ≡ to.old.items) }
@@ -243,7 +245,8 @@ fn whole_start(whole: u32) -> usize
 /// behind the point.
 fn rest_end(rest: u32) -> usize
     requires { rest < 1_000_000 }
-    ensures text { take (result - 6) (46 ∷ six_digits rest) ≡ fraction_text (without_trailing_zeros (six_digits rest)) }
+    ensures text { take (result - 6) (46 ∷ six_digits rest)
+        ≡ fraction_text (without_trailing_zeros (six_digits rest)) }
     ensures within { IsInRange 6 13 result }
 {
     if rest == 0 {

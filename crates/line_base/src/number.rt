@@ -54,7 +54,8 @@ pub fn split_digits(bytes: &[u8]) -> (&[u8], &[u8])
 /// Reads the fraction at the front, a point and 1 to `most` digits: its digits, and what follows.
 /// Without a point there are no digits.
 pub fn read_fraction(bytes: &[u8], most: usize) -> Option<(&[u8], &[u8])>
-    ensures { option_map (λ parts. (parts.0.now, parts.1.now)) result ≡ fraction_of most bytes.now }
+    ensures { option_map (λ parts. (parts.0.now, parts.1.now)) result
+        ≡ fraction_of most bytes.now }
 {
     match bytes {
         [b'.', rest @ ..] => {

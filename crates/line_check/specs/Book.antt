@@ -9,8 +9,10 @@ use Rattle.line_check.specs.declared.book.Book.{Book}
 use Rattle.line_check.specs.Marks.{lack_standing}
 use Rattle.line_check.specs.Table.{marks_of}
 
--- the book has the marks of each id, the ids that were seen, and the ids that have marks and no standing
+-- the book has the marks of each id, the ids that were seen, and the ids that have marks and no
+-- standing
 pub record IsBook (ledger : Ledger) (book : Book) : Type 0 where
   pub marks : (id : ℕ) → marks_of book.table id ≡ marks_in id ledger.marks
   pub seen : (id : ℕ) → ordered.contains nat_cmp book.seen id ≡ has_id id ledger.seen
-  pub unsettled : (id : ℕ) → hashed.contains nat_eq book.unsettled id ≡ lack_standing (marks_in id ledger.marks)
+  pub unsettled : (id : ℕ)
+      → hashed.contains nat_eq book.unsettled id ≡ lack_standing (marks_in id ledger.marks)

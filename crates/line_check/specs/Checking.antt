@@ -32,7 +32,8 @@ abbrev pub reason_of : {A : Type 0} → Result A CheckWhy → Option CheckWhy
 reason_of (Ok value) = None
 reason_of (Err why) = Some why
 
--- what is against a log from the end of the last line's group on, where nothing was against its lines before
+-- what is against a log from the end of the last line's group on, where nothing was against its
+-- lines before
 abbrev pub owed : List (List ℕ) → List (List ℕ) → Option Against
 owed lines after =
     if ends_before (last_group lines) after && not (all_stand (ledger_of lines).marks)
@@ -49,7 +50,8 @@ pub record IsKnown (lines : List (List ℕ)) (known : Known) : Type 0 where
 
 -- a reason is against lines whatever follows them
 pub record AreRefused (lines : List (List ℕ)) (number : ℕ) (why : CheckWhy) : Type 0 where
-  pub whatever : (after : List (List ℕ)) → against (lines ++ after) ≡ Some (record { line = number; why = why })
+  pub whatever : (after : List (List ℕ))
+      → against (lines ++ after) ≡ Some (record { line = number; why = why })
 
 -- one line more is taken
 abbrev pub Knows : List (List ℕ) → Known → Result (Unit {0}) CheckError → Type 0
@@ -57,8 +59,8 @@ Knows lines known (Ok taken) = IsKnown lines known
 Knows lines known (Err (No number why)) = AreRefused lines number why
 Knows lines known (Err Memory) = Unit {0}
 
--- A CHECKER HAS READ these lines: nothing is against them so far, or that which it answers from then on; where memory was
--- wanting it knows nothing of them
+-- A CHECKER HAS READ these lines: nothing is against them so far, or that which it answers from
+-- then on; where memory was wanting it knows nothing of them
 abbrev pub HasReadTo : List (List ℕ) → Known → Option CheckError → Type 0
 HasReadTo lines known None = IsKnown lines known
 HasReadTo lines known (Some (No number why)) = AreRefused lines number why
@@ -79,7 +81,8 @@ abbrev pub answer_by : Option CheckError → Result (Unit {0}) CheckError
 answer_by None = Ok tt
 answer_by (Some error) = Err error
 
--- THE END of a log: nothing is against it, and its lines and boards are counted; or the first reason against it
+-- THE END of a log: nothing is against it, and its lines and boards are counted; or the first
+-- reason against it
 pub record IsCounted (lines : List (List ℕ)) (counts : Counts) : Type 0 where
   pub nothing : against lines ≡ None
   pub lines_counted : counts.lines ≡ length lines

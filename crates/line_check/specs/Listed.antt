@@ -15,4 +15,5 @@ module _ {S : Type 0} where
 
   -- an id is in the map only where it has a mark
   pub record HasNoEmpty (map : HashMap ℕ (Vec Mark) S) : Type 0 where
-    pub none_empty : (id : ℕ) (marks : Vec Mark) → get nat_eq map id ≡ Some marks → 0 < length marks.items
+    pub none_empty : (id : ℕ) (marks : Vec Mark) → get nat_eq map id ≡ Some marks
+        → 0 < length marks.items

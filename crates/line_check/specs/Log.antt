@@ -19,7 +19,8 @@ use Rattle.line_check.specs.LogLine.{group_of, said_by}
 abbrev pub is_same_group : Option Group → Option Group → Bool
 is_same_group None other = false
 is_same_group (Some group) None = false
-is_same_group (Some group) (Some other) = (group.machine == other.machine) && (group.turn == other.turn)
+is_same_group (Some group) (Some other) =
+    (group.machine == other.machine) && (group.turn == other.turn)
 
 -- a group ends before these lines: at the log's end, and before a line of another group or of none
 abbrev pub ends_before : Option Group → List (List ℕ) → Bool
@@ -77,7 +78,8 @@ is_below group (Some other) = (other.machine == group.machine) && nat_lt group.t
 
 abbrev pub is_late_in : Option Group → List (List ℕ) → Bool
 is_late_in None before = false
-is_late_in (Some group) before = list_any (λ (line : List ℕ). is_below group (group_of line)) before
+is_late_in (Some group) before =
+    list_any (λ (line : List ℕ). is_below group (group_of line)) before
 
 abbrev pub is_bad : Reading → Bool
 is_bad Nothing = false
@@ -96,7 +98,8 @@ holds Lines before line after = length before == 1000000
 holds Form before line after = is_bad (said_by line)
 holds Turn before line after = is_late_in (group_of line) before
 holds Legal before line after = is_illegal (ledger_of before) (said_by line)
-holds Standing before line after = ends_group line after && not (all_stand (ledger_of (before ++ line ∷ [])).marks)
+holds Standing before line after =
+    ends_group line after && not (all_stand (ledger_of (before ++ line ∷ [])).marks)
 
 -- the reasons in the order in which they are tested
 abbrev pub reasons : List CheckWhy
@@ -118,7 +121,9 @@ or_later line None later = later
 -- the first reason at the first line where one holds, among lines that stand behind others
 abbrev pub against_from : List (List ℕ) → List (List ℕ) → Option Against
 against_from before [] = None
-against_from before (line ∷ after) = or_later (length before + 1) (reason_at before line after) (against_from (before ++ line ∷ []) after)
+against_from before (line ∷ after) =
+    or_later (length before + 1) (reason_at before line after)
+    (against_from (before ++ line ∷ []) after)
 
 -- WHAT IS AGAINST A LOG: the first reason at the first line where one holds, or nothing
 abbrev pub against : List (List ℕ) → Option Against
@@ -134,5 +139,7 @@ pub record HasOneStanding (marks : List Mark) : Type 0 where
 -- its deeds in order are legal, and after each group each id with a mark has exactly one standing
 pub record IsRight (lines : List (List ℕ)) : Type 0 where
   pub legal : AreLegal empty_ledger (deeds_of lines)
-  pub stand : (before : List (List ℕ)) (line : List ℕ) (after : List (List ℕ)) → lines ≡ before ++ line ∷ after → ends_group line after ≡ true
-      → (id : ℕ) → has_id id (ids_in (ledger_of (before ++ line ∷ [])).marks) ≡ true → HasOneStanding (marks_in id (ledger_of (before ++ line ∷ [])).marks)
+  pub stand : (before : List (List ℕ)) (line : List ℕ) (after : List (List ℕ))
+      → lines ≡ before ++ line ∷ after → ends_group line after ≡ true
+      → (id : ℕ) → has_id id (ids_in (ledger_of (before ++ line ∷ [])).marks) ≡ true
+      → HasOneStanding (marks_in id (ledger_of (before ++ line ∷ [])).marks)

@@ -21,14 +21,20 @@ use Rattle.line_check.specs.Words.{behind, cut_at_space, first_word}
 
 -- a machine's number: 1 to 64, without a zero before it
 abbrev pub is_machine : List ℕ → Bool
-is_machine word = is_digits 1 2 word && (nat_lt 0 (value_of word) && (nat_le (value_of word) 64 && (length word == 1 || nat_le 10 (value_of word))))
+is_machine word =
+    is_digits 1 2 word
+    && (nat_lt 0 (value_of word)
+    && (nat_le (value_of word) 64 && (length word == 1 || nat_le 10 (value_of word))))
 
 -- a turn: 1 to 15 digits
 abbrev pub is_turn : List ℕ → Bool
 is_turn word = is_digits 1 15 word
 
 abbrev pub read_group : List ℕ → List ℕ → Option Group
-read_group machine turn = if is_machine machine then (if is_turn turn then Some (record { machine = value_of machine; turn = value_of turn }) else None) else None
+read_group machine turn =
+    if is_machine machine then
+    (if is_turn turn then Some
+    (record { machine = value_of machine; turn = value_of turn }) else None) else None
 
 -- a space and a text follow the turn
 abbrev pub group_with : List ℕ → Option (List ℕ × List ℕ) → Option Group
@@ -73,7 +79,8 @@ kind_of word =
     if bytes_eq word (codes "insert") then Some kinds.Inserts else
     if bytes_eq word (codes "remove") then Some kinds.Removes else
     if bytes_eq word (codes "replace") then Some kinds.Replaces else
-    or_else (option_map kinds.AtEntry (entry_deed_of word)) (option_map kinds.AtExit (exit_deed_of word))
+    or_else (option_map kinds.AtEntry (entry_deed_of word))
+    (option_map kinds.AtExit (exit_deed_of word))
 
 abbrev pub id_in : Result ℕ BadId → Option ℕ
 id_in (Ok id) = Some id
@@ -92,12 +99,14 @@ id_where false id = None
 abbrev pub is_number : List ℕ → Bool
 is_number word = is_digits 1 10 word
 
--- the id behind a number, behind `in` at machine m, and behind `out`. Machine 1 has no gap before it
+-- the id behind a number, behind `in` at machine m, and behind `out`. Machine 1 has no gap before
+-- it
 abbrev pub id_at_number : List ℕ → List ℕ → Option ℕ
 id_at_number place word = id_where (is_number place) (id_of word)
 
 abbrev pub id_at_entry : ℕ → List ℕ → List ℕ → Option ℕ
-id_at_entry machine place word = id_where (bytes_eq place (codes "in") && nat_lt 1 machine) (id_of word)
+id_at_entry machine place word =
+    id_where (bytes_eq place (codes "in") && nat_lt 1 machine) (id_of word)
 
 abbrev pub id_at_exit : List ℕ → List ℕ → Option ℕ
 id_at_exit place word = id_where (bytes_eq place (codes "out")) (id_of word)
@@ -123,14 +132,16 @@ exit_deed exits.Leaves gap id = Leaves gap id
 exit_deed exits.Returns gap id = Returns gap id
 exit_deed exits.Loses gap id = Loses gap id
 
--- the deed of this kind that machine m tells: the gap at its entry has the number of the machine above it, that at its
--- exit its own
+-- the deed of this kind that machine m tells: the gap at its entry has the number of the machine
+-- above it, that at its exit its own
 abbrev pub deed_of : Kind → ℕ → List ℕ → List ℕ → Option Deed
 deed_of kinds.Inserts machine place rest = option_map (Inserts machine) (id_at_number place rest)
 deed_of kinds.Removes machine place rest = option_map (Removes machine) (id_at_number place rest)
 deed_of kinds.Replaces machine place rest = replaced_in machine place (cut_at_space rest)
-deed_of (kinds.AtEntry kind) machine place rest = option_map (entry_deed kind (machine - 1)) (id_at_entry machine place rest)
-deed_of (kinds.AtExit kind) machine place rest = option_map (exit_deed kind machine) (id_at_exit place rest)
+deed_of (kinds.AtEntry kind) machine place rest =
+    option_map (entry_deed kind (machine - 1)) (id_at_entry machine place rest)
+deed_of (kinds.AtExit kind) machine place rest =
+    option_map (exit_deed kind machine) (id_at_exit place rest)
 
 abbrev pub deed_in : Kind → ℕ → Option (List ℕ × List ℕ) → Option Deed
 deed_in kind machine None = None
@@ -142,7 +153,8 @@ does (Some deed) = Does deed
 
 abbrev pub reading_by : Option Kind → ℕ → List ℕ → Reading
 reading_by None machine text = Nothing
-reading_by (Some kind) machine text = does (deed_in kind machine (cut_at_space (behind (cut_at_space text))))
+reading_by (Some kind) machine text =
+    does (deed_in kind machine (cut_at_space (behind (cut_at_space text))))
 
 -- what a text says that machine m tells: a text whose first word is that of no deed is passed over
 abbrev pub reading_of : ℕ → List ℕ → Reading

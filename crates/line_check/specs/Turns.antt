@@ -11,8 +11,10 @@ turn_in machine (Some group) = if group.machine == machine then group.turn else 
 -- the greatest turn of a machine in lines, 0 where they have none of it
 abbrev pub greatest_turn : ℕ → List (List ℕ) → ℕ
 greatest_turn machine [] = 0
-greatest_turn machine (line ∷ lines) = max (turn_in machine (group_of line)) (greatest_turn machine lines)
+greatest_turn machine (line ∷ lines) =
+    max (turn_in machine (group_of line)) (greatest_turn machine lines)
 
 -- the greatest turns of machines 1 to 64
 pub record AreTurns (lines : List (List ℕ)) (turns : Turns) : Type 0 where
-  pub greatest : (place : ℕ) → place < 64 → slice_index turns.greatest place ≡ greatest_turn (place + 1) lines
+  pub greatest : (place : ℕ) → place < 64
+      → slice_index turns.greatest place ≡ greatest_turn (place + 1) lines

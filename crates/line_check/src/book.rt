@@ -51,7 +51,8 @@ impl Book {
     }
 
     fn is_found(&self, entry: Option<Entry>) -> bool
-        ensures { (ledger : Ledger) → IsBook ledger self.now → result ≡ is_found entry ledger.marks }
+        ensures { (ledger : Ledger) → IsBook ledger self.now
+            → result ≡ is_found entry ledger.marks }
     {
         match entry {
             Some(entry) => has_mark(self.table.of(entry.id), entry.mark),
@@ -60,7 +61,8 @@ impl Book {
     }
 
     fn is_missing(&self, entry: Option<Entry>) -> bool
-        ensures { (ledger : Ledger) → IsBook ledger self.now → result ≡ is_missing entry ledger.marks }
+        ensures { (ledger : Ledger) → IsBook ledger self.now
+            → result ≡ is_missing entry ledger.marks }
     {
         match entry {
             Some(entry) => !has_mark(self.table.of(entry.id), entry.mark),
@@ -80,7 +82,8 @@ impl Book {
     /// Notes the deed that a line says, if it says one.
     pub fn note_said(&mut self, said: &Reading) -> Result<(), Memory>
         requires { IsNear said.now }
-        ensures { OnOk result ((ledger : Ledger) → IsBook ledger self.old → IsBook (ledger_after_all ledger (deeds_in said.now)) self.new) }
+        ensures { OnOk result ((ledger : Ledger) → IsBook ledger self.old
+            → IsBook (ledger_after_all ledger (deeds_in said.now)) self.new) }
     {
         match said {
             Reading::Does(deed) => self.note(deed),
@@ -91,7 +94,8 @@ impl Book {
     /// Notes a deed.
     fn note(&mut self, deed: &Deed) -> Result<(), Memory>
         requires { gap_of deed.now < 2 ^ 32 - 1 }
-        ensures { OnOk result ((ledger : Ledger) → IsBook ledger self.old → IsBook (ledger_after ledger deed.now) self.new) }
+        ensures { OnOk result ((ledger : Ledger) → IsBook ledger self.old
+            → IsBook (ledger_after ledger deed.now) self.new) }
     {
         self.table.change(deed)?;
         see(&mut self.seen, deed)?;

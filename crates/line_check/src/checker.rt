@@ -28,12 +28,14 @@ impl Checker {
 
     /// Takes the next line, given without its end.
     ///
-    /// `No` at the first line for which a reason is certain, with that reason: at the line itself, or
-    /// at the line before it where that was the last of a group behind which some id has marks and no
-    /// standing. `Memory` where memory was wanting. After an error it answers that error again.
+    /// `No` at the first line for which a reason is certain, with that reason: at the line itself,
+    /// or at the line before it where that was the last of a group behind which some id has marks
+    /// and no standing. `Memory` where memory was wanting. After an error it answers that error
+    /// again.
     pub fn line(&mut self, bytes: &[u8]) -> Result<(), CheckError>
         // whatever lines it has read, it has then read this one too
-        ensures reads { (lines : List (List ℕ)) → HasRead lines self.old → HasRead (lines ++ bytes.now ∷ []) self.new }
+        ensures reads { (lines : List (List ℕ)) → HasRead lines self.old
+            → HasRead (lines ++ bytes.now ∷ []) self.new }
         // it answers what it answers from then on
         ensures answer { result ≡ answer_by (failure_of self.new) }
         ensures again { (error : Failure) → failure_of self.old ≡ Some error → result ≡ Err error }
@@ -54,12 +56,13 @@ impl Checker {
         }
     }
 
-    /// Ends the log: its counts where nothing is against it, else the first reason at the first line
-    /// where one holds. `Memory` only where it was answered before.
+    /// Ends the log: its counts where nothing is against it, else the first reason at the first
+    /// line where one holds. `Memory` only where it was answered before.
     pub fn end(self) -> Result<Counts, CheckError>
         ensures ends { (lines : List (List ℕ)) → HasRead lines self → Ends lines result }
         ensures again { (error : Failure) → failure_of self ≡ Some error → result ≡ Err error }
-        ensures memory { result ≡ Err CheckError.Memory → failure_of self ≡ Some CheckError.Memory }
+        ensures memory { result ≡ Err CheckError.Memory
+            → failure_of self ≡ Some CheckError.Memory }
     {
         match self.failed {
             Some(error) => Err(error),

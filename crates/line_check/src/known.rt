@@ -48,7 +48,8 @@ impl Known {
 
     /// Takes the next line.
     pub fn take(&mut self, bytes: &[u8]) -> Result<(), CheckError>
-        ensures knows { (lines : List (List ℕ)) → IsKnown lines self.old → Knows (lines ++ bytes.now ∷ []) self.new result }
+        ensures knows { (lines : List (List ℕ)) → IsKnown lines self.old
+            → Knows (lines ++ bytes.now ∷ []) self.new result }
         ensures counted { OnOk result (self.new.lines ≡ self.old.lines + 1) }
         ensures short { OnOk result (length bytes.now ≤ 4096) }
     {
@@ -75,10 +76,12 @@ impl Known {
         }
     }
 
-    /// Whether a line of this group, or of none, ends a group behind which some id has marks and no
-    /// standing.
+    /// Whether a line of this group, or of none, ends a group behind which some id has marks and
+    /// no standing.
     fn ends_without(&self, group: Option<Group>) -> bool
-        ensures { (lines : List (List ℕ)) → IsKnown lines self.now → result ≡ (not (same_group self.now.open_group group) && not (all_stand (ledger_of lines).marks)) }
+        ensures { (lines : List (List ℕ)) → IsKnown lines self.now
+            → result ≡
+            (not (same_group self.now.open_group group) && not (all_stand (ledger_of lines).marks)) }
     {
         !is_same_group(self.open_group, group) && !self.book.all_stand()
     }
@@ -88,7 +91,8 @@ impl Known {
         requires group { group ≡ group_in bytes.now }
         requires said { said.now ≡ said_by bytes.now }
         requires within { IsWithin group said.now }
-        ensures answer { (lines : List (List ℕ)) → IsKnown lines self.now → reason_of result ≡ own_reason_at lines bytes.now }
+        ensures answer { (lines : List (List ℕ)) → IsKnown lines self.now
+            → reason_of result ≡ own_reason_at lines bytes.now }
         ensures group { IfOk result (λ its. group ≡ Some its) }
         ensures few { OnOk result (self.now.lines < 1000000) }
         ensures short { OnOk result (length bytes.now ≤ 4096) }
@@ -120,7 +124,11 @@ impl Known {
         requires group { group_in bytes.now ≡ Some group }
         requires said { said.now ≡ said_by bytes.now }
         requires within { IsWithin (Some group) said.now }
-        ensures known { OnOk result ((lines : List (List ℕ)) → IsKnown lines self.old → own_reason_at lines bytes.now ≡ None → (not (same_group self.old.open_group (Some group)) && not (all_stand (ledger_of lines).marks)) ≡ false → IsKnown (lines ++ bytes.now ∷ []) self.new) }
+        ensures known { OnOk result ((lines : List (List ℕ)) → IsKnown lines self.old
+            → own_reason_at lines bytes.now ≡ None
+            → (not (same_group self.old.open_group (Some group))
+            && not (all_stand (ledger_of lines).marks)) ≡ false
+            → IsKnown (lines ++ bytes.now ∷ []) self.new) }
         ensures counted { OnOk result (self.new.lines ≡ self.old.lines + 1) }
     {
         self.book.note_said(said)?;

@@ -1,8 +1,8 @@
 //! The checker of a merged log of a line's machines.
 //!
-//! For a reader: a line of a log is a machine, a turn and a text (specs/LogLine); a log is the list of
-//! its lines, which fall into groups, tell deeds, and may have a reason against them (specs/Log); the
-//! checker reads them one by one (specs/Checking).
+//! For a reader: a line of a log is a machine, a turn and a text (specs/LogLine); a log is the
+//! list of its lines, which fall into groups, tell deeds, and may have a reason against them
+//! (specs/Log); the checker reads them one by one (specs/Checking).
 #![tactic(auto)]
 
 mod book;

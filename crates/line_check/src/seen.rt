@@ -11,7 +11,10 @@ use std::collections::BTreeSet;
 
 /// Adds the ids that a deed names to those that were seen.
 pub fn see(seen: &mut BTreeSet<BoardId>, deed: &Deed) -> Result<(), Memory>
-    ensures { OnOk result ((id : ℕ) → contains nat_cmp seen.new id ≡ (contains nat_cmp seen.old id || has_id id (ids_named deed.now))) }
+    ensures { OnOk result
+        ((id : ℕ)
+        → contains nat_cmp seen.new id
+        ≡ (contains nat_cmp seen.old id || has_id id (ids_named deed.now))) }
 {
     let beside = deed.named_beside();
     let id = deed.named();
@@ -21,7 +24,10 @@ pub fn see(seen: &mut BTreeSet<BoardId>, deed: &Deed) -> Result<(), Memory>
 }
 
 fn see_some(seen: &mut BTreeSet<BoardId>, id: Option<BoardId>) -> Result<(), Memory>
-    ensures { OnOk result ((other : ℕ) → contains nat_cmp seen.new other ≡ (contains nat_cmp seen.old other || has_id other (option_to_list id))) }
+    ensures { OnOk result
+        ((other : ℕ)
+        → contains nat_cmp seen.new other
+        ≡ (contains nat_cmp seen.old other || has_id other (option_to_list id))) }
 {
     let Some(id) = id else {
         return Ok(());

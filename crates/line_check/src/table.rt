@@ -47,7 +47,8 @@ impl Table {
     /// Changes the marks as a deed says.
     pub fn change(&mut self, deed: &Deed) -> Result<(), Memory>
         requires { gap_of deed.now < 2 ^ 32 - 1 }
-        ensures { OnOk result ((id : ℕ) → marks_of self.new id ≡ changed_by deed.now id (marks_of self.old id)) }
+        ensures { OnOk result
+            ((id : ℕ) → marks_of self.new id ≡ changed_by deed.now id (marks_of self.old id)) }
     {
         let taken = deed.taken();
         let added = deed.added();
@@ -56,7 +57,8 @@ impl Table {
     }
 
     fn take_some(&mut self, entry: Option<Entry>) -> Result<(), Memory>
-        ensures { OnOk result ((id : ℕ) → marks_of self.new id ≡ taken_by entry id (marks_of self.old id)) }
+        ensures { OnOk result
+            ((id : ℕ) → marks_of self.new id ≡ taken_by entry id (marks_of self.old id)) }
     {
         match entry {
             Some(entry) => self.take(entry),
@@ -65,7 +67,8 @@ impl Table {
     }
 
     fn add_some(&mut self, entry: Option<Entry>) -> Result<(), Memory>
-        ensures { OnOk result ((id : ℕ) → marks_of self.new id ≡ added_by entry id (marks_of self.old id)) }
+        ensures { OnOk result
+            ((id : ℕ) → marks_of self.new id ≡ added_by entry id (marks_of self.old id)) }
     {
         match entry {
             Some(entry) => self.add(entry),
@@ -75,7 +78,8 @@ impl Table {
 
     /// Takes a mark of a board away.
     fn take(&mut self, entry: Entry) -> Result<(), Memory>
-        ensures { OnOk result ((id : ℕ) → marks_of self.new id ≡ taken_at entry id (marks_of self.old id)) }
+        ensures { OnOk result
+            ((id : ℕ) → marks_of self.new id ≡ taken_at entry id (marks_of self.old id)) }
     {
         let Some(mut marks) = self.marks.remove(&entry.id) else {
             return Ok(());
@@ -90,7 +94,8 @@ impl Table {
 
     /// Adds a mark of a board.
     fn add(&mut self, entry: Entry) -> Result<(), Memory>
-        ensures { OnOk result ((id : ℕ) → marks_of self.new id ≡ added_at entry id (marks_of self.old id)) }
+        ensures { OnOk result
+            ((id : ℕ) → marks_of self.new id ≡ added_at entry id (marks_of self.old id)) }
     {
         let mut marks = match self.marks.remove(&entry.id) {
             Some(marks) => marks,
@@ -103,7 +108,8 @@ impl Table {
 
     /// How many boards have a mark.
     pub fn boards(&self) -> usize
-        ensures { (ids : List ℕ) → ((id : ℕ) → has_id id ids ≡ is_some_mark (marks_of self.now id)) → result ≡ count_once ids }
+        ensures { (ids : List ℕ) → ((id : ℕ) → has_id id ids ≡ is_some_mark (marks_of self.now id))
+            → result ≡ count_once ids }
     {
         self.marks.len()
     }

@@ -24,7 +24,8 @@ impl Turns {
     /// Whether a turn is less than an earlier one of its machine.
     pub fn is_late(&self, group: Group) -> bool
         requires { IsOfLine group }
-        ensures { (lines : List (List ℕ)) → AreTurns lines self.now → result ≡ is_late_in (Some group) lines }
+        ensures { (lines : List (List ℕ)) → AreTurns lines self.now
+            → result ≡ is_late_in (Some group) lines }
     {
         group.turn < self.greatest[group.machine as usize - 1]
     }
@@ -32,7 +33,9 @@ impl Turns {
     /// Notes the turn of a line that is not late.
     pub fn note(&mut self, group: Group)
         requires { IsOfLine group }
-        ensures { (lines : List (List ℕ)) (line : List ℕ) → AreTurns lines self.old → group_of line ≡ Some group → is_late_in (Some group) lines ≡ false → AreTurns (lines ++ line ∷ []) self.new }
+        ensures { (lines : List (List ℕ)) (line : List ℕ) → AreTurns lines self.old
+            → group_of line ≡ Some group → is_late_in (Some group) lines ≡ false
+            → AreTurns (lines ++ line ∷ []) self.new }
     {
         self.greatest[group.machine as usize - 1] = group.turn;
     }

@@ -13,7 +13,11 @@ use std::collections::HashSet;
 
 /// Notes of the ids that a deed names whether they have marks and no standing.
 pub fn settle(unsettled: &mut HashSet<BoardId>, table: &Table, deed: &Deed) -> Result<(), Memory>
-    ensures { OnOk result ((id : ℕ) → contains nat_eq unsettled.new id ≡ (if has_id id (ids_named deed.now) then lack_standing (marks_of table.now id) else contains nat_eq unsettled.old id)) }
+    ensures { OnOk result
+        ((id : ℕ)
+        → contains nat_eq unsettled.new id
+        ≡ (if has_id id (ids_named deed.now) then lack_standing
+        (marks_of table.now id) else contains nat_eq unsettled.old id)) }
 {
     let beside = deed.named_beside();
     let id = deed.named();
@@ -26,7 +30,11 @@ fn settle_some(
     table: &Table,
     id: Option<BoardId>,
 ) -> Result<(), Memory>
-    ensures { OnOk result ((other : ℕ) → contains nat_eq unsettled.new other ≡ (if has_id other (option_to_list id) then lack_standing (marks_of table.now other) else contains nat_eq unsettled.old other)) }
+    ensures { OnOk result
+        ((other : ℕ)
+        → contains nat_eq unsettled.new other
+        ≡ (if has_id other (option_to_list id) then lack_standing
+        (marks_of table.now other) else contains nat_eq unsettled.old other)) }
 {
     match id {
         Some(id) => settle_one(unsettled, table, id),
@@ -35,7 +43,11 @@ fn settle_some(
 }
 
 fn settle_one(unsettled: &mut HashSet<BoardId>, table: &Table, id: BoardId) -> Result<(), Memory>
-    ensures { OnOk result ((other : ℕ) → contains nat_eq unsettled.new other ≡ (if nat_eq id other then lack_standing (marks_of table.now id) else contains nat_eq unsettled.old other)) }
+    ensures { OnOk result
+        ((other : ℕ)
+        → contains nat_eq unsettled.new other
+        ≡ (if nat_eq id other then lack_standing
+        (marks_of table.now id) else contains nat_eq unsettled.old other)) }
 {
     if lack_standing(table.of(id)) {
         unsettled.insert(id)?;

@@ -50,9 +50,10 @@ status_of None false = statuses.Done
 status_of None true = statuses.Unvouched
 status_of (Some refusal) lied = statuses.ScriptRefused refusal.line (inputs.Line refusal.why)
 
--- the whole report was written, and it is that of a script which ends so: refused at its first refusal, and else
--- unvouched where one of its lines told what was not so
-pub record WritesReport (script : List ℕ) (old new : Option (List ℕ)) (status : Status) : Type 0 where
+-- the whole report was written, and it is that of a script which ends so: refused at its first
+-- refusal, and else unvouched where one of its lines told what was not so
+pub record WritesReport (script : List ℕ) (old new : Option (List ℕ))
+    (status : Status) : Type 0 where
   pub points : List Point
   pub run : IsRun no_line (script_of script).lines points
   pub ends : status ≡ status_of (script_of script).refusal (has_lie points)
@@ -65,45 +66,58 @@ pub record WritesFront (script : List ℕ) (old new : Option (List ℕ)) : Type 
   pub grows : Grows old new text
 
 -- what `run` did with a script: what is left of it, and how the sink's contents grew
-abbrev pub RunsScript : List ℕ → Option (List ℕ) → Option (List ℕ) → Option (List ℕ) → Status → Type 0
-RunsScript script left old new statuses.Done = WritesReport script old new statuses.Done × (left ≡ Some [])
-RunsScript script left old new statuses.Unvouched = WritesReport script old new statuses.Unvouched × (left ≡ Some [])
+abbrev pub RunsScript : List ℕ → Option (List ℕ) → Option (List ℕ) → Option (List ℕ) → Status
+    → Type 0
+RunsScript script left old new statuses.Done =
+    WritesReport script old new statuses.Done × (left ≡ Some [])
+RunsScript script left old new statuses.Unvouched =
+    WritesReport script old new statuses.Unvouched × (left ≡ Some [])
 RunsScript script left old new statuses.Usage = ⊥
-RunsScript script left old new (statuses.ScriptRefused line why) = WritesReport script old new (statuses.ScriptRefused line why)
+RunsScript script left old new (statuses.ScriptRefused line why) =
+    WritesReport script old new (statuses.ScriptRefused line why)
 RunsScript script left old new statuses.ReadFault = WritesFront script old new
 RunsScript script left old new statuses.WriteFault = WritesFront script old new
 RunsScript script left old new statuses.Memory = WritesFront script old new
 RunsScript script left old new (statuses.Refuted line why) = ⊥
 
 -- the same, where the source tells its bytes
-abbrev pub Runs : Option (List ℕ) → Option (List ℕ) → Option (List ℕ) → Option (List ℕ) → Status → Type 0
+abbrev pub Runs : Option (List ℕ) → Option (List ℕ) → Option (List ℕ) → Option (List ℕ) → Status
+    → Type 0
 Runs None left old new status = Unit {0}
 Runs (Some script) left old new status = RunsScript script left old new status
 
 -- what other words do: nothing is read, and the usage text is written, or a front of it where the
 -- sink failed
-pub record Refers (left_old left_new old new : Option (List ℕ)) (before now : ℕ) (status : Status) : Type 0 where
+pub record Refers (left_old left_new old new : Option (List ℕ)) (before now : ℕ)
+    (status : Status) : Type 0 where
   pub usage : status ≡ statuses.Usage
   pub unread : left_new ≡ left_old
   pub pushed : Pushed
   pub text : PushesAll old new before now usage_text pushed
 
 -- what `make` does: nothing is read
-pub record MakesAlone (number : ℕ) (left_old left_new old new : Option (List ℕ)) (status : Status) : Type 0 where
+pub record MakesAlone (number : ℕ) (left_old left_new old new : Option (List ℕ))
+    (status : Status) : Type 0 where
   pub unread : left_new ≡ left_old
   pub makes : Makes number old new status
 
--- WHAT THE PROGRAM DOES with its words: whether they are `run`, whether they are `read`, whether they are `check`, and the
--- number behind `make`
-abbrev pub DoesAs : Bool → Bool → Bool → Option ℕ → Option (List ℕ) → Option (List ℕ) → Option (List ℕ) → Option (List ℕ) → ℕ → ℕ → Status → Type 0
-DoesAs true reads checks made left_old left_new old new before now status = Runs left_old left_new old new status
-DoesAs false true checks made left_old left_new old new before now status = Reads left_old left_new old new status
-DoesAs false false true made left_old left_new old new before now status = Checks left_old left_new old new status
-DoesAs false false false (Some number) left_old left_new old new before now status = MakesAlone number left_old left_new old new status
-DoesAs false false false None left_old left_new old new before now status = Refers left_old left_new old new before now status
+-- WHAT THE PROGRAM DOES with its words: whether they are `run`, whether they are `read`, whether
+-- they are `check`, and the number behind `make`
+abbrev pub DoesAs : Bool → Bool → Bool → Option ℕ → Option (List ℕ) → Option (List ℕ)
+    → Option (List ℕ) → Option (List ℕ) → ℕ → ℕ → Status → Type 0
+DoesAs true reads checks made left_old left_new old new before now status =
+    Runs left_old left_new old new status
+DoesAs false true checks made left_old left_new old new before now status =
+    Reads left_old left_new old new status
+DoesAs false false true made left_old left_new old new before now status =
+    Checks left_old left_new old new status
+DoesAs false false false (Some number) left_old left_new old new before now status =
+    MakesAlone number left_old left_new old new status
+DoesAs false false false None left_old left_new old new before now status =
+    Refers left_old left_new old new before now status
 
--- whatever the source tells, what `run` may answer: a line of a script, numbered from 1, is refused for a
--- reason of the script grammar, and a stream's size is none of its concern
+-- whatever the source tells, what `run` may answer: a line of a script, numbered from 1, is
+-- refused for a reason of the script grammar, and a stream's size is none of its concern
 abbrev pub IsRunStatus : Status → Type 0
 IsRunStatus statuses.Done = Unit {0}
 IsRunStatus statuses.Usage = ⊥
@@ -138,7 +152,8 @@ IsCheckStatus statuses.Memory = Unit {0}
 IsCheckStatus statuses.Unvouched = ⊥
 IsCheckStatus (statuses.Refuted line why) = Unit {0}
 
--- WHAT THE PROGRAM MAY ANSWER to its words: `Usage` exactly where they are neither `run` nor `read` nor `check` nor `make` and a number
+-- WHAT THE PROGRAM MAY ANSWER to its words: `Usage` exactly where they are neither `run` nor
+-- `read` nor `check` nor `make` and a number
 abbrev pub FitsWords : Bool → Bool → Bool → Option ℕ → Status → Type 0
 FitsWords true reads checks made status = IsRunStatus status
 FitsWords false true checks made status = IsReadStatus status
@@ -147,7 +162,8 @@ FitsWords false false false (Some number) status = IsMakeStatus status
 FitsWords false false false None status = status ≡ statuses.Usage
 
 -- no count of faults falls, and a fault comes only where the count of that object rose
-pub record HasCauses (status : Status) (reads_before reads_now writes_before writes_now : ℕ) : Type 0 where
+pub record HasCauses (status : Status)
+    (reads_before reads_now writes_before writes_now : ℕ) : Type 0 where
   pub reads : reads_before ≤ reads_now
   pub writes : writes_before ≤ writes_now
   pub read_fault : status ≡ statuses.ReadFault → Rose reads_before reads_now

@@ -14,9 +14,10 @@ use Rattle.line_cli.specs.declared.status.Status.{Status}
 use Rattle.line_cli.specs.declared.status.Status.TheVariants as statuses
 use Rattle.line_cli.specs.declared.status.InputWhy.TheVariants as inputs
 
--- WHILE THE RUN GOES ON: some lines of the script were done, what was pushed and what waits to be written tells of them,
--- and the others are still to come
-pub record IsGoing (script rest : List ℕ) (old now : Option (List ℕ)) (place : Place) (text : List ℕ) : Type 0 where
+-- WHILE THE RUN GOES ON: some lines of the script were done, what was pushed and what waits to be
+-- written tells of them, and the others are still to come
+pub record IsGoing (script rest : List ℕ) (old now : Option (List ℕ)) (place : Place)
+    (text : List ℕ) : Type 0 where
   pub asked : List ScriptLine
   pub points : List Point
   pub run : IsRun no_line asked points
@@ -27,7 +28,8 @@ pub record IsGoing (script rest : List ℕ) (old now : Option (List ℕ)) (place
   pub all : script_of script ≡ behind_lines asked (script_behind place rest)
 
 -- the same, where the source tells its bytes; it tells them now exactly where it told them first
-abbrev pub GoesOn : Option (List ℕ) → Option (List ℕ) → Option (List ℕ) → Option (List ℕ) → Place → List ℕ → Type 0
+abbrev pub GoesOn : Option (List ℕ) → Option (List ℕ) → Option (List ℕ) → Option (List ℕ) → Place
+    → List ℕ → Type 0
 GoesOn None left old now place text = Unit {0}
 GoesOn (Some script) None old now place text = ⊥
 GoesOn (Some script) (Some rest) old now place text = IsGoing script rest old now place text
@@ -38,20 +40,30 @@ pub record HasPushed (old now : Option (List ℕ)) (text_old text_new : List ℕ
   pub parts : pushed ++ text_new ≡ text_old
   pub grows : Grows old now pushed
 
-abbrev pub PushesFull : Pushed → Option (List ℕ) → Option (List ℕ) → ℕ → ℕ → List ℕ → List ℕ → Type 0
-PushesFull pushes.Whole old new before now text_old text_new = (before ≤ now) × HasPushed old new text_old text_new
-PushesFull pushes.Failed old new before now text_old text_new = (before ≤ now) × Rose before now × GrowsInPart old new text_old
+abbrev pub PushesFull : Pushed → Option (List ℕ) → Option (List ℕ) → ℕ → ℕ → List ℕ → List ℕ
+    → Type 0
+PushesFull pushes.Whole old new before now text_old text_new =
+    (before ≤ now) × HasPushed old new text_old text_new
+PushesFull pushes.Failed old new before now text_old text_new =
+    (before ≤ now) × Rose before now × GrowsInPart old new text_old
 
 -- how a run ends behind its script, a line of which told what was not so, or none did
 abbrev pub EndsWhole : Bool → Option (List ℕ) → Option (List ℕ) → ℕ → ℕ → List ℕ → Status → Type 0
-EndsWhole unvouched old new before now text statuses.Done = (unvouched ≡ false) × (before ≤ now) × Grows old new text
-EndsWhole unvouched old new before now text statuses.Unvouched = (unvouched ≡ true) × (before ≤ now) × Grows old new text
-EndsWhole unvouched old new before now text statuses.WriteFault = (before ≤ now) × Rose before now × GrowsInPart old new text
+EndsWhole unvouched old new before now text statuses.Done =
+    (unvouched ≡ false) × (before ≤ now) × Grows old new text
+EndsWhole unvouched old new before now text statuses.Unvouched =
+    (unvouched ≡ true) × (before ≤ now) × Grows old new text
+EndsWhole unvouched old new before now text statuses.WriteFault =
+    (before ≤ now) × Rose before now × GrowsInPart old new text
 EndsWhole unvouched old new before now text _ = ⊥
 
 -- how a run ends inside its script
-abbrev pub EndsRefused : RunError → Option (List ℕ) → Option (List ℕ) → ℕ → ℕ → List ℕ → Status → Type 0
-EndsRefused (errors.Refused line why) old new before now text (statuses.ScriptRefused refused reason) = (refused ≡ line) × (reason ≡ inputs.Line why) × (before ≤ now) × Grows old new text
-EndsRefused (errors.Refused line why) old new before now text statuses.WriteFault = (before ≤ now) × Rose before now × GrowsInPart old new text
+abbrev pub EndsRefused : RunError → Option (List ℕ) → Option (List ℕ) → ℕ → ℕ → List ℕ → Status
+    → Type 0
+EndsRefused (errors.Refused line why) old new before now text
+    (statuses.ScriptRefused refused reason) =
+    (refused ≡ line) × (reason ≡ inputs.Line why) × (before ≤ now) × Grows old new text
+EndsRefused (errors.Refused line why) old new before now text statuses.WriteFault =
+    (before ≤ now) × Rose before now × GrowsInPart old new text
 EndsRefused errors.Memory old new before now text statuses.Memory = (before ≤ now) × (new ≡ old)
 EndsRefused _ old new before now text _ = ⊥

@@ -23,7 +23,8 @@ readable (Err why) = None
 
 -- the number behind the word `make`: 1 to 50,000, spelled by 1 to 15 digits
 abbrev pub number_behind : List ℕ → List ℕ → Option ℕ
-number_behind word number = if bytes_eq word (codes "make") then readable (number_in 1 50000 number) else None
+number_behind word number =
+    if bytes_eq word (codes "make") then readable (number_in 1 50000 number) else None
 
 -- where the words are these two
 abbrev pub made_number : List (List ℕ) → Option ℕ
@@ -32,28 +33,33 @@ made_number (word ∷ []) = None
 made_number (word ∷ number ∷ []) = number_behind word number
 made_number (word ∷ number ∷ other ∷ others) = None
 
--- while the script runs: these lines were done, and what was folded and what waits is what they are told of
-pub record IsFolding (asked : List ScriptLine) (state : LineState) (folded : ℕ) (text : List ℕ) : Type 0 where
+-- while the script runs: these lines were done, and what was folded and what waits is what they
+-- are told of
+pub record IsFolding (asked : List ScriptLine) (state : LineState) (folded : ℕ)
+    (text : List ℕ) : Type 0 where
   pub points : List Point
   pub run : IsRun no_line asked points
   pub after : state_behind no_line points ≡ state
   pub counted : state.lines ≡ length asked
   pub told : fold_from folded text ≡ fold_of (told_text 1 points)
 
--- the last line of a report, and behind it in the same line the fold of the whole, of which the other lines have this one
+-- the last line of a report, and behind it in the same line the fold of the whole, of which the
+-- other lines have this one
 pub record IsLastLine (end : LineState) (fold : ℕ) (text : List ℕ) : Type 0 where
   pub last : List ℕ
   pub ends : summary_text (summary_of end) ≡ last ++ codes "\n"
-  pub written : text ≡ last ++ (codes " fold=" ++ decimal (fold_from fold (summary_text (summary_of end))) ++ codes "\n")
+  pub written : text ≡ last
+      ++ (codes " fold=" ++ decimal (fold_from fold (summary_text (summary_of end))) ++ codes "\n")
 
--- THE MAKE TEXT of a number: the last line of the report of its made script, and behind it in the same line the fold of
--- that whole report
+-- THE MAKE TEXT of a number: the last line of the report of its made script, and behind it in the
+-- same line the fold of that whole report
 pub record IsMakeText (number : ℕ) (text : List ℕ) : Type 0 where
   pub points : List Point
   pub run : IsRun no_line (made_script number) points
   pub last : List ℕ
   pub ends : summary_text (summary_of (state_behind no_line points)) ≡ last ++ codes "\n"
-  pub written : text ≡ last ++ (codes " fold=" ++ decimal (fold_of (report_text points None)) ++ codes "\n")
+  pub written : text ≡ last ++ (codes " fold=" ++ decimal (fold_of (report_text points None))
+      ++ codes "\n")
 
 -- it was written
 pub record WritesMakeText (number : ℕ) (old new : Option (List ℕ)) : Type 0 where

@@ -40,13 +40,15 @@ IsFrameLine number frame text = IsMessageLine number frame text ⊎ IsRefusalLin
 -- the lines of frames, numbered on
 abbrev pub AreFrameLines : ℕ → List (List ℕ) → List ℕ → Type 0
 AreFrameLines number [] text = text ≡ []
-AreFrameLines number (frame ∷ frames) text = (line : List ℕ) × (others : List ℕ) × IsFrameLine number frame line × AreFrameLines (number + 1) frames others × (text ≡ line ++ others)
+AreFrameLines number (frame ∷ frames) text =
+    (line : List ℕ) × (others : List ℕ) × IsFrameLine number frame line
+    × AreFrameLines (number + 1) frames others × (text ≡ line ++ others)
 
 abbrev pub too_large_text : List ℕ
 too_large_text = codes "refused 0: too large\n"
 
--- what stands behind the lines of the frames: that too many bytes stand without an end, and how many
--- messages there were, with the bytes that wait; or that the input is too large
+-- what stands behind the lines of the frames: that too many bytes stand without an end, and how
+-- many messages there were, with the bytes that wait; or that the input is too large
 abbrev pub long_text : ℕ → Bool → List ℕ
 long_text count true = entry (count + 1) (codes "too long")
 long_text count false = []
@@ -54,10 +56,12 @@ long_text count false = []
 abbrev pub end_text : ℕ → Bool → ℕ → Bool → List ℕ
 end_text count too_long waiting true = too_large_text
 end_text count true waiting false = codes "end messages=" ++ decimal count ++ codes "\n"
-end_text count false waiting false = codes "end messages=" ++ decimal count ++ codes " rest=" ++ decimal waiting ++ codes "\n"
+end_text count false waiting false =
+    codes "end messages=" ++ decimal count ++ codes " rest=" ++ decimal waiting ++ codes "\n"
 
 abbrev pub ending_text : ℕ → Bool → ℕ → Bool → List ℕ
-ending_text count too_long waiting large = long_text count too_long ++ end_text count too_long waiting large
+ending_text count too_long waiting large =
+    long_text count too_long ++ end_text count too_long waiting large
 
 abbrev pub read_ending : ℕ → Option (List ℕ) → Bool → List ℕ
 read_ending count None large = ending_text count true 0 large
@@ -67,7 +71,9 @@ read_ending count (Some rest) large = ending_text count false (length rest) larg
 pub record IsReadText (bytes text : List ℕ) : Type 0 where
   pub lines : List ℕ
   pub told : AreFrameLines 1 (frames_of (take most_read bytes)).messages lines
-  pub whole : text ≡ lines ++ read_ending (length (frames_of (take most_read bytes)).messages) (frames_of (take most_read bytes)).rest (nat_lt most_read (length bytes))
+  pub whole : text ≡ lines
+      ++ read_ending (length (frames_of (take most_read bytes)).messages)
+      (frames_of (take most_read bytes)).rest (nat_lt most_read (length bytes))
 
 -- the lines of the first frames alone
 pub record AreFirstLines (bytes lines : List ℕ) : Type 0 where

@@ -14,7 +14,8 @@ use Rattle.line_cli.specs.Script.{Script, meaning_at, script_from, behind_lines}
 use Rattle.line_cli.specs.declared.script_run.RunError.{RunError}
 use Rattle.line_cli.specs.declared.script_run.RunError.TheVariants as errors
 
--- where a reader stands inside its script: the line of machines, and the front of a script line that has not ended
+-- where a reader stands inside its script: the line of machines, and the front of a script line
+-- that has not ended
 pub record Place : Type 0 where
   pub state : LineState
   pub pending : List ℕ
@@ -35,7 +36,8 @@ abbrev pub entries : ℕ → List Happening → List ℕ
 entries number told = flat_map (λ happening. entry number happening) told
 
 -- what a line that was read does
-pub record DoesAsked (asked : ScriptLine) (old new : LineState) (before now : List ℕ) : Type 0 where
+pub record DoesAsked (asked : ScriptLine) (old new : LineState)
+    (before now : List ℕ) : Type 0 where
   pub told : List Happening
   pub steps : LineSteps (old.lines + 1) asked old new told
   pub text : now ≡ before ++ entries (old.lines + 1) told
@@ -47,14 +49,17 @@ pub record IsDone (old new : LineState) (line before now : List ℕ) : Type 0 wh
   pub steps : LineSteps (old.lines + 1) asked old new told
   pub text : now ≡ before ++ entries (old.lines + 1) told
 
-pub record IsRefused (old : LineState) (line before now : List ℕ) (number : ℕ) (why : LineWhy) : Type 0 where
+pub record IsRefused (old : LineState) (line before now : List ℕ) (number : ℕ)
+    (why : LineWhy) : Type 0 where
   pub meaning : meaning_at (old.lines + 1) line ≡ Err why
   pub counted : number ≡ old.lines + 1
   pub text : now ≡ before ++ refused_text number why
 
-abbrev pub DoesLine : Result (Unit {0}) RunError → LineState → LineState → List ℕ → List ℕ → List ℕ → Type 0
+abbrev pub DoesLine : Result (Unit {0}) RunError → LineState → LineState → List ℕ → List ℕ → List ℕ
+    → Type 0
 DoesLine (Ok done) old new line before now = IsDone old new line before now
-DoesLine (Err (errors.Refused number why)) old new line before now = IsRefused old line before now number why
+DoesLine (Err (errors.Refused number why)) old new line before now =
+    IsRefused old line before now number why
 DoesLine (Err errors.Memory) old new line before now = Unit {0}
 
 -- lines are numbered from 1
@@ -65,7 +70,8 @@ IsNumbered errors.Memory = Unit {0}
 -- refusing a line with this number
 abbrev pub RefusesAs : Result (Unit {0}) RunError → ℕ → LineWhy → List ℕ → List ℕ → Type 0
 RefusesAs (Ok done) number why before now = ⊥
-RefusesAs (Err (errors.Refused line reason)) number why before now = (line ≡ number) × (reason ≡ why) × (now ≡ before ++ refused_text number why)
+RefusesAs (Err (errors.Refused line reason)) number why before now =
+    (line ≡ number) × (reason ≡ why) × (now ≡ before ++ refused_text number why)
 RefusesAs (Err errors.Memory) number why before now = Unit {0}
 
 -- the report's last line is written
@@ -85,23 +91,31 @@ pub record Advances (old new : Place) (bytes before now : List ℕ) : Type 0 whe
   pub run : IsRun old.state asked points
   pub after : state_behind old.state points ≡ new.state
   pub text : now ≡ before ++ told_text (old.state.lines + 1) points
-  pub script : (rest : List ℕ) → script_behind old (bytes ++ rest) ≡ behind_lines asked (script_behind new rest)
+  pub script : (rest : List ℕ)
+      → script_behind old (bytes ++ rest) ≡ behind_lines asked (script_behind new rest)
   pub progress : progress_of old + length bytes ≤ progress_of new
 
 -- some lines were done and told, and then one was refused
-pub record RefusesIn (state : LineState) (script : Script) (before now : List ℕ) (number : ℕ) (why : LineWhy) : Type 0 where
+pub record RefusesIn (state : LineState) (script : Script) (before now : List ℕ) (number : ℕ)
+    (why : LineWhy) : Type 0 where
   pub asked : List ScriptLine
   pub points : List Point
   pub run : IsRun state asked points
   pub text : now ≡ before ++ (told_text (state.lines + 1) points ++ refused_text number why)
-  pub script_is : script ≡ record { lines = asked; refusal = Some (record { line = number; why = why }) }
+  pub script_is : script ≡ record {
+    lines = asked;
+    refusal = Some (record { line = number; why = why });
+  }
 
-pub record Refuses (old : Place) (bytes before now : List ℕ) (number : ℕ) (why : LineWhy) : Type 0 where
-  pub refuses : (rest : List ℕ) → RefusesIn old.state (script_behind old (bytes ++ rest)) before now number why
+pub record Refuses (old : Place) (bytes before now : List ℕ) (number : ℕ)
+    (why : LineWhy) : Type 0 where
+  pub refuses : (rest : List ℕ)
+      → RefusesIn old.state (script_behind old (bytes ++ rest)) before now number why
 
 abbrev pub Takes : Result (Unit {0}) RunError → Place → Place → List ℕ → List ℕ → List ℕ → Type 0
 Takes (Ok done) old new bytes before now = Advances old new bytes before now
-Takes (Err (errors.Refused number why)) old new bytes before now = Refuses old bytes before now number why
+Takes (Err (errors.Refused number why)) old new bytes before now =
+    Refuses old bytes before now number why
 Takes (Err errors.Memory) old new bytes before now = Unit {0}
 
 -- a front of a piece is taken, and the rest is left
@@ -117,10 +131,12 @@ pub record SumsUp (old new : Place) (before now : List ℕ) : Type 0 where
   pub points : List Point
   pub run : IsRun old.state asked points
   pub after : state_behind old.state points ≡ new.state
-  pub text : now ≡ before ++ (told_text (old.state.lines + 1) points ++ summary_text (summary_of new.state))
+  pub text : now ≡ before
+      ++ (told_text (old.state.lines + 1) points ++ summary_text (summary_of new.state))
   pub script_is : script_behind old [] ≡ record { lines = asked; refusal = None }
 
 abbrev pub Finishes : Result (Unit {0}) RunError → Place → Place → List ℕ → List ℕ → Type 0
 Finishes (Ok done) old new before now = SumsUp old new before now
-Finishes (Err (errors.Refused number why)) old new before now = RefusesIn old.state (script_behind old []) before now number why
+Finishes (Err (errors.Refused number why)) old new before now =
+    RefusesIn old.state (script_behind old []) before now number why
 Finishes (Err errors.Memory) old new before now = Unit {0}

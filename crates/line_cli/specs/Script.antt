@@ -7,7 +7,9 @@ use Rattle.line_script.specs.declared.line.ScriptLine.{ScriptLine}
 
 -- what the line with this number asks for, or the first refusal that holds
 abbrev pub meaning_at : ℕ → List ℕ → Result ScriptLine LineWhy
-meaning_at number line = if nat_lt 4096 (length line) then Err whys.LongLine else (if nat_lt 1000000 number then Err whys.TooManyLines else read_of line)
+meaning_at number line =
+    if nat_lt 4096 (length line) then Err whys.LongLine else
+    (if nat_lt 1000000 number then Err whys.TooManyLines else read_of line)
 
 -- the line that is refused, and why
 pub record Refusal : Type 0 where
@@ -36,7 +38,9 @@ refused_at number why = record { lines = []; refusal = Some (record { line = num
 -- the script of the lines behind those that are done
 abbrev pub script_from : ℕ → List (List ℕ) → Script
 script_from done [] = record { lines = []; refusal = None }
-script_from done (line ∷ others) = either (meaning_at (done + 1) line) (λ asked. before_all asked (script_from (done + 1) others)) (λ why. refused_at (done + 1) why)
+script_from done (line ∷ others) =
+    either (meaning_at (done + 1) line) (λ asked. before_all asked (script_from (done + 1) others))
+    (λ why. refused_at (done + 1) why)
 
 -- the script that bytes are: lines end with a line feed, a carriage return before it is dropped,
 -- and the last line may lack its end

@@ -21,10 +21,14 @@ pub record WritesFront (stream : List ℕ) (old new : Option (List ℕ)) : Type 
   pub grows : GrowsInPart old new text
 
 -- what `read` did with a stream: what is left of it, and how the sink's contents grew
-abbrev pub ReadsStream : List ℕ → Option (List ℕ) → Option (List ℕ) → Option (List ℕ) → Status → Type 0
-ReadsStream stream left old new statuses.Done = (length stream ≤ most_read) × WritesReadText stream old new × (left ≡ Some [])
+abbrev pub ReadsStream : List ℕ → Option (List ℕ) → Option (List ℕ) → Option (List ℕ) → Status
+    → Type 0
+ReadsStream stream left old new statuses.Done =
+    (length stream ≤ most_read) × WritesReadText stream old new × (left ≡ Some [])
 ReadsStream stream left old new statuses.Usage = ⊥
-ReadsStream stream left old new (statuses.ScriptRefused line why) = (line ≡ 0) × (why ≡ inputs.TooLarge) × (most_read < length stream) × WritesReadText stream old new
+ReadsStream stream left old new (statuses.ScriptRefused line why) =
+    (line ≡ 0) × (why ≡ inputs.TooLarge) × (most_read < length stream)
+    × WritesReadText stream old new
 ReadsStream stream left old new statuses.ReadFault = WritesFront stream old new
 ReadsStream stream left old new statuses.WriteFault = WritesFront stream old new
 ReadsStream stream left old new statuses.Memory = WritesFront stream old new
@@ -32,12 +36,14 @@ ReadsStream stream left old new statuses.Unvouched = ⊥
 ReadsStream stream left old new (statuses.Refuted line why) = ⊥
 
 -- the same, where the source tells its bytes
-abbrev pub Reads : Option (List ℕ) → Option (List ℕ) → Option (List ℕ) → Option (List ℕ) → Status → Type 0
+abbrev pub Reads : Option (List ℕ) → Option (List ℕ) → Option (List ℕ) → Option (List ℕ) → Status
+    → Type 0
 Reads None left old new status = Unit {0}
 Reads (Some stream) left old new status = ReadsStream stream left old new status
 
 -- WHILE THE READING GOES ON: the lines of the frames before, pushed and waiting
-pub record IsReading (stream rest : List ℕ) (old now : Option (List ℕ)) (waiting : List ℕ) (far : Progress) (text : List ℕ) : Type 0 where
+pub record IsReading (stream rest : List ℕ) (old now : Option (List ℕ)) (waiting : List ℕ)
+    (far : Progress) (text : List ℕ) : Type 0 where
   pub before : List ℕ
   pub parts : before ++ rest ≡ stream
   pub counted : length before ≡ far.taken
@@ -45,18 +51,28 @@ pub record IsReading (stream rest : List ℕ) (old now : Option (List ℕ)) (wai
   pub grows : Grows old now shown
   pub frames : List (List ℕ)
   pub done : far.done ≡ length frames
-  pub cut : (later : List ℕ) → frames_of (before ++ later) ≡ behind frames (frames_of (waiting ++ later))
+  pub cut : (later : List ℕ)
+      → frames_of (before ++ later) ≡ behind frames (frames_of (waiting ++ later))
   pub told : AreFrameLines 1 frames (shown ++ text)
 
-abbrev pub ReadsOn : Option (List ℕ) → Option (List ℕ) → Option (List ℕ) → Option (List ℕ) → List ℕ → Progress → List ℕ → Type 0
+abbrev pub ReadsOn : Option (List ℕ) → Option (List ℕ) → Option (List ℕ) → Option (List ℕ) → List ℕ
+    → Progress → List ℕ → Type 0
 ReadsOn None left old now waiting far text = Unit {0}
 ReadsOn (Some stream) None old now waiting far text = ⊥
-ReadsOn (Some stream) (Some rest) old now waiting far text = IsReading stream rest old now waiting far text
+ReadsOn (Some stream) (Some rest) old now waiting far text =
+    IsReading stream rest old now waiting far text
 
 -- how a reading ends
-abbrev pub EndsRead : Progress → ℕ → Bool → Option (List ℕ) → Option (List ℕ) → ℕ → ℕ → List ℕ → Status → Type 0
-EndsRead far waiting large old new before now text statuses.Done = (large ≡ false) × (before ≤ now) × Grows old new (text ++ ending_text far.done far.too_long waiting large)
-EndsRead far waiting large old new before now text (statuses.ScriptRefused line why) = (large ≡ true) × (line ≡ 0) × (why ≡ inputs.TooLarge) × (before ≤ now) × Grows old new (text ++ ending_text far.done far.too_long waiting large)
-EndsRead far waiting large old new before now text statuses.WriteFault = (before ≤ now) × Rose before now × GrowsInPart old new (text ++ ending_text far.done far.too_long waiting large)
+abbrev pub EndsRead : Progress → ℕ → Bool → Option (List ℕ) → Option (List ℕ) → ℕ → ℕ → List ℕ
+    → Status → Type 0
+EndsRead far waiting large old new before now text statuses.Done =
+    (large ≡ false) × (before ≤ now)
+    × Grows old new (text ++ ending_text far.done far.too_long waiting large)
+EndsRead far waiting large old new before now text (statuses.ScriptRefused line why) =
+    (large ≡ true) × (line ≡ 0) × (why ≡ inputs.TooLarge) × (before ≤ now)
+    × Grows old new (text ++ ending_text far.done far.too_long waiting large)
+EndsRead far waiting large old new before now text statuses.WriteFault =
+    (before ≤ now) × Rose before now
+    × GrowsInPart old new (text ++ ending_text far.done far.too_long waiting large)
 EndsRead far waiting large old new before now text statuses.Memory = (before ≤ now) × (new ≡ old)
 EndsRead far waiting large old new before now text _ = ⊥

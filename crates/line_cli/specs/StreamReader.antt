@@ -11,10 +11,12 @@ pub record WritesLine (number : ℕ) (frame before now : List ℕ) : Type 0 wher
   pub written : now ≡ before ++ line
 
 -- some frames were taken off, whatever follows, and their lines written
-pub record TakesFrames (old new bytes : List ℕ) (done count : ℕ) (before now : List ℕ) : Type 0 where
+pub record TakesFrames (old new bytes : List ℕ) (done count : ℕ)
+    (before now : List ℕ) : Type 0 where
   pub frames : List (List ℕ)
   pub lines : List ℕ
-  pub cut : (later : List ℕ) → frames_of (old ++ (bytes ++ later)) ≡ behind frames (frames_of (new ++ later))
+  pub cut : (later : List ℕ)
+      → frames_of (old ++ (bytes ++ later)) ≡ behind frames (frames_of (new ++ later))
   pub counted : count ≡ done + length frames
   pub told : AreFrameLines (done + 1) frames lines
   pub written : now ≡ before ++ lines
@@ -24,19 +26,22 @@ abbrev pub IsRest : List ℕ → Type 0
 IsRest waiting = frames_of waiting ≡ record { messages = []; rest = Some waiting }
 
 abbrev pub IsTooLong : List ℕ → Type 0
-IsTooLong waiting = (later : List ℕ) → frames_of (waiting ++ later) ≡ record { messages = []; rest = None }
+IsTooLong waiting =
+    (later : List ℕ) → frames_of (waiting ++ later) ≡ record { messages = []; rest = None }
 
 abbrev pub IsOver : Bool → List ℕ → Type 0
 IsOver too_long waiting = MatchBool too_long (IsTooLong waiting) (IsRest waiting)
 
 -- a piece is taken whole
-pub record TakesPiece (old new piece : List ℕ) (done : ℕ) (taken : Taken) (before now : List ℕ) : Type 0 where
+pub record TakesPiece (old new piece : List ℕ) (done : ℕ) (taken : Taken)
+    (before now : List ℕ) : Type 0 where
   pub frames : TakesFrames old new piece done taken.done before now
   pub over : IsOver taken.too_long new
   pub bounded : taken.done + length new ≤ done + length old + length piece
 
 -- a piece is taken whole, or passed over behind too many bytes without an end
-pub record TakesSome (old new piece : List ℕ) (far now_far : Progress) (before now : List ℕ) : Type 0 where
+pub record TakesSome (old new piece : List ℕ) (far now_far : Progress)
+    (before now : List ℕ) : Type 0 where
   pub frames : TakesFrames old new piece far.done now_far.done before now
   pub over : IsOver now_far.too_long new
   pub taken : now_far.taken ≡ far.taken + length piece

@@ -9,4 +9,5 @@ entry number text = decimal number ++ codes " " ++ text ++ codes "\n"
 
 -- the report's last line where a line of the script was refused
 abbrev pub refused_text : ℕ → LineWhy → List ℕ
-refused_text number why = codes "refused " ++ decimal number ++ codes ": " ++ why_text why ++ codes "\n"
+refused_text number why =
+    codes "refused " ++ decimal number ++ codes ": " ++ why_text why ++ codes "\n"

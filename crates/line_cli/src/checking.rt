@@ -10,9 +10,11 @@ use std::alloc::Global;
 /// Checks the merged log that the source has, and writes the verdict.
 #[tactic(auto, using(crate::proofs::Checked::checks_by, crate::proofs::Checked::fits_by, crate::proofs::Checked::causes_by))]
 pub fn check_merged<S: Source, K: Sink>(alloc: Global, log: &mut S, verdict: &mut K) -> Status
-    ensures checks { Checks (S.left log.old) (S.left log.new) (K.contents verdict.old) (K.contents verdict.new) result }
+    ensures checks { Checks (S.left log.old) (S.left log.new) (K.contents verdict.old)
+        (K.contents verdict.new) result }
     ensures fits { IsCheckStatus result }
-    ensures causes { HasCauses result (S.faults log.old) (S.faults log.new) (K.faults verdict.old) (K.faults verdict.new) }
+    ensures causes { HasCauses result (S.faults log.old) (S.faults log.new) (K.faults verdict.old)
+        (K.faults verdict.new) }
 {
     status_by(check_log(alloc, log, verdict))
 }

@@ -33,27 +33,33 @@ const USAGE: &str = "usage: line run | line read | line check | line make <numbe
 
 /// The program `line`: does what the words behind its name ask for.
 ///
-/// With `run` it reads a script from `script` and writes its report to `report`: `ScriptRefused` where
-/// a line of it is refused, `Unvouched` where all was done and a line told what was not so. With
-/// `read` it reads a stream of messages from `script` and writes a line for each to `report`; a stream
-/// of more than 1,073,741,824 bytes is `ScriptRefused` as `TooLarge`, with line 0, behind the lines of
-/// what stands in its first 1,073,741,824. With `check` it reads the merged log of a line's machines
-/// from `script` and writes to `report` that it is right, or the first reason against it at the first
-/// line where one holds, which is `Refuted`. With `make` and a number from 1 to 50,000, of at most 15 digits, it runs the
-/// script that is made from the number and writes the last line of its report to `report`, with the fold of the whole
-/// report behind it; nothing is read. Other words are answered by `Usage` and the usage text, and nothing is read.
+/// With `run` it reads a script from `script` and writes its report to `report`: `ScriptRefused`
+/// where a line of it is refused, `Unvouched` where all was done and a line told what was not so.
+/// With `read` it reads a stream of messages from `script` and writes a line for each to `report`;
+/// a stream of more than 1,073,741,824 bytes is `ScriptRefused` as `TooLarge`, with line 0, behind
+/// the lines of what stands in its first 1,073,741,824. With `check` it reads the merged log of a
+/// line's machines from `script` and writes to `report` that it is right, or the first reason
+/// against it at the first line where one holds, which is `Refuted`. With `make` and a number from
+/// 1 to 50,000, of at most 15 digits, it runs the script that is made from the number and writes
+/// the last line of its report to `report`, with the fold of the whole report behind it; nothing
+/// is read. Other words are answered by `Usage` and the usage text, and nothing is read.
 pub fn line_main<S: Source, K: Sink>(
     alloc: Global,
     words: &Words,
     script: &mut S,
     report: &mut K,
 ) -> Status
-    ensures does { DoesAs (is_run words.now) (is_read words.now) (is_check words.now) (made_number words.now) (S.left script.old) (S.left script.new) (K.contents report.old) (K.contents report.new) (K.faults report.old) (K.faults report.new) result }
-    ensures fits { FitsWords (is_run words.now) (is_read words.now) (is_check words.now) (made_number words.now) result }
-    ensures causes { HasCauses result (S.faults script.old) (S.faults script.new) (K.faults report.old) (K.faults report.new) }
+    ensures does { DoesAs (is_run words.now) (is_read words.now) (is_check words.now)
+        (made_number words.now) (S.left script.old) (S.left script.new) (K.contents report.old)
+        (K.contents report.new) (K.faults report.old) (K.faults report.new) result }
+    ensures fits { FitsWords (is_run words.now) (is_read words.now) (is_check words.now)
+        (made_number words.now) result }
+    ensures causes { HasCauses result (S.faults script.old) (S.faults script.new)
+        (K.faults report.old) (K.faults report.new) }
     // unique ids on the floor, and ids that stay, over the run of every script
     ensures ids { IdsStay }
-    // each record with one machine or in one named handover, over the run of every script up to its first lie
+    // each record with one machine or in one named handover, over the run of every script up to
+    // its first lie
     ensures standing { OneStanding }
     // where its board lies then, and whose half holds it
     ensures custody { CustodyFacts }
@@ -81,10 +87,11 @@ pub fn line_main<S: Source, K: Sink>(
     ensures fit { ScriptsAreFit }
     // a handover opens exactly when board and place are announced, over the run of every script
     ensures opens { OpensWhenAnnounced }
-    // what is told as an answer to a question for a work order is the one answer that its machine keeps, over the run of every
-    // script
+    // what is told as an answer to a question for a work order is the one answer that its machine
+    // keeps, over the run of every script
     ensures answers { OneAnswer }
-    // where each machine is supervised before its first mark, a supervisor who folds what it is told knows where each board is
+    // where each machine is supervised before its first mark, a supervisor who folds what it is
+    // told knows where each board is
     ensures replay { ReplayAgrees }
 {
     one_standing::laws::one_standing_after_each_line();
@@ -112,9 +119,13 @@ fn do_words<S: Source, K: Sink>(
     script: &mut S,
     report: &mut K,
 ) -> Status
-    ensures does { DoesAs (is_run words.now) (is_read words.now) (is_check words.now) (made_number words.now) (S.left script.old) (S.left script.new) (K.contents report.old) (K.contents report.new) (K.faults report.old) (K.faults report.new) result }
-    ensures fits { FitsWords (is_run words.now) (is_read words.now) (is_check words.now) (made_number words.now) result }
-    ensures causes { HasCauses result (S.faults script.old) (S.faults script.new) (K.faults report.old) (K.faults report.new) }
+    ensures does { DoesAs (is_run words.now) (is_read words.now) (is_check words.now)
+        (made_number words.now) (S.left script.old) (S.left script.new) (K.contents report.old)
+        (K.contents report.new) (K.faults report.old) (K.faults report.new) result }
+    ensures fits { FitsWords (is_run words.now) (is_read words.now) (is_check words.now)
+        (made_number words.now) result }
+    ensures causes { HasCauses result (S.faults script.old) (S.faults script.new)
+        (K.faults report.old) (K.faults report.new) }
 {
     if is_word(words.list(), b"run") {
         return run_script(alloc, script, report);

@@ -7,7 +7,8 @@ ghost use Rattle.line_cli.specs.Report.{IsReport};
 
 /// A stream of messages has one read text.
 pub fn read_once()
-    ensures { (bytes one other : List ℕ) → IsReadText bytes one → IsReadText bytes other → one ≡ other }
+    ensures { (bytes one other : List ℕ) → IsReadText bytes one → IsReadText bytes other
+        → one ≡ other }
 {
     hermes_horizontal::spelled_once();
     hermes_horizontal::refused_once();
@@ -16,14 +17,16 @@ pub fn read_once()
 
 /// A script has one report.
 pub fn one_report()
-    ensures { (bytes one other : List ℕ) → IsReport bytes one → IsReport bytes other → one ≡ other }
+    ensures { (bytes one other : List ℕ) → IsReport bytes one → IsReport bytes other
+        → one ≡ other }
 {
     node_core::laws::one_meaning();
 }
 
 /// A number has one make text.
 pub fn one_make_text()
-    ensures { (number : ℕ) (one other : List ℕ) → IsMakeText number one → IsMakeText number other → one ≡ other }
+    ensures { (number : ℕ) (one other : List ℕ) → IsMakeText number one → IsMakeText number other
+        → one ≡ other }
 {
     node_core::laws::one_meaning();
 }

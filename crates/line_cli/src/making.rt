@@ -47,14 +47,16 @@ fn number_behind(word: &[u8], spelled: &[u8]) -> Option<u32>
     }
 }
 
-/// Runs the made script of a number, and writes the last line of its report with the fold of the whole behind it.
+/// Runs the made script of a number, and writes the last line of its report with the fold of the
+/// whole behind it.
 ///
 /// The report is folded as it is made: neither the script nor the report is kept.
 pub fn write_made<K: Sink>(alloc: Global, number: u32, report: &mut K) -> Status
     requires { number ≤ 50000 }
     ensures makes { Makes number (K.contents report.old) (K.contents report.new) result }
     ensures fits { IsMakeStatus result }
-    ensures causes { (reads : ℕ) → HasCauses result reads reads (K.faults report.old) (K.faults report.new) }
+    ensures causes { (reads : ℕ)
+        → HasCauses result reads reads (K.faults report.old) (K.faults report.new) }
 {
     let text = match make_text(alloc, number) {
         Ok(text) => text,
@@ -115,7 +117,8 @@ fn fold_full(fold: u32, told: &mut Vec<u8>) -> u32
     now
 }
 
-/// The last line of a report, with the fold of the whole behind it. `fold` is that of all its other lines.
+/// The last line of a report, with the fold of the whole behind it. `fold` is that of all its
+/// other lines.
 fn last_line(alloc: Global, run: &ScriptRun, fold: u32) -> Result<Vec<u8>, Memory>
     requires { run.now.spent ≡ false }
     ensures { IfOk result (λ text. IsLastLine run.now fold text.items) }

@@ -14,9 +14,11 @@ const MOST_READ: u64 = 1_073_741_824;
 
 /// Reads the stream of messages that the source has, and writes its read text.
 pub fn read_stream<S: Source, K: Sink>(alloc: Global, stream: &mut S, text_to: &mut K) -> Status
-    ensures reads { Reads (S.left stream.old) (S.left stream.new) (K.contents text_to.old) (K.contents text_to.new) result }
+    ensures reads { Reads (S.left stream.old) (S.left stream.new) (K.contents text_to.old)
+        (K.contents text_to.new) result }
     ensures fits { IsReadStatus result }
-    ensures causes { HasCauses result (S.faults stream.old) (S.faults stream.new) (K.faults text_to.old) (K.faults text_to.new) }
+    ensures causes { HasCauses result (S.faults stream.old) (S.faults stream.new)
+        (K.faults text_to.old) (K.faults text_to.new) }
 {
     let mut room = match vec![in alloc; 0u8; PIECE_BYTES] {
         Ok(room) => room,
@@ -69,7 +71,8 @@ fn end_read<K: Sink>(
 ) -> Status
     requires { far.done < 2 ^ 40 }
     ensures fits { IsReadStatus result }
-    ensures ends { EndsRead far waiting large (K.contents text_to.old) (K.contents text_to.new) (K.faults text_to.old) (K.faults text_to.new) text.old.items result }
+    ensures ends { EndsRead far waiting large (K.contents text_to.old) (K.contents text_to.new)
+        (K.faults text_to.old) (K.faults text_to.new) text.old.items result }
 {
     if write_ending(far, waiting, large, text).is_err() {
         return Status::Memory;

@@ -14,9 +14,11 @@ pub(crate) const PIECE_BYTES: usize = 65_536;
 
 /// Runs the script that the source has, and writes its report.
 pub fn run_script<S: Source, K: Sink>(alloc: Global, script: &mut S, report: &mut K) -> Status
-    ensures runs { Runs (S.left script.old) (S.left script.new) (K.contents report.old) (K.contents report.new) result }
+    ensures runs { Runs (S.left script.old) (S.left script.new) (K.contents report.old)
+        (K.contents report.new) result }
     ensures fits { IsRunStatus result }
-    ensures causes { HasCauses result (S.faults script.old) (S.faults script.new) (K.faults report.old) (K.faults report.new) }
+    ensures causes { HasCauses result (S.faults script.old) (S.faults script.new)
+        (K.faults report.old) (K.faults report.new) }
 {
     let mut room = match vec![in alloc; 0u8; PIECE_BYTES] {
         Ok(room) => room,
@@ -58,7 +60,8 @@ pub(crate) fn front(room: &[u8], count: usize) -> &[u8]
 
 /// Pushes what waits to be written, if there is a big piece of it.
 pub(crate) fn push_full<K: Sink>(text: &mut Vec<u8>, report: &mut K) -> Pushed
-    ensures { PushesFull result (K.contents report.old) (K.contents report.new) (K.faults report.old) (K.faults report.new) text.old.items text.new.items }
+    ensures { PushesFull result (K.contents report.old) (K.contents report.new)
+        (K.faults report.old) (K.faults report.new) text.old.items text.new.items }
 {
     if text.len() < PIECE_BYTES {
         return Pushed::Whole;
@@ -71,7 +74,8 @@ pub(crate) fn push_full<K: Sink>(text: &mut Vec<u8>, report: &mut K) -> Pushed
 /// Ends a run whose whole script is done. `unvouched` says that a line told what was not so.
 fn end_whole<K: Sink>(unvouched: bool, text: &[u8], report: &mut K) -> Status
     ensures fits { IsRunStatus result }
-    ensures ends { EndsWhole unvouched (K.contents report.old) (K.contents report.new) (K.faults report.old) (K.faults report.new) text.now result }
+    ensures ends { EndsWhole unvouched (K.contents report.old) (K.contents report.new)
+        (K.faults report.old) (K.faults report.new) text.now result }
 {
     match push_all(report, text) {
         Pushed::Whole if unvouched => Status::Unvouched,
@@ -85,7 +89,8 @@ fn end_whole<K: Sink>(unvouched: bool, text: &[u8], report: &mut K) -> Status
 fn end_refused<K: Sink>(error: RunError, text: &[u8], report: &mut K) -> Status
     requires { IsNumbered error }
     ensures fits { IsRunStatus result }
-    ensures ends { EndsRefused error (K.contents report.old) (K.contents report.new) (K.faults report.old) (K.faults report.new) text.now result }
+    ensures ends { EndsRefused error (K.contents report.old) (K.contents report.new)
+        (K.faults report.old) (K.faults report.new) text.now result }
 {
     match error {
         RunError::Refused { line, why } => match push_all(report, text) {

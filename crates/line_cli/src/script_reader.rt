@@ -24,7 +24,8 @@ impl Model for ScriptReader {
 
     ghost view = { λ reader. record { state = reader.run; pending = reader.pending.items } };
 
-    ghost invariant = { λ reader. HasNoEnd reader.pending.items × (vec_len reader.pending ≤ 4097) × (reader.run.spent ≡ false → reader.run.lines ≤ 1000000) };
+    ghost invariant = { λ reader. HasNoEnd reader.pending.items × (vec_len reader.pending ≤ 4097)
+        × (reader.run.spent ≡ false → reader.run.lines ≤ 1000000) };
 }
 
 impl ScriptReader {

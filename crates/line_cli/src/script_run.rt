@@ -80,7 +80,8 @@ impl ScriptRun {
         }
     }
 
-    /// Does a line that was read, as the next of the script, and appends the report's lines for what it did.
+    /// Does a line that was read, as the next of the script, and appends the report's lines for
+    /// what it did.
     pub fn do_asked(&mut self, asked: &ScriptLine, to: &mut Vec<u8>) -> Result<(), Memory>
         requires unspent { self.old.spent ≡ false }
         requires few { self.old.lines < 1000000 }

@@ -20,8 +20,8 @@ pub struct Taken {
     pub too_long: bool,
 }
 
-/// How far a stream is read: how many bytes are taken, how many frames are done, and whether too many
-/// bytes stand without an end.
+/// How far a stream is read: how many bytes are taken, how many frames are done, and whether too
+/// many bytes stand without an end.
 #[derive(Clone, Copy, Debug, PartialEq, Eq)]
 pub struct Progress {
     pub taken: u64,
@@ -54,7 +54,8 @@ pub fn take_some(
     requires over { IsOver far.too_long cutter.old }
     requires fits { far.taken + length piece.now < 2 ^ 40 }
     requires bounded { far.done + length cutter.old ≤ far.taken }
-    ensures { IfOk result (λ now. TakesSome cutter.old cutter.new piece.now far now to.old.items to.new.items) }
+    ensures { IfOk result
+        (λ now. TakesSome cutter.old cutter.new piece.now far now to.old.items to.new.items) }
 {
     let taken = far.taken + piece.len() as u64;
     if far.too_long {
@@ -83,7 +84,8 @@ pub fn write_ending(
     to: &mut Vec<u8>,
 ) -> Result<(), Memory>
     requires { far.done < 2 ^ 40 }
-    ensures { OnOk result (to.new.items ≡ to.old.items ++ ending_text far.done far.too_long waiting large) }
+    ensures { OnOk result
+        (to.new.items ≡ to.old.items ++ ending_text far.done far.too_long waiting large) }
 {
     let done = far.done;
     if far.too_long {
@@ -98,7 +100,8 @@ pub fn write_ending(
 
 /// Appends the last line.
 fn write_end(far: Progress, waiting: usize, large: bool, to: &mut Vec<u8>) -> Result<(), Memory>
-    ensures { OnOk result (to.new.items ≡ to.old.items ++ end_text far.done far.too_long waiting large) }
+    ensures { OnOk result
+        (to.new.items ≡ to.old.items ++ end_text far.done far.too_long waiting large) }
 {
     let done = far.done;
     let written = match (large, far.too_long) {
@@ -122,7 +125,8 @@ pub fn take_piece(
     to: &mut Vec<u8>,
 ) -> Result<Taken, Memory>
     requires { done + length cutter.old + length piece.now < 2 ^ 64 }
-    ensures { IfOk result (λ taken. TakesPiece cutter.old cutter.new piece.now done taken to.old.items to.new.items) }
+    ensures { IfOk result
+        (λ taken. TakesPiece cutter.old cutter.new piece.now done taken to.old.items to.new.items) }
 {
     let mut at = 0;
     let mut count = done;
@@ -165,7 +169,8 @@ fn write_frame(alloc: Global, number: u64, frame: &[u8], to: &mut Vec<u8>) -> Re
 
 /// Appends the line of a message.
 fn write_message(number: u64, message: &Message, to: &mut Vec<u8>) -> Result<(), Memory>
-    ensures { OnOk result (to.new.items ≡ to.old.items ++ entry number (message_text message.now)) }
+    ensures { OnOk result
+        (to.new.items ≡ to.old.items ++ entry number (message_text message.now)) }
 {
     if let Err(Memory) = append_number(number, to) {
         return Err(Memory);

@@ -11,9 +11,9 @@ const SMALL: usize = 1000;
 
 /// Appends a case's command line, what is written, and how the call ends.
 ///
-/// The first line of a case is the command line, maybe with `, the first pull fails` or `, the first
-/// push fails` behind it. The others spell what there is to read, each with a line end, unless it
-/// ends in `\`. A small case must answer the same from pieces of 1 to 64 bytes.
+/// The first line of a case is the command line, maybe with `, the first pull fails` or `, the
+/// first push fails` behind it. The others spell what there is to read, each with a line end,
+/// unless it ends in `\`. A small case must answer the same from pieces of 1 to 64 bytes.
 pub fn tell_case(alloc: Global, case: &str, to: &mut Vec<u8>) -> Result<(), Memory> {
     let (head, body) = case.split_once('\n').unwrap_or((case, ""));
     let (command, fault) = head.split_once(", ").unwrap_or((head, ""));

@@ -8,8 +8,9 @@ use Rattle.line_step.specs.State.{LineState, no_line}
 use Rattle.one_standing.specs.Blame.{IsBlameTrue}
 use Rattle.one_standing.specs.Standing.{IsFitLine}
 
--- what a line tells, behind what was told in any run that led to the state before it, of lines whose barcodes are texts:
--- a breach at a side of a machine is told only where what flows to that side was spoiled before
+-- what a line tells, behind what was told in any run that led to the state before it, of lines
+-- whose barcodes are texts: a breach at a side of a machine is told only where what flows to that
+-- side was spoiled before
 pub record BlamesNext (before : LineState) (told : List Happening) : Type 0 where
   pub behind : (asked : List ScriptLine) (points : List Point)
       → AllByRecursion IsFitLine asked → IsRun no_line asked points

@@ -1,4 +1,5 @@
--- What a machine of the line may be given, which lines of a script give it something, and which move boards.
+-- What a machine of the line may be given, which lines of a script give it something, and which
+-- move boards.
 use Rattle.std.specs.Prelude.{◌≡◌, ℕ, Bool, true, false, IsSomeAnd}
 use Rattle.node_core.specs.declared.input.Input.{Input}
 use Rattle.node_core.specs.May.{may_do, may_of}

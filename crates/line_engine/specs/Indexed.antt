@@ -47,15 +47,19 @@ abbrev pub above : ℕ → List Mark → List Mark
 above last [] = []
 above last (mark ∷ marks) = mark_if (nat_lt last (machine_of mark)) mark ++ above last marks
 
--- the marks that an id had, and in their place at the machines from one number to another, where there are some, those that
--- it has there
+-- the marks that an id had, and in their place at the machines from one number to another, where
+-- there are some, those that it has there
 abbrev pub patched : ℕ → ℕ → List Owned → List Mark → ℕ → List Mark
-patched first last line marks id = if nat_eq first 0 then marks else below first marks ++ (marks_from first (owned_between first last line) id ++ above last marks)
+patched first last line marks id =
+    if nat_eq first 0 then marks else below first marks
+    ++ (marks_from first (owned_between first last line) id ++ above last marks)
 
 -- ---- the ids that a line of the script named
 
--- a line of machines became another by steps of some of them: the marks of the ids that are named are those that it had, and what the
--- machines that stepped have now; all other ids have the marks that they had
+-- a line of machines became another by steps of some of them: the marks of the ids that are named
+-- are those that it had, and what the machines that stepped have now; all other ids have the marks
+-- that they had
 pub record Follows (first last : ℕ) (ids : List ℕ) (before now : List Owned) : Type 0 where
-  pub named : (id : ℕ) → has_id id ids ≡ true → marks_of now id ≡ patched first last now (marks_of before id) id
+  pub named : (id : ℕ) → has_id id ids ≡ true
+      → marks_of now id ≡ patched first last now (marks_of before id) id
   pub others : (id : ℕ) → has_id id ids ≡ false → marks_of before id ≡ marks_of now id

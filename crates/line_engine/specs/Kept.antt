@@ -7,8 +7,8 @@ use Rattle.one_standing.specs.Reached.{HasUniqueIds, IsReached}
 use Rattle.one_standing.specs.Standing.{HasOneStanding}
 use Rattle.line_engine.specs.Indexed.{Entries, IsIndexOf}
 
--- what stands together in it, an index that is its own, and a run that led to it; so no two boards share an id; and while no
--- line told what was not so, one standing and the custody facts
+-- what stands together in it, an index that is its own, and a run that led to it; so no two boards
+-- share an id; and while no line told what was not so, one standing and the custody facts
 pub record IsKept (entries : Entries) (s : LineState) : Type 0 where
   pub unspent : s.spent ≡ false
   pub together : IsLineTogether s

@@ -6,7 +6,9 @@ use Rattle.line_step.specs.Runs.{IsRun, Point, state_behind, all_told}
 use Rattle.line_step.specs.State.{LineState, no_line}
 use Rattle.line_openings.specs.Announced.{OpensAsAnnounced}
 
--- what a line tells, behind what was told in any run that led to the state before it: over all of it each machine opens as
--- announced
+-- what a line tells, behind what was told in any run that led to the state before it: over all of
+-- it each machine opens as announced
 pub record OpensNext (before : LineState) (told : List Happening) : Type 0 where
-  pub behind : (asked : List ScriptLine) (points : List Point) (machine : ℕ) → IsRun no_line asked points → state_behind no_line points ≡ before → OpensAsAnnounced machine (all_told points ++ told)
+  pub behind : (asked : List ScriptLine) (points : List Point) (machine : ℕ)
+      → IsRun no_line asked points → state_behind no_line points ≡ before
+      → OpensAsAnnounced machine (all_told points ++ told)

@@ -10,9 +10,11 @@ use Rattle.line_report.specs.declared.happening.Happening.{Happening}
 
 -- what the machines from one number to another have, of those that are there
 abbrev pub owned_between : ℕ → ℕ → List Owned → List Owned
-owned_between first last line = if nat_lt 0 first then take ((last + 1) - first) (drop (first - 1) line) else []
+owned_between first last line =
+    if nat_lt 0 first then take ((last + 1) - first) (drop (first - 1) line) else []
 
--- the first and the last of the machines that a line of the script may change; 0 where there is none
+-- the first and the last of the machines that a line of the script may change; 0 where there is
+-- none
 abbrev pub last_stepped : ScriptLine → ℕ
 last_stepped (lines.Insert machine barcode) = machine
 last_stepped (lines.Remove machine id) = machine
@@ -46,7 +48,8 @@ with_ids (id ∷ ids) sorted = with_ids ids (with_id id sorted)
 
 -- what is told of ids, whose marks were these and are those
 abbrev pub told_each : List ℕ → List Owned → List Owned → List Happening
-told_each ids before after = flat_map (λ id. standing_told id (told_of (marks_of before id) (marks_of after id))) ids
+told_each ids before after =
+    flat_map (λ id. standing_told id (told_of (marks_of before id) (marks_of after id))) ids
 
 -- the standings of some ids that changed, in ascending order of id
 abbrev pub changed_told : List ℕ → List Owned → List Owned → List Happening

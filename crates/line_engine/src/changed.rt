@@ -25,7 +25,8 @@ pub fn tell_standing(id: BoardId, standing: Option<Told>, told: &mut Happened) -
     }
 }
 
-/// The ids that acts name, in ascending order, each once. `Memory` where there is none for the list.
+/// The ids that acts name, in ascending order, each once. `Memory` where there is none for the
+/// list.
 pub fn ids_named(alloc: Global, told: &[Happening]) -> Result<Vec<BoardId>, Memory>
     ensures { IfOk result (λ ids. ids.items ≡ ascending (ids_named told.now)) }
 {
@@ -37,7 +38,8 @@ pub fn ids_named(alloc: Global, told: &[Happening]) -> Result<Vec<BoardId>, Memo
 }
 
 fn add_named(happening: &Happening, ids: &mut Vec<BoardId>) -> Result<(), Memory>
-    ensures { OnOk result (ids.new.items ≡ with_ids (ids_of_happening happening.now) ids.old.items) }
+    ensures { OnOk result
+        (ids.new.items ≡ with_ids (ids_of_happening happening.now) ids.old.items) }
 {
     match happening {
         Happening::Done { act, .. } => add_ids(act, ids),
@@ -92,7 +94,8 @@ fn add_id(id: BoardId, ids: &mut Vec<BoardId>) -> Result<(), Memory>
 /// Where an id stands among ids in ascending order, or belongs.
 fn place_for(ids: &[BoardId], id: BoardId) -> usize
     ensures within { result ≤ length ids.now }
-    ensures put { with_id id ids.now ≡ (if is_held id (slice_get ids.now result) then ids.now else insert ids.now result id) }
+    ensures put { with_id id ids.now
+        ≡ (if is_held id (slice_get ids.now result) then ids.now else insert ids.now result id) }
 {
     for (place, other) in ids.iter().enumerate() {
         if id <= *other {

@@ -1,4 +1,5 @@
-//! Where the records of boards stand: an index from boards to their marks, which follows a line of machines.
+//! Where the records of boards stand: an index from boards to their marks, which follows a line of
+//! machines.
 
 ghost use Rattle.std.specs.Prelude.{◌≡◌, ◌≤◌, ◌++◌, ℕ, List, [], OnOk, length, map, nat_eq, if◌then◌else◌};
 ghost use Rattle.standings.specs.Marks.{Owned};
@@ -21,7 +22,8 @@ use standings::{Mark, told_of};
 use std::alloc::Global;
 use std::marker::Model;
 
-/// The boards that have a mark along a line of machines, each with its marks. It is seen as their list.
+/// The boards that have a mark along a line of machines, each with its marks. It is seen as their
+/// list.
 #[derive(Drop)]
 pub struct Index {
     alloc: Global,
@@ -57,8 +59,9 @@ impl Index {
         }
     }
 
-    /// Follows a line of which these machines may have stepped, and tells the standings that changed, in ascending order of
-    /// id. They are among those of the boards that its acts name. `Memory` where there is none for the marks.
+    /// Follows a line of which these machines may have stepped, and tells the standings that
+    /// changed, in ascending order of id. They are among those of the boards that its acts name.
+    /// `Memory` where there is none for the marks.
     pub fn follow(
         &mut self,
         machines: &[Node],
@@ -68,8 +71,14 @@ impl Index {
         requires early { span.first ≤ 64 }
         requires few { length machines.now ≤ 64 }
         // whatever line it was the index of
-        ensures told { (before : List Owned) → IsIndexOf self.old before → Follows span.first span.last (ids_named told.old) before (map owned_by machines.now) → OnOk result (told.new ≡ told.old ++ changed_told (ids_named told.old) before (map owned_by machines.now)) }
-        ensures index { (before : List Owned) → IsIndexOf self.old before → Follows span.first span.last (ids_named told.old) before (map owned_by machines.now) → OnOk result (IsIndexOf self.new (map owned_by machines.now)) }
+        ensures told { (before : List Owned) → IsIndexOf self.old before
+            → Follows span.first span.last (ids_named told.old) before (map owned_by machines.now)
+            → OnOk result
+            (told.new ≡ told.old
+            ++ changed_told (ids_named told.old) before (map owned_by machines.now)) }
+        ensures index { (before : List Owned) → IsIndexOf self.old before
+            → Follows span.first span.last (ids_named told.old) before (map owned_by machines.now)
+            → OnOk result (IsIndexOf self.new (map owned_by machines.now)) }
     {
         let ids = ids_named(self.alloc, told.list())?;
         for id in &ids {
@@ -87,8 +96,18 @@ impl Index {
     ) -> Result<(), Memory>
         requires early { span.first ≤ 64 }
         requires few { length machines.now ≤ 64 }
-        ensures told { OnOk result (told.new ≡ told.old ++ standing_told id (told_of (marks_listed self.old id) (patched span.first span.last (map owned_by machines.now) (marks_listed self.old id) id))) }
-        ensures entries { OnOk result ((other : ℕ) → entry_at self.new other ≡ (if nat_eq id other then indexed (patched span.first span.last (map owned_by machines.now) (marks_listed self.old id) id) else entry_at self.old other)) }
+        ensures told { OnOk result
+            (told.new ≡ told.old
+            ++ standing_told id
+            (told_of (marks_listed self.old id)
+            (patched span.first span.last (map owned_by machines.now)
+            (marks_listed self.old id) id))) }
+        ensures entries { OnOk result
+            ((other : ℕ)
+            → entry_at self.new other
+            ≡ (if nat_eq id other then indexed
+            (patched span.first span.last (map owned_by machines.now)
+            (marks_listed self.old id) id) else entry_at self.old other)) }
     {
         let now = patched(self.alloc, self.marks(id), machines, span, id)?;
         tell_standing(id, told_of(self.marks(id), now.list()), told)?;
@@ -97,7 +116,10 @@ impl Index {
 
     /// A board has these marks from now on.
     fn set(&mut self, id: BoardId, marks: Marks) -> Result<(), Memory>
-        ensures { OnOk result ((other : ℕ) → entry_at self.new other ≡ (if nat_eq id other then indexed marks else entry_at self.old other)) }
+        ensures { OnOk result
+            ((other : ℕ)
+            → entry_at self.new other
+            ≡ (if nat_eq id other then indexed marks else entry_at self.old other)) }
     {
         if marks.list().is_empty() {
             let _gone = self.map.swap_remove(&id);

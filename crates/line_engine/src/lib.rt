@@ -1,7 +1,7 @@
 //! A line of machines in code, and what one line of a script does to it.
 //!
-//! What a line of the script does is defined in `line_step`, what it tells in `line_report`. Links, floor and acts are in
-//! `line_acts`.
+//! What a line of the script does is defined in `line_step`, what it tells in `line_report`.
+//! Links, floor and acts are in `line_acts`.
 #![tactic(auto)]
 
 mod changed;

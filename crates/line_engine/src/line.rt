@@ -28,10 +28,11 @@ use standings::{Mark, Standing, standing_of};
 use std::alloc::Global;
 use std::marker::Model;
 
-/// A line of machines as a script has built it, with the links between them and the floor under them.
+/// A line of machines as a script has built it, with the links between them and the floor under
+/// them.
 ///
-/// Machines are numbered from 1 in downstream direction. After `Memory` a line is spent: what a script line has done by
-/// then is not told, and each later step answers `Memory`.
+/// Machines are numbered from 1 in downstream direction. After `Memory` a line is spent: what a
+/// script line has done by then is not told, and each later step answers `Memory`.
 #[derive(Drop)]
 pub struct Line {
     spent: bool,
@@ -64,10 +65,12 @@ impl Line {
         }
     }
 
-    /// Does a line of the script, which has this number, and answers what happened: what it did or the reason why it did
-    /// nothing, and then the standings that it changed, in ascending order of id.
+    /// Does a line of the script, which has this number, and answers what happened: what it did or
+    /// the reason why it did nothing, and then the standings that it changed, in ascending order
+    /// of id.
     ///
-    /// `Memory` where there is none for what happened, for records and texts; the line is spent then.
+    /// `Memory` where there is none for what happened, for records and texts; the line is spent
+    /// then.
     pub fn step(&mut self, number: u64, line: &ScriptLine) -> Result<Happened, Memory>
         requires numbered { number ≡ self.old.lines + 1 }
         requires few { number ≤ 1000000 }
@@ -80,7 +83,8 @@ impl Line {
         ensures step { IfOk result (LineSteps number line.now self.old self.new) }
         // a run of a script has led to where it is then
         ensures reached { IfOk result (λ _. IsReached self.new) }
-        // each record stands with one machine or in one handover, while no line told what was not so
+        // each record stands with one machine or in one handover, while no line told what was not
+        // so
         ensures standing { IfOk result (λ _. self.new.unvouched ≡ None → HasOneStanding self.new) }
         // and then where its board lies, and whose half holds it
         ensures custody { IfOk result (λ _. self.new.unvouched ≡ None → HasCustodyFacts self.new) }
@@ -89,7 +93,8 @@ impl Line {
         // no two boards share an id, and each id was made by a machine of the line
         ensures ids { IfOk result (λ _. HasUniqueIds self.new) }
         // what it told of records leads from the marks before it to the marks after it
-        ensures ledger { IfOk result (λ told. self.new.unvouched ≡ None → FollowsLine self.old self.new told) }
+        ensures ledger { IfOk result (λ told. self.new.unvouched ≡ None
+            → FollowsLine self.old self.new told) }
         // a record that a machine keeps changes only where the line marks its board
         ensures contents { IfOk result (λ told.
             self.new.unvouched ≡ None → KeepsContents (IsMarked told) self.old self.new) }
@@ -97,8 +102,8 @@ impl Line {
         ensures blame { IfOk result (λ told. self.new.unvouched ≡ None → BlamesNext self.old told) }
         // a handover opens exactly when board and place are announced, behind a lie too
         ensures opens { IfOk result (OpensNext self.old) }
-        // a word that it told answers a question that was asked and had no answer, and answers that are kept stay; behind a lie
-        // too
+        // a word that it told answers a question that was asked and had no answer, and answers
+        // that are kept stay; behind a lie too
         ensures answers { IfOk result (λ told. AnswersOnce self.old self.new told) }
         // a line supervisor who folds what it is told knows where each board is
         ensures replay { IfOk result (λ told. self.new.unvouched ≡ None → AgreesNext self.old self.new told) }
@@ -134,8 +139,8 @@ impl Line {
         standing_of(self.index.marks(id))
     }
 
-    /// The marks of a board, in ascending order of machine and at a machine kept, outlet, intake; none exactly where no
-    /// machine has its record.
+    /// The marks of a board, in ascending order of machine and at a machine kept, outlet, intake;
+    /// none exactly where no machine has its record.
     pub fn marks(&self, id: BoardId) -> &[Mark]
         requires { self.now.spent ≡ false }
         ensures answer { result.now ≡ marks_in self.now id }
@@ -144,11 +149,12 @@ impl Line {
         self.index.marks(id)
     }
 
-    /// How many bytes are on their way to a side of a machine; 0 where there is no link. They are never more than
-    /// 1,048,576, since a link with more is cut (`docs/PROFILE.md`, 'The link').
+    /// How many bytes are on their way to a side of a machine; 0 where there is no link. They are
+    /// never more than 1,048,576, since a link with more is cut (`docs/PROFILE.md`, 'The link').
     pub fn in_flight(&self, machine: u32, side: Side) -> usize
         requires { self.now.spent ≡ false }
-        ensures count { result ≡ length (coming (flow_to (end_of side) (link_at (link_of machine side) self.now.world))) }
+        ensures count { result ≡ length
+            (coming (flow_to (end_of side) (link_at (link_of machine side) self.now.world))) }
         ensures bounded { result ≤ 1048576 }
     {
         self.state.in_flight(machine, side)

@@ -110,7 +110,8 @@ impl Marks {
     fn add_from(&mut self, first: u32, machines: &[Node], id: BoardId) -> Result<(), Memory>
         requires early { first ≤ 64 }
         requires few { length machines.now ≤ 64 }
-        ensures { OnOk result (self.new ≡ self.old ++ marks_from first (map owned_by machines.now) id) }
+        ensures { OnOk result
+            (self.new ≡ self.old ++ marks_from first (map owned_by machines.now) id) }
     {
         let mut number = first;
         for node in machines {
@@ -121,7 +122,8 @@ impl Marks {
     }
 }
 
-/// The marks that a board had, and in their place at the machines that may have stepped those that it has there now.
+/// The marks that a board had, and in their place at the machines that may have stepped those that
+/// it has there now.
 pub fn patched(
     alloc: Global,
     was: &[Mark],
@@ -131,7 +133,8 @@ pub fn patched(
 ) -> Result<Marks, Memory>
     requires early { span.first ≤ 64 }
     requires few { length machines.now ≤ 64 }
-    ensures { IfOk result (λ now. now ≡ patched span.first span.last (map owned_by machines.now) was.now id) }
+    ensures { IfOk result
+        (λ now. now ≡ patched span.first span.last (map owned_by machines.now) was.now id) }
 {
     let mut now = Marks::none(alloc);
     if span.first == 0 {
@@ -155,7 +158,8 @@ fn machine_of(mark: Mark) -> u32
     }
 }
 
-/// Whether the board is among kept ones. It is looked for from the back: there it is asked for when it has just come.
+/// Whether the board is among kept ones. It is looked for from the back: there it is asked for
+/// when it has just come.
 fn keeps(boards: &[Record], id: BoardId) -> bool
     ensures { result ≡ has_id id (ids_of boards.now) }
 {

@@ -1,4 +1,5 @@
-//! Why a line of the script does nothing: the first reason that holds, on the state before the line.
+//! Why a line of the script does nothing: the first reason that holds, on the state before the
+//! line.
 
 ghost use Rattle.std.specs.Prelude.{◌≡◌, IfOk};
 ghost use Rattle.node_core.specs.declared.input.Input.TheVariants as inputs;
@@ -29,7 +30,8 @@ fn own(may: Result<(), No>) -> Result<(), Reason>
     }
 }
 
-/// The same of an answer to a question. Where that was answered before, the reason has the word that answers it.
+/// The same of an answer to a question. Where that was answered before, the reason has the word
+/// that answers it.
 fn with_word(alloc: Global, node: &Node, may: Result<(), No>) -> Result<Result<(), Reason>, Memory>
     ensures { IfOk result (λ told. told ≡ with_word node.now may) }
 {
@@ -115,14 +117,16 @@ impl State {
         }
     }
 
-    /// Of an answer to a question: `NoSuchMachine`, and then the machine's own reasons, but `Answered` with the work order
-    /// that the question was answered with.
+    /// Of an answer to a question: `NoSuchMachine`, and then the machine's own reasons, but
+    /// `Answered` with the work order that the question was answered with.
     pub(crate) fn may_answer(
         &self,
         machine: u32,
         input: &Input<'_>,
     ) -> Result<Result<(), Reason>, Memory>
-        ensures { IfOk result (λ may. may ≡ if_there (machine_in machine self.now) (λ node. with_word node (may_of node input.now))) }
+        ensures { IfOk result
+            (λ may. may ≡ if_there (machine_in machine self.now)
+            (λ node. with_word node (may_of node input.now))) }
     {
         match self.machine(machine) {
             None => Ok(Err(Reason::NoSuchMachine)),

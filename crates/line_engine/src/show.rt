@@ -48,7 +48,8 @@ fn show_kept(machine: u32, kept: &[Record], told: &mut Happened) -> Result<(), M
     Ok(())
 }
 
-/// The board that the upper outlet holds, and the one that the lower intake holds where it is another.
+/// The board that the upper outlet holds, and the one that the lower intake holds where it is
+/// another.
 fn show_between(
     gap: u32,
     above: Option<BoardId>,

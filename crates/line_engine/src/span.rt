@@ -64,7 +64,8 @@ pub fn stepped(line: &ScriptLine) -> Span
 
 /// Those of a span that are there.
 pub fn between(machines: &[Node], span: Span) -> &[Node]
-    ensures are { map owned_by result.now ≡ owned_between span.first span.last (map owned_by machines.now) }
+    ensures are { map owned_by result.now
+        ≡ owned_between span.first span.last (map owned_by machines.now) }
     ensures few { length result.now ≤ length machines.now }
 {
     if span.first == 0 {

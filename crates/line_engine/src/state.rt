@@ -13,7 +13,8 @@ use node_core::Node;
 use std::alloc::Global;
 use std::marker::Model;
 
-/// A line of machines that is not spent. What stands together in it is asked by its calls; `Line` keeps it.
+/// A line of machines that is not spent. What stands together in it is asked by its calls; `Line`
+/// keeps it.
 #[derive(Drop)]
 pub struct State {
     pub(crate) alloc: Global,
@@ -29,7 +30,14 @@ impl Model for State {
 
     ghost Value = { LineState };
 
-    ghost view = { λ state. record { spent = false; machines = state.machines.items; world = state.world; lines = state.lines; unvouched = state.unvouched } };
+    ghost view = { λ state.
+        record {
+          spent = false;
+          machines = state.machines.items;
+          world = state.world;
+          lines = state.lines;
+          unvouched = state.unvouched;
+        } };
 }
 
 impl State {
@@ -79,7 +87,8 @@ impl State {
 
     /// How many bytes are on their way to a side.
     pub fn in_flight(&self, machine: u32, side: Side) -> usize
-        ensures count { result ≡ length (coming (flow_to (end_of side) (link_at (link_of machine side) self.now.world))) }
+        ensures count { result ≡ length
+            (coming (flow_to (end_of side) (link_at (link_of machine side) self.now.world))) }
         ensures bounded { result ≤ 1048576 }
     {
         self.world.coming_to(machine, side)

@@ -52,7 +52,8 @@ impl State {
         requires few { number ≤ 1000000 }
         requires floor { length self.old.world.floor.machines ≡ length self.old.machines }
         requires given { IsGiven machine input self.old }
-        ensures step { OnOk result (TellsStep number machine input.entry self.old self.new told.old told.new) }
+        ensures step { OnOk result
+            (TellsStep number machine input.entry self.old self.new told.old told.new) }
         ensures floor { OnOk result (length self.new.world.floor.machines ≡ length self.new.machines) }
     {
         let teller = Teller {
@@ -85,8 +86,8 @@ impl State {
         Ok(told)
     }
 
-    /// A machine connects, and the one above it meets the connection. The connection's numbers and whether it stands are
-    /// set before the first of the two steps.
+    /// A machine connects, and the one above it meets the connection. The connection's numbers and
+    /// whether it stands are set before the first of the two steps.
     pub(crate) fn make_connection(&mut self, number: u64, machine: u32) -> Result<Happened, Memory>
         requires few { number ≤ 1000000 }
         requires together { IsLineTogether self.old }

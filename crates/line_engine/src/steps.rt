@@ -62,7 +62,8 @@ impl State {
         }
     }
 
-    /// Does a line that gives a machine an input against which it alone can tell all reasons, or moves a board.
+    /// Does a line that gives a machine an input against which it alone can tell all reasons, or
+    /// moves a board.
     fn do_given(&mut self, number: u64, line: &ScriptLine) -> Result<Happened, Memory>
         requires few { number ≤ 1000000 }
         requires given { (is_given line.now || is_move line.now) ≡ true }
@@ -130,7 +131,10 @@ impl State {
         requires most { capacity ≤ 1024 }
         requires used { used < 2 ^ 48 }
         requires together { IsLineTogether self.old }
-        ensures { IfOk result (λ told. Unless (may_add self.old) self.old self.new told (Becomes (one_more is_bridge capacity used self.old) (made_told is_bridge (length self.old.machines + 1) capacity ∷ []) self.new told)) }
+        ensures { IfOk result
+            (λ told. Unless (may_add self.old) self.old self.new told
+            (Becomes (one_more is_bridge capacity used self.old)
+            (made_told is_bridge (length self.old.machines + 1) capacity ∷ []) self.new told)) }
     {
         if let Err(reason) = self.may_add() {
             return self.refuse(reason);
@@ -152,7 +156,9 @@ impl State {
         requires few { number ≤ 1000000 }
         requires together { IsLineTogether self.old }
         requires given { may ≡ may_do → IsGiven machine input self.old }
-        ensures { IfOk result (λ told. Unless may self.old self.new told (MachineSteps number machine input.entry self.old self.new told)) }
+        ensures { IfOk result
+            (λ told. Unless may self.old self.new told
+            (MachineSteps number machine input.entry self.old self.new told)) }
     {
         if let Err(reason) = may {
             return self.refuse(reason);
@@ -163,7 +169,9 @@ impl State {
     fn give(&mut self, number: u64, machine: u32, input: Input<'_>) -> Result<Happened, Memory>
         requires few { number ≤ 1000000 }
         requires together { IsLineTogether self.old }
-        ensures { IfOk result (λ told. Unless (may_give machine input.entry self.old) self.old self.new told (MachineSteps number machine input.entry self.old self.new told)) }
+        ensures { IfOk result
+            (λ told. Unless (may_give machine input.entry self.old) self.old self.new told
+            (MachineSteps number machine input.entry self.old self.new told)) }
     {
         let may = self.may_give(machine, &input);
         self.step_unless(may, number, machine, input)
@@ -177,7 +185,10 @@ impl State {
     ) -> Result<Happened, Memory>
         requires few { number ≤ 1000000 }
         requires together { IsLineTogether self.old }
-        ensures { IfOk result (λ told. Unless (may_give machine (inputs.Insert barcode.now) self.old) self.old self.new told (MachineSteps number machine (inputs.Insert barcode.now) self.old self.new told)) }
+        ensures { IfOk result
+            (λ told. Unless
+            (may_give machine (inputs.Insert barcode.now) self.old) self.old self.new told
+            (MachineSteps number machine (inputs.Insert barcode.now) self.old self.new told)) }
     {
         let barcode = copy_of(self.alloc, barcode)?;
         self.give(number, machine, Input::Insert(barcode))
@@ -186,7 +197,9 @@ impl State {
     fn remove(&mut self, number: u64, machine: u32, id: BoardId) -> Result<Happened, Memory>
         requires few { number ≤ 1000000 }
         requires together { IsLineTogether self.old }
-        ensures { IfOk result (λ told. Unless (may_remove machine id self.old) self.old self.new told (MachineSteps number machine (inputs.Remove id) self.old self.new told)) }
+        ensures { IfOk result
+            (λ told. Unless (may_remove machine id self.old) self.old self.new told
+            (MachineSteps number machine (inputs.Remove id) self.old self.new told)) }
     {
         let may = self.may_remove(machine, id);
         self.step_unless(may, number, machine, Input::Remove(id))
@@ -195,7 +208,9 @@ impl State {
     fn replace(&mut self, number: u64, machine: u32, id: BoardId) -> Result<Happened, Memory>
         requires few { number ≤ 1000000 }
         requires together { IsLineTogether self.old }
-        ensures { IfOk result (λ told. Unless (may_replace machine id self.old) self.old self.new told (MachineSteps number machine (inputs.Replace id) self.old self.new told)) }
+        ensures { IfOk result
+            (λ told. Unless (may_replace machine id self.old) self.old self.new told
+            (MachineSteps number machine (inputs.Replace id) self.old self.new told)) }
     {
         let may = self.may_replace(machine, id);
         self.step_unless(may, number, machine, Input::Replace(id))
@@ -205,7 +220,10 @@ impl State {
     fn will(&mut self, number: u64, machine: u32, side: Side, on: bool) -> Result<Happened, Memory>
         requires few { number ≤ 1000000 }
         requires together { IsLineTogether self.old }
-        ensures { IfOk result (λ told. Unless (may_give machine (inputs.Will side on) self.old) self.old self.new told (MachineSteps number machine (inputs.Will side on) self.old self.new told)) }
+        ensures { IfOk result
+            (λ told. Unless
+            (may_give machine (inputs.Will side on) self.old) self.old self.new told
+            (MachineSteps number machine (inputs.Will side on) self.old self.new told)) }
     {
         self.give(number, machine, Input::Will(side, on))
     }
@@ -220,7 +238,10 @@ impl State {
     ) -> Result<Happened, Memory>
         requires few { number ≤ 1000000 }
         requires together { IsLineTogether self.old }
-        ensures { IfOk result (λ told. Unless (may_give machine (inputs.Level line on) self.old) self.old self.new told (MachineSteps number machine (inputs.Level line on) self.old self.new told)) }
+        ensures { IfOk result
+            (λ told. Unless
+            (may_give machine (inputs.Level line on) self.old) self.old self.new told
+            (MachineSteps number machine (inputs.Level line on) self.old self.new told)) }
     {
         self.give(number, machine, Input::Level(line, on))
     }
@@ -229,7 +250,10 @@ impl State {
     fn query(&mut self, number: u64, machine: u32, barcode: &Text) -> Result<Happened, Memory>
         requires few { number ≤ 1000000 }
         requires together { IsLineTogether self.old }
-        ensures { IfOk result (λ told. Unless (may_give machine (inputs.Query barcode.now) self.old) self.old self.new told (MachineSteps number machine (inputs.Query barcode.now) self.old self.new told)) }
+        ensures { IfOk result
+            (λ told. Unless
+            (may_give machine (inputs.Query barcode.now) self.old) self.old self.new told
+            (MachineSteps number machine (inputs.Query barcode.now) self.old self.new told)) }
     {
         let barcode = barcode.copy(self.alloc)?;
         self.give(number, machine, Input::Query(barcode))
@@ -239,7 +263,9 @@ impl State {
     fn fault(&mut self, number: u64, machine: u32, side: Side) -> Result<Happened, Memory>
         requires few { number ≤ 1000000 }
         requires together { IsLineTogether self.old }
-        ensures { IfOk result (λ told. Unless (may_give machine (inputs.Fault side) self.old) self.old self.new told (MachineSteps number machine (inputs.Fault side) self.old self.new told)) }
+        ensures { IfOk result
+            (λ told. Unless (may_give machine (inputs.Fault side) self.old) self.old self.new told
+            (MachineSteps number machine (inputs.Fault side) self.old self.new told)) }
     {
         self.give(number, machine, Input::Fault(side))
     }
@@ -248,7 +274,10 @@ impl State {
     fn supervise(&mut self, number: u64, machine: u32) -> Result<Happened, Memory>
         requires few { number ≤ 1000000 }
         requires together { IsLineTogether self.old }
-        ensures { IfOk result (λ told. Unless (may_give machine (inputs.Supervise true) self.old) self.old self.new told (MachineSteps number machine (inputs.Supervise true) self.old self.new told)) }
+        ensures { IfOk result
+            (λ told. Unless
+            (may_give machine (inputs.Supervise true) self.old) self.old self.new told
+            (MachineSteps number machine (inputs.Supervise true) self.old self.new told)) }
     {
         self.give(number, machine, Input::Supervise(true))
     }
@@ -257,13 +286,17 @@ impl State {
     fn ask(&mut self, number: u64, machine: u32, question: &Question) -> Result<Happened, Memory>
         requires few { number ≤ 1000000 }
         requires together { IsLineTogether self.old }
-        ensures { IfOk result (λ told. Unless (may_give machine (inputs.Ask question.now) self.old) self.old self.new told (MachineSteps number machine (inputs.Ask question.now) self.old self.new told)) }
+        ensures { IfOk result
+            (λ told. Unless
+            (may_give machine (inputs.Ask question.now) self.old) self.old self.new told
+            (MachineSteps number machine (inputs.Ask question.now) self.old self.new told)) }
     {
         let question = question.copy(self.alloc)?;
         self.give(number, machine, Input::Ask(question))
     }
 
-    /// The supervisor answers a machine's question of this number. The reason against a second answer has the first.
+    /// The supervisor answers a machine's question of this number. The reason against a second
+    /// answer has the first.
     #[tactic(auto, using(crate::proofs::Answered::answer_given))]
     fn answer(
         &mut self,
@@ -274,7 +307,9 @@ impl State {
     ) -> Result<Happened, Memory>
         requires few { number ≤ 1000000 }
         requires together { IsLineTogether self.old }
-        ensures { IfOk result (λ told. Unless (may_answer machine query order.now self.old) self.old self.new told (MachineSteps number machine (inputs.Answer query order.now) self.old self.new told)) }
+        ensures { IfOk result
+            (λ told. Unless (may_answer machine query order.now self.old) self.old self.new told
+            (MachineSteps number machine (inputs.Answer query order.now) self.old self.new told)) }
     {
         let order = order.copy(self.alloc)?;
         let input = Input::Answer { query, order };
@@ -285,7 +320,9 @@ impl State {
     fn sense(&mut self, number: u64, machine: u32) -> Result<Happened, Memory>
         requires few { number ≤ 1000000 }
         requires together { IsLineTogether self.old }
-        ensures { IfOk result (λ told. Unless (may_sense machine self.old) self.old self.new told (MachineSteps number machine inputs.Nothing self.old self.new told)) }
+        ensures { IfOk result
+            (λ told. Unless (may_sense machine self.old) self.old self.new told
+            (MachineSteps number machine inputs.Nothing self.old self.new told)) }
     {
         let may = self.may_sense(machine);
         self.step_unless(may, number, machine, Input::Nothing)
@@ -296,7 +333,9 @@ impl State {
     fn connect(&mut self, number: u64, machine: u32) -> Result<Happened, Memory>
         requires few { number ≤ 1000000 }
         requires together { IsLineTogether self.old }
-        ensures { IfOk result (λ told. Unless (may_connect machine self.old) self.old self.new told (Connects number machine self.old self.new told)) }
+        ensures { IfOk result
+            (λ told. Unless (may_connect machine self.old) self.old self.new told
+            (Connects number machine self.old self.new told)) }
     {
         if let Err(reason) = self.may_connect(machine) {
             return self.refuse(reason);
@@ -313,7 +352,9 @@ impl State {
     ) -> Result<Happened, Memory>
         requires few { number ≤ 1000000 }
         requires together { IsLineTogether self.old }
-        ensures { IfOk result (λ told. Unless (may_flow machine side self.old) self.old self.new told (Flows number machine side count self.old self.new told)) }
+        ensures { IfOk result
+            (λ told. Unless (may_flow machine side self.old) self.old self.new told
+            (Flows number machine side count self.old self.new told)) }
     {
         if let Err(reason) = self.may_flow(machine, side) {
             return self.refuse(reason);
@@ -324,14 +365,18 @@ impl State {
     fn notice(&mut self, number: u64, machine: u32, side: Side) -> Result<Happened, Memory>
         requires few { number ≤ 1000000 }
         requires together { IsLineTogether self.old }
-        ensures { IfOk result (λ told. Unless (may_notice machine side self.old) self.old self.new told (MachineSteps number machine (inputs.Notice side) self.old self.new told)) }
+        ensures { IfOk result
+            (λ told. Unless (may_notice machine side self.old) self.old self.new told
+            (MachineSteps number machine (inputs.Notice side) self.old self.new told)) }
     {
         let may = self.may_notice(machine, side);
         self.step_unless(may, number, machine, Input::Notice(side))
     }
 
     fn cut(&mut self, gap: u32) -> Result<Happened, Memory>
-        ensures { IfOk result (λ told. Unless (may_cut gap self.old) self.old self.new told (Becomes (cut_in gap self.old) (happenings.Cut gap ∷ []) self.new told)) }
+        ensures { IfOk result
+            (λ told. Unless (may_cut gap self.old) self.old self.new told
+            (Becomes (cut_in gap self.old) (happenings.Cut gap ∷ []) self.new told)) }
     {
         if let Err(reason) = self.may_cut(gap) {
             return self.refuse(reason);
@@ -341,7 +386,10 @@ impl State {
     }
 
     fn spoil(&mut self, machine: u32, side: Side) -> Result<Happened, Memory>
-        ensures { IfOk result (λ told. Unless (may_spoil machine side self.old) self.old self.new told (Becomes (spoiled machine side self.old) (spoil_told machine side self.old) self.new told)) }
+        ensures { IfOk result
+            (λ told. Unless (may_spoil machine side self.old) self.old self.new told
+            (Becomes (spoiled machine side self.old)
+            (spoil_told machine side self.old) self.new told)) }
     {
         if let Err(reason) = self.may_spoil(machine, side) {
             return self.refuse(reason);
@@ -366,7 +414,10 @@ impl State {
 
     fn lie(&mut self, number: u64, machine: u32, sensed: Sensed) -> Result<Happened, Memory>
         requires { IsLineTogether self.old }
-        ensures { IfOk result (λ told. Unless (may_lie machine sensed.side self.old) self.old self.new told (Becomes (lied number machine sensed self.old) (happenings.Lie machine sensed ∷ unvouched_told self.old.unvouched) self.new told)) }
+        ensures { IfOk result
+            (λ told. Unless (may_lie machine sensed.side self.old) self.old self.new told
+            (Becomes (lied number machine sensed self.old)
+            (happenings.Lie machine sensed ∷ unvouched_told self.old.unvouched) self.new told)) }
     {
         if let Err(reason) = self.may_lie(machine, sensed.side) {
             return self.refuse(reason);
@@ -379,7 +430,10 @@ impl State {
     /// A board comes out of a bridge's segment, or goes into it, and no sensor sees it.
     fn unseen(&mut self, number: u64, machine: u32, side: Side) -> Result<Happened, Memory>
         requires { IsLineTogether self.old }
-        ensures { IfOk result (λ told. Unless (may_unseen machine side self.old) self.old self.new told (Becomes (unseen number machine side self.old) (happenings.Unseen machine side ∷ unvouched_told self.old.unvouched) self.new told)) }
+        ensures { IfOk result
+            (λ told. Unless (may_unseen machine side self.old) self.old self.new told
+            (Becomes (unseen number machine side self.old)
+            (happenings.Unseen machine side ∷ unvouched_told self.old.unvouched) self.new told)) }
     {
         if let Err(reason) = self.may_unseen(machine, side) {
             return self.refuse(reason);
@@ -389,11 +443,12 @@ impl State {
         self.doubt(number, told)
     }
 
-    /// The first line that told what was not so, or moved a board unseen, is told as the one from which on nobody vouches
-    /// for the standings.
+    /// The first line that told what was not so, or moved a board unseen, is told as the one from
+    /// which on nobody vouches for the standings.
     fn doubt(&mut self, number: u64, mut told: Happened) -> Result<Happened, Memory>
         ensures told { IfOk result (λ more. more ≡ told ++ unvouched_told self.old.unvouched) }
-        ensures after { IfOk result (λ _. self.new ≡ record self.old { unvouched = first_of number self.old.unvouched }) }
+        ensures after { IfOk result
+            (λ _. self.new ≡ record self.old { unvouched = first_of number self.old.unvouched }) }
     {
         match self.unvouched {
             Some(_) => Ok(told),
@@ -445,7 +500,9 @@ fn add_node(
     requires least { 1 ≤ capacity }
     requires most { capacity ≤ 1024 }
     requires used { used < 2 ^ 48 }
-    ensures { OnOk result (machines.new.items ≡ machines.old.items ++ new_node (profile_of is_bridge number capacity used) ∷ []) }
+    ensures { OnOk result
+        (machines.new.items ≡ machines.old.items
+        ++ new_node (profile_of is_bridge number capacity used) ∷ []) }
 {
     let node = new_node(*machines.allocator(), is_bridge, number, capacity, used)?;
     match machines.push(node) {

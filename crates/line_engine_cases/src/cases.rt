@@ -27,8 +27,9 @@ fn tell_script(alloc: Global, script: &str, line: &mut Line, to: &mut Vec<u8>) -
     write_summary(&line.summary(), to)
 }
 
-/// Does a line of the case: `? ID` asks where a board stands and for its marks, `? M SIDE` how many bytes are on their way to a side, `@N one;
-/// other` does two script lines in turn N times and tells nothing, and any other is a script line.
+/// Does a line of the case: `? ID` asks where a board stands and for its marks, `? M SIDE` how
+/// many bytes are on their way to a side, `@N one; other` does two script lines in turn N times
+/// and tells nothing, and any other is a script line.
 fn tell_text(alloc: Global, text: &str, line: &mut Line, to: &mut Vec<u8>) -> Result<(), Memory>
     requires { line.old.spent ≡ false }
     ensures { OnOk result (line.new.spent ≡ false) }

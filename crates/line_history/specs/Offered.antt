@@ -1,10 +1,10 @@
--- WHAT SETTLES IS AS IT WAS OFFERED: the record that a machine comes to keep of a handover is, word
--- for word, the one that was in the last BoardAvailable that the machine above sent before it opened
--- that handover.
+-- WHAT SETTLES IS AS IT WAS OFFERED: the record that a machine comes to keep of a handover is,
+-- word for word, the one that was in the last BoardAvailable that the machine above sent before it
+-- opened that handover.
 --
--- A message is told with all its parts, so which record was offered is read off the report. Whether
--- it is cut, closed, spoiled or revoked in between, and what is done by hand elsewhere, doesn't
--- matter here: where a board settles, it is so.
+-- A message is told with all its parts, so which record was offered is read off the report.
+-- Whether it is cut, closed, spoiled or revoked in between, and what is done by hand elsewhere,
+-- doesn't matter here: where a board settles, it is so.
 use Rattle.std.specs.Prelude.{Bool, List, None, Option, Some, [], false, if◌then◌else◌, length, take, true, ℕ, ◌&&◌, ◌++◌, ◌+◌, ◌==◌, ◌∷◌, ◌≡◌, ◌≤◌}
 use Rattle.std.specs.List.{AllByRecursion, list_any}
 use Rattle.line_base.specs.declared.states.Side.TheVariants.{Exit}
@@ -26,8 +26,8 @@ use Rattle.line_history.specs.LetGo.{is_leaving, settles_at, taken_below}
 
 -- ---- which record was offered
 
--- of what a machine tells of its exit: the record in the last BoardAvailable that it sent, and the one
--- in the last that it sent before it last opened a handover
+-- of what a machine tells of its exit: the record in the last BoardAvailable that it sent, and the
+-- one in the last that it sent before it last opened a handover
 pub record Offering : Type 0 where
   pub said : Option Record
   pub opened : Option Record
@@ -54,8 +54,8 @@ abbrev pub offers_told : ℕ → List Happening → Offering → Offering
 offers_told gap [] o = o
 offers_told gap (happening ∷ told) o = offers_told gap told (offers_happening gap happening o)
 
--- the record in the offer of the board that was let go last at a gap, behind a line: where the line
--- tells that a board has left there, the one that was offered before its handover was opened;
+-- the record in the offer of the board that was let go last at a gap, behind a line: where the
+-- line tells that a board has left there, the one that was offered before its handover was opened;
 -- otherwise the one before
 abbrev pub offered_gone : ℕ → Option Record → Offering → List Happening → Option Record
 offered_gone gap last o told =
@@ -86,9 +86,9 @@ pub record IsLast (board : Record) (kept : List Record) : Type 0 where
   pub others : List Record
   pub is : kept ≡ others ++ board ∷ []
 
--- the record of a board that settles in a line: the intake held it before the line, it is the one that
--- was offered, and behind the line the machine keeps it, behind all others; unless something is done by
--- hand at that machine in the same line
+-- the record of a board that settles in a line: the intake held it before the line, it is the one
+-- that was offered, and behind the line the machine keeps it, behind all others; unless something
+-- is done by hand at that machine in the same line
 pub record IsAsOffered (gap id : ℕ) (last : Option Record) (before : LineState) (point : Point)
     : Type 0 where
   pub board : Record
@@ -112,10 +112,11 @@ KeepsAsOffered gap last o s (point ∷ points) =
     let o_now = offers_told gap point.told o in
     SettlesAsOffered gap last s point × KeepsAsOffered gap last_now o_now point.after points
 
--- THE LAW: it holds at each gap over every script, up to the first line that told what was not so, or
--- let a board come or go unseen
+-- THE LAW: it holds at each gap over every script, up to the first line that told what was not so,
+-- or let a board come or go unseen
 abbrev pub WhatSettlesWasOffered : Type 0
 WhatSettlesWasOffered =
     (asked : List ScriptLine) (points : List Point) (n gap : ℕ)
     → AllByRecursion IsFitLine asked → length asked ≤ 1000000 → IsRun no_line asked points
-    → has_lie (take n points) ≡ false → KeepsAsOffered gap None none_offered no_line (take n points)
+    → has_lie (take n points) ≡ false
+    → KeepsAsOffered gap None none_offered no_line (take n points)

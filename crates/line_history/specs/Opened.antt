@@ -1,6 +1,6 @@
--- WHAT OPENS WAS STARTED LAST: wherever a machine opens the handover of a board, the report's last start at that gap is of this
--- board, nothing was opened, refused or settled there since, and the intake below holds the board's record, unless it dropped the
--- board since.
+-- WHAT OPENS WAS STARTED LAST: wherever a machine opens the handover of a board, the report's last
+-- start at that gap is of this board, nothing was opened, refused or settled there since, and the
+-- intake below holds the board's record, unless it dropped the board since.
 use Rattle.std.specs.Prelude.{Bool, List, Some, [], false, if◌then◌else◌, length, take, true, ℕ, ◌++◌, ◌+◌, ◌==◌, ◌∷◌, ◌≡◌, ◌≤◌, ◌⊎◌}
 use Rattle.std.specs.List.{AllByRecursion, list_any}
 use Rattle.board_record.specs.declared.record.Record.{Record}
@@ -18,7 +18,8 @@ use Rattle.line_history.specs.LetGo.{taken_below}
 
 -- ---- what the report tells of a gap
 
--- what is answered there is the machine's above, what is started, settled and dropped that of the machine below
+-- what is answered there is the machine's above, what is started, settled and dropped that of the
+-- machine below
 abbrev pub is_above : Deed → Bool
 is_above (deeds.Opens id) = true
 is_above (deeds.Refuses id) = true
@@ -66,8 +67,9 @@ pub record IsHeldBelow (s : LineState) (gap id : ℕ) : Type 0 where
   pub taken : taken_below s gap ≡ Some board
   pub named : board.id ≡ id
 
--- of the deeds of a gap the last start is of this board, and since then there was no start, opening, refusal or settling; and
--- the intake holds its record in this state, unless it was dropped since
+-- of the deeds of a gap the last start is of this board, and since then there was no start,
+-- opening, refusal or settling; and the intake holds its record in this state, unless it was
+-- dropped since
 pub record IsStartedFor (s : LineState) (gap id : ℕ) (told : List Deed) : Type 0 where
   pub before : List Deed
   pub since : List Deed
@@ -79,19 +81,22 @@ pub record IsStartedFor (s : LineState) (gap id : ℕ) (told : List Deed) : Type
 abbrev pub opens_at : ℕ → ℕ → Happening
 opens_at gap id = happenings.Done gap (acts.Deed (deeds.Opens id))
 
--- so it is wherever a line tells that a handover opens at a gap; `past` is what was told before it, `s` the state then
+-- so it is wherever a line tells that a handover opens at a gap; `past` is what was told before
+-- it, `s` the state then
 abbrev pub OpensAsStarted : ℕ → List Happening → LineState → List Happening → Type 0
 OpensAsStarted gap past s told = (earlier later : List Happening) (id : ℕ)
-    → told ≡ earlier ++ opens_at gap id ∷ later → IsStartedFor s gap id (gap_deeds gap (past ++ earlier))
+    → told ≡ earlier ++ opens_at gap id ∷ later
+    → IsStartedFor s gap id (gap_deeds gap (past ++ earlier))
 
 -- line after line
 abbrev pub OpensWhatStarted : ℕ → List Happening → LineState → List Point → Type 0
 OpensWhatStarted gap past s [] = Unit {0}
 OpensWhatStarted gap past s (point ∷ points) =
-    OpensAsStarted gap past s point.told × OpensWhatStarted gap (past ++ point.told) point.after points
+    OpensAsStarted gap past s point.told
+    × OpensWhatStarted gap (past ++ point.told) point.after points
 
--- THE LAW: it holds at each gap over every script, up to the first line that told what was not so, or
--- let a board come or go unseen
+-- THE LAW: it holds at each gap over every script, up to the first line that told what was not so,
+-- or let a board come or go unseen
 abbrev pub WhatOpensStarted : Type 0
 WhatOpensStarted = (asked : List ScriptLine) (points : List Point) (n gap : ℕ)
     → AllByRecursion IsFitLine asked → length asked ≤ 1000000 → IsRun no_line asked points

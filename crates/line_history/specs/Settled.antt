@@ -1,7 +1,9 @@
--- A BOARD SETTLES ONLY WHEN IT WAS SAID: a machine tells that a board settles only after it has heard that its transport
--- ended upstream, in the connection of the handover, or has heard the upstream machine describe itself in a later one.
+-- A BOARD SETTLES ONLY WHEN IT WAS SAID: a machine tells that a board settles only after it has
+-- heard that its transport ended upstream, in the connection of the handover, or has heard the
+-- upstream machine describe itself in a later one.
 --
--- Everything here is a look back over what was told of one machine, of its entry alone. No state of a machine is named.
+-- Everything here is a look back over what was told of one machine, of its entry alone. No state
+-- of a machine is named.
 use Rattle.std.specs.Prelude.{Bool, List, [], false, if◌then◌else◌, length, take, true, ℕ, ◌&&◌, ◌++◌, ◌+◌, ◌==◌, ◌||◌, ◌∷◌, ◌≡◌, ◌≤◌}
 use Rattle.std.specs.List.{AllByRecursion, list_any}
 use Rattle.line_base.specs.declared.states.Side.TheVariants.{Entry}
@@ -21,7 +23,8 @@ use Rattle.one_standing.specs.Standing.{IsFitLine}
 
 -- ---- what a machine does at its entry
 
--- what bears on a handover there: the messages that are heard, the ends of the connection, and the deeds of the entry
+-- what bears on a handover there: the messages that are heard, the ends of the connection, and the
+-- deeds of the entry
 abbrev pub is_at_entry : Act → Bool
 is_at_entry (acts.Hears Entry message) = true
 is_at_entry (acts.Closes Entry) = true
@@ -32,7 +35,8 @@ is_at_entry (acts.Deed (deeds.Drops id)) = true
 is_at_entry _ = false
 
 abbrev pub entry_act : ℕ → Happening → List Act
-entry_act machine (happenings.Done other act) = if other == machine && is_at_entry act then act ∷ [] else []
+entry_act machine (happenings.Done other act) =
+    if other == machine && is_at_entry act then act ∷ [] else []
 entry_act machine _ = []
 
 -- the acts of a machine at its entry, in their order
@@ -76,15 +80,18 @@ abbrev pub hears_description : Act → Bool
 hears_description (acts.Hears Entry message) = says_itself message.body
 hears_description _ = false
 
--- of the acts since a start of this board: while its connection stood the end of the transport was heard, or after that
--- connection ended a description was
+-- of the acts since a start of this board: while its connection stood the end of the transport was
+-- heard, or after that connection ended a description was
 abbrev pub is_said : ℕ → List Act → Bool
 is_said id [] = false
-is_said id (act ∷ told) = if ends_connection act then list_any hears_description told else hears_end id act || is_said id told
+is_said id (act ∷ told) =
+    if ends_connection act then list_any hears_description told else hears_end id act
+    || is_said id told
 
 -- ---- the law
 
--- what was told ends in a start of this board and acts since, no other start among them, in which it was said
+-- what was told ends in a start of this board and acts since, no other start among them, in which
+-- it was said
 pub record IsSaid (id : ℕ) (told : List Act) : Type 0 where
   pub before : List Act
   pub since : List Act
@@ -94,9 +101,14 @@ pub record IsSaid (id : ℕ) (told : List Act) : Type 0 where
 
 -- wherever a machine settles a board, it was said
 abbrev pub SettlesWhenSaid : ℕ → List Happening → Type 0
-SettlesWhenSaid machine told = (earlier later : List Act) (id : ℕ) → entry_acts machine told ≡ earlier ++ settles id ∷ later → IsSaid id earlier
+SettlesWhenSaid machine told =
+    (earlier later : List Act) (id : ℕ) → entry_acts machine told ≡ earlier ++ settles id ∷ later
+    → IsSaid id earlier
 
--- THE LAW: it holds of the machine behind each gap over every script, up to the first line that told what was not so, or
--- let a board come or go unseen
+-- THE LAW: it holds of the machine behind each gap over every script, up to the first line that
+-- told what was not so, or let a board come or go unseen
 abbrev pub BoardsSettleWhenSaid : Type 0
-BoardsSettleWhenSaid = (asked : List ScriptLine) (points : List Point) (n gap : ℕ) → AllByRecursion IsFitLine asked → length asked ≤ 1000000 → IsRun no_line asked points → has_lie (take n points) ≡ false → SettlesWhenSaid (gap + 1) (all_told (take n points))
+BoardsSettleWhenSaid =
+    (asked : List ScriptLine) (points : List Point) (n gap : ℕ) → AllByRecursion IsFitLine asked
+    → length asked ≤ 1000000 → IsRun no_line asked points → has_lie (take n points) ≡ false
+    → SettlesWhenSaid (gap + 1) (all_told (take n points))

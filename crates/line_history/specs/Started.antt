@@ -1,8 +1,9 @@
--- WHAT AN INTAKE HOLDS WAS STARTED LAST: the record that the intake below a gap holds is of the board that the report's last
--- start at that gap names, and since that start no board has settled or been dropped there.
+-- WHAT AN INTAKE HOLDS WAS STARTED LAST: the record that the intake below a gap holds is of the
+-- board that the report's last start at that gap names, and since that start no board has settled
+-- or been dropped there.
 --
--- So while both halves of a gap hold a record, which is one then (one of the custody facts), the opening that the outlet's
--- record is of answers that start.
+-- So while both halves of a gap hold a record, which is one then (one of the custody facts), the
+-- opening that the outlet's record is of answers that start.
 use Rattle.std.specs.Prelude.{Bool, List, Some, [], false, length, take, true, ℕ, ◌++◌, ◌+◌, ◌∷◌, ◌≡◌, ◌≤◌}
 use Rattle.std.specs.List.{AllByRecursion, list_any}
 use Rattle.board_record.specs.declared.record.Record.{Record}
@@ -24,7 +25,8 @@ is_over (acts.Deed (deeds.Settles id)) = true
 is_over (acts.Deed (deeds.Drops id)) = true
 is_over _ = false
 
--- of the acts of an entry the last start is of this board, and nothing settled or was dropped since
+-- of the acts of an entry the last start is of this board, and nothing settled or was dropped
+-- since
 pub record IsStartedLast (id : ℕ) (told : List Act) : Type 0 where
   pub before : List Act
   pub since : List Act
@@ -36,9 +38,14 @@ pub record IsStartedLast (id : ℕ) (told : List Act) : Type 0 where
 abbrev pub HoldsWhatStarted : ℕ → List Happening → List Point → Type 0
 HoldsWhatStarted gap past [] = Unit {0}
 HoldsWhatStarted gap past (point ∷ points) =
-    ((board : Record) → taken_below point.after gap ≡ Some board → IsStartedLast board.id (entry_acts (gap + 1) (past ++ point.told))) × HoldsWhatStarted gap (past ++ point.told) points
+    ((board : Record) → taken_below point.after gap ≡ Some board
+    → IsStartedLast board.id (entry_acts (gap + 1) (past ++ point.told)))
+    × HoldsWhatStarted gap (past ++ point.told) points
 
--- THE LAW: it holds at each gap over every script, up to the first line that told what was not so, or
--- let a board come or go unseen
+-- THE LAW: it holds at each gap over every script, up to the first line that told what was not so,
+-- or let a board come or go unseen
 abbrev pub WhatIsHeldStarted : Type 0
-WhatIsHeldStarted = (asked : List ScriptLine) (points : List Point) (n gap : ℕ) → AllByRecursion IsFitLine asked → length asked ≤ 1000000 → IsRun no_line asked points → has_lie (take n points) ≡ false → HoldsWhatStarted gap [] (take n points)
+WhatIsHeldStarted =
+    (asked : List ScriptLine) (points : List Point) (n gap : ℕ) → AllByRecursion IsFitLine asked
+    → length asked ≤ 1000000 → IsRun no_line asked points → has_lie (take n points) ≡ false
+    → HoldsWhatStarted gap [] (take n points)

@@ -6,9 +6,9 @@ ghost use Rattle.line_history.specs.Opened.{WhatOpensStarted};
 ghost use Rattle.line_history.specs.Settled.{BoardsSettleWhenSaid};
 ghost use Rattle.line_history.specs.Started.{WhatIsHeldStarted};
 
-/// A board settles only after the end of its transport was heard, in the connection of its handover, or the upstream
-/// machine's description of itself in a later one: over every script up to the first line that told what was not so, or let a
-/// board come or go unseen.
+/// A board settles only after the end of its transport was heard, in the connection of its
+/// handover, or the upstream machine's description of itself in a later one: over every script up
+/// to the first line that told what was not so, or let a board come or go unseen.
 pub fn boards_settle_when_it_is_said()
     ensures { BoardsSettleWhenSaid }
 {
@@ -19,7 +19,8 @@ pub fn boards_settle_when_it_is_said()
     link_messages::laws::the_words_behind_a_nul_are_fit();
 }
 
-/// The record of a board that settles at a gap is the one that the outlet above let go there last: over the same lines.
+/// The record of a board that settles at a gap is the one that the outlet above let go there last:
+/// over the same lines.
 pub fn what_settles_is_what_left()
     ensures { WhatSettlesLeft }
 {
@@ -30,9 +31,10 @@ pub fn what_settles_is_what_left()
     link_messages::laws::the_words_behind_a_nul_are_fit();
 }
 
-/// The record of a board that settles at a gap is, with all its parts, the one in the last BoardAvailable that the machine above
-/// sent before it opened that handover; and behind the line the machine below keeps it, behind all others, unless something is
-/// done by hand at that machine in the same line: over the same lines.
+/// The record of a board that settles at a gap is, with all its parts, the one in the last
+/// BoardAvailable that the machine above sent before it opened that handover; and behind the line
+/// the machine below keeps it, behind all others, unless something is done by hand at that machine
+/// in the same line: over the same lines.
 pub fn what_settles_was_offered()
     ensures { WhatSettlesWasOffered }
 {
@@ -43,8 +45,8 @@ pub fn what_settles_was_offered()
     link_messages::laws::the_words_behind_a_nul_are_fit();
 }
 
-/// The record that the intake below a gap holds after a line is of the board of the report's last start there, and nothing
-/// settled or was dropped there since: over the same lines.
+/// The record that the intake below a gap holds after a line is of the board of the report's last
+/// start there, and nothing settled or was dropped there since: over the same lines.
 pub fn what_an_intake_holds_was_started_last()
     ensures { WhatIsHeldStarted }
 {
@@ -55,9 +57,9 @@ pub fn what_an_intake_holds_was_started_last()
     link_messages::laws::the_words_behind_a_nul_are_fit();
 }
 
-/// Where a machine opens the handover of a board, the report's last start at that gap is of this board, nothing was opened,
-/// refused or settled there since, and the intake below holds the board's record, unless it dropped the board since: over the
-/// same lines.
+/// Where a machine opens the handover of a board, the report's last start at that gap is of this
+/// board, nothing was opened, refused or settled there since, and the intake below holds the
+/// board's record, unless it dropped the board since: over the same lines.
 pub fn what_opens_was_started_last()
     ensures { WhatOpensStarted }
 {

@@ -4,7 +4,8 @@ use Rattle.line_base.specs.declared.states.Role.{Role}
 use Rattle.line_base.specs.declared.states.Role.TheVariants.{Upstream, Downstream}
 use Rattle.line_link.specs.Texts.{bytes_of, with_byte_in_first}
 
--- the texts that were sent and have not wholly arrived, the oldest first, and how many bytes of the oldest have arrived
+-- the texts that were sent and have not wholly arrived, the oldest first, and how many bytes of
+-- the oldest have arrived
 pub record Stream : Type 0 where
   pub texts : List (List ℕ)
   pub arrived : ℕ
@@ -22,10 +23,15 @@ abbrev pub with_text : List ℕ → Stream → Stream
 with_text [] stream = stream
 with_text (byte ∷ bytes) stream = record stream { texts = stream.texts ++ (byte ∷ bytes) ∷ [] }
 
--- so many bytes of some texts have arrived, counted from the front of the oldest: the texts that have wholly arrived go
+-- so many bytes of some texts have arrived, counted from the front of the oldest: the texts that
+-- have wholly arrived go
 abbrev pub reached : ℕ → List (List ℕ) → Stream
 reached count [] = dry
-reached count (text ∷ texts) = if nat_lt count (length text) then record { texts = text ∷ texts; arrived = count } else reached (count - length text) texts
+reached count (text ∷ texts) =
+    if nat_lt count (length text) then record {
+      texts = text ∷ texts;
+      arrived = count;
+    } else reached (count - length text) texts
 
 -- so many more bytes arrive, or what there is
 abbrev pub with_arrival : ℕ → Stream → Stream
@@ -41,10 +47,12 @@ abbrev pub flowing : Option ℕ → Stream → ℕ
 flowing None stream = rest_of stream.texts stream.arrived
 flowing (Some count) stream = min count (length (coming stream))
 
--- a NUL byte is put before the next byte to arrive: into the oldest text, or as a text of its own where there is none
+-- a NUL byte is put before the next byte to arrive: into the oldest text, or as a text of its own
+-- where there is none
 abbrev pub nul_put : List (List ℕ) → ℕ → Stream
 nul_put [] arrived = record { texts = (0 ∷ []) ∷ []; arrived = 0 }
-nul_put (text ∷ texts) arrived = record { texts = with_byte_in_first arrived 0 (text ∷ texts); arrived = arrived }
+nul_put (text ∷ texts) arrived =
+    record { texts = with_byte_in_first arrived 0 (text ∷ texts); arrived = arrived }
 
 abbrev pub with_nul : Stream → Stream
 with_nul stream = nul_put stream.texts stream.arrived

@@ -8,8 +8,8 @@ use Rattle.line_link.specs.declared.link.Connected.{Connected}
 use Rattle.line_link.specs.declared.link.Connected.TheVariants.{Accepted, Second}
 use Rattle.line_link.specs.Flow.{Stream, Streams, both_dry, coming, dry, flowing, is_begun, stream_to, with_arrival, with_nul, with_stream_to, with_text}
 
--- a link: for each end the number of its connection, or none; whether it stands; what flows to each end; and how many
--- connections were made on it
+-- a link: for each end the number of its connection, or none; whether it stands; what flows to
+-- each end; and how many connections were made on it
 pub record LinkParts : Type 0 where
   pub upstream : Option ℕ
   pub downstream : Option ℕ
@@ -63,13 +63,15 @@ fate to link = if is_too_much to link then Cuts else Flows
 
 -- an end sends a text: it vanishes where the link doesn't stand
 abbrev pub after_send : Role → List ℕ → LinkParts → LinkParts
-after_send from text link = if link.stands then within_limit (across from) (texted (across from) text link) else link
+after_send from text link =
+    if link.stands then within_limit (across from) (texted (across from) text link) else link
 
 abbrev pub sent_of : Role → List ℕ → LinkParts → Sent
-sent_of from text link = if link.stands then fate (across from) (texted (across from) text link) else Vanishes
+sent_of from text link =
+    if link.stands then fate (across from) (texted (across from) text link) else Vanishes
 
--- the upstream end answers a second connection: the text flows to the downstream end though the link doesn't stand, where
--- that end has a connection
+-- the upstream end answers a second connection: the text flows to the downstream end though the
+-- link doesn't stand, where that end has a connection
 abbrev pub answer_of : Option ℕ → List ℕ → LinkParts → LinkParts
 answer_of None text link = link
 answer_of (Some _) text link = within_limit Downstream (texted Downstream text link)
@@ -86,7 +88,8 @@ answer_sent text link = fate_of_answer link.downstream text link
 
 -- bytes arrive at an end: so many or what there is, or the rest of the oldest text
 abbrev pub after_flow : Role → Option ℕ → LinkParts → LinkParts
-after_flow to count link = with_flow_to to (with_arrival (flowing count (flow_to to link)) (flow_to to link)) link
+after_flow to count link =
+    with_flow_to to (with_arrival (flowing count (flow_to to link)) (flow_to to link)) link
 
 -- a NUL byte is put before the next byte to arrive at an end
 abbrev pub nulled : Role → LinkParts → LinkParts
@@ -104,17 +107,20 @@ without_number Upstream link = record link { upstream = None }
 without_number Downstream link = record link { downstream = None }
 
 abbrev pub after_close : Role → LinkParts → LinkParts
-after_close end link = record (without_number end link) { stands = false; flows = with_stream_to end dry link.flows }
+after_close end link =
+    record (without_number end link) { stands = false; flows = with_stream_to end dry link.flows }
 
 -- the number of the next connection. The count stands still at its type's end
 abbrev pub next_number : ℕ → ℕ
 next_number made = min (made + 1) 18446744073709551615
 
--- the downstream end connects: it gets a new number. Where the upstream end has none it gets the same one and the link
--- stands; else the connection is a second one, and the link doesn't stand
+-- the downstream end connects: it gets a new number. Where the upstream end has none it gets the
+-- same one and the link stands; else the connection is a second one, and the link doesn't stand
 abbrev pub connected : Option ℕ → ℕ → LinkParts → LinkParts
-connected None number link = record link { upstream = Some number; downstream = Some number; stands = true; made = number }
-connected (Some other) number link = record link { downstream = Some number; stands = false; made = number }
+connected None number link =
+    record link { upstream = Some number; downstream = Some number; stands = true; made = number }
+connected (Some other) number link =
+    record link { downstream = Some number; stands = false; made = number }
 
 abbrev pub after_connect : LinkParts → LinkParts
 after_connect link = connected link.upstream (next_number link.made) link

@@ -19,7 +19,8 @@ impl Model for Flows {
 
     ghost Value = { Streams };
 
-    ghost view = { λ flows. record { to_upstream = flows.to_upstream; to_downstream = flows.to_downstream } };
+    ghost view = { λ flows.
+        record { to_upstream = flows.to_upstream; to_downstream = flows.to_downstream } };
 }
 
 impl Flows {
@@ -53,7 +54,8 @@ impl Flows {
 
     /// The bytes that arrive at an end next.
     pub fn next(&self, to: Role, count: Option<u32>) -> &[u8]
-        ensures { result.now ≡ take (flowing count (stream_to to self.now)) (coming (stream_to to self.now)) }
+        ensures { result.now ≡ take (flowing count (stream_to to self.now))
+            (coming (stream_to to self.now)) }
     {
         let flow = match to {
             Role::Upstream => &self.to_upstream,
@@ -64,7 +66,9 @@ impl Flows {
 
     /// Bytes arrive at an end.
     pub fn arrive(&mut self, to: Role, count: Option<u32>)
-        ensures { self.new ≡ with_stream_to to (with_arrival (flowing count (stream_to to self.old)) (stream_to to self.old)) self.old }
+        ensures { self.new
+            ≡ with_stream_to to
+            (with_arrival (flowing count (stream_to to self.old)) (stream_to to self.old)) self.old }
     {
         match to {
             Role::Upstream => {
@@ -80,7 +84,8 @@ impl Flows {
 
     /// A text is on its way to an end. `Memory` where there is no room; all is then as it was.
     pub fn push(&mut self, to: Role, text: &[u8]) -> Result<(), Memory>
-        ensures ok { OnOk result (self.new ≡ with_stream_to to (with_text text.now (stream_to to self.old)) self.old) }
+        ensures ok { OnOk result
+            (self.new ≡ with_stream_to to (with_text text.now (stream_to to self.old)) self.old) }
         ensures memory { OnErr result (self.new ≡ self.old) }
     {
         match to {
@@ -89,10 +94,11 @@ impl Flows {
         }
     }
 
-    /// A NUL byte is put before the next byte to arrive at an end. `Memory` where there is no room;
-    /// all is then as it was.
+    /// A NUL byte is put before the next byte to arrive at an end. `Memory` where there is no
+    /// room; all is then as it was.
     pub fn put_nul(&mut self, to: Role) -> Result<(), Memory>
-        ensures ok { OnOk result (self.new ≡ with_stream_to to (with_nul (stream_to to self.old)) self.old) }
+        ensures ok { OnOk result
+            (self.new ≡ with_stream_to to (with_nul (stream_to to self.old)) self.old) }
         ensures memory { OnErr result (self.new ≡ self.old) }
     {
         match to {

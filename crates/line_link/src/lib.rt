@@ -1,7 +1,8 @@
 //! The link between two neighbouring machines of a line: its two ends, whether it stands, and the
 //! texts on their way in each direction.
 //!
-//! For a reader: what flows in one direction is in specs/Flow, a link and its events in specs/Link.
+//! For a reader: what flows in one direction is in specs/Flow, a link and its events in
+//! specs/Link.
 #![tactic(auto)]
 
 mod flow;

@@ -32,8 +32,8 @@ pub enum Connected {
 
 /// The link between a machine, its upstream end, and the next, its downstream end.
 ///
-/// It is seen as the connection numbers of its two ends, whether it stands, what flows to each end,
-/// and how many connections were made on it. An end is named by its role.
+/// It is seen as the connection numbers of its two ends, whether it stands, what flows to each
+/// end, and how many connections were made on it. An end is named by its role.
 #[derive(Debug, Drop)]
 pub struct Link {
     upstream: Option<u64>,
@@ -48,9 +48,24 @@ impl Model for Link {
 
     ghost Value = { LinkParts };
 
-    ghost view = { λ link. record { upstream = link.upstream; downstream = link.downstream; stands = link.stands; flows = link.flows; made = link.made } };
+    ghost view = { λ link.
+        record {
+          upstream = link.upstream;
+          downstream = link.downstream;
+          stands = link.stands;
+          flows = link.flows;
+          made = link.made;
+        } };
 
-    ghost invariant = { λ link. IsLinkTogether (record { upstream = link.upstream; downstream = link.downstream; stands = link.stands; flows = link.flows; made = link.made }) };
+    ghost invariant = { λ link.
+        IsLinkTogether
+        (record {
+          upstream = link.upstream;
+          downstream = link.downstream;
+          stands = link.stands;
+          flows = link.flows;
+          made = link.made;
+        }) };
 }
 
 impl Link {
@@ -68,7 +83,8 @@ impl Link {
     }
 
     /// What can stand together: a link that stands has one connection at both ends, nothing flows
-    /// to an end without a connection, and at most 1,048,576 bytes are on their way in a direction.
+    /// to an end without a connection, and at most 1,048,576 bytes are on their way in a
+    /// direction.
     pub fn together(&self)
         ensures together { IsLinkTogether self.now }
         ensures begun { AreBegun self.now.flows }
@@ -103,7 +119,8 @@ impl Link {
     /// The bytes that arrive at an end next: so many or what there is, or the rest of the oldest
     /// text. They are lent, and arrive by `arrive`.
     pub fn next(&self, to: Role, count: Option<u32>) -> &[u8]
-        ensures { result.now ≡ take (flowing count (flow_to to self.now)) (coming (flow_to to self.now)) }
+        ensures { result.now ≡ take (flowing count (flow_to to self.now))
+            (coming (flow_to to self.now)) }
     {
         self.flows.next(to, count)
     }
@@ -147,8 +164,8 @@ impl Link {
 
     /// A NUL byte is put before the next byte to arrive at an end of a link that stands: into the
     /// oldest text, or as a text of its own where none is on its way. It cuts the link where it
-    /// lets more than 1,048,576 bytes be on their way. `Memory` where there is no room; the link is
-    /// then as it was.
+    /// lets more than 1,048,576 bytes be on their way. `Memory` where there is no room; the link
+    /// is then as it was.
     pub fn spoil(&mut self, to: Role) -> Result<Sent, Memory>
         requires { self.old.stands ≡ true }
         ensures after { IfOk result (λ _. self.new ≡ after_spoil to self.old) }

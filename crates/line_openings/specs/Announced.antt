@@ -1,13 +1,14 @@
--- OPENINGS EXACTLY WHEN ANNOUNCED: a machine opens a handover at its exit where the start of a board is heard while that
--- board and the place for it are announced, and nowhere else.
+-- OPENINGS EXACTLY WHEN ANNOUNCED: a machine opens a handover at its exit where the start of a
+-- board is heard while that board and the place for it are announced, and nowhere else.
 --
--- Everything here is a look back over what was told of one machine, of messages and deeds at its exit alone. No state of
--- a machine is named, and no neighbour.
+-- Everything here is a look back over what was told of one machine, of messages and deeds at its
+-- exit alone. No state of a machine is named, and no neighbour.
 --
--- What is not said here. That a start ever comes. That the neighbour still wants what it announced: an announcement counts
--- as it was heard, and a close of which the machine hasn't learnt yet revokes nothing. What a start meets that is heard
--- and opens nothing (the handover is refused then). Which start of the neighbour it was that is heard, and what it holds
--- of the board then: that needs what lies between the two machines. And what an opening leads to.
+-- What is not said here. That a start ever comes. That the neighbour still wants what it
+-- announced: an announcement counts as it was heard, and a close of which the machine hasn't
+-- learnt yet revokes nothing. What a start meets that is heard and opens nothing (the handover is
+-- refused then). Which start of the neighbour it was that is heard, and what it holds of the board
+-- then: that needs what lies between the two machines. And what an opening leads to.
 use Rattle.std.specs.Prelude.{◌≡◌, ◌↔◌, ◌++◌, ◌==◌, ◌&&◌, ℕ, Bool, true, false, List, [], ◌∷◌, Option, Some, None, if◌then◌else◌}
 use Rattle.line_base.specs.declared.states.Side.TheVariants.{Exit}
 use Rattle.hermes_horizontal.specs.declared.kind.Kind.TheVariants as kinds
@@ -56,7 +57,8 @@ abbrev pub exit_act : ℕ → Happening → List Act
 exit_act k (happenings.Done machine act) = if machine == k && is_on_exit act then act ∷ [] else []
 exit_act k _ = []
 
--- the acts of machine k on its exit, in their order. The switching of a drive is not told, and so not among them
+-- the acts of machine k on its exit, in their order. The switching of a drive is not told, and so
+-- not among them
 abbrev pub exit_acts : ℕ → List Happening → List Act
 exit_acts k [] = []
 exit_acts k (happening ∷ told) = exit_act k happening ++ exit_acts k told
@@ -137,7 +139,8 @@ is_ready_by told = is_ready_in (last_of bears_on_place told)
 
 -- ---- the law
 
--- after what was told so far, board id is announced by machine k, and the place for it to machine k
+-- after what was told so far, board id is announced by machine k, and the place for it to machine
+-- k
 pub record IsAnnounced (k id : ℕ) (told : List Happening) : Type 0 where
   pub board : offered_by (exit_acts k told) ≡ Some id
   pub place : is_ready_by (exit_acts k told) ≡ true
@@ -165,16 +168,25 @@ pub record IsAsked (k id : ℕ) (told : List Happening) : Type 0 where
 abbrev pub breaks_at_start : ℕ → Happening
 breaks_at_start k = happenings.Done k (acts.Breaches Exit (unexpected kinds.StartTransport))
 
--- Wherever machine k hears StartTransport of a board, the very next happening opens its handover exactly where board and
--- place are announced by then. It hears one only where a place is announced, and breaks the connection off at one only
--- where none is. And wherever it opens a handover, the happening just before is such a hearing.
+-- Wherever machine k hears StartTransport of a board, the very next happening opens its handover
+-- exactly where board and place are announced by then. It hears one only where a place is
+-- announced, and breaks the connection off at one only where none is. And wherever it opens a
+-- handover, the happening just before is such a hearing.
 pub record OpensAsAnnounced (k : ℕ) (told : List Happening) : Type 0 where
-  pub exactly : (earlier later : List Happening) (message : Message) (id : ℕ) → message.body ≡ bodies.StartTransport id → told ≡ earlier ++ hears k message ∷ later → (first_of later ≡ Some (opens k id)) ↔ IsAnnounced k id earlier
-  pub in_place : (earlier later : List Happening) (message : Message) (id : ℕ) → message.body ≡ bodies.StartTransport id → told ≡ earlier ++ hears k message ∷ later → is_ready_by (exit_acts k earlier) ≡ true
-  pub no_other : (earlier later : List Happening) (id : ℕ) → told ≡ earlier ++ opens k id ∷ later → IsAsked k id earlier
-  pub no_place : (earlier later : List Happening) → told ≡ earlier ++ breaks_at_start k ∷ later → is_ready_by (exit_acts k earlier) ≡ false
+  pub exactly : (earlier later : List Happening) (message : Message) (id : ℕ)
+      → message.body ≡ bodies.StartTransport id → told ≡ earlier ++ hears k message ∷ later
+      → (first_of later ≡ Some (opens k id)) ↔ IsAnnounced k id earlier
+  pub in_place : (earlier later : List Happening) (message : Message) (id : ℕ)
+      → message.body ≡ bodies.StartTransport id → told ≡ earlier ++ hears k message ∷ later
+      → is_ready_by (exit_acts k earlier) ≡ true
+  pub no_other : (earlier later : List Happening) (id : ℕ) → told ≡ earlier ++ opens k id ∷ later
+      → IsAsked k id earlier
+  pub no_place : (earlier later : List Happening) → told ≡ earlier ++ breaks_at_start k ∷ later
+      → is_ready_by (exit_acts k earlier) ≡ false
 
--- THE LAW: it holds of each machine over every run, whatever connections are cut, closed or spoiled and whatever is told
--- of the sensors
+-- THE LAW: it holds of each machine over every run, whatever connections are cut, closed or
+-- spoiled and whatever is told of the sensors
 abbrev pub OpensWhenAnnounced : Type 0
-OpensWhenAnnounced = (asked : List ScriptLine) (points : List Point) (k : ℕ) → IsRun no_line asked points → OpensAsAnnounced k (all_told points)
+OpensWhenAnnounced =
+    (asked : List ScriptLine) (points : List Point) (k : ℕ) → IsRun no_line asked points
+    → OpensAsAnnounced k (all_told points)

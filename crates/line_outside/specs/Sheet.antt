@@ -16,7 +16,11 @@ told true bytes = None
 
 abbrev pub written : Option (List ℕ) → ℕ → List ℕ → Page
 written None room piece = record { contents = None; room = room }
-written (Some bytes) room piece = if nat_lt room (length piece) then record { contents = None; room = room } else record { contents = Some (bytes ++ piece); room = room - length piece }
+written (Some bytes) room piece =
+    if nat_lt room (length piece) then record {
+      contents = None;
+      room = room;
+    } else record { contents = Some (bytes ++ piece); room = room - length piece }
 
 -- the page after a piece: it is appended where it fits; a piece that doesn't fit is dropped, and
 -- from then on the page doesn't tell its contents
@@ -33,14 +37,17 @@ pub record Sheet : Type 0 where
 
 -- whether the next call is listed as failing
 abbrev pub fails_next : List ℕ → ℕ → Bool
-fails_next failing calls = list_any (λ number. nat_eq number (min (calls + 1) (2 ^ 64 - 1))) failing
+fails_next failing calls =
+    list_any (λ number. nat_eq number (min (calls + 1) (2 ^ 64 - 1))) failing
 
 -- what the next push answers: a failure exactly where the call is listed, else the whole piece
 abbrev pub pushes_at : Sheet → List ℕ → Push
-pushes_at sheet piece = if fails_next sheet.failing sheet.calls then pushes.Failed else pushes.Took (length piece)
+pushes_at sheet piece =
+    if fails_next sheet.failing sheet.calls then pushes.Failed else pushes.Took (length piece)
 
 abbrev pub page_after : Sheet → List ℕ → Page
-page_after sheet piece = if fails_next sheet.failing sheet.calls then sheet.page else grown sheet.page piece
+page_after sheet piece =
+    if fails_next sheet.failing sheet.calls then sheet.page else grown sheet.page piece
 
 -- how many calls failed, after a push that answers so: one more exactly where it failed
 abbrev pub faults_after : ℕ → Push → ℕ

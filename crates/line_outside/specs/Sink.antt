@@ -33,4 +33,5 @@ HasPushCause before now Failed = (before ≤ now) × Rose before now
 -- a front of them is
 abbrev pub PushesAll : Option (List ℕ) → Option (List ℕ) → ℕ → ℕ → List ℕ → Pushed → Type 0
 PushesAll old new before now bytes pushes.Whole = (before ≤ now) × Grows old new bytes
-PushesAll old new before now bytes pushes.Failed = (before ≤ now) × Rose before now × GrowsInPart old new bytes
+PushesAll old new before now bytes pushes.Failed =
+    (before ≤ now) × Rose before now × GrowsInPart old new bytes

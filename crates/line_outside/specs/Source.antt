@@ -6,7 +6,8 @@ use Rattle.line_outside.specs.declared.source.Pull.TheVariants.{Bytes, End, Fail
 -- what a pull does to the bytes that are left, where they are told: the first bytes of the room
 -- were the next ones; at the end none were left; a failure takes none
 abbrev pub Gives : Option (List ℕ) → Option (List ℕ) → Pull → List ℕ → Type 0
-Gives old new (Bytes n) room = (1 ≤ n) × (n ≤ length room) × (old ≡ option_map (λ rest. take n room ++ rest) new)
+Gives old new (Bytes n) room =
+    (1 ≤ n) × (n ≤ length room) × (old ≡ option_map (λ rest. take n room ++ rest) new)
 Gives old new End room = (new ≡ old) × (old ≡ option_map (λ _. []) old)
 Gives old new Failed room = new ≡ old
 

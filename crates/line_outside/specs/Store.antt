@@ -42,7 +42,8 @@ left_first [] room = []
 left_first (founds.Bytes bytes ∷ others) room = founds.Bytes (drop room bytes) ∷ others
 left_first (found ∷ others) room = others
 
--- WHAT THE NEXT POLL FINDS, with a room of so many bytes; a way whose answers are used up has nothing
+-- WHAT THE NEXT POLL FINDS, with a room of so many bytes; a way whose answers are used up has
+-- nothing
 abbrev pub found_next : List GotBytes → ℕ → GotBytes
 found_next answers room = found_first (passed answers) room
 
@@ -86,7 +87,8 @@ given_as (calls.Closes way) bytes = Closes way
 -- the calls, each with its part of the bytes
 abbrev pub given_of : List PortCall → List ℕ → List Given
 given_of [] bytes = []
-given_of (call ∷ others) bytes = given_as call (take (weight_of call) bytes) ∷ given_of others (drop (weight_of call) bytes)
+given_of (call ∷ others) bytes =
+    given_as call (take (weight_of call) bytes) ∷ given_of others (drop (weight_of call) bytes)
 
 -- how many bytes go with some calls
 abbrev pub weights_of : List PortCall → ℕ
@@ -105,9 +107,20 @@ told true given = None
 
 abbrev pub account_with : Option (List Given) → ℕ → ℕ → Given → ℕ → Account
 account_with None calls bytes call weight = record { given = None; calls = calls; bytes = bytes }
-account_with (Some given) calls bytes call weight = if nat_lt 0 calls && nat_le weight bytes then record { given = Some (given ++ call ∷ []); calls = calls - 1; bytes = bytes - weight } else record { given = None; calls = calls; bytes = bytes }
+account_with (Some given) calls bytes call weight =
+    if nat_lt 0 calls && nat_le weight bytes then record {
+      given = Some (given ++ call ∷ []);
+      calls = calls - 1;
+      bytes = bytes - weight;
+    } else record {
+      given = None;
+      calls = calls;
+      bytes =
+          bytes;
+    }
 
--- the account after one call more: it is told where there is room for it, and else no call is told from then on
+-- the account after one call more: it is told where there is room for it, and else no call is told
+-- from then on
 abbrev pub noted : Account → Given → ℕ → Account
 noted account call weight = account_with account.given account.calls account.bytes call weight
 
@@ -160,7 +173,11 @@ fails_next store = list_any (λ number. nat_eq number (next_call store)) store.f
 
 -- the store after such a call: it is counted, and where it fails as a fault too
 abbrev pub counted : Store → Store
-counted store = record store { calls = next_call store; faults = if fails_next store then one_more store.faults else store.faults }
+counted store =
+    record store {
+      calls = next_call store;
+      faults = if fails_next store then one_more store.faults else store.faults;
+    }
 
 abbrev pub opened_next : Store → Opened
 opened_next store = if fails_next store then opens.Failed else opens.Done
@@ -187,7 +204,8 @@ abbrev pub polled : Way → ℕ → Store → Store
 polled way room store =
     let found = found_next (answers_at way store) room in
     let left = with_answers way (left_next (answers_at way store) room) store in
-    with_call (record left { faults = faults_after store.faults found }) (Polls way room found) (weight_of_found found)
+    with_call (record left { faults = faults_after store.faults found }) (Polls way room found)
+    (weight_of_found found)
 
 -- the bytes that a poll put at the front of the room
 abbrev pub bytes_of_got : Got → List ℕ → List ℕ

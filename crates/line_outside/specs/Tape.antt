@@ -19,7 +19,10 @@ pulled (byte ∷ left) room = pulls.Bytes (min (length (byte ∷ left)) room)
 
 -- what the next pull answers: a failure exactly where the call's number is listed
 abbrev pub pulls_at : Tape → ℕ → Pull
-pulls_at tape room = if list_any (λ number. nat_eq number (min (tape.calls + 1) (2 ^ 64 - 1))) tape.failing then pulls.Failed else pulled tape.left room
+pulls_at tape room =
+    if list_any (λ number.
+    nat_eq number (min (tape.calls + 1) (2 ^ 64 - 1))) tape.failing then pulls.Failed else pulled
+    tape.left room
 
 -- how many calls failed, after a pull that answers so: one more exactly where it failed
 abbrev pub faults_after : ℕ → Pull → ℕ

@@ -8,7 +8,8 @@ use std::marker::Model;
 
 /// What ports in memory tell: their calls, with the bytes of all of them in one block.
 ///
-/// Its room is taken when it is made. A call that doesn't fit is not told, and from then on none is.
+/// Its room is taken when it is made. A call that doesn't fit is not told, and from then on none
+/// is.
 #[derive(Debug, Drop)]
 pub struct Told {
     calls: Vec<PortCall>,
@@ -25,15 +26,22 @@ impl Model for Told {
 
     ghost Value = { Account };
 
-    ghost view = { λ t. record { given = told t.dropped (given_of t.calls.items t.bytes.items); calls = t.calls_room; bytes = t.bytes_room } };
+    ghost view = { λ t. record {
+      given = told t.dropped (given_of t.calls.items t.bytes.items);
+      calls = t.calls_room;
+      bytes = t.bytes_room;
+    } };
 
-    ghost invariant = { λ t. HasRoom (vec_len t.calls) t.calls_room (vec_capacity t.calls) (vec_len t.bytes) t.bytes_room (vec_capacity t.bytes) (weights_of t.calls.items) (length t.bytes.items) };
+    ghost invariant = { λ t. HasRoom (vec_len t.calls) t.calls_room (vec_capacity t.calls)
+        (vec_len t.bytes) t.bytes_room (vec_capacity t.bytes) (weights_of t.calls.items)
+        (length t.bytes.items) };
 }
 
 impl Told {
     /// Nothing yet, with room for so many calls and so many bytes.
     pub fn new(alloc: Global, calls_room: usize, bytes_room: usize) -> Result<Told, Memory>
-        ensures { IfOk result (λ t. t ≡ record { given = Some []; calls = calls_room; bytes = bytes_room }) }
+        ensures { IfOk result
+            (λ t. t ≡ record { given = Some []; calls = calls_room; bytes = bytes_room }) }
     {
         let calls = match Vec::with_capacity(alloc, calls_room) {
             Ok(calls) => calls,

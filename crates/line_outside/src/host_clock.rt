@@ -9,8 +9,8 @@ const LAST_MILLIS: u128 = 253_402_300_799_999;
 
 /// The host's clock, in the civil time of Greenwich. It tells nothing of its moments.
 ///
-/// Where the host's clock can't be read, or is out of the range of a moment, it answers the moment that it gave last, at
-/// first 1970-01-01T00:00:00.000.
+/// Where the host's clock can't be read, or is out of the range of a moment, it answers the moment
+/// that it gave last, at first 1970-01-01T00:00:00.000.
 #[derive(Drop)]
 pub struct HostClock<R: HostTime> {
     host: R,

@@ -15,9 +15,10 @@ use line_base::Memory;
 use std::alloc::Global;
 use std::marker::Model;
 
-/// Ports in memory. A poll of a way finds the next of that way's answers, and nothing where they are used up. Bytes that
-/// don't fit the room are given in several polls, and no bytes at all are passed over. Listening and asking for a
-/// connection is done, and each piece is taken whole, but at the calls that are listed as failing.
+/// Ports in memory. A poll of a way finds the next of that way's answers, and nothing where they
+/// are used up. Bytes that don't fit the room are given in several polls, and no bytes at all are
+/// passed over. Listening and asking for a connection is done, and each piece is taken whole, but
+/// at the calls that are listed as failing.
 #[derive(Debug, Drop)]
 pub struct MemoryPorts {
     panel: PollList,
@@ -33,12 +34,23 @@ pub struct MemoryPorts {
 impl Model for MemoryPorts {
     ghost Value = { Store };
 
-    ghost view = { λ p. record { panel = p.panel; upstream = p.upstream; downstream = p.downstream; supervisory = p.supervisory; account = p.told; failing = p.failing.items; calls = p.calls; faults = p.faults } };
+    ghost view = { λ p. record {
+      panel = p.panel;
+      upstream = p.upstream;
+      downstream = p.downstream;
+      supervisory = p.supervisory;
+      account = p.told;
+      failing = p.failing.items;
+      calls =
+          p.calls;
+      faults = p.faults;
+    } };
 }
 
 impl MemoryPorts {
-    /// Ports with these answers, of which no call fails but a poll that answers so. They take room to tell so many calls,
-    /// and so many bytes of pieces and of what polls give together; what doesn't fit is not told, nor what comes behind it.
+    /// Ports with these answers, of which no call fails but a poll that answers so. They take room
+    /// to tell so many calls, and so many bytes of pieces and of what polls give together; what
+    /// doesn't fit is not told, nor what comes behind it.
     pub fn new(
         alloc: Global,
         answers: &[PortAnswer],
@@ -50,8 +62,8 @@ impl MemoryPorts {
         MemoryPorts::failing(alloc, answers, calls, bytes, &[])
     }
 
-    /// The same, but for the calls of listen, connect, send and refuse with these numbers: they fail. All those calls
-    /// together are numbered from 1.
+    /// The same, but for the calls of listen, connect, send and refuse with these numbers: they
+    /// fail. All those calls together are numbered from 1.
     pub fn failing(
         alloc: Global,
         answers: &[PortAnswer],
@@ -82,10 +94,11 @@ impl MemoryPorts {
         })
     }
 
-    /// All calls so far and the bytes that go with them, each call's behind those of the calls before it, where they are
-    /// told still.
+    /// All calls so far and the bytes that go with them, each call's behind those of the calls
+    /// before it, where they are told still.
     pub fn told(&self) -> Option<(&[PortCall], &[u8])>
-        ensures { option_map (λ told. given_of told.0.now told.1.now) result ≡ self.now.account.given }
+        ensures { option_map (λ told. given_of told.0.now told.1.now) result
+            ≡ self.now.account.given }
     {
         self.told.told()
     }
@@ -131,8 +144,10 @@ impl MemoryPorts {
     /// What the next poll of a way finds.
     fn find_next(&mut self, way: Way, room: &mut [u8]) -> Got
         requires { 0 < length room.old }
-        ensures found { got_bytes result room.new ≡ found_next (answers_at way self.old) (length room.new) }
-        ensures left { self.new ≡ with_answers way (left_next (answers_at way self.old) (length room.new)) self.old }
+        ensures found { got_bytes result room.new
+            ≡ found_next (answers_at way self.old) (length room.new) }
+        ensures left { self.new
+            ≡ with_answers way (left_next (answers_at way self.old) (length room.new)) self.old }
         ensures within { IsGotWithin (length room.new) result }
     {
         match way {
@@ -167,7 +182,8 @@ impl Ports for MemoryPorts {
     }
 
     fn connect(&mut self, way: Way, address: Address) -> Opened
-        ensures told { Gains self.old.account.given self.new.account.given (Connects way address result ∷ []) }
+        ensures told { Gains self.old.account.given self.new.account.given
+            (Connects way address result ∷ []) }
         ensures cause { HasOpenCause self.old.faults self.new.faults result }
         // the listed calls fail, and no others
         ensures answer { result ≡ opened_next self.old }
@@ -185,12 +201,14 @@ impl Ports for MemoryPorts {
 
     fn poll(&mut self, way: Way, room: &mut [u8]) -> Got
         requires { 0 < length room.old }
-        ensures told { Gains self.old.account.given self.new.account.given (Polls way (length room.new) (got_bytes result room.new) ∷ []) }
+        ensures told { Gains self.old.account.given self.new.account.given
+            (Polls way (length room.new) (got_bytes result room.new) ∷ []) }
         ensures within { IsGotWithin (length room.new) result }
         ensures cause { HasGotCause self.old.faults self.new.faults result }
         ensures nothing { IsQuiet (Some (is_quiet (answers_at way self.old))) result }
         // the next of the way's answers
-        ensures answer { got_bytes result room.new ≡ found_next (answers_at way self.old) (length room.new) }
+        ensures answer { got_bytes result room.new
+            ≡ found_next (answers_at way self.old) (length room.new) }
         ensures store { self.new ≡ polled way (length room.new) self.old }
     {
         let got = self.find_next(way, room);
@@ -208,13 +226,15 @@ impl Ports for MemoryPorts {
 
     fn send(&mut self, way: Way, piece: &[u8]) -> Sent
         requires { 0 < length piece.now }
-        ensures told { Gains self.old.account.given self.new.account.given (Sends way piece.now result ∷ []) }
+        ensures told { Gains self.old.account.given self.new.account.given
+            (Sends way piece.now result ∷ []) }
         ensures within { IsSentWithin piece.now result }
         ensures cause { HasSentCause self.old.faults self.new.faults result }
         ensures nothing { IsStuck (Some false) result }
         // the whole piece, but at the listed calls
         ensures answer { result ≡ sent_next self.old piece.now }
-        ensures store { self.new ≡ with_call (counted self.old) (Sends way piece.now result) (length piece.now) }
+        ensures store { self.new ≡ with_call (counted self.old) (Sends way piece.now result)
+            (length piece.now) }
     {
         let sent = self.sent_next(piece);
         let call = PortCall::Sends {
@@ -227,13 +247,15 @@ impl Ports for MemoryPorts {
     }
 
     fn refuse(&mut self, way: Way, piece: &[u8]) -> Sent
-        ensures told { Gains self.old.account.given self.new.account.given (Refuses way piece.now result ∷ []) }
+        ensures told { Gains self.old.account.given self.new.account.given
+            (Refuses way piece.now result ∷ []) }
         ensures within { IsRefusedWithin piece.now result }
         ensures cause { HasSentCause self.old.faults self.new.faults result }
         ensures nothing { IsStuck (Some false) result }
         // the whole piece, but at the listed calls
         ensures answer { result ≡ sent_next self.old piece.now }
-        ensures store { self.new ≡ with_call (counted self.old) (Refuses way piece.now result) (length piece.now) }
+        ensures store { self.new ≡ with_call (counted self.old) (Refuses way piece.now result)
+            (length piece.now) }
     {
         let sent = self.sent_next(piece);
         let call = PortCall::Refuses {

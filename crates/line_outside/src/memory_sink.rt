@@ -21,14 +21,27 @@ pub struct MemorySink {
 impl Model for MemorySink {
     ghost Value = { Sheet };
 
-    ghost view = { λ sink. record { page = sink.sink; failing = sink.failing.items; calls = sink.calls; faults = sink.faults } };
+    ghost view = { λ sink.
+        record {
+          page = sink.sink;
+          failing = sink.failing.items;
+          calls = sink.calls;
+          faults = sink.faults;
+        } };
 }
 
 impl MemorySink {
     /// An empty sink with room for so many bytes. `failing` lists the numbers of the calls that
     /// fail, from 1.
     pub fn new(alloc: Global, room: usize, failing: &[u64]) -> Result<MemorySink, Memory>
-        ensures { IfOk result (λ sink. sink ≡ record { page = record { contents = Some []; room = room }; failing = failing.now; calls = 0; faults = 0 }) }
+        ensures { IfOk result
+            (λ sink. sink
+            ≡ record {
+              page = record { contents = Some []; room = room };
+              failing = failing.now;
+              calls = 0;
+              faults = 0;
+            }) }
     {
         let sink = SteadySink::new(alloc, room)?;
         match Vec::from_slice(alloc, failing) {

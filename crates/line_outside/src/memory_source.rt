@@ -21,13 +21,21 @@ pub struct MemorySource {
 impl Model for MemorySource {
     ghost Value = { Tape };
 
-    ghost view = { λ source. record { left = source.source; failing = source.failing.items; calls = source.calls; faults = source.faults } };
+    ghost view = { λ source.
+        record {
+          left = source.source;
+          failing = source.failing.items;
+          calls = source.calls;
+          faults = source.faults;
+        } };
 }
 
 impl MemorySource {
     /// A source of these bytes. `failing` lists the numbers of the calls that fail, from 1.
     pub fn new(alloc: Global, bytes: &[u8], failing: &[u64]) -> Result<MemorySource, Memory>
-        ensures { IfOk result (λ source. source ≡ record { left = bytes.now; failing = failing.now; calls = 0; faults = 0 }) }
+        ensures { IfOk result
+            (λ source.
+            source ≡ record { left = bytes.now; failing = failing.now; calls = 0; faults = 0 }) }
     {
         let source = SteadySource::new(alloc, bytes)?;
         match Vec::from_slice(alloc, failing) {

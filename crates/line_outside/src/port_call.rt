@@ -1,7 +1,8 @@
 use crate::ports::{Got, Opened, Sent};
 use crate::way::{Address, Way};
 
-/// A call of ports in memory with its answer. The bytes that a poll gave, and those of a piece, lie beside it.
+/// A call of ports in memory with its answer. The bytes that a poll gave, and those of a piece,
+/// lie beside it.
 #[derive(Clone, Copy, Debug, PartialEq, Eq)]
 pub enum PortCall {
     Listens {

@@ -46,7 +46,8 @@ pub enum Sent {
 
 /// The connections of one machine. No call waits.
 pub trait Ports {
-    /// All calls so far with their answers, in their order, where they are told. What is once untold stays untold.
+    /// All calls so far with their answers, in their order, where they are told. What is once
+    /// untold stays untold.
     ghost given: { Self → Option (List Given) };
 
     /// A count of faults. It never falls, and rises where a call fails, up to 2^64 - 1.
@@ -71,7 +72,8 @@ pub trait Ports {
     /// Looks once at what is there for a way, and puts bytes at the front of the room.
     fn poll(&mut self, way: Way, room: &mut [u8]) -> Got
         requires { 0 < length room.old }
-        ensures told { Gains (given self.old) (given self.new) (Polls way (length room.new) (got_bytes result room.new) ∷ []) }
+        ensures told { Gains (given self.old) (given self.new)
+            (Polls way (length room.new) (got_bytes result room.new) ∷ []) }
         ensures within { IsGotWithin (length room.new) result }
         ensures cause { HasGotCause (faults self.old) (faults self.new) result }
         ensures nothing { IsQuiet (quiet self.old way) result };
@@ -84,8 +86,8 @@ pub trait Ports {
         ensures cause { HasSentCause (faults self.old) (faults self.new) result }
         ensures nothing { IsStuck (stuck self.old way) result };
 
-    /// Tries once to send a piece to the second connection that waits, and closes that connection. An empty piece is
-    /// allowed: nothing is sent then.
+    /// Tries once to send a piece to the second connection that waits, and closes that connection.
+    /// An empty piece is allowed: nothing is sent then.
     fn refuse(&mut self, way: Way, piece: &[u8]) -> Sent
         ensures told { Gains (given self.old) (given self.new) (Refuses way piece.now result ∷ []) }
         ensures within { IsRefusedWithin piece.now result }

@@ -15,7 +15,8 @@ pub enum Pushed {
 /// Pushes all of the bytes, piece by piece. `Failed` only where the sink's count of faults rose in
 /// this call, or stood at its last value.
 pub fn push_all<K: Sink>(sink: &mut K, bytes: &[u8]) -> Pushed
-    ensures { PushesAll (K.contents sink.old) (K.contents sink.new) (K.faults sink.old) (K.faults sink.new) bytes.now result }
+    ensures { PushesAll (K.contents sink.old) (K.contents sink.new) (K.faults sink.old)
+        (K.faults sink.new) bytes.now result }
 {
     let mut at = 0;
     while at < bytes.len() {

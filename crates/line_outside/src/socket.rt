@@ -12,8 +12,8 @@ const DRAIN_BYTES: usize = 512;
 /// How often at most a connection that is closed is read once more.
 const DRAINS: u32 = 64;
 
-/// The sockets of one way: where it listens, the connection that stands or was asked for, and one that waits to be
-/// refused.
+/// The sockets of one way: where it listens, the connection that stands or was asked for, and one
+/// that waits to be refused.
 #[derive(Drop)]
 pub struct Socket {
     listener: Option<TcpListener>,
@@ -225,8 +225,8 @@ fn sent_of(kind: ErrorKind) -> Sent
     }
 }
 
-/// Closes a connection so that what was sent last still arrives: a socket that is closed with bytes unread would throw
-/// away what its peer has not read yet.
+/// Closes a connection so that what was sent last still arrives: a socket that is closed with
+/// bytes unread would throw away what its peer has not read yet.
 fn part(stream: Option<TcpStream>) {
     let Some(mut stream) = stream else {
         return;

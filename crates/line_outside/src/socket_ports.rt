@@ -14,13 +14,16 @@ use std::time::{Clock, Duration};
 /// How long the ports pause where nothing comes any more, in milliseconds.
 const PAUSE: u64 = 1;
 
-/// How many turns in a row find nothing before they pause. A peer that answers at once is awaited without a pause.
+/// How many turns in a row find nothing before they pause. A peer that answers at once is awaited
+/// without a pause.
 const QUIET_TURNS: u32 = 64;
 
-/// Ports over the host's sockets, which never block. They tell nothing of what was called and answered.
+/// Ports over the host's sockets, which never block. They tell nothing of what was called and
+/// answered.
 ///
-/// A turn of polls begins at the way Panel. Where in 64 turns in a row nothing came and nothing was sent they pause for
-/// about a millisecond in each turn that follows, so that a machine at rest leaves the processor alone.
+/// A turn of polls begins at the way Panel. Where in 64 turns in a row nothing came and nothing
+/// was sent they pause for about a millisecond in each turn that follows, so that a machine at
+/// rest leaves the processor alone.
 #[derive(Drop)]
 pub struct SocketPorts<R: Net + Clock> {
     host: R,

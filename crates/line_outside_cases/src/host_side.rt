@@ -25,7 +25,8 @@ pub fn clocks(host: &(impl rt::Clock + Clone + Drop)) -> &'static str {
     "right"
 }
 
-/// Two ends on this machine: one listens for its downstream neighbour, the other connects. Each line of what they found.
+/// Two ends on this machine: one listens for its downstream neighbour, the other connects. Each
+/// line of what they found.
 pub fn sockets<R>(host: &R) -> &'static str
 where
     R: Net + rt::Clock + Clone + Drop,

@@ -6,7 +6,8 @@ use line_outside::{
 use std::alloc::{AllocError, Global};
 use std::str;
 
-/// The calls that fail, the room for calls and for bytes, the answers in store, and what is asked in turn.
+/// The calls that fail, the room for calls and for bytes, the answers in store, and what is asked
+/// in turn.
 pub fn memory(alloc: Global, asked: &str) -> Result<String, AllocError> {
     let Some((failing, rooms, answers, asks)) = parts_of(asked) else {
         return String::from_str(alloc, "no case");

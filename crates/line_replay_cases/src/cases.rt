@@ -41,7 +41,8 @@ fn do_script(
     Ok(())
 }
 
-/// Does a line of the script, and follows it. What is no line, and what comes behind it, is left out.
+/// Does a line of the script, and follows it. What is no line, and what comes behind it, is left
+/// out.
 fn do_text(alloc: Global, text: &str, line: &mut Line, replay: &mut Replay) -> Result<(), Memory>
     requires { line.old.spent ≡ false }
     ensures { OnOk result (line.new.spent ≡ false) }

@@ -44,8 +44,8 @@ impl Ledger {
         Ok(standing_of(marks.as_slice()))
     }
 
-    /// Notes a deed, and answers whether it was legal: it finds the mark that it takes and doesn't find the one that it adds, and
-    /// an id that it makes is new.
+    /// Notes a deed, and answers whether it was legal: it finds the mark that it takes and doesn't
+    /// find the one that it adds, and an id that it makes is new.
     pub fn note(&mut self, deed: Deed) -> Result<bool, AllocError>
         requires { gap_of deed < 2 ^ 32 - 1 }
     {

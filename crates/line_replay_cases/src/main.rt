@@ -1,5 +1,5 @@
-//! Whole scripts as cases: a ledger is kept from what each line tells, as a reader of the report would keep it, and compared with
-//! the standings of the line and with those that it tells.
+//! Whole scripts as cases: a ledger is kept from what each line tells, as a reader of the report
+//! would keep it, and compared with the standings of the line and with those that it tells.
 #![tactic(auto)]
 
 mod cases;

@@ -21,7 +21,8 @@ pub struct Replay {
     pub deeds: u64,
     /// The standings that were told, and are the ledger's.
     pub told: u64,
-    /// The standings of the line that are the ledger's: after each line that of each id that was named.
+    /// The standings of the line that are the ledger's: after each line that of each id that was
+    /// named.
     pub compared: u64,
     wrong: Option<Wrong>,
     /// Whether a line told what was not so; from then on nothing is compared.

@@ -41,9 +41,11 @@ use Rattle.line_report.specs.declared.summary.Summary.{Summary}
 
 -- ---- texts of others
 
--- a text within a line: an end of a line in it is written as in an element, so that no text makes a line of its own
+-- a text within a line: an end of a line in it is written as in an element, so that no text makes
+-- a line of its own
 abbrev pub byte_in_line : ℕ → List ℕ
-byte_in_line byte = if byte == 10 then codes "&#10;" else (if byte == 13 then codes "&#13;" else byte ∷ [])
+byte_in_line byte =
+    if byte == 10 then codes "&#10;" else (if byte == 13 then codes "&#13;" else byte ∷ [])
 
 abbrev pub in_line : List ℕ → List ℕ
 in_line text = flat_map byte_in_line text
@@ -118,8 +120,8 @@ abbrev pub id_or_none : Option ℕ → List ℕ
 id_or_none None = codes " none"
 id_or_none (Some id) = codes " " ++ id_text id
 
--- the type of a CheckAlive that has one, the code of a Notification, the state of StopTransport and TransportFinished,
--- the id of a SendBoardInfo
+-- the type of a CheckAlive that has one, the code of a Notification, the state of StopTransport
+-- and TransportFinished, the id of a SendBoardInfo
 abbrev pub mark_of : Horizontal → List ℕ
 mark_of (bodies.CheckAlive ping id) = ping_text ping
 mark_of (bodies.Notification code severity text) = codes " " ++ decimal code.number
@@ -145,7 +147,8 @@ of_board word number id = numbered word number ++ codes " " ++ id_text id
 abbrev pub at_side : List ℕ → ℕ → Side → List ℕ
 at_side word machine side = numbered word machine ++ codes " " ++ side_text side
 
--- the gap of a deed: that behind the machine for a board on its way out, that before it for one on its way in
+-- the gap of a deed: that behind the machine for a board on its way out, that before it for one on
+-- its way in
 abbrev pub deed_text : ℕ → Deed → List ℕ
 deed_text machine (deeds.Opens id) = of_board (codes "opens") machine id
 deed_text machine (deeds.Refuses id) = of_board (codes "refuses") machine id
@@ -177,12 +180,15 @@ signal_word signals.ExitReady = codes "exit-ready"
 
 -- a word, a machine's number, a signal, and whether it is on
 abbrev pub switched : List ℕ → ℕ → List ℕ → Bool → List ℕ
-switched word machine signal on = numbered word machine ++ codes " " ++ signal ++ codes " " ++ switch_word on
+switched word machine signal on =
+    numbered word machine ++ codes " " ++ signal ++ codes " " ++ switch_word on
 
 abbrev pub setting_text : ℕ → Setting → List ℕ
 setting_text machine (settings.Will side on) = at_side (will_word on) machine side
-setting_text machine (settings.Level line on) = switched (codes "level") machine (line_word line) on
-setting_text machine (settings.Supervise on) = numbered (codes "supervise") machine ++ codes " " ++ switch_word on
+setting_text machine (settings.Level line on) =
+    switched (codes "level") machine (line_word line) on
+setting_text machine (settings.Supervise on) =
+    numbered (codes "supervise") machine ++ codes " " ++ switch_word on
 
 -- how a board came or went, by its number in the standard's channel
 abbrev pub passing_text : Passing → List ℕ
@@ -193,31 +199,40 @@ passing_text passings.ByHand = codes "3"
 -- a machine's number, whether a board came or went, and which
 abbrev pub passed_text : ℕ → List ℕ → Passage → List ℕ
 passed_text machine word passage =
-    numbered (codes "tells") machine ++ codes " " ++ word ++ codes " " ++ id_text passage.id ++ codes " " ++ passing_text passage.how
+    numbered (codes "tells") machine ++ codes " " ++ word ++ codes " " ++ id_text passage.id
+    ++ codes " " ++ passing_text passage.how
 
 -- what a supervisor is told of a board, or asked by a number; a machine tells it nothing else
 abbrev pub told_text : ℕ → Vertical → List ℕ
 told_text machine (vertical.BoardArrived passage) = passed_text machine (codes "arrived") passage
 told_text machine (vertical.BoardDeparted passage) = passed_text machine (codes "departed") passage
-told_text machine (vertical.QueryWorkOrderInfo query question) = numbered (numbered (codes "asks") machine) query
+told_text machine (vertical.QueryWorkOrderInfo query question) =
+    numbered (numbered (codes "asks") machine) query
 told_text machine body = numbered (codes "tells") machine ++ codes " " ++ vertical_name_of body
 
 -- a drive has no text: no happening is one
 abbrev pub act_text : ℕ → Act → List ℕ
-act_text machine (acts.Reads side event) = at_side (codes "reads") machine side ++ codes " " ++ event_text event
-act_text machine (acts.Hears side message) = at_side (codes "hears") machine side ++ codes " " ++ what_text message.body
-act_text machine (acts.Breaches side text) = at_side (codes "breach") machine side ++ codes " " ++ in_line text
-act_text machine (acts.Sends side message) = at_side (codes "sends") machine side ++ codes " " ++ what_text message.body
+act_text machine (acts.Reads side event) =
+    at_side (codes "reads") machine side ++ codes " " ++ event_text event
+act_text machine (acts.Hears side message) =
+    at_side (codes "hears") machine side ++ codes " " ++ what_text message.body
+act_text machine (acts.Breaches side text) =
+    at_side (codes "breach") machine side ++ codes " " ++ in_line text
+act_text machine (acts.Sends side message) =
+    at_side (codes "sends") machine side ++ codes " " ++ what_text message.body
 act_text machine (acts.Closes side) = at_side (codes "closes") machine side
 act_text machine (acts.Notices side) = at_side (codes "notices") machine side
 act_text machine acts.Connects = numbered (codes "connects") machine
 act_text machine (acts.Deed deed) = deed_text machine deed
 act_text machine (acts.Drive side on) = []
-act_text machine (acts.Signals signal on) = switched (codes "signals") machine (signal_word signal) on
-act_text machine (acts.Marks id quality) = of_board (codes "mark") machine id ++ codes " " ++ quality_text quality
+act_text machine (acts.Signals signal on) =
+    switched (codes "signals") machine (signal_word signal) on
+act_text machine (acts.Marks id quality) =
+    of_board (codes "mark") machine id ++ codes " " ++ quality_text quality
 act_text machine (acts.Inserts id) = of_board (codes "insert") machine id
 act_text machine (acts.Removes id) = of_board (codes "remove") machine id
-act_text machine (acts.Replaces old new) = of_board (codes "replace") machine old ++ codes " " ++ id_text new
+act_text machine (acts.Replaces old new) =
+    of_board (codes "replace") machine old ++ codes " " ++ id_text new
 act_text machine (acts.Tells message) = told_text machine message.body
 act_text machine (acts.Answered query order) =
     numbered (numbered (codes "answered") machine) query ++ codes " " ++ in_line order
@@ -230,18 +245,25 @@ abbrev pub between_text : ℕ → List ℕ
 between_text gap = decimal gap ++ codes "-" ++ decimal (gap + 1)
 
 abbrev pub happening_text : Happening → List ℕ
-happening_text (happenings.Machine number capacity) = numbered (numbered (codes "machine") number) capacity
-happening_text (happenings.Bridge number capacity) = numbered (numbered (codes "bridge") number) capacity
+happening_text (happenings.Machine number capacity) =
+    numbered (numbered (codes "machine") number) capacity
+happening_text (happenings.Bridge number capacity) =
+    numbered (numbered (codes "bridge") number) capacity
 happening_text (happenings.Done machine act) = act_text machine act
 happening_text (happenings.Cut gap) = numbered (codes "cut") gap
 happening_text (happenings.Spoils machine side) = at_side (codes "spoils") machine side
-happening_text (happenings.Moved gap step) = numbered (codes "move") gap ++ codes " " ++ move_word step
-happening_text (happenings.Lie machine sensed) = at_side (codes "lie") machine sensed.side ++ codes " " ++ event_text sensed.event
-happening_text (happenings.Unseen machine side) = codes "unseen " ++ side_text side ++ codes " " ++ decimal machine
+happening_text (happenings.Moved gap step) =
+    numbered (codes "move") gap ++ codes " " ++ move_word step
+happening_text (happenings.Lie machine sensed) =
+    at_side (codes "lie") machine sensed.side ++ codes " " ++ event_text sensed.event
+happening_text (happenings.Unseen machine side) =
+    codes "unseen " ++ side_text side ++ codes " " ++ decimal machine
 happening_text happenings.Unvouched = codes "unvouched"
 happening_text (happenings.No reason) = codes "no: " ++ reason_text reason
-happening_text (happenings.Shown machine id quality) = of_board (codes "show") machine id ++ codes " " ++ quality_text quality
-happening_text (happenings.ShownBetween gap id) = codes "show " ++ between_text gap ++ codes " " ++ id_text id
+happening_text (happenings.Shown machine id quality) =
+    of_board (codes "show") machine id ++ codes " " ++ quality_text quality
+happening_text (happenings.ShownBetween gap id) =
+    codes "show " ++ between_text gap ++ codes " " ++ id_text id
 happening_text (happenings.With machine id) = of_board (codes "with") machine id
 happening_text (happenings.Between gap id) = of_board (codes "between") gap id
 happening_text (happenings.Gone id) = codes "gone " ++ id_text id
@@ -257,4 +279,7 @@ unvouched_text None = []
 unvouched_text (Some line) = codes " unvouched=" ++ decimal line
 
 abbrev pub summary_text : Summary → List ℕ
-summary_text summary = codes "end lines=" ++ decimal summary.lines ++ codes " boards=" ++ decimal summary.boards ++ codes " opened=" ++ decimal summary.opened ++ codes " settled=" ++ decimal summary.settled ++ unvouched_text summary.unvouched ++ codes "\n"
+summary_text summary =
+    codes "end lines=" ++ decimal summary.lines ++ codes " boards=" ++ decimal summary.boards
+    ++ codes " opened=" ++ decimal summary.opened ++ codes " settled=" ++ decimal summary.settled
+    ++ unvouched_text summary.unvouched ++ codes "\n"

@@ -1,4 +1,5 @@
-//! What is appended to a text. Where memory is wanting, a part of it may stand there, behind what stood there before.
+//! What is appended to a text. Where memory is wanting, a part of it may stand there, behind what
+//! stood there before.
 
 ghost use Rattle.std.specs.Prelude.{◌≡◌, ◌++◌, OnOk, codes, decimal};
 ghost use Rattle.board_record.specs.BoardId.{id_text};

@@ -1,7 +1,8 @@
 //! What a line of a script does, as it is told, and the report's text of it.
 //!
-//! For a reader, in this order: the happenings and the reasons why a line of the script does nothing (src/happening), the
-//! numbers of the last line (src/summary), and the texts of both (specs/Texts; src/texts, src/words, src/bytes).
+//! For a reader, in this order: the happenings and the reasons why a line of the script does
+//! nothing (src/happening), the numbers of the last line (src/summary), and the texts of both
+//! (specs/Texts; src/texts, src/words, src/bytes).
 #![tactic(auto)]
 
 mod bytes;

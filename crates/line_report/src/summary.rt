@@ -20,8 +20,8 @@ pub struct Summary {
     pub unvouched: Option<u64>,
 }
 
-/// Appends the last line of the report. `Memory` where there is no room for it: what stood in the text still stands then,
-/// and maybe a part of the line behind it.
+/// Appends the last line of the report. `Memory` where there is no room for it: what stood in the
+/// text still stands then, and maybe a part of the line behind it.
 pub fn write_summary(summary: &Summary, to: &mut Vec<u8>) -> Result<(), Memory>
     ensures kept { StillStands to.old.items to.new.items }
     ensures written { OnOk result (to.new.items ≡ to.old.items ++ summary_text summary.now) }

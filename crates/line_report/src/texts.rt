@@ -1,5 +1,5 @@
-//! The report's text of what happened. Where memory is wanting, a front of a text may stand there, behind what stood there
-//! before.
+//! The report's text of what happened. Where memory is wanting, a front of a text may stand there,
+//! behind what stood there before.
 
 ghost use Rattle.std.specs.Prelude.{◌≡◌, ◌++◌, OnOk, codes};
 ghost use Rattle.hermes_element.specs.Standing.{StillStands};
@@ -19,8 +19,9 @@ use hermes_vertical::{Passage, Vertical};
 use line_base::{Memory, Side};
 use node_core::{Act, Deed, Setting};
 
-/// Appends one line of the report: the number of the script line, what happened, and the line's end. `Memory` where there
-/// is no room for it: what stood in the text still stands then, and maybe a part of the line behind it.
+/// Appends one line of the report: the number of the script line, what happened, and the line's
+/// end. `Memory` where there is no room for it: what stood in the text still stands then, and
+/// maybe a part of the line behind it.
 pub fn write_happening(number: u64, what: &Happening, to: &mut Vec<u8>) -> Result<(), Memory>
     ensures kept { StillStands to.old.items to.new.items }
     ensures written { OnOk result (to.new.items ≡ to.old.items ++ entry number what.now) }
@@ -73,8 +74,8 @@ fn write_what(what: &Happening, to: &mut Vec<u8>) -> Result<(), Memory>
     }
 }
 
-/// Appends a reason in words. `Memory` where there is no room for them: what stood in the text still stands then, and maybe
-/// a part of the words behind it.
+/// Appends a reason in words. `Memory` where there is no room for them: what stood in the text
+/// still stands then, and maybe a part of the words behind it.
 pub fn write_reason(reason: &Reason, to: &mut Vec<u8>) -> Result<(), Memory>
     ensures kept { StillStands to.old.items to.new.items }
     ensures written { OnOk result (to.new.items ≡ to.old.items ++ reason_text reason.now) }
@@ -100,7 +101,8 @@ pub fn write_reason(reason: &Reason, to: &mut Vec<u8>) -> Result<(), Memory>
 /// A machine or a bridge that was added, and for how many boards it has room.
 fn write_added(word: &str, number: u32, capacity: u32, to: &mut Vec<u8>) -> Result<(), Memory>
     ensures kept { StillStands to.old.items to.new.items }
-    ensures written { OnOk result (to.new.items ≡ to.old.items ++ numbered (numbered word.now number) capacity) }
+    ensures written { OnOk result
+        (to.new.items ≡ to.old.items ++ numbered (numbered word.now number) capacity) }
 {
     write_numbered(word, number, to)?;
     append_number(u64::from(capacity), to)
@@ -109,7 +111,8 @@ fn write_added(word: &str, number: u32, capacity: u32, to: &mut Vec<u8>) -> Resu
 /// The side comes before the machine: `unseen in 2`.
 fn write_unseen(machine: u32, side: Side, to: &mut Vec<u8>) -> Result<(), Memory>
     ensures kept { StillStands to.old.items to.new.items }
-    ensures written { OnOk result (to.new.items ≡ to.old.items ++ happening_text (happenings.Unseen machine side)) }
+    ensures written { OnOk result
+        (to.new.items ≡ to.old.items ++ happening_text (happenings.Unseen machine side)) }
 {
     append(b"unseen", to)?;
     append_word(side_word(side), to)?;
@@ -119,7 +122,8 @@ fn write_unseen(machine: u32, side: Side, to: &mut Vec<u8>) -> Result<(), Memory
 /// The board that is between two machines.
 fn write_between(gap: u32, id: BoardId, to: &mut Vec<u8>) -> Result<(), Memory>
     ensures kept { StillStands to.old.items to.new.items }
-    ensures written { OnOk result (to.new.items ≡ to.old.items ++ happening_text (happenings.ShownBetween gap id)) }
+    ensures written { OnOk result
+        (to.new.items ≡ to.old.items ++ happening_text (happenings.ShownBetween gap id)) }
 {
     append(b"show ", to)?;
     write_gap(gap, to)?;
@@ -165,8 +169,9 @@ fn write_board(word: &str, number: u32, id: BoardId, to: &mut Vec<u8>) -> Result
 
 /// Appends what a report tells of one act of a machine, and nothing for a drive.
 ///
-/// `machine` is the machine's number in the line; a node tells itself by its own. `Memory` where there is no room for it:
-/// what stood in the text still stands then, and maybe a part of the act's text behind it.
+/// `machine` is the machine's number in the line; a node tells itself by its own. `Memory` where
+/// there is no room for it: what stood in the text still stands then, and maybe a part of the
+/// act's text behind it.
 pub fn write_act(machine: u32, act: &Act, to: &mut Vec<u8>) -> Result<(), Memory>
     ensures kept { StillStands to.old.items to.new.items }
     ensures written { OnOk result (to.new.items ≡ to.old.items ++ act_text machine act.now) }

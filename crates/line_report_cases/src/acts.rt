@@ -1,4 +1,5 @@
-//! The acts of the cases: the word of one, and behind it the words of its values. A message is given by its spelling.
+//! The acts of the cases: the word of one, and behind it the words of its values. A message is
+//! given by its spelling.
 
 use crate::values::{event_of, id_of, line_of, parted, quality_of, side_of, signal_of};
 use hermes_horizontal::{Message, MessageError, read_horizontal};

@@ -1,5 +1,5 @@
-//! The cases of a report: each line names a happening of script line 7, or the numbers of the last line, and is written
-//! again with the text that the report has of it.
+//! The cases of a report: each line names a happening of script line 7, or the numbers of the last
+//! line, and is written again with the text that the report has of it.
 #![tactic(auto)]
 
 mod acts;

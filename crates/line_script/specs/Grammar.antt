@@ -15,8 +15,9 @@ use Rattle.line_script.specs.declared.line.LineWhy.TheVariants as whys
 use Rattle.line_script.specs.declared.line.ScriptLine.{ScriptLine}
 use Rattle.line_script.specs.declared.line.ScriptLine.TheVariants as lines
 
--- the kinds of arguments: a number between two bounds, a board's id, one fixed word, a text word, a side of a machine, a
--- quality, a sensor event, a signal of a segment, on or off, what a work order is asked for by
+-- the kinds of arguments: a number between two bounds, a board's id, one fixed word, a text word,
+-- a side of a machine, a quality, a sensor event, a signal of a segment, on or off, what a work
+-- order is asked for by
 pub data Kind : Type 0 where
   number : ℕ → ℕ → Kind
   identity : Kind
@@ -41,8 +42,8 @@ pub data Value : Type 0 where
   switched : Bool → Value
   asked_by : AskedBy → Value
 
--- a form of line: its first word, how many arguments it may have, their kinds where there are so many, and the line
--- that their values make, or why they make none
+-- a form of line: its first word, how many arguments it may have, their kinds where there are so
+-- many, and the line that their values make, or why they make none
 pub record Form : Type 0 where
   pub word : List ℕ
   pub counts : List ℕ
@@ -95,7 +96,8 @@ made_go (numeral machine ∷ sided side ∷ []) = Ok (lines.Go machine side)
 made_go _ = Err whys.WrongCount
 
 abbrev pub made_signal : List Value → Result ScriptLine LineWhy
-made_signal (numeral machine ∷ signalled line ∷ switched on ∷ []) = Ok (lines.Signal machine line on)
+made_signal (numeral machine ∷ signalled line ∷ switched on ∷ []) =
+    Ok (lines.Signal machine line on)
 made_signal _ = Err whys.WrongCount
 
 abbrev pub made_connect : List Value → Result ScriptLine LineWhy
@@ -104,7 +106,8 @@ made_connect _ = Err whys.WrongCount
 
 abbrev pub made_flow : List Value → Result ScriptLine LineWhy
 made_flow (numeral machine ∷ sided side ∷ []) = Ok (lines.Flow machine side None)
-made_flow (numeral machine ∷ sided side ∷ numeral count ∷ []) = Ok (lines.Flow machine side (Some count))
+made_flow (numeral machine ∷ sided side ∷ numeral count ∷ []) =
+    Ok (lines.Flow machine side (Some count))
 made_flow _ = Err whys.WrongCount
 
 abbrev pub made_notice : List Value → Result ScriptLine LineWhy
@@ -145,7 +148,9 @@ is_seen_at sides.Exit events.Back = true
 is_seen_at sides.Exit events.Taken = true
 
 abbrev pub lie_of : ℕ → Side → SensorEvent → Result ScriptLine LineWhy
-lie_of machine side event = if is_seen_at side event then Ok (lines.Lie machine (record { side = side; event = event })) else Err whys.BadWord
+lie_of machine side event =
+    if is_seen_at side event then Ok
+    (lines.Lie machine (record { side = side; event = event })) else Err whys.BadWord
 
 abbrev pub made_lie : List Value → Result ScriptLine LineWhy
 made_lie (numeral machine ∷ sided side ∷ seen event ∷ []) = lie_of machine side event
@@ -200,37 +205,66 @@ made_supervise (numeral machine ∷ []) = Ok (lines.Supervise machine)
 made_supervise _ = Err whys.WrongCount
 
 abbrev pub made_ask : List Value → Result ScriptLine LineWhy
-made_ask (numeral machine ∷ asked_by by ∷ spelled text ∷ []) = Ok (lines.Ask machine (question_of by text))
+made_ask (numeral machine ∷ asked_by by ∷ spelled text ∷ []) =
+    Ok (lines.Ask machine (question_of by text))
 made_ask (numeral machine ∷ spelled place ∷ spelled magazine ∷ numeral slot ∷ []) =
     Ok (lines.Ask machine (questions.Place magazine slot))
 made_ask _ = Err whys.WrongCount
 
 abbrev pub made_answer : List Value → Result ScriptLine LineWhy
-made_answer (numeral machine ∷ numeral query ∷ spelled order ∷ []) = Ok (lines.Answer machine query order)
+made_answer (numeral machine ∷ numeral query ∷ spelled order ∷ []) =
+    Ok (lines.Answer machine query order)
 made_answer _ = Err whys.WrongCount
 
 -- how many boards a machine has room for, and how many ids it has made
 abbrev pub room_words : List Kind
 room_words = number 1 1024 ∷ literal (codes "used") ∷ number 0 281474976710655 ∷ []
 
--- THE TABLE: `machine c [used u]`, `bridge c [used u]`, `insert m [barcode]`, `query m barcode`, `remove m id`,
--- `replace m id`, `mark m id unknown|good|failed`, `hold m side`, `go m side`, `signal m ready|available|failed on|off`,
--- `connect m`, `flow m side [n]`, `notice m side`, `cut k`, `spoil m side`, `forecast m`, `shutdown m`, `tick m`,
--- `fault m side`, `lie m side event`, `unseen side m`, `sense m`, `begin k`, `left k`, `in k`, `back k`, `hand-in k`,
--- `take k`, `show`, `supervise m`, `ask m barcode|order w`, `ask m place w s`, `answer m q w`
+-- THE TABLE: `machine c [used u]`, `bridge c [used u]`, `insert m [barcode]`, `query m barcode`,
+-- `remove m id`, `replace m id`, `mark m id unknown|good|failed`, `hold m side`, `go m side`,
+-- `signal m ready|available|failed on|off`, `connect m`, `flow m side [n]`, `notice m side`, `cut
+-- k`, `spoil m side`, `forecast m`, `shutdown m`, `tick m`, `fault m side`, `lie m side event`,
+-- `unseen side m`, `sense m`, `begin k`, `left k`, `in k`, `back k`, `hand-in k`, `take k`,
+-- `show`, `supervise m`, `ask m barcode|order w`, `ask m place w s`, `answer m q w`
 abbrev pub machine_form : Form
-machine_form = record { word = codes "machine"; counts = 1 ∷ 3 ∷ []; arguments = λ _. room_words; made = made_machine }
+machine_form =
+    record {
+      word = codes "machine";
+      counts = 1 ∷ 3 ∷ [];
+      arguments = λ _. room_words;
+      made = made_machine;
+    }
 
 abbrev pub bridge_form : Form
-bridge_form = record { word = codes "bridge"; counts = 1 ∷ 3 ∷ []; arguments = λ _. room_words; made = made_bridge }
+bridge_form =
+    record {
+      word = codes "bridge";
+      counts = 1 ∷ 3 ∷ [];
+      arguments = λ _. room_words;
+      made = made_bridge;
+    }
 
 abbrev pub insert_form : Form
-insert_form = record { word = codes "insert"; counts = 1 ∷ 2 ∷ []; arguments = λ _. machine_number ∷ token ∷ []; made = made_insert }
+insert_form =
+    record {
+      word = codes "insert";
+      counts = 1 ∷ 2 ∷ [];
+      arguments = λ _.
+          machine_number ∷ token ∷ [];
+      made = made_insert;
+    }
 
 abbrev pub query_form : Form
-query_form = record { word = codes "query"; counts = 2 ∷ []; arguments = λ _. machine_number ∷ token ∷ []; made = made_query }
+query_form =
+    record {
+      word = codes "query";
+      counts = 2 ∷ [];
+      arguments = λ _. machine_number ∷ token ∷ [];
+      made = made_query;
+    }
 
--- one text says what is asked for, or a magazine and a slot of it: the second question has a word more
+-- one text says what is asked for, or a magazine and a slot of it: the second question has a word
+-- more
 abbrev pub text_words : List Kind
 text_words = machine_number ∷ asked_by_word ∷ token ∷ []
 
@@ -241,7 +275,8 @@ abbrev pub question_words : ℕ → List Kind
 question_words count = if nat_eq count 4 then place_words else text_words
 
 abbrev pub ask_form : Form
-ask_form = record { word = codes "ask"; counts = 3 ∷ 4 ∷ []; arguments = question_words; made = made_ask }
+ask_form =
+    record { word = codes "ask"; counts = 3 ∷ 4 ∷ []; arguments = question_words; made = made_ask }
 
 -- a question is named by its number, of which any that 15 digits spell may be given
 abbrev pub answer_form : Form
@@ -253,19 +288,53 @@ answer_form = record {
 }
 
 abbrev pub remove_form : Form
-remove_form = record { word = codes "remove"; counts = 2 ∷ []; arguments = λ _. machine_number ∷ identity ∷ []; made = made_remove }
+remove_form =
+    record {
+      word = codes "remove";
+      counts = 2 ∷ [];
+      arguments = λ _.
+          machine_number ∷ identity ∷ [];
+      made = made_remove;
+    }
 
 abbrev pub replace_form : Form
-replace_form = record { word = codes "replace"; counts = 2 ∷ []; arguments = λ _. machine_number ∷ identity ∷ []; made = made_replace }
+replace_form =
+    record {
+      word = codes "replace";
+      counts = 2 ∷ [];
+      arguments = λ _.
+          machine_number ∷ identity ∷ [];
+      made = made_replace;
+    }
 
 abbrev pub mark_form : Form
-mark_form = record { word = codes "mark"; counts = 3 ∷ []; arguments = λ _. machine_number ∷ identity ∷ quality_word ∷ []; made = made_mark }
+mark_form =
+    record {
+      word = codes "mark";
+      counts = 3 ∷ [];
+      arguments = λ _.
+          machine_number ∷ identity ∷ quality_word ∷ [];
+      made = made_mark;
+    }
 
 abbrev pub hold_form : Form
-hold_form = record { word = codes "hold"; counts = 2 ∷ []; arguments = λ _. machine_number ∷ side_word ∷ []; made = made_hold }
+hold_form =
+    record {
+      word = codes "hold";
+      counts = 2 ∷ [];
+      arguments = λ _.
+          machine_number ∷ side_word ∷ [];
+      made = made_hold;
+    }
 
 abbrev pub go_form : Form
-go_form = record { word = codes "go"; counts = 2 ∷ []; arguments = λ _. machine_number ∷ side_word ∷ []; made = made_go }
+go_form =
+    record {
+      word = codes "go";
+      counts = 2 ∷ [];
+      arguments = λ _. machine_number ∷ side_word ∷ [];
+      made = made_go;
+    }
 
 abbrev pub signal_form : Form
 signal_form = record {
@@ -276,84 +345,210 @@ signal_form = record {
 }
 
 abbrev pub connect_form : Form
-connect_form = record { word = codes "connect"; counts = 1 ∷ []; arguments = λ _. machine_number ∷ []; made = made_connect }
+connect_form =
+    record {
+      word = codes "connect";
+      counts = 1 ∷ [];
+      arguments = λ _. machine_number ∷ [];
+      made = made_connect;
+    }
 
 abbrev pub flow_form : Form
-flow_form = record { word = codes "flow"; counts = 2 ∷ 3 ∷ []; arguments = λ _. machine_number ∷ side_word ∷ number 1 65536 ∷ []; made = made_flow }
+flow_form =
+    record {
+      word = codes "flow";
+      counts = 2 ∷ 3 ∷ [];
+      arguments = λ _.
+          machine_number ∷ side_word ∷ number 1 65536 ∷ [];
+      made = made_flow;
+    }
 
 abbrev pub notice_form : Form
-notice_form = record { word = codes "notice"; counts = 2 ∷ []; arguments = λ _. machine_number ∷ side_word ∷ []; made = made_notice }
+notice_form =
+    record {
+      word = codes "notice";
+      counts = 2 ∷ [];
+      arguments = λ _.
+          machine_number ∷ side_word ∷ [];
+      made = made_notice;
+    }
 
 abbrev pub cut_form : Form
-cut_form = record { word = codes "cut"; counts = 1 ∷ []; arguments = λ _. gap_number ∷ []; made = made_cut }
+cut_form =
+    record {
+      word = codes "cut";
+      counts = 1 ∷ [];
+      arguments = λ _. gap_number ∷ [];
+      made = made_cut;
+    }
 
 abbrev pub spoil_form : Form
-spoil_form = record { word = codes "spoil"; counts = 2 ∷ []; arguments = λ _. machine_number ∷ side_word ∷ []; made = made_spoil }
+spoil_form =
+    record {
+      word = codes "spoil";
+      counts = 2 ∷ [];
+      arguments = λ _.
+          machine_number ∷ side_word ∷ [];
+      made = made_spoil;
+    }
 
 abbrev pub forecast_form : Form
-forecast_form = record { word = codes "forecast"; counts = 1 ∷ []; arguments = λ _. machine_number ∷ []; made = made_forecast }
+forecast_form =
+    record {
+      word = codes "forecast";
+      counts = 1 ∷ [];
+      arguments = λ _. machine_number ∷ [];
+      made = made_forecast;
+    }
 
 abbrev pub supervise_form : Form
-supervise_form = record { word = codes "supervise"; counts = 1 ∷ []; arguments = λ _. machine_number ∷ []; made = made_supervise }
+supervise_form =
+    record {
+      word = codes "supervise";
+      counts = 1 ∷ [];
+      arguments = λ _. machine_number ∷ [];
+      made = made_supervise;
+    }
 
 abbrev pub shutdown_form : Form
-shutdown_form = record { word = codes "shutdown"; counts = 1 ∷ []; arguments = λ _. machine_number ∷ []; made = made_shutdown }
+shutdown_form =
+    record {
+      word = codes "shutdown";
+      counts = 1 ∷ [];
+      arguments = λ _. machine_number ∷ [];
+      made = made_shutdown;
+    }
 
 abbrev pub tick_form : Form
-tick_form = record { word = codes "tick"; counts = 1 ∷ []; arguments = λ _. machine_number ∷ []; made = made_tick }
+tick_form =
+    record {
+      word = codes "tick";
+      counts = 1 ∷ [];
+      arguments = λ _. machine_number ∷ [];
+      made = made_tick;
+    }
 
 abbrev pub fault_form : Form
-fault_form = record { word = codes "fault"; counts = 2 ∷ []; arguments = λ _. machine_number ∷ side_word ∷ []; made = made_fault }
+fault_form =
+    record {
+      word = codes "fault";
+      counts = 2 ∷ [];
+      arguments = λ _.
+          machine_number ∷ side_word ∷ [];
+      made = made_fault;
+    }
 
 abbrev pub lie_form : Form
-lie_form = record { word = codes "lie"; counts = 3 ∷ []; arguments = λ _. machine_number ∷ side_word ∷ event_word ∷ []; made = made_lie }
+lie_form =
+    record {
+      word = codes "lie";
+      counts = 3 ∷ [];
+      arguments = λ _.
+          machine_number ∷ side_word ∷ event_word ∷ [];
+      made = made_lie;
+    }
 
 abbrev pub unseen_form : Form
-unseen_form = record { word = codes "unseen"; counts = 2 ∷ []; arguments = λ _. side_word ∷ machine_number ∷ []; made = made_unseen }
+unseen_form =
+    record {
+      word = codes "unseen";
+      counts = 2 ∷ [];
+      arguments = λ _.
+          side_word ∷ machine_number ∷ [];
+      made = made_unseen;
+    }
 
 abbrev pub sense_form : Form
-sense_form = record { word = codes "sense"; counts = 1 ∷ []; arguments = λ _. machine_number ∷ []; made = made_sense }
+sense_form =
+    record {
+      word = codes "sense";
+      counts = 1 ∷ [];
+      arguments = λ _. machine_number ∷ [];
+      made = made_sense;
+    }
 
 abbrev pub begin_form : Form
-begin_form = record { word = codes "begin"; counts = 1 ∷ []; arguments = λ _. gap_number ∷ []; made = made_begin }
+begin_form =
+    record {
+      word = codes "begin";
+      counts = 1 ∷ [];
+      arguments = λ _. gap_number ∷ [];
+      made = made_begin;
+    }
 
 abbrev pub left_form : Form
-left_form = record { word = codes "left"; counts = 1 ∷ []; arguments = λ _. gap_number ∷ []; made = made_left }
+left_form =
+    record {
+      word = codes "left";
+      counts = 1 ∷ [];
+      arguments = λ _. gap_number ∷ [];
+      made = made_left;
+    }
 
 abbrev pub enter_form : Form
-enter_form = record { word = codes "in"; counts = 1 ∷ []; arguments = λ _. gap_number ∷ []; made = made_enter }
+enter_form =
+    record {
+      word = codes "in";
+      counts = 1 ∷ [];
+      arguments = λ _. gap_number ∷ [];
+      made = made_enter;
+    }
 
 abbrev pub back_form : Form
-back_form = record { word = codes "back"; counts = 1 ∷ []; arguments = λ _. gap_number ∷ []; made = made_back }
+back_form =
+    record {
+      word = codes "back";
+      counts = 1 ∷ [];
+      arguments = λ _. gap_number ∷ [];
+      made = made_back;
+    }
 
 abbrev pub hand_in_form : Form
-hand_in_form = record { word = codes "hand-in"; counts = 1 ∷ []; arguments = λ _. gap_number ∷ []; made = made_hand_in }
+hand_in_form =
+    record {
+      word = codes "hand-in";
+      counts = 1 ∷ [];
+      arguments = λ _. gap_number ∷ [];
+      made = made_hand_in;
+    }
 
 abbrev pub take_form : Form
-take_form = record { word = codes "take"; counts = 1 ∷ []; arguments = λ _. gap_number ∷ []; made = made_take }
+take_form =
+    record {
+      word = codes "take";
+      counts = 1 ∷ [];
+      arguments = λ _. gap_number ∷ [];
+      made = made_take;
+    }
 
 abbrev pub show_form : Form
 show_form = record { word = codes "show"; counts = 0 ∷ []; arguments = λ _. []; made = made_show }
 
--- the rows of reports; with those of the floor before them; with those of what befalls a machine; with those of links;
--- with those of boards, willingness and signals; and all rows
+-- the rows of reports; with those of the floor before them; with those of what befalls a machine;
+-- with those of links; with those of boards, willingness and signals; and all rows
 abbrev pub report_forms : List Form
 report_forms = show_form ∷ []
 
 abbrev pub floor_forms : List Form
-floor_forms = sense_form ∷ begin_form ∷ left_form ∷ enter_form ∷ back_form ∷ hand_in_form ∷ take_form ∷ report_forms
+floor_forms =
+    sense_form ∷ begin_form ∷ left_form ∷ enter_form ∷ back_form ∷ hand_in_form ∷ take_form ∷
+    report_forms
 
 abbrev pub machine_forms : List Form
 machine_forms = shutdown_form ∷ tick_form ∷ fault_form ∷ lie_form ∷ unseen_form ∷ floor_forms
 
 abbrev pub link_forms : List Form
-link_forms = connect_form ∷ flow_form ∷ notice_form ∷ cut_form ∷ spoil_form ∷ forecast_form ∷ supervise_form ∷ machine_forms
+link_forms =
+    connect_form ∷ flow_form ∷ notice_form ∷ cut_form ∷ spoil_form ∷ forecast_form ∷ supervise_form
+    ∷ machine_forms
 
 abbrev pub board_forms : List Form
-board_forms = remove_form ∷ replace_form ∷ mark_form ∷ hold_form ∷ go_form ∷ signal_form ∷ link_forms
+board_forms =
+    remove_form ∷ replace_form ∷ mark_form ∷ hold_form ∷ go_form ∷ signal_form ∷ link_forms
 
 abbrev pub forms : List Form
-forms = machine_form ∷ bridge_form ∷ insert_form ∷ query_form ∷ ask_form ∷ answer_form ∷ board_forms
+forms = machine_form ∷ bridge_form ∷ insert_form ∷ query_form ∷ ask_form ∷ answer_form ∷
+    board_forms
 
 abbrev pub mapped_ok : {A B : Type 0} → (A → B) → Result A LineWhy → Result B LineWhy
 mapped_ok f (Ok value) = Ok (f value)
@@ -380,20 +575,25 @@ value_as asked_by_word word = mapped_ok asked_by (asked_by_of word)
 abbrev pub values_as : List Kind → List (List ℕ) → Result (List Value) LineWhy
 values_as kinds [] = Ok []
 values_as [] (word ∷ words) = Err whys.WrongCount
-values_as (kind ∷ kinds) (word ∷ words) = then_ok (value_as kind word) (λ value. mapped_ok (λ values. value ∷ values) (values_as kinds words))
+values_as (kind ∷ kinds) (word ∷ words) =
+    then_ok (value_as kind word) (λ value.
+    mapped_ok (λ values. value ∷ values) (values_as kinds words))
 
 -- the same, if there are as many words as there may be
 abbrev pub arguments_as : List ℕ → List Kind → List (List ℕ) → Result (List Value) LineWhy
-arguments_as counts kinds words = if list_any (nat_eq (length words)) counts then values_as kinds words else Err whys.WrongCount
+arguments_as counts kinds words =
+    if list_any (nat_eq (length words)) counts then values_as kinds words else Err whys.WrongCount
 
 -- the line that the arguments of a form make, or the first refusal
 abbrev pub line_as : Form → List (List ℕ) → Result ScriptLine LineWhy
-line_as form words = then_ok (arguments_as form.counts (form.arguments (length words)) words) form.made
+line_as form words =
+    then_ok (arguments_as form.counts (form.arguments (length words)) words) form.made
 
 -- the same, for the form that has this first word
 abbrev pub line_among : List Form → List ℕ → List (List ℕ) → Result ScriptLine LineWhy
 line_among [] first words = Err whys.UnknownWord
-line_among (form ∷ others) first words = if bytes_eq first form.word then line_as form words else line_among others first words
+line_among (form ∷ others) first words =
+    if bytes_eq first form.word then line_as form words else line_among others first words
 
 -- a line whose first word begins with `#` is a comment
 abbrev pub is_comment : List ℕ → Bool
@@ -402,8 +602,11 @@ is_comment (b ∷ bs) = b == 35
 
 abbrev pub line_of_words : List (List ℕ) → Result ScriptLine LineWhy
 line_of_words [] = Ok lines.Blank
-line_of_words (first ∷ words) = if is_comment first then Ok lines.Blank else line_among forms first words
+line_of_words (first ∷ words) =
+    if is_comment first then Ok lines.Blank else line_among forms first words
 
 -- what the bytes of one line ask for, or why they are refused: the first refusal that holds
 abbrev pub read_of : List ℕ → Result ScriptLine LineWhy
-read_of bytes = if nat_lt 4096 (length bytes) then Err whys.LongLine else (if list_all is_text_byte bytes then line_of_words (words_of bytes) else Err whys.NotText)
+read_of bytes =
+    if nat_lt 4096 (length bytes) then Err whys.LongLine else
+    (if list_all is_text_byte bytes then line_of_words (words_of bytes) else Err whys.NotText)

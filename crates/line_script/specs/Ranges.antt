@@ -23,8 +23,10 @@ IsQuestionWithin (questions.Place magazine slot) = IsBetween 0 999999999 slot
 -- a line's numbers stand within the ranges of the grammar
 abbrev pub IsWithin : ScriptLine → Type 0
 IsWithin lines.Blank = Unit {0}
-IsWithin (lines.Machine capacity used) = IsBetween 1 1024 capacity × IsBetween 0 281474976710655 used
-IsWithin (lines.Bridge capacity used) = IsBetween 1 1024 capacity × IsBetween 0 281474976710655 used
+IsWithin (lines.Machine capacity used) =
+    IsBetween 1 1024 capacity × IsBetween 0 281474976710655 used
+IsWithin (lines.Bridge capacity used) =
+    IsBetween 1 1024 capacity × IsBetween 0 281474976710655 used
 IsWithin (lines.Insert machine barcode) = IsBetween 1 64 machine
 IsWithin (lines.Remove machine id) = IsBetween 1 64 machine
 IsWithin (lines.Replace machine id) = IsBetween 1 64 machine
@@ -52,6 +54,7 @@ IsWithin (lines.Take gap) = IsBetween 1 63 gap
 IsWithin lines.Show = Unit {0}
 IsWithin (lines.Supervise machine) = IsBetween 1 64 machine
 IsWithin (lines.Ask machine question) = IsBetween 1 64 machine × IsQuestionWithin question
-IsWithin (lines.Answer machine query order) = IsBetween 1 64 machine × IsBetween 0 999999999999999 query
+IsWithin (lines.Answer machine query order) =
+    IsBetween 1 64 machine × IsBetween 0 999999999999999 query
 IsWithin (lines.Forecast machine) = IsBetween 1 64 machine
 IsWithin (lines.Query machine barcode) = IsBetween 1 64 machine

@@ -34,11 +34,13 @@ abbrev pub words_of : List ℕ → List (List ℕ)
 words_of bytes = filter (λ word. nat_lt 0 (length word)) (slice_split is_blank bytes)
 
 abbrev pub number_between : ℕ → ℕ → ℕ → Result ℕ LineWhy
-number_between low high value = if nat_le low value && nat_le value high then Ok value else Err whys.BadNumber
+number_between low high value =
+    if nat_le low value && nat_le value high then Ok value else Err whys.BadNumber
 
 -- a number is 1 to 15 digits whose value stands between two bounds
 abbrev pub number_in : ℕ → ℕ → List ℕ → Result ℕ LineWhy
-number_in low high word = if is_digits 1 15 word then number_between low high (value_of word) else Err whys.BadNumber
+number_in low high word =
+    if is_digits 1 15 word then number_between low high (value_of word) else Err whys.BadNumber
 
 -- this word and no other
 abbrev pub literal_of : List ℕ → List ℕ → Result (Unit {0}) LineWhy
@@ -54,19 +56,30 @@ identity_of word = identity_from (read_id word)
 
 -- a text word has at most 64 bytes
 abbrev pub token_of : List ℕ → Result (List ℕ) LineWhy
-token_of word = if nat_le (length word) 64 && list_all is_text_byte word then Ok word else Err whys.BadWord
+token_of word =
+    if nat_le (length word) 64 && list_all is_text_byte word then Ok word else Err whys.BadWord
 
 -- the side that a word names
 abbrev pub side_of : List ℕ → Result Side LineWhy
-side_of word = if bytes_eq word (codes "in") then Ok sides.Entry else (if bytes_eq word (codes "out") then Ok sides.Exit else Err whys.BadSide)
+side_of word =
+    if bytes_eq word (codes "in") then Ok sides.Entry else
+    (if bytes_eq word (codes "out") then Ok sides.Exit else Err whys.BadSide)
 
 -- the quality that a word names
 abbrev pub quality_of : List ℕ → Result Quality LineWhy
-quality_of word = if bytes_eq word (codes "unknown") then Ok qualities.Unknown else (if bytes_eq word (codes "good") then Ok qualities.Good else (if bytes_eq word (codes "failed") then Ok qualities.Failed else Err whys.BadWord))
+quality_of word =
+    if bytes_eq word (codes "unknown") then Ok qualities.Unknown else
+    (if bytes_eq word (codes "good") then Ok qualities.Good else
+    (if bytes_eq word (codes "failed") then Ok qualities.Failed else Err whys.BadWord))
 
 -- the sensor event that a word names
 abbrev pub event_of : List ℕ → Result SensorEvent LineWhy
-event_of word = if bytes_eq word (codes "Begun") then Ok events.Begun else (if bytes_eq word (codes "Left") then Ok events.Left else (if bytes_eq word (codes "Full") then Ok events.Full else (if bytes_eq word (codes "Back") then Ok events.Back else (if bytes_eq word (codes "Taken") then Ok events.Taken else Err whys.BadWord))))
+event_of word =
+    if bytes_eq word (codes "Begun") then Ok events.Begun else
+    (if bytes_eq word (codes "Left") then Ok events.Left else
+    (if bytes_eq word (codes "Full") then Ok events.Full else
+    (if bytes_eq word (codes "Back") then Ok events.Back else
+    (if bytes_eq word (codes "Taken") then Ok events.Taken else Err whys.BadWord))))
 
 -- the signal of a segment that a word names
 abbrev pub segment_line_of : List ℕ → Result SegmentLine LineWhy

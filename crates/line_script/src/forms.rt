@@ -57,8 +57,12 @@ struct Room {
 
 /// The room that `c [used u]` says.
 fn room_of(words: &[&[u8]]) -> Result<Room, LineWhy>
-    ensures answer { (line : ℕ → ℕ → Line) → mapped_ok (λ room. line room.capacity room.used) result ≡ then_ok (arguments_as (1 ∷ 3 ∷ []) room_words (map (λ word. word.now) words.now)) (made_room line) }
-    ensures within { IfOk result (λ room. IsBetween 1 1024 room.capacity × IsBetween 0 281474976710655 room.used) }
+    ensures answer { (line : ℕ → ℕ → Line)
+        → mapped_ok (λ room. line room.capacity room.used) result
+        ≡ then_ok (arguments_as (1 ∷ 3 ∷ []) room_words (map (λ word. word.now) words.now))
+        (made_room line) }
+    ensures within { IfOk result (λ room. IsBetween 1 1024 room.capacity
+        × IsBetween 0 281474976710655 room.used) }
 {
     match words {
         [capacity] => Ok(Room {
@@ -520,7 +524,9 @@ struct AtSide {
 
 /// The machine and the side of a line that has these two words.
 fn at_side(words: &[&[u8]]) -> Result<AtSide, LineWhy>
-    ensures answer { mapped_ok (λ at. numeral at.machine ∷ sided at.side ∷ []) result ≡ arguments_as (2 ∷ []) (machine_number ∷ side_word ∷ []) (map (λ word. word.now) words.now) }
+    ensures answer { mapped_ok (λ at. numeral at.machine ∷ sided at.side ∷ []) result
+        ≡ arguments_as (2 ∷ []) (machine_number ∷ side_word ∷ [])
+        (map (λ word. word.now) words.now) }
     ensures within { IfOk result (λ at. IsBetween 1 64 at.machine) }
 {
     match words {
@@ -592,7 +598,8 @@ pub fn take(words: &[&[u8]]) -> Result<ScriptLine, LineWhy>
 /// The one number of a line, from 1 to `most`.
 fn only_number(words: &[&[u8]], most: u64) -> Result<u32, LineWhy>
     requires { most ≤ 64 }
-    ensures answer { mapped_ok (λ value. numeral value ∷ []) result ≡ arguments_as (1 ∷ []) (number 1 most ∷ []) (map (λ word. word.now) words.now) }
+    ensures answer { mapped_ok (λ value. numeral value ∷ []) result
+        ≡ arguments_as (1 ∷ []) (number 1 most ∷ []) (map (λ word. word.now) words.now) }
     ensures within { IfOk result (IsBetween 1 most) }
 {
     match words {

@@ -161,8 +161,8 @@ pub enum ScriptLine {
     },
 }
 
-/// Why a line is refused. The reasons are tested in this order, but the last four, of which the first
-/// that holds for the words from the left counts.
+/// Why a line is refused. The reasons are tested in this order, but the last four, of which the
+/// first that holds for the words from the left counts.
 #[derive(Clone, Copy, Debug, PartialEq, Eq, Error)]
 pub enum LineWhy {
     /// It has more than 4,096 bytes.

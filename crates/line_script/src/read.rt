@@ -14,8 +14,8 @@ pub const MOST_LINE_BYTES: usize = 4096;
 /// Reads one line, given without its line end.
 ///
 /// Refuses it for the first reason that holds: more than 4,096 bytes, a byte that is no text, an
-/// unknown first word, a wrong count of words, and then, for the words from the left, a bad number,
-/// side, id or word. That a script has too many lines is for its caller to see.
+/// unknown first word, a wrong count of words, and then, for the words from the left, a bad
+/// number, side, id or word. That a script has too many lines is for its caller to see.
 pub fn read_line(alloc: Global, bytes: &[u8]) -> Result<ScriptLine, LineError>
     ensures answer { Reads (read_of bytes.now) result }
     ensures within { IfOk result IsWithin }

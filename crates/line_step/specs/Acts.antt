@@ -48,36 +48,50 @@ abbrev pub answers : Bool → Side → Message → Bool
 answers second side message = second && (is_exit side && is_answer message.body)
 
 abbrev pub sends_on : ℕ → Side → List ℕ → WorldParts → WorldParts
-sends_on machine side text world = with_link (link_of machine side) (after_send (end_of side) text (link_at (link_of machine side) world)) world
+sends_on machine side text world =
+    with_link (link_of machine side)
+    (after_send (end_of side) text (link_at (link_of machine side) world)) world
+
+abbrev pub closes_on : ℕ → Side → WorldParts → WorldParts
+closes_on machine side world =
+    with_link (link_of machine side)
+    (after_close (end_of side) (link_at (link_of machine side) world)) world
 
 abbrev pub answers_on : ℕ → List ℕ → WorldParts → WorldParts
 answers_on machine text world = with_link machine (after_answer text (link_at machine world)) world
 
--- a machine sends a message. In the step of a second connection the answer to it flows to the downstream end, though the
--- link doesn't stand
+-- a machine sends a message. In the step of a second connection the answer to it flows to the
+-- downstream end, though the link doesn't stand
 abbrev pub sent_by : Bool → ℕ → Side → Message → WorldParts → Effect
 sent_by true machine side message world = record {
   world = answers_on machine (canonical message) world;
-  told = happenings.Done machine (acts.Sends side message) ∷ cut_told machine (answer_sent (canonical message) (link_at machine world));
+  told = happenings.Done machine (acts.Sends side message) ∷ cut_told machine
+      (answer_sent (canonical message) (link_at machine world));
 }
 sent_by false machine side message world = record {
   world = sends_on machine side (canonical message) world;
-  told = happenings.Done machine (acts.Sends side message) ∷ cut_told (link_of machine side) (sent_of (end_of side) (canonical message) (link_at (link_of machine side) world));
+  told = happenings.Done machine (acts.Sends side message) ∷ cut_told (link_of machine side)
+      (sent_of (end_of side) (canonical message) (link_at (link_of machine side) world));
 }
 
 -- ---- the floor
 
 abbrev pub drives_on : ℕ → Side → Bool → FloorPlan → FloorPlan
-drives_on machine side on floor = with_gap floor (link_of machine side) (with_drive (gap_at floor (link_of machine side)) side on)
+drives_on machine side on floor =
+    with_gap floor (link_of machine side)
+    (with_drive (gap_at floor (link_of machine side)) side on)
 
 abbrev pub lays : ℕ → ℕ → FloorPlan → FloorPlan
-lays machine id floor = with_boards floor machine ((machine_at floor machine).boards ++ record { id = Some id } ∷ [])
+lays machine id floor =
+    with_boards floor machine ((machine_at floor machine).boards ++ record { id = Some id } ∷ [])
 
 abbrev pub takes_off : ℕ → ℕ → FloorPlan → FloorPlan
-takes_off machine id floor = with_boards floor machine (without_board id (machine_at floor machine).boards)
+takes_off machine id floor =
+    with_boards floor machine (without_board id (machine_at floor machine).boards)
 
 abbrev pub changes : ℕ → ℕ → ℕ → FloorPlan → FloorPlan
-changes machine old new floor = with_boards floor machine (with_new_id old new (machine_at floor machine).boards)
+changes machine old new floor =
+    with_boards floor machine (with_new_id old new (machine_at floor machine).boards)
 
 -- ---- deeds are counted
 
@@ -90,14 +104,31 @@ counted _ world = world
 
 -- an act of a machine in a step, which is that of a second connection or not. A drive is not told
 abbrev pub act_did : Bool → ℕ → Act → WorldParts → Effect
-act_did second machine (acts.Sends side message) world = sent_by (answers second side message) machine side message world
-act_did second machine (acts.Closes side) world = record { world = with_link (link_of machine side) (after_close (end_of side) (link_at (link_of machine side) world)) world; told = told_of_act machine (acts.Closes side) }
-act_did second machine (acts.Notices side) world = record { world = with_link (link_of machine side) (after_close (end_of side) (link_at (link_of machine side) world)) world; told = told_of_act machine (acts.Notices side) }
-act_did second machine (acts.Drive side on) world = record { world = with_floor (drives_on machine side on world.floor) world; told = [] }
-act_did second machine (acts.Deed deed) world = record { world = counted deed world; told = told_of_act machine (acts.Deed deed) }
-act_did second machine (acts.Inserts id) world = record { world = with_floor (lays machine id world.floor) world; told = told_of_act machine (acts.Inserts id) }
-act_did second machine (acts.Removes id) world = record { world = with_floor (takes_off machine id world.floor) world; told = told_of_act machine (acts.Removes id) }
-act_did second machine (acts.Replaces old new) world = record { world = with_floor (changes machine old new world.floor) world; told = told_of_act machine (acts.Replaces old new) }
+act_did second machine (acts.Sends side message) world =
+    sent_by (answers second side message) machine side message world
+act_did second machine (acts.Closes side) world =
+    record { world = closes_on machine side world; told = told_of_act machine (acts.Closes side) }
+act_did second machine (acts.Notices side) world =
+    record { world = closes_on machine side world; told = told_of_act machine (acts.Notices side) }
+act_did second machine (acts.Drive side on) world =
+    record { world = with_floor (drives_on machine side on world.floor) world; told = [] }
+act_did second machine (acts.Deed deed) world =
+    record { world = counted deed world; told = told_of_act machine (acts.Deed deed) }
+act_did second machine (acts.Inserts id) world =
+    record {
+      world = with_floor (lays machine id world.floor) world;
+      told = told_of_act machine (acts.Inserts id);
+    }
+act_did second machine (acts.Removes id) world =
+    record {
+      world = with_floor (takes_off machine id world.floor) world;
+      told = told_of_act machine (acts.Removes id);
+    }
+act_did second machine (acts.Replaces old new) world =
+    record {
+      world = with_floor (changes machine old new world.floor) world;
+      told = told_of_act machine (acts.Replaces old new);
+    }
 act_did second machine act world = record { world = world; told = told_of_act machine act }
 
 -- the acts of a step in their order
@@ -105,5 +136,6 @@ abbrev pub acts_did : Bool → ℕ → List Act → WorldParts → Effect
 acts_did second machine [] world = record { world = world; told = [] }
 acts_did second machine (act ∷ acts) world = record {
   world = (acts_did second machine acts (act_did second machine act world).world).world;
-  told = (act_did second machine act world).told ++ (acts_did second machine acts (act_did second machine act world).world).told;
+  told = (act_did second machine act world).told
+      ++ (acts_did second machine acts (act_did second machine act world).world).told;
 }

@@ -27,7 +27,8 @@ use Rattle.line_report.specs.declared.happening.Happening.TheVariants as happeni
 use Rattle.line_report.specs.declared.happening.Reason.TheVariants as reasons
 
 -- the state after is this one, and this is told
-pub record Becomes (next : LineState) (what : List Happening) (after : LineState) (told : List Happening) : Type 0 where
+pub record Becomes (next : LineState) (what : List Happening) (after : LineState)
+    (told : List Happening) : Type 0 where
   pub after_is : after ≡ next
   pub told_is : told ≡ what
 
@@ -39,19 +40,26 @@ Unless (Ok _) before after told Done = Done
 -- ---- bytes arrive
 
 abbrev pub arrived : ℕ → Side → Option ℕ → LineState → LineState
-arrived machine side count s = with_world (with_link (link_of machine side) (after_flow (end_of side) count (link_at (link_of machine side) s.world)) s.world) s
+arrived machine side count s =
+    with_world
+    (with_link (link_of machine side)
+    (after_flow (end_of side) count (link_at (link_of machine side) s.world)) s.world) s
 
 -- a machine hears the bytes that arrive
-pub record Flows (number machine : ℕ) (side : Side) (count : Option ℕ) (before after : LineState) (told : List Happening) : Type 0 where
+pub record Flows (number machine : ℕ) (side : Side) (count : Option ℕ) (before after : LineState)
+    (told : List Happening) : Type 0 where
   pub piece : Bor (List ℕ)
   pub bytes : piece.now ≡ piece_for machine side count before.world
-  pub steps : MachineSteps number machine (inputs.Bytes side piece) (arrived machine side count before) after told
+  pub steps : MachineSteps number machine (inputs.Bytes side piece)
+      (arrived machine side count before) after told
 
 -- ---- a connection is made
 
--- the link before a machine is connected: its numbers and whether it stands are set before the first of the two steps
+-- the link before a machine is connected: its numbers and whether it stands are set before the
+-- first of the two steps
 abbrev pub connecting : ℕ → LineState → LineState
-connecting machine s = with_world (with_link (machine - 1) (after_connect (link_at (machine - 1) s.world)) s.world) s
+connecting machine s =
+    with_world (with_link (machine - 1) (after_connect (link_at (machine - 1) s.world)) s.world) s
 
 -- what the upstream machine meets
 abbrev pub met : Connected → Input
@@ -60,7 +68,10 @@ met connections.Second = inputs.Second
 
 abbrev pub Connects : ℕ → ℕ → LineState → LineState → List Happening → Type 0
 Connects number machine before after told =
-    StepsTwice (MachineSteps number machine inputs.Connect) (MachineSteps number (machine - 1) (met (connected_of (link_at (machine - 1) before.world).upstream))) (connecting machine before) after told
+    StepsTwice (MachineSteps number machine inputs.Connect)
+    (MachineSteps number (machine - 1)
+    (met (connected_of (link_at (machine - 1) before.world).upstream)))
+    (connecting machine before) after told
 
 -- ---- a link is cut or spoiled
 
@@ -68,10 +79,15 @@ abbrev pub cut_in : ℕ → LineState → LineState
 cut_in gap s = with_world (with_link gap (cut (link_at gap s.world)) s.world) s
 
 abbrev pub spoiled : ℕ → Side → LineState → LineState
-spoiled machine side s = with_world (with_link (link_of machine side) (after_spoil (end_of side) (link_at (link_of machine side) s.world)) s.world) s
+spoiled machine side s =
+    with_world
+    (with_link (link_of machine side)
+    (after_spoil (end_of side) (link_at (link_of machine side) s.world)) s.world) s
 
 abbrev pub spoil_told : ℕ → Side → LineState → List Happening
-spoil_told machine side s = happenings.Spoils machine side ∷ cut_told (link_of machine side) (spoil_sent (end_of side) (link_at (link_of machine side) s.world))
+spoil_told machine side s =
+    happenings.Spoils machine side ∷ cut_told (link_of machine side)
+    (spoil_sent (end_of side) (link_at (link_of machine side) s.world))
 
 -- ---- the floor
 
@@ -84,7 +100,9 @@ move_told gap step (Ok floor) = happenings.Moved gap step ∷ []
 move_told gap step (Err why) = happenings.No (reasons.Move why) ∷ []
 
 abbrev pub Moves : ℕ → Move → LineState → LineState → List Happening → Type 0
-Moves gap step before after told = Becomes (moved (floor_move gap step before.world.floor) before) (move_told gap step (floor_move gap step before.world.floor)) after told
+Moves gap step before after told =
+    Becomes (moved (floor_move gap step before.world.floor) before)
+    (move_told gap step (floor_move gap step before.world.floor)) after told
 
 -- ---- a sensor event that was not
 
@@ -99,16 +117,18 @@ first_of number (Some line) = Some line
 
 abbrev pub lied : ℕ → ℕ → Sensed → LineState → LineState
 lied number machine sensed s = record s {
-  world = with_floor (with_unread s.world.floor machine ((machine_at s.world.floor machine).unread ++ sensed ∷ [])) s.world;
+  world = with_floor (with_unread s.world.floor machine ((machine_at s.world.floor machine).unread
+      ++ sensed ∷ [])) s.world;
   unvouched = first_of number s.unvouched;
 }
 
 -- ---- a board comes or goes unseen
 
--- a board that comes out of a bridge's segment lies at the back of its list and has no id that anybody knows; one that
--- goes into it is the front one. No sensor sees either
+-- a board that comes out of a bridge's segment lies at the back of its list and has no id that
+-- anybody knows; one that goes into it is the front one. No sensor sees either
 abbrev pub unseen_on : ℕ → Side → FloorPlan → FloorPlan
-unseen_on machine Entry floor = with_boards floor machine ((machine_at floor machine).boards ++ record { id = None } ∷ [])
+unseen_on machine Entry floor =
+    with_boards floor machine ((machine_at floor machine).boards ++ record { id = None } ∷ [])
 unseen_on machine Exit floor = with_boards floor machine (drop 1 (machine_at floor machine).boards)
 
 abbrev pub unseen : ℕ → ℕ → Side → LineState → LineState
@@ -121,38 +141,76 @@ unseen number machine side s = record s {
 
 abbrev pub LineDoes : ℕ → ScriptLine → LineState → LineState → List Happening → Type 0
 LineDoes number lines.Blank before after told = Becomes before [] after told
-LineDoes number (lines.Machine capacity used) before after told = Unless (may_add before) before after told (Becomes (one_more false capacity used before) (happenings.Machine (length before.machines + 1) capacity ∷ []) after told)
+LineDoes number (lines.Machine capacity used) before after told =
+    Unless (may_add before) before after told
+    (Becomes (one_more false capacity used before)
+    (happenings.Machine (length before.machines + 1) capacity ∷ []) after told)
 LineDoes number (lines.Bridge capacity used) before after told =
     Unless (may_add before) before after told
-    (Becomes (one_more true capacity used before) (happenings.Bridge (length before.machines + 1) capacity ∷ []) after told)
-LineDoes number (lines.Insert machine barcode) before after told = Unless (may_give machine (inputs.Insert barcode) before) before after told (MachineSteps number machine (inputs.Insert barcode) before after told)
-LineDoes number (lines.Remove machine id) before after told = Unless (may_remove machine id before) before after told (MachineSteps number machine (inputs.Remove id) before after told)
-LineDoes number (lines.Replace machine id) before after told = Unless (may_replace machine id before) before after told (MachineSteps number machine (inputs.Replace id) before after told)
-LineDoes number (lines.Mark machine id quality) before after told = Unless (may_give machine (inputs.Mark id quality) before) before after told (MachineSteps number machine (inputs.Mark id quality) before after told)
-LineDoes number (lines.Hold machine side) before after told = Unless (may_give machine (inputs.Will side false) before) before after told (MachineSteps number machine (inputs.Will side false) before after told)
-LineDoes number (lines.Go machine side) before after told = Unless (may_give machine (inputs.Will side true) before) before after told (MachineSteps number machine (inputs.Will side true) before after told)
+    (Becomes (one_more true capacity used before)
+    (happenings.Bridge (length before.machines + 1) capacity ∷ []) after told)
+LineDoes number (lines.Insert machine barcode) before after told =
+    Unless (may_give machine (inputs.Insert barcode) before) before after told
+    (MachineSteps number machine (inputs.Insert barcode) before after told)
+LineDoes number (lines.Remove machine id) before after told =
+    Unless (may_remove machine id before) before after told
+    (MachineSteps number machine (inputs.Remove id) before after told)
+LineDoes number (lines.Replace machine id) before after told =
+    Unless (may_replace machine id before) before after told
+    (MachineSteps number machine (inputs.Replace id) before after told)
+LineDoes number (lines.Mark machine id quality) before after told =
+    Unless (may_give machine (inputs.Mark id quality) before) before after told
+    (MachineSteps number machine (inputs.Mark id quality) before after told)
+LineDoes number (lines.Hold machine side) before after told =
+    Unless (may_give machine (inputs.Will side false) before) before after told
+    (MachineSteps number machine (inputs.Will side false) before after told)
+LineDoes number (lines.Go machine side) before after told =
+    Unless (may_give machine (inputs.Will side true) before) before after told
+    (MachineSteps number machine (inputs.Will side true) before after told)
 LineDoes number (lines.Signal machine line on) before after told =
     Unless (may_give machine (inputs.Level line on) before) before after told
     (MachineSteps number machine (inputs.Level line on) before after told)
-LineDoes number (lines.Connect machine) before after told = Unless (may_connect machine before) before after told (Connects number machine before after told)
-LineDoes number (lines.Flow machine side count) before after told = Unless (may_flow machine side before) before after told (Flows number machine side count before after told)
-LineDoes number (lines.Notice machine side) before after told = Unless (may_notice machine side before) before after told (MachineSteps number machine (inputs.Notice side) before after told)
-LineDoes number (lines.Cut gap) before after told = Unless (may_cut gap before) before after told (Becomes (cut_in gap before) (happenings.Cut gap ∷ []) after told)
-LineDoes number (lines.Spoil machine side) before after told = Unless (may_spoil machine side before) before after told (Becomes (spoiled machine side before) (spoil_told machine side before) after told)
-LineDoes number (lines.Shutdown machine) before after told = Unless (may_give machine inputs.Shutdown before) before after told (MachineSteps number machine inputs.Shutdown before after told)
-LineDoes number (lines.Tick machine) before after told = Unless (may_give machine inputs.Tick before) before after told (MachineSteps number machine inputs.Tick before after told)
-LineDoes number (lines.Fault machine side) before after told = Unless (may_give machine (inputs.Fault side) before) before after told (MachineSteps number machine (inputs.Fault side) before after told)
-LineDoes number (lines.Sense machine) before after told = Unless (may_sense machine before) before after told (MachineSteps number machine inputs.Nothing before after told)
+LineDoes number (lines.Connect machine) before after told =
+    Unless (may_connect machine before) before after told
+    (Connects number machine before after told)
+LineDoes number (lines.Flow machine side count) before after told =
+    Unless (may_flow machine side before) before after told
+    (Flows number machine side count before after told)
+LineDoes number (lines.Notice machine side) before after told =
+    Unless (may_notice machine side before) before after told
+    (MachineSteps number machine (inputs.Notice side) before after told)
+LineDoes number (lines.Cut gap) before after told =
+    Unless (may_cut gap before) before after told
+    (Becomes (cut_in gap before) (happenings.Cut gap ∷ []) after told)
+LineDoes number (lines.Spoil machine side) before after told =
+    Unless (may_spoil machine side before) before after told
+    (Becomes (spoiled machine side before) (spoil_told machine side before) after told)
+LineDoes number (lines.Shutdown machine) before after told =
+    Unless (may_give machine inputs.Shutdown before) before after told
+    (MachineSteps number machine inputs.Shutdown before after told)
+LineDoes number (lines.Tick machine) before after told =
+    Unless (may_give machine inputs.Tick before) before after told
+    (MachineSteps number machine inputs.Tick before after told)
+LineDoes number (lines.Fault machine side) before after told =
+    Unless (may_give machine (inputs.Fault side) before) before after told
+    (MachineSteps number machine (inputs.Fault side) before after told)
+LineDoes number (lines.Sense machine) before after told =
+    Unless (may_sense machine before) before after told
+    (MachineSteps number machine inputs.Nothing before after told)
 LineDoes number (lines.Begin gap) before after told = Moves gap moves.Begin before after told
 LineDoes number (lines.Left gap) before after told = Moves gap moves.Left before after told
 LineDoes number (lines.Enter gap) before after told = Moves gap moves.Enter before after told
 LineDoes number (lines.Back gap) before after told = Moves gap moves.Back before after told
 LineDoes number (lines.HandIn gap) before after told = Moves gap moves.HandIn before after told
 LineDoes number (lines.Take gap) before after told = Moves gap moves.Take before after told
-LineDoes number (lines.Lie machine sensed) before after told = Unless (may_lie machine sensed.side before) before after told (Becomes (lied number machine sensed before) (happenings.Lie machine sensed ∷ unvouched_told before.unvouched) after told)
+LineDoes number (lines.Lie machine sensed) before after told =
+    Unless (may_lie machine sensed.side before) before after told
+    (Becomes (lied number machine sensed before)
+    (happenings.Lie machine sensed ∷ unvouched_told before.unvouched) after told)
 LineDoes number (lines.Unseen machine side) before after told =
     Unless (may_unseen machine side before) before after told
-    (Becomes (unseen number machine side before) (happenings.Unseen machine side ∷ unvouched_told before.unvouched) after told)
+    (Becomes (unseen number machine side before)
+    (happenings.Unseen machine side ∷ unvouched_told before.unvouched) after told)
 LineDoes number lines.Show before after told = Becomes before (shown before) after told
 LineDoes number (lines.Forecast machine) before after told =
     Unless (may_give machine inputs.Forecast before) before after told
@@ -172,8 +230,10 @@ LineDoes number (lines.Answer machine query order) before after told =
 
 -- ---- and the standings that changed
 
--- one line of the script: the state after it, counted, and what it did with the standings that it changed
-pub record LineSteps (number : ℕ) (line : ScriptLine) (before after : LineState) (told : List Happening) : Type 0 where
+-- one line of the script: the state after it, counted, and what it did with the standings that it
+-- changed
+pub record LineSteps (number : ℕ) (line : ScriptLine) (before after : LineState)
+    (told : List Happening) : Type 0 where
   pub next : LineState
   pub done : List Happening
   pub does : LineDoes number line before next done

@@ -1,5 +1,5 @@
--- Why a line of the script does nothing: the first reason that holds, in the order of the script grammar, on the state
--- before the line.
+-- Why a line of the script does nothing: the first reason that holds, in the order of the script
+-- grammar, on the state before the line.
 use Rattle.std.specs.Prelude.{ℕ, ◌&&◌, not, Bool, true, false, List, [], ◌∷◌, Option, Some, None, Result, Ok, Err, is_none, is_some, length, nat_le, nat_lt, slice_get}
 use Rattle.line_base.specs.declared.states.Side.{Side}
 use Rattle.line_base.specs.declared.states.Side.TheVariants.{Entry, Exit}
@@ -60,7 +60,8 @@ is_empty (_ ∷ _) = false
 
 -- nothing is on its way to a side
 abbrev pub is_dry_at : ℕ → Side → WorldParts → Bool
-is_dry_at machine side world = is_empty (coming (flow_to (end_of side) (link_at (link_of machine side) world)))
+is_dry_at machine side world =
+    is_empty (coming (flow_to (end_of side) (link_at (link_of machine side) world)))
 
 abbrev pub link_stands : ℕ → Side → WorldParts → Bool
 link_stands machine side world = (link_at (link_of machine side) world).stands
@@ -93,7 +94,8 @@ may_add s = no_if (nat_le most_machines (length s.machines)) reasons.LineFull ma
 
 -- what a machine alone can tell
 abbrev pub may_give : ℕ → Input → LineState → May
-may_give machine input s = if_there (machine_in machine s) (λ node. behind_own (may_of node input) may_do)
+may_give machine input s =
+    if_there (machine_in machine s) (λ node. behind_own (may_of node input) may_do)
 
 -- of a question that was answered before, the word that answers it is told with the reason
 abbrev pub word_kept : Option (List ℕ) → List ℕ
@@ -102,45 +104,75 @@ word_kept (Some word) = word
 
 abbrev pub with_word : NodeState → Result (Unit {0}) No → May
 with_word node (Ok _) = may_do
-with_word node (Err (nos.Answered query)) = Err (reasons.Answered (word_kept (answer_to node.orders query)))
+with_word node (Err (nos.Answered query)) =
+    Err (reasons.Answered (word_kept (answer_to node.orders query)))
 with_word node (Err why) = Err (reasons.Node why)
 
 -- a question is answered: not supervised, unknown query, answered
 abbrev pub may_answer : ℕ → ℕ → List ℕ → LineState → May
 may_answer machine query order s =
-    if_there (machine_in machine s) (λ node. with_word node (may_of node (inputs.Answer query order)))
+    if_there (machine_in machine s) (λ node.
+    with_word node (may_of node (inputs.Answer query order)))
 
 -- a board is taken out: not kept, not here
 abbrev pub may_remove : ℕ → ℕ → LineState → May
-may_remove machine id s = if_there (machine_in machine s) (λ node. behind_own (may_of node (inputs.Remove id)) (no_if (not (is_here machine id s.world)) reasons.NotHere may_do))
+may_remove machine id s =
+    if_there (machine_in machine s) (λ node.
+    behind_own (may_of node (inputs.Remove id))
+    (no_if (not (is_here machine id s.world)) reasons.NotHere may_do))
 
 -- a board is replaced: not kept, not here, ids used up
 abbrev pub may_replace : ℕ → ℕ → LineState → May
-may_replace machine id s = if_there (machine_in machine s) (λ node. behind_own (may_of node (inputs.Remove id)) (no_if (not (is_here machine id s.world)) reasons.NotHere (behind_own (may_of node (inputs.Replace id)) may_do)))
+may_replace machine id s =
+    if_there (machine_in machine s) (λ node.
+    behind_own (may_of node (inputs.Remove id))
+    (no_if (not (is_here machine id s.world)) reasons.NotHere
+    (behind_own (may_of node (inputs.Replace id)) may_do)))
 
 -- a connection is made: no neighbour, connected, intake unsettled
 abbrev pub may_connect : ℕ → LineState → May
-may_connect machine s = if_there (machine_in machine s) (λ node. no_if (not (has_neighbour machine Entry s)) reasons.NoNeighbour (behind_own (may_of node inputs.Connect) may_do))
+may_connect machine s =
+    if_there (machine_in machine s) (λ node.
+    no_if (not (has_neighbour machine Entry s)) reasons.NoNeighbour
+    (behind_own (may_of node inputs.Connect) may_do))
 
 -- bytes arrive: no neighbour, not connected, nothing in flight
 abbrev pub may_flow : ℕ → Side → LineState → May
-may_flow machine side s = if_there (machine_in machine s) (λ node. no_if (not (has_neighbour machine side s)) reasons.NoNeighbour (behind_own (may_reach side node.lane.body) (no_if (is_dry_at machine side s.world) reasons.NothingInFlight may_do)))
+may_flow machine side s =
+    if_there (machine_in machine s) (λ node.
+    no_if (not (has_neighbour machine side s)) reasons.NoNeighbour
+    (behind_own (may_reach side node.lane.body)
+    (no_if (is_dry_at machine side s.world) reasons.NothingInFlight may_do)))
 
--- a side notices that its connection is closed: no neighbour, not connected, standing, text in flight
+-- a side notices that its connection is closed: no neighbour, not connected, standing, text in
+-- flight
 abbrev pub may_notice : ℕ → Side → LineState → May
-may_notice machine side s = if_there (machine_in machine s) (λ node. no_if (not (has_neighbour machine side s)) reasons.NoNeighbour (behind_own (may_reach side node.lane.body) (no_if (link_stands machine side s.world) reasons.Standing (no_if (not (is_dry_at machine side s.world)) reasons.TextInFlight may_do))))
+may_notice machine side s =
+    if_there (machine_in machine s) (λ node.
+    no_if (not (has_neighbour machine side s)) reasons.NoNeighbour
+    (behind_own (may_reach side node.lane.body)
+    (no_if (link_stands machine side s.world) reasons.Standing
+    (no_if (not (is_dry_at machine side s.world)) reasons.TextInFlight may_do))))
 
 -- a link is cut: no gap, not connected
 abbrev pub may_cut : ℕ → LineState → May
-may_cut gap s = no_if (not (has_link gap s)) (reasons.Move moves.NoGap) (no_if (is_loose (link_at gap s.world)) (reasons.Node nos.NotConnected) may_do)
+may_cut gap s =
+    no_if (not (has_link gap s)) (reasons.Move moves.NoGap)
+    (no_if (is_loose (link_at gap s.world)) (reasons.Node nos.NotConnected) may_do)
 
 -- what flows to a side is spoiled: no neighbour, not connected, not standing
 abbrev pub may_spoil : ℕ → Side → LineState → May
-may_spoil machine side s = if_there (machine_in machine s) (λ node. no_if (not (has_neighbour machine side s)) reasons.NoNeighbour (no_if (not (is_linked machine side s.world)) (reasons.Node nos.NotConnected) (no_if (not (link_stands machine side s.world)) (reasons.Node nos.NotStanding) may_do)))
+may_spoil machine side s =
+    if_there (machine_in machine s) (λ node.
+    no_if (not (has_neighbour machine side s)) reasons.NoNeighbour
+    (no_if (not (is_linked machine side s.world)) (reasons.Node nos.NotConnected)
+    (no_if (not (link_stands machine side s.world)) (reasons.Node nos.NotStanding) may_do)))
 
 -- a machine reads what its sensors saw: nothing to read
 abbrev pub may_sense : ℕ → LineState → May
-may_sense machine s = if_there (machine_in machine s) (λ node. no_if (not (has_unread machine s.world)) reasons.NothingToRead may_do)
+may_sense machine s =
+    if_there (machine_in machine s) (λ node.
+    no_if (not (has_unread machine s.world)) reasons.NothingToRead may_do)
 
 -- a board comes or goes unseen: not a bridge; and for one that goes: nothing there
 abbrev pub may_unseen : ℕ → Side → LineState → May
@@ -151,4 +183,6 @@ may_unseen machine side s =
 
 -- a sensor event that was not: no neighbour
 abbrev pub may_lie : ℕ → Side → LineState → May
-may_lie machine side s = if_there (machine_in machine s) (λ node. no_if (not (has_neighbour machine side s)) reasons.NoNeighbour may_do)
+may_lie machine side s =
+    if_there (machine_in machine s) (λ node.
+    no_if (not (has_neighbour machine side s)) reasons.NoNeighbour may_do)

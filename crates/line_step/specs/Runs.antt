@@ -17,7 +17,8 @@ abbrev pub IsRun : LineState → List ScriptLine → List Point → Type 0
 IsRun s [] [] = Unit {0}
 IsRun s [] (_ ∷ _) = ⊥
 IsRun s (_ ∷ _) [] = ⊥
-IsRun s (line ∷ lines) (point ∷ points) = LineSteps (s.lines + 1) line s point.after point.told × IsRun point.after lines points
+IsRun s (line ∷ lines) (point ∷ points) =
+    LineSteps (s.lines + 1) line s point.after point.told × IsRun point.after lines points
 
 -- the state behind them
 abbrev pub state_behind : LineState → List Point → LineState
@@ -32,4 +33,5 @@ all_told (point ∷ points) = point.told ++ all_told points
 -- what the report tells of them, each happening with the number of its script line
 abbrev pub told_text : ℕ → List Point → List ℕ
 told_text number [] = []
-told_text number (point ∷ points) = flat_map (λ happening. entry number happening) point.told ++ told_text (number + 1) points
+told_text number (point ∷ points) =
+    flat_map (λ happening. entry number happening) point.told ++ told_text (number + 1) points

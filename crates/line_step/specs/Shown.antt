@@ -16,15 +16,18 @@ use Rattle.line_report.specs.declared.happening.Happening.TheVariants as happeni
 
 abbrev pub kept_shown : ℕ → List Record → List Happening
 kept_shown machine [] = []
-kept_shown machine (board ∷ boards) = happenings.Shown machine board.id board.quality ∷ kept_shown machine boards
+kept_shown machine (board ∷ boards) =
+    happenings.Shown machine board.id board.quality ∷ kept_shown machine boards
 
--- the board between two machines: the one that the upper outlet holds, and the one that the lower intake holds where it
--- is another
+-- the board between two machines: the one that the upper outlet holds, and the one that the lower
+-- intake holds where it is another
 abbrev pub between_shown : ℕ → Option ℕ → Option ℕ → List Happening
 between_shown gap None None = []
 between_shown gap None (Some below) = happenings.ShownBetween gap below ∷ []
 between_shown gap (Some above) None = happenings.ShownBetween gap above ∷ []
-between_shown gap (Some above) (Some below) = happenings.ShownBetween gap above ∷ (if above == below then [] else happenings.ShownBetween gap below ∷ [])
+between_shown gap (Some above) (Some below) =
+    happenings.ShownBetween gap above ∷
+    (if above == below then [] else happenings.ShownBetween gap below ∷ [])
 
 -- the board that the next machine's intake holds
 abbrev pub taken_below : List NodeState → Option ℕ
@@ -34,7 +37,9 @@ taken_below (node ∷ nodes) = (own_of node.lane.body).taking
 abbrev pub shown_from : ℕ → List NodeState → List Happening
 shown_from machine [] = []
 shown_from machine (node ∷ nodes) =
-    kept_shown machine node.lane.body.kept ++ (between_shown machine (own_of node.lane.body).held (taken_below nodes) ++ shown_from (machine + 1) nodes)
+    kept_shown machine node.lane.body.kept
+    ++ (between_shown machine (own_of node.lane.body).held (taken_below nodes)
+    ++ shown_from (machine + 1) nodes)
 
 abbrev pub shown : LineState → List Happening
 shown s = shown_from 1 s.machines
@@ -44,7 +49,9 @@ shown s = shown_from 1 s.machines
 -- all ids in ascending order, each once
 abbrev pub with_id : ℕ → List ℕ → List ℕ
 with_id id [] = id ∷ []
-with_id id (first ∷ ids) = if nat_lt id first then id ∷ first ∷ ids else (if id == first then first ∷ ids else first ∷ with_id id ids)
+with_id id (first ∷ ids) =
+    if nat_lt id first then id ∷ first ∷ ids else
+    (if id == first then first ∷ ids else first ∷ with_id id ids)
 
 abbrev pub ascending : List ℕ → List ℕ
 ascending [] = []
@@ -69,4 +76,6 @@ standing_told id (Some tolds.Gone) = happenings.Gone id ∷ []
 
 -- the standings that changed from a state to another, in ascending order of id
 abbrev pub standings_told : LineState → LineState → List Happening
-standings_told before after = flat_map (λ id. standing_told id (told_of (marks_in before id) (marks_in after id))) (ascending (ids_marked before ++ ids_marked after))
+standings_told before after =
+    flat_map (λ id. standing_told id (told_of (marks_in before id) (marks_in after id)))
+    (ascending (ids_marked before ++ ids_marked after))

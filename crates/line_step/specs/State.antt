@@ -1,4 +1,5 @@
--- A line: its machines in downstream direction, what lies between and under them, and what was done so far.
+-- A line: its machines in downstream direction, what lies between and under them, and what was
+-- done so far.
 use Rattle.std.specs.Prelude.{ℕ, ◌+◌, ◌-◌, ◌++◌, zero, suc, List, [], ◌∷◌, Bool, false, Option, None, codes, decimal, length, map, slice_get, slice_set}
 use Rattle.line_world.specs.FloorPlan.{one_machine_more}
 use Rattle.node_core.specs.Node.{NodeState, new_node}
@@ -8,8 +9,8 @@ use Rattle.standings.specs.Marks.{Owned, marks_of}
 use Rattle.standings.specs.declared.mark.Mark.{Mark}
 use Rattle.line_step.specs.World.{WorldParts, links_more, no_world}
 
--- spent: memory ran out in a step. lines: how many lines were done. unvouched: the first that told what was not so, or
--- moved a board unseen
+-- spent: memory ran out in a step. lines: how many lines were done. unvouched: the first that told
+-- what was not so, or moved a board unseen
 pub record LineState : Type 0 where
   pub spent : Bool
   pub machines : List NodeState
@@ -53,14 +54,23 @@ profile_of is_bridge number capacity used = record {
 
 abbrev pub one_more : Bool → ℕ → ℕ → LineState → LineState
 one_more is_bridge capacity used s = record s {
-  machines = s.machines ++ new_node (profile_of is_bridge (length s.machines + 1) capacity used) ∷ [];
-  world = record s.world { links = links_more (length s.machines) s.world.links; floor = one_machine_more s.world.floor };
+  machines =
+      s.machines ++ new_node (profile_of is_bridge (length s.machines + 1) capacity used) ∷ [];
+  world = record s.world {
+    links = links_more (length s.machines) s.world.links;
+    floor = one_machine_more s.world.floor;
+  };
 }
 
 -- ---- who has whose record
 
 abbrev pub owned_by : NodeState → Owned
-owned_by node = record { kept = (own_of node.lane.body).kept; held = (own_of node.lane.body).held; taking = (own_of node.lane.body).taking }
+owned_by node =
+    record {
+      kept = (own_of node.lane.body).kept;
+      held = (own_of node.lane.body).held;
+      taking = (own_of node.lane.body).taking;
+    }
 
 abbrev pub owned : LineState → List Owned
 owned s = map owned_by s.machines

@@ -27,20 +27,25 @@ abbrev pub is_second : Input → Bool
 is_second inputs.Second = true
 is_second _ = false
 
--- a machine that is there makes a step of an input: it reads its unread events, and its acts do what they do to the links
--- and the floor, in their order. Nothing else of the line changes
-pub record MachineSteps (number machine : ℕ) (input : Input) (before after : LineState) (told : List Happening) : Type 0 where
+-- a machine that is there makes a step of an input: it reads its unread events, and its acts do
+-- what they do to the links and the floor, in their order. Nothing else of the line changes
+pub record MachineSteps (number machine : ℕ) (input : Input) (before after : LineState)
+    (told : List Happening) : Type 0 where
   pub node : NodeState
   pub next : NodeState
   pub acts : List Act
   pub there : machine_in machine before ≡ Some node
   pub steps : Steps node (unread_by machine before.world) input (moment_of number) next acts
   pub unspent : next.spent ≡ node.spent
-  pub after_is : after ≡ with_world (acts_did (is_second input) machine acts (read_by machine before.world)).world (with_machine machine next before)
-  pub told_is : told ≡ (acts_did (is_second input) machine acts (read_by machine before.world)).told
+  pub after_is : after
+      ≡ with_world (acts_did (is_second input) machine acts (read_by machine before.world)).world
+      (with_machine machine next before)
+  pub told_is : told
+      ≡ (acts_did (is_second input) machine acts (read_by machine before.world)).told
 
 -- one step and then another
-pub record StepsTwice (First Second : LineState → LineState → List Happening → Type 0) (before after : LineState) (told : List Happening) : Type 0 where
+pub record StepsTwice (First Second : LineState → LineState → List Happening
+    → Type 0) (before after : LineState) (told : List Happening) : Type 0 where
   pub between : LineState
   pub earlier : List Happening
   pub later : List Happening
@@ -49,7 +54,8 @@ pub record StepsTwice (First Second : LineState → LineState → List Happening
   pub told_is : told ≡ earlier ++ later
 
 -- a machine makes a step, and what it did is told behind what was told before
-pub record TellsStep (number machine : ℕ) (input : Input) (before after : LineState) (old new : List Happening) : Type 0 where
+pub record TellsStep (number machine : ℕ) (input : Input) (before after : LineState)
+    (old new : List Happening) : Type 0 where
   pub told : List Happening
   pub behind : new ≡ old ++ told
   pub steps : MachineSteps number machine input before after told

@@ -12,4 +12,11 @@ standing_in s id = standing_of (marks_in s id)
 
 -- the numbers of the report's last line
 abbrev pub summary_of : LineState → Summary
-summary_of s = record { lines = s.lines; boards = length (boards_on s.world.floor); opened = s.world.opened; settled = s.world.settled; unvouched = s.unvouched }
+summary_of s =
+    record {
+      lines = s.lines;
+      boards = length (boards_on s.world.floor);
+      opened = s.world.opened;
+      settled = s.world.settled;
+      unvouched = s.unvouched;
+    }

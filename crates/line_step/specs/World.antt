@@ -1,4 +1,5 @@
--- What a step of a machine meets outside of it: the links, the floor, and the counts of the report's last line.
+-- What a step of a machine meets outside of it: the links, the floor, and the counts of the
+-- report's last line.
 use Rattle.std.specs.Prelude.{◌≡◌, ℕ, zero, suc, ◌-◌, ◌&&◌, ◌++◌, false, List, [], ◌∷◌, Option, nat_le, nat_lt, slice_index_or, slice_set, take, if◌then◌else◌}
 use Rattle.line_base.specs.declared.states.Side.{Side}
 use Rattle.line_base.specs.declared.states.Side.TheVariants.{Entry, Exit}
@@ -23,18 +24,23 @@ with_floor floor world = record world { floor = floor }
 
 -- ---- links by their number: link k, and gap k under it, lie between machines k and k + 1
 
--- what has no such number, 0 among them, is a link on which nothing is connected, and no change of it changes anything
+-- what has no such number, 0 among them, is a link on which nothing is connected, and no change of
+-- it changes anything
 abbrev pub link_at : ℕ → WorldParts → LinkParts
-link_at link world = if nat_lt 0 link then slice_index_or world.links (link - 1) no_link else no_link
+link_at link world =
+    if nat_lt 0 link then slice_index_or world.links (link - 1) no_link else no_link
 
 abbrev pub with_link : ℕ → LinkParts → WorldParts → WorldParts
-with_link link parts world = if nat_lt 0 link then record world { links = slice_set world.links (link - 1) parts } else world
+with_link link parts world =
+    if nat_lt 0 link then record world { links = slice_set world.links (link - 1) parts } else
+    world
 
 -- there is no link of this number where there are so many
 abbrev pub IsNoLink : ℕ → ℕ → Type 0
 IsNoLink link count = (nat_lt 0 link && nat_le link count) ≡ false
 
--- a machine's exit is the upstream end of the link of its number, its entry the downstream end of the one before
+-- a machine's exit is the upstream end of the link of its number, its entry the downstream end of
+-- the one before
 abbrev pub link_of : ℕ → Side → ℕ
 link_of machine Exit = machine
 link_of machine Entry = machine - 1
@@ -45,7 +51,9 @@ end_of Entry = Downstream
 
 -- the bytes that arrive at a side: so many or what there is, or the rest of the oldest text
 abbrev pub piece_for : ℕ → Side → Option ℕ → WorldParts → List ℕ
-piece_for machine side count world = take (flowing count (flow_to (end_of side) (link_at (link_of machine side) world))) (coming (flow_to (end_of side) (link_at (link_of machine side) world)))
+piece_for machine side count world =
+    take (flowing count (flow_to (end_of side) (link_at (link_of machine side) world)))
+    (coming (flow_to (end_of side) (link_at (link_of machine side) world)))
 
 -- ---- one machine more
 

@@ -9,8 +9,8 @@ ghost use Rattle.line_step.specs.State.{no_line};
 
 /// Unique ids, and ids that stay: after each line of a script no two boards on the floor share an
 /// id; each new id is one that no board had before; and the ids on the floor change only by an
-/// insertion, a replacement, a removal, a done `take`, and where a board goes into a bridge's segment
-/// unseen. One that comes out of a segment unseen has no id.
+/// insertion, a replacement, a removal, a done `take`, and where a board goes into a bridge's
+/// segment unseen. One that comes out of a segment unseen has no id.
 #[tactic(auto, using(crate::proofs::FloorLaws::ids_stay))]
 pub fn ids_stay()
     ensures { IdsStay }
@@ -20,5 +20,6 @@ pub fn ids_stay()
 /// so, or let a board come or go unseen.
 #[tactic(auto, using(crate::proofs::Vouching::lies_remembered))]
 pub fn lies_are_remembered()
-    ensures { (asked : List ScriptLine) (points : List Point) → IsRun no_line asked points → is_some (state_behind no_line points).unvouched ≡ has_lie points }
+    ensures { (asked : List ScriptLine) (points : List Point) → IsRun no_line asked points
+        → is_some (state_behind no_line points).unvouched ≡ has_lie points }
 {}

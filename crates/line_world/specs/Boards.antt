@@ -15,7 +15,8 @@ boards_in (gaps.Left board) = board ∷ []
 abbrev pub boards_along : List AtMachine → List AtGap → List Board
 boards_along [] gaps = []
 boards_along (machine ∷ machines) [] = boards_along machines [] ++ machine.boards
-boards_along (machine ∷ machines) (gap ∷ gaps) = boards_along machines gaps ++ (boards_in gap.lies ++ machine.boards)
+boards_along (machine ∷ machines) (gap ∷ gaps) =
+    boards_along machines gaps ++ (boards_in gap.lies ++ machine.boards)
 
 -- all boards of the floor in the order in which they come out of the line: from the exit of the
 -- last machine back to the entry of the first
@@ -37,7 +38,8 @@ KeepsBoards moves.Left lies old new = new ≡ old
 KeepsBoards moves.Enter lies old new = new ≡ old
 KeepsBoards moves.Back lies old new = new ≡ old
 KeepsBoards moves.HandIn lies old new = new ≡ old
-KeepsBoards moves.Take lies old new = (board : Board) × (boards_in lies ≡ board ∷ []) × LosesBoard old new board
+KeepsBoards moves.Take lies old new =
+    (board : Board) × (boards_in lies ≡ board ∷ []) × LosesBoard old new board
 
 -- these are the same boards in the same order, but for this one, in whose stead stands another
 pub record ChangesBoard (old new : List Board) (was now : Board) : Type 0 where
@@ -48,7 +50,9 @@ pub record ChangesBoard (old new : List Board) (was now : Board) : Type 0 where
 
 -- one board that has the first of these ids gets the second
 abbrev pub ChangesId : ℕ → ℕ → List Board → List Board → Type 0
-ChangesId was now old new = (board : Board) × (has_id was board ≡ true) × ChangesBoard old new board (record { id = Some now })
+ChangesId was now old new =
+    (board : Board) × (has_id was board ≡ true)
+    × ChangesBoard old new board (record { id = Some now })
 
 -- a place of the floor: a machine or a gap, by its number
 pub data Place : Type 0 where
@@ -57,8 +61,13 @@ pub data Place : Type 0 where
 
 abbrev pub places_along : ℕ → ℕ → List AtMachine → List AtGap → List Place
 places_along id number [] gaps = []
-places_along id number (machine ∷ machines) [] = places_along id (number + 1) machines [] ++ map (λ _. machine_number number) (filter (has_id id) machine.boards)
-places_along id number (machine ∷ machines) (gap ∷ gaps) = places_along id (number + 1) machines gaps ++ (map (λ _. gap_number number) (filter (has_id id) (boards_in gap.lies)) ++ map (λ _. machine_number number) (filter (has_id id) machine.boards))
+places_along id number (machine ∷ machines) [] =
+    places_along id (number + 1) machines []
+    ++ map (λ _. machine_number number) (filter (has_id id) machine.boards)
+places_along id number (machine ∷ machines) (gap ∷ gaps) =
+    places_along id (number + 1) machines gaps
+    ++ (map (λ _. gap_number number) (filter (has_id id) (boards_in gap.lies))
+    ++ map (λ _. machine_number number) (filter (has_id id) machine.boards))
 
 -- where the boards with this id are: a place for each of them
 abbrev pub places_of : ℕ → FloorPlan → List Place
@@ -82,11 +91,13 @@ KeepsPlaces moves.Left lies old new = (id : ℕ) → IsInOnePlace id old → IsI
 KeepsPlaces moves.Enter lies old new = (id : ℕ) → IsInOnePlace id old → IsInOnePlace id new
 KeepsPlaces moves.Back lies old new = (id : ℕ) → IsInOnePlace id old → IsInOnePlace id new
 KeepsPlaces moves.HandIn lies old new = (id : ℕ) → IsInOnePlace id old → IsInOnePlace id new
-KeepsPlaces moves.Take lies old new = (id : ℕ) → IsInOnePlace id old → StaysUnlessTaken id (filter (has_id id) (boards_in lies)) new
+KeepsPlaces moves.Take lies old new =
+    (id : ℕ) → IsInOnePlace id old → StaysUnlessTaken id (filter (has_id id) (boards_in lies)) new
 
 -- a board that was in one place is so again; the one that is taken out is nowhere
 abbrev pub LosesPlace : FloorPlan → FloorPlan → Board → Type 0
-LosesPlace old new board = (id : ℕ) → IsInOnePlace id old → StaysUnlessTaken id (filter (has_id id) (board ∷ [])) new
+LosesPlace old new board =
+    (id : ℕ) → IsInOnePlace id old → StaysUnlessTaken id (filter (has_id id) (board ∷ [])) new
 
 -- and one that comes is in one place, if there was none with its id
 pub record GainsPlace (old new : FloorPlan) (board : Board) : Type 0 where

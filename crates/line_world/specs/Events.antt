@@ -41,8 +41,10 @@ unread_of plan machine = (machine_at plan machine).unread
 -- last one that each has to read; and it reaches no one else
 pub record ReachesBothSides (gap : ℕ) (step : Move) (old new : FloorPlan) : Type 0 where
   pub exit : unread_of new gap ≡ unread_of old gap ++ seen_at sides.Exit (event_of step)
-  pub entry : unread_of new (gap + 1) ≡ unread_of old (gap + 1) ++ seen_at sides.Entry (event_of step)
-  pub others : (machine : ℕ) → machine ≢ gap → machine ≢ gap + 1 → unread_of new machine ≡ unread_of old machine
+  pub entry : unread_of new (gap + 1) ≡ unread_of old (gap + 1)
+      ++ seen_at sides.Entry (event_of step)
+  pub others : (machine : ℕ) → machine ≢ gap → machine ≢ gap + 1
+      → unread_of new machine ≡ unread_of old machine
 
 -- the same said by move and side: a board that has left is seen at the exit alone, and one that is
 -- wholly inside at the entry alone
@@ -78,6 +80,7 @@ unread_at plan machine side = events_at side (unread_of plan machine)
 -- as the last that is to be read there; at their other sides nothing is
 pub record TellsBothSides (gap : ℕ) (step : Move) (old new : FloorPlan) : Type 0 where
   pub exit : unread_at new gap sides.Exit ≡ unread_at old gap sides.Exit ++ told_at sides.Exit step
-  pub entry : unread_at new (gap + 1) sides.Entry ≡ unread_at old (gap + 1) sides.Entry ++ told_at sides.Entry step
+  pub entry : unread_at new (gap + 1) sides.Entry ≡ unread_at old (gap + 1) sides.Entry
+      ++ told_at sides.Entry step
   pub upstream_entry : unread_at new gap sides.Entry ≡ unread_at old gap sides.Entry
   pub downstream_exit : unread_at new (gap + 1) sides.Exit ≡ unread_at old (gap + 1) sides.Exit

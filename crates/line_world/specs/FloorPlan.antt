@@ -42,16 +42,21 @@ IsWhole plan = length plan.gaps ≡ length plan.machines - 1
 -- what has no such number, 0 among them, is an empty machine or a free gap, and no change of it
 -- changes the floor
 abbrev pub machine_at : FloorPlan → ℕ → AtMachine
-machine_at plan machine = if nat_lt 0 machine then slice_index_or plan.machines (machine - 1) empty_machine else empty_machine
+machine_at plan machine =
+    if nat_lt 0 machine then slice_index_or plan.machines
+    (machine - 1) empty_machine else empty_machine
 
 abbrev pub gap_at : FloorPlan → ℕ → AtGap
 gap_at plan gap = if nat_lt 0 gap then slice_index_or plan.gaps (gap - 1) free_gap else free_gap
 
 abbrev pub with_machine : FloorPlan → ℕ → AtMachine → FloorPlan
-with_machine plan machine now = if nat_lt 0 machine then record plan { machines = slice_set plan.machines (machine - 1) now } else plan
+with_machine plan machine now =
+    if nat_lt 0 machine then record plan { machines = slice_set plan.machines (machine - 1) now }
+    else plan
 
 abbrev pub with_gap : FloorPlan → ℕ → AtGap → FloorPlan
-with_gap plan gap now = if nat_lt 0 gap then record plan { gaps = slice_set plan.gaps (gap - 1) now } else plan
+with_gap plan gap now =
+    if nat_lt 0 gap then record plan { gaps = slice_set plan.gaps (gap - 1) now } else plan
 
 -- one more machine at the downstream end, and a gap before it where it isn't the first
 abbrev pub gaps_before : List AtMachine → List AtGap → List AtGap
@@ -59,13 +64,19 @@ gaps_before [] gaps = gaps
 gaps_before (_ ∷ _) gaps = gaps ++ free_gap ∷ []
 
 abbrev pub one_machine_more : FloorPlan → FloorPlan
-one_machine_more plan = record { machines = plan.machines ++ empty_machine ∷ []; gaps = gaps_before plan.machines plan.gaps }
+one_machine_more plan =
+    record {
+      machines = plan.machines ++ empty_machine ∷ [];
+      gaps = gaps_before plan.machines plan.gaps;
+    }
 
 abbrev pub with_boards : FloorPlan → ℕ → List Board → FloorPlan
-with_boards plan machine boards = with_machine plan machine (record (machine_at plan machine) { boards = boards })
+with_boards plan machine boards =
+    with_machine plan machine (record (machine_at plan machine) { boards = boards })
 
 abbrev pub with_unread : FloorPlan → ℕ → List Sensed → FloorPlan
-with_unread plan machine unread = with_machine plan machine (record (machine_at plan machine) { unread = unread })
+with_unread plan machine unread =
+    with_machine plan machine (record (machine_at plan machine) { unread = unread })
 
 -- a gap's exit drive is that of the upstream machine, its entry drive that of the downstream one
 abbrev pub drive_of : AtGap → Side → Bool
@@ -84,11 +95,18 @@ abbrev pub place_of : ℕ → List Board → Option ℕ
 place_of id boards = position (has_id id) boards
 
 abbrev pub board_found : ℕ → List Board → Option Board
-board_found id boards = elim (place_of id boards) [ None ↦ None | Some place ↦ slice_get boards place ]
+board_found id boards =
+    elim (place_of id boards) [ None ↦ None | Some place ↦ slice_get boards place ]
 
 abbrev pub without_board : ℕ → List Board → List Board
-without_board id boards = elim (place_of id boards) [ None ↦ boards | Some place ↦ remove boards place ]
+without_board id boards =
+    elim (place_of id boards) [ None ↦ boards | Some place ↦ remove boards place ]
 
 -- another id for the first board with this id
 abbrev pub with_new_id : ℕ → ℕ → List Board → List Board
-with_new_id old new boards = elim (place_of old boards) [ None ↦ boards | Some place ↦ slice_set boards place (record { id = Some new }) ]
+with_new_id old new boards =
+    elim (place_of old boards) [
+      | None ↦ boards
+      | Some place ↦ slice_set boards place
+          (record { id = Some new })
+    ]

@@ -141,21 +141,33 @@ board_at back_downstream around = None
 board_at off_the_floor around = None
 
 abbrev pub without_board_at : Spot → Around → Around
-without_board_at front_upstream around = record around { up = record around.up { boards = drop 1 around.up.boards } }
-without_board_at begun around = record around { between = record around.between { lies = gaps.Free } }
-without_board_at left around = record around { between = record around.between { lies = gaps.Free } }
+without_board_at front_upstream around =
+    record around { up = record around.up { boards = drop 1 around.up.boards } }
+without_board_at begun around =
+    record around { between = record around.between { lies = gaps.Free } }
+without_board_at left around =
+    record around { between = record around.between { lies = gaps.Free } }
 without_board_at back_downstream around = around
 without_board_at off_the_floor around = around
 
 abbrev pub with_board_at : Spot → Board → Around → Around
-with_board_at front_upstream board around = record around { up = record around.up { boards = board ∷ around.up.boards } }
-with_board_at begun board around = record around { between = record around.between { lies = gaps.Begun board } }
-with_board_at left board around = record around { between = record around.between { lies = gaps.Left board } }
-with_board_at back_downstream board around = record around { down = record around.down { boards = around.down.boards ++ board ∷ [] } }
+with_board_at front_upstream board around =
+    record around { up = record around.up { boards = board ∷ around.up.boards } }
+with_board_at begun board around =
+    record around { between = record around.between { lies = gaps.Begun board } }
+with_board_at left board around =
+    record around { between = record around.between { lies = gaps.Left board } }
+with_board_at back_downstream board around =
+    record around { down = record around.down { boards = around.down.boards ++ board ∷ [] } }
 with_board_at off_the_floor board around = around
 
 abbrev pub after_carry : Spot → Spot → Around → Around
-after_carry from to around = elim (board_at from around) [ None ↦ around | Some board ↦ with_board_at to board (without_board_at from around) ]
+after_carry from to around =
+    elim (board_at from around) [
+      | None ↦ around
+      | Some board ↦ with_board_at to board
+          (without_board_at from around)
+    ]
 
 abbrev pub after_stop : Option Side → Around → Around
 after_stop None around = around
@@ -163,21 +175,25 @@ after_stop (Some side) around = record around { between = with_drive around.betw
 
 -- an event of the exit's sensor comes to the upstream machine, one of the entry's to the other
 abbrev pub after_event : Sensed → Side → Around → Around
-after_event sensed sides.Exit around = record around { up = record around.up { unread = around.up.unread ++ sensed ∷ [] } }
-after_event sensed sides.Entry around = record around { down = record around.down { unread = around.down.unread ++ sensed ∷ [] } }
+after_event sensed sides.Exit around =
+    record around { up = record around.up { unread = around.up.unread ++ sensed ∷ [] } }
+after_event sensed sides.Entry around =
+    record around { down = record around.down { unread = around.down.unread ++ sensed ∷ [] } }
 
 abbrev pub after_events : List Sensed → Around → Around
 after_events [] around = around
 after_events (sensed ∷ more) around = after_events more (after_event sensed sensed.side around)
 
 abbrev pub after_row : Row → Around → Around
-after_row row around = after_events row.events (after_stop row.stops (after_carry row.from row.to around))
+after_row row around =
+    after_events row.events (after_stop row.stops (after_carry row.from row.to around))
 
 abbrev pub answer_of : Row → Option MoveNo → Around → Result Around MoveNo
 answer_of row (Some why) around = Err why
 answer_of row None around = Ok (after_row row around)
 
--- what a row makes of a move: the first of its reasons that holds, else what is around the gap then
+-- what a row makes of a move: the first of its reasons that holds, else what is around the gap
+-- then
 abbrev pub answer_by_row : Row → Around → Result Around MoveNo
 answer_by_row row around = answer_of row (find (holds around) row.reasons) around
 
@@ -185,7 +201,12 @@ abbrev pub around_move : Move → Around → Result Around MoveNo
 around_move step around = answer_by_row (row_of step around.between.lies) around
 
 abbrev pub around_of : FloorPlan → ℕ → Around
-around_of plan gap = record { up = machine_at plan gap; between = gap_at plan gap; down = machine_at plan (gap + 1) }
+around_of plan gap =
+    record {
+      up = machine_at plan gap;
+      between = gap_at plan gap;
+      down = machine_at plan (gap + 1);
+    }
 
 abbrev pub with_around : FloorPlan → ℕ → Around → FloorPlan
 with_around plan gap around = record {
@@ -202,7 +223,9 @@ floor_after plan gap (Err why) = Err why
 
 -- a move at a gap of the floor: the first reason against it, or the floor after it
 abbrev pub floor_move : ℕ → Move → FloorPlan → Result FloorPlan MoveNo
-floor_move gap step plan = if has_gap plan gap then floor_after plan gap (around_move step (around_of plan gap)) else Err nos.NoGap
+floor_move gap step plan =
+    if has_gap plan gap then floor_after plan gap
+    (around_move step (around_of plan gap)) else Err nos.NoGap
 
 -- what a call of a move answers: the new floor or the reason, unless memory ran out. After an
 -- error all is as it was
@@ -211,13 +234,16 @@ Answers move before after (Ok _) = move ≡ Ok after
 Answers move before after (Err (errors.No why)) = (move ≡ Err why) × (after ≡ before)
 Answers move before after (Err errors.Memory) = IsOk move × (after ≡ before)
 
-abbrev pub AnswersAround : Move → AtMachine → AtGap → AtMachine → AtMachine → AtGap → AtMachine → Result (Unit {0}) MoveError → Type 0
+abbrev pub AnswersAround : Move → AtMachine → AtGap → AtMachine → AtMachine → AtGap → AtMachine
+    → Result (Unit {0}) MoveError → Type 0
 AnswersAround step up between down up' between' down' result =
     let before : Around = record { up = up; between = between; down = down } in
-    Answers (around_move step before) before (record { up = up'; between = between'; down = down' }) result
+    Answers (around_move step before) before
+    (record { up = up'; between = between'; down = down' }) result
 
 abbrev pub AnswersFloor : ℕ → Move → FloorPlan → FloorPlan → Result (Unit {0}) MoveError → Type 0
-AnswersFloor gap step before after result = Answers (floor_move gap step before) before after result
+AnswersFloor gap step before after result =
+    Answers (floor_move gap step before) before after result
 
 abbrev pub no_text : MoveNo → List ℕ
 no_text nos.NoGap = codes "no gap"

@@ -36,7 +36,8 @@ pub fn apply_around(
 }
 
 fn begin(up: &mut Station, between: &mut AtGap, down: &mut Station) -> Result<(), MoveError>
-    ensures { AnswersAround moves.Begin up.old between.old down.old up.new between.new down.new result }
+    ensures { AnswersAround moves.Begin up.old between.old down.old up.new between.new down.new
+        result }
 {
     if !between.exit_drive {
         return Err(MoveError::No(MoveNo::ExitDriveOff));
@@ -56,7 +57,8 @@ fn begin(up: &mut Station, between: &mut AtGap, down: &mut Station) -> Result<()
 }
 
 fn leave(up: &mut Station, between: &mut AtGap) -> Result<(), MoveError>
-    ensures { (down : AtMachine) → AnswersAround moves.Left up.old between.old down up.new between.new down result }
+    ensures { (down : AtMachine)
+        → AnswersAround moves.Left up.old between.old down up.new between.new down result }
 {
     let Gap::Begun(board) = between.lies else {
         return Err(MoveError::No(MoveNo::NotBegun));
@@ -75,7 +77,8 @@ fn leave(up: &mut Station, between: &mut AtGap) -> Result<(), MoveError>
 }
 
 fn enter(between: &mut AtGap, down: &mut Station) -> Result<(), MoveError>
-    ensures { (up : AtMachine) → AnswersAround moves.Enter up between.old down.old up between.new down.new result }
+    ensures { (up : AtMachine)
+        → AnswersAround moves.Enter up between.old down.old up between.new down.new result }
 {
     let Gap::Left(board) = between.lies else {
         return Err(MoveError::No(MoveNo::NotLeft));
@@ -89,7 +92,8 @@ fn enter(between: &mut AtGap, down: &mut Station) -> Result<(), MoveError>
 }
 
 fn go_back(up: &mut Station, between: &mut AtGap, down: &mut Station) -> Result<(), MoveError>
-    ensures { AnswersAround moves.Back up.old between.old down.old up.new between.new down.new result }
+    ensures { AnswersAround moves.Back up.old between.old down.old up.new between.new down.new
+        result }
 {
     let Gap::Begun(Board { id }) = between.lies else {
         return Err(MoveError::No(MoveNo::NotBegun));
@@ -108,7 +112,8 @@ fn go_back(up: &mut Station, between: &mut AtGap, down: &mut Station) -> Result<
 }
 
 fn hand_in(between: &mut AtGap, down: &mut Station) -> Result<(), MoveError>
-    ensures { (up : AtMachine) → AnswersAround moves.HandIn up between.old down.old up between.new down.new result }
+    ensures { (up : AtMachine)
+        → AnswersAround moves.HandIn up between.old down.old up between.new down.new result }
 {
     let Gap::Left(board) = between.lies else {
         return Err(MoveError::No(MoveNo::NotLeft));
@@ -123,7 +128,9 @@ fn hand_in(between: &mut AtGap, down: &mut Station) -> Result<(), MoveError>
 fn come_in(board: Board, between: &mut AtGap, down: &mut Station) -> Result<(), MoveError>
     ensures gap { OnOk result (between.new ≡ record between.old { lies = gaps.Free }) }
     ensures boards { OnOk result (down.new.boards ≡ down.old.boards ++ board ∷ []) }
-    ensures event { OnOk result (down.new.unread ≡ down.old.unread ++ record { side = sides.Entry; event = sensors.Full } ∷ []) }
+    ensures event { OnOk result
+        (down.new.unread ≡ down.old.unread
+        ++ record { side = sides.Entry; event = sensors.Full } ∷ []) }
     ensures memory { IfErr result (λ error. error ≡ errors.Memory) }
     ensures same_gap { OnErr result (between.new ≡ between.old) }
     ensures same_machine { OnErr result (down.new ≡ down.old) }
@@ -138,7 +145,8 @@ fn come_in(board: Board, between: &mut AtGap, down: &mut Station) -> Result<(), 
 }
 
 fn take(up: &mut Station, between: &mut AtGap, down: &mut Station) -> Result<(), MoveError>
-    ensures { AnswersAround moves.Take up.old between.old down.old up.new between.new down.new result }
+    ensures { AnswersAround moves.Take up.old between.old down.old up.new between.new down.new
+        result }
 {
     let taken = between.lies;
     match taken {

@@ -137,14 +137,15 @@ impl Floor {
         self.boards
     }
 
-    /// Does a move at a gap. `No` with the first reason of the move table that holds, `NoGap` where
-    /// there is no such gap; `Memory` where none holds and there is no room. After an error the
-    /// floor is as it was.
+    /// Does a move at a gap. `No` with the first reason of the move table that holds, `NoGap`
+    /// where there is no such gap; `Memory` where none holds and there is no room. After an error
+    /// the floor is as it was.
     pub fn apply(&mut self, gap: usize, step: Move) -> Result<(), MoveError>
         ensures answer { AnswersFloor gap step self.old self.new result }
 
         // a move makes or loses no board but that `take` takes the one in the gap
-        ensures boards { OnOk result (KeepsBoards step (gap_at self.old gap).lies (boards_on self.old) (boards_on self.new)) }
+        ensures boards { OnOk result
+            (KeepsBoards step (gap_at self.old gap).lies (boards_on self.old) (boards_on self.new)) }
 
         // a board that was in one place is in one place again
         ensures places { OnOk result (KeepsPlaces step (gap_at self.old gap).lies self.old self.new) }
@@ -195,7 +196,9 @@ impl Floor {
     /// floor is then as it was.
     pub fn place(&mut self, machine: usize, board: Board) -> Result<(), Memory>
         requires { IsMachine self.old machine }
-        ensures ok { OnOk result (self.new ≡ with_boards self.old machine ((machine_at self.old machine).boards ++ board ∷ [])) }
+        ensures ok { OnOk result
+            (self.new
+            ≡ with_boards self.old machine ((machine_at self.old machine).boards ++ board ∷ [])) }
         ensures memory { OnErr result (self.new ≡ self.old) }
         ensures boards { OnOk result (LosesBoard (boards_on self.new) (boards_on self.old) board) }
         ensures places { OnOk result (GainsPlace self.old self.new board) }
@@ -214,7 +217,9 @@ impl Floor {
     pub fn remove(&mut self, machine: usize, id: BoardId) -> Option<Board>
         requires { IsMachine self.old machine }
         ensures taken { result ≡ board_found id (machine_at self.old machine).boards }
-        ensures left { self.new ≡ with_boards self.old machine (without_board id (machine_at self.old machine).boards) }
+        ensures left { self.new
+            ≡ with_boards self.old machine
+            (without_board id (machine_at self.old machine).boards) }
         ensures boards { IfSome result (LosesBoard (boards_on self.old) (boards_on self.new)) }
         ensures places { IfSome result (LosesPlace self.old self.new) }
         ensures machines { length self.new.machines ≡ length self.old.machines }
@@ -229,7 +234,9 @@ impl Floor {
     pub fn replace(&mut self, machine: usize, old: BoardId, new: BoardId) -> bool
         requires { IsMachine self.old machine }
         ensures found { result ≡ is_some (place_of old (machine_at self.old machine).boards) }
-        ensures after { self.new ≡ with_boards self.old machine (with_new_id old new (machine_at self.old machine).boards) }
+        ensures after { self.new
+            ≡ with_boards self.old machine
+            (with_new_id old new (machine_at self.old machine).boards) }
         ensures boards { OnTrue result (ChangesId old new (boards_on self.old) (boards_on self.new)) }
         ensures places { OnTrue result (ChangesPlace old new self.old self.new) }
         ensures machines { length self.new.machines ≡ length self.old.machines }
@@ -241,7 +248,9 @@ impl Floor {
     /// `Memory` where there is no room for it; the floor is then as it was.
     pub fn lie(&mut self, machine: usize, sensed: Sensed) -> Result<(), Memory>
         requires { IsMachine self.old machine }
-        ensures ok { OnOk result (self.new ≡ with_unread self.old machine ((machine_at self.old machine).unread ++ sensed ∷ [])) }
+        ensures ok { OnOk result
+            (self.new
+            ≡ with_unread self.old machine ((machine_at self.old machine).unread ++ sensed ∷ [])) }
         ensures memory { OnErr result (self.new ≡ self.old) }
         ensures boards { boards_on self.new ≡ boards_on self.old }
         ensures machines { length self.new.machines ≡ length self.old.machines }
@@ -254,7 +263,8 @@ impl Floor {
     pub fn unseen_out(&mut self, machine: usize) -> Option<Board>
         requires { IsMachine self.old machine }
         ensures front { result ≡ slice_get (machine_at self.old machine).boards 0 }
-        ensures after { self.new ≡ with_boards self.old machine (drop 1 (machine_at self.old machine).boards) }
+        ensures after { self.new
+            ≡ with_boards self.old machine (drop 1 (machine_at self.old machine).boards) }
         ensures boards { IfSome result (LosesBoard (boards_on self.old) (boards_on self.new)) }
         ensures places { IfSome result (LosesPlace self.old self.new) }
         ensures machines { length self.new.machines ≡ length self.old.machines }
@@ -274,7 +284,9 @@ fn apply_at(
 ) -> Result<(), MoveError>
     requires there { IsGap (record { machines = machines.old.items; gaps = gaps.old.items }) gap }
     requires whole { IsWhole (record { machines = machines.old.items; gaps = gaps.old.items }) }
-    ensures { AnswersFloor gap step (record { machines = machines.old.items; gaps = gaps.old.items }) (record { machines = machines.new.items; gaps = gaps.new.items }) result }
+    ensures { AnswersFloor gap step
+        (record { machines = machines.old.items; gaps = gaps.old.items })
+        (record { machines = machines.new.items; gaps = gaps.new.items }) result }
 {
     apply_parted(machines, gaps, gap, step)
 }
@@ -288,7 +300,8 @@ fn apply_parted(
 ) -> Result<(), MoveError>
     requires there { IsGap (record { machines = machines.old; gaps = gaps.old }) gap }
     requires whole { IsWhole (record { machines = machines.old; gaps = gaps.old }) }
-    ensures { AnswersFloor gap step (record { machines = machines.old; gaps = gaps.old }) (record { machines = machines.new; gaps = gaps.new }) result }
+    ensures { AnswersFloor gap step (record { machines = machines.old; gaps = gaps.old })
+        (record { machines = machines.new; gaps = gaps.new }) result }
 {
     let (above, below) = machines.split_at_mut(gap);
     apply_around(&mut above[gap - 1], &mut gaps[gap - 1], &mut below[0], step)

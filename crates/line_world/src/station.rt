@@ -65,7 +65,8 @@ impl Station {
 
     /// Adds an event to read.
     pub fn tell(&mut self, sensed: Sensed) -> Result<(), Memory>
-        ensures ok { OnOk result (self.new ≡ record self.old { unread = self.old.unread ++ sensed ∷ [] }) }
+        ensures ok { OnOk result
+            (self.new ≡ record self.old { unread = self.old.unread ++ sensed ∷ [] }) }
         ensures memory { OnErr result (self.new ≡ self.old) }
         ensures boards { self.new.boards ≡ self.old.boards }
     {

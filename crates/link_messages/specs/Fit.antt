@@ -29,8 +29,8 @@ use Rattle.node_core.specs.declared.word.Word.TheVariants as words
 
 -- ---- messages
 
--- its parts are within what their types allow, it is writable, and its name is short: so its text is one frame, and spells it
--- alone
+-- its parts are within what their types allow, it is writable, and its name is short: so its text
+-- is one frame, and spells it alone
 pub record IsFit (message : Message) : Type 0 where
   pub proper : IsProperMessage message
   pub writable : IsWritable message
@@ -38,7 +38,8 @@ pub record IsFit (message : Message) : Type 0 where
 
 pub data AreFit : List Message → Type 0 where
   none_fit : AreFit []
-  more_fit : {message : Message} {others : List Message} → IsFit message → AreFit others → AreFit (message ∷ others)
+  more_fit : {message : Message} {others : List Message} → IsFit message → AreFit others
+      → AreFit (message ∷ others)
 
 -- the messages that are sent are fit; what a supervisor is told goes out on no link
 abbrev pub IsFitAct : Act → Type 0
@@ -54,7 +55,8 @@ sent_on side (act ∷ others) = sent_on side others
 
 pub data AreFitActs : List Act → Type 0 where
   none_said : AreFitActs []
-  more_said : {act : Act} {others : List Act} → IsFitAct act → AreFitActs others → AreFitActs (act ∷ others)
+  more_said : {act : Act} {others : List Act} → IsFitAct act → AreFitActs others
+      → AreFitActs (act ∷ others)
 
 -- ---- a machine
 
@@ -76,15 +78,18 @@ IsFitIf (Some board) = IsFitRecord board
 
 pub data AreFitRecords : List Record → Type 0 where
   none_kept : AreFitRecords []
-  more_kept : {board : Record} {others : List Record} → IsFitRecord board → AreFitRecords others → AreFitRecords (board ∷ others)
+  more_kept : {board : Record} {others : List Record} → IsFitRecord board → AreFitRecords others
+      → AreFitRecords (board ∷ others)
 
--- what a machine knows of itself: its name is a text, its lane has at most nine digits, and the moment is of the years 1 to 9999
+-- what a machine knows of itself: its name is a text, its lane has at most nine digits, and the
+-- moment is of the years 1 to 9999
 pub record IsFitDesk (desk : Desk) : Type 0 where
   pub name : IsText desk.name
   pub lane : desk.lane ≤ 999_999_999
   pub moment : IsMomentMillis desk.moment
 
--- the records of a machine are fit: those that are kept, that of the outlet, that of the intake, and the one that is offered to it
+-- the records of a machine are fit: those that are kept, that of the outlet, that of the intake,
+-- and the one that is offered to it
 pub record IsFitBody (body : Body) : Type 0 where
   pub kept : AreFitRecords body.kept
   pub outlet : IsFitIf (outlet.held body.outlet)
@@ -93,20 +98,25 @@ pub record IsFitBody (body : Body) : Type 0 where
 
 -- ---- what comes to it
 
--- a message that is heard: of an available board its record, of a start its id, of a sign of life the text that comes back
+-- a message that is heard: of an available board its record, of a start its id, of a sign of life
+-- the text that comes back
 abbrev pub IsFitHeard : Horizontal → Type 0
 IsFitHeard (bodies.BoardAvailable board) = IsFitRecord board
 IsFitHeard (bodies.StartTransport id) = IsFitId id
 IsFitHeard (bodies.CheckAlive ping id) = IsTextIf id
 IsFitHeard _ = Unit {0}
 
--- the words of a side: such messages, up to a refusal that is a text. What stands behind that is not heard
+-- the words of a side: such messages, up to a refusal that is a text. What stands behind that is
+-- not heard
 pub data AreFitWords : List Word → Type 0 where
   none_heard : AreFitWords []
-  more_heard : {message : Message} {others : List Word} → IsFitHeard message.body → AreFitWords others → AreFitWords (words.Says message ∷ others)
-  wrong_heard : {text : List ℕ} {others : List Word} → IsText text → AreFitWords (words.Wrong text ∷ others)
+  more_heard : {message : Message} {others : List Word} → IsFitHeard message.body
+      → AreFitWords others → AreFitWords (words.Says message ∷ others)
+  wrong_heard : {text : List ℕ} {others : List Word} → IsText text
+      → AreFitWords (words.Wrong text ∷ others)
 
--- an event: its words, the ids that it makes, the barcode of a new board and the one that is asked for
+-- an event: its words, the ids that it makes, the barcode of a new board and the one that is asked
+-- for
 abbrev pub IsFitEvent : Event → Type 0
 IsFitEvent (events.Words side heard) = AreFitWords heard
 IsFitEvent (events.Insert id barcode) = IsFitId id × IsTextIf barcode

@@ -32,7 +32,8 @@ GoesOn (Some log) (Some rest) reader = IsGoing log rest reader
 -- how it ends: the log was read to its end and nothing is against it, or a reason is
 abbrev pub EndsLog : List ℕ → Option (List ℕ) → Result Counts LogError → Type 0
 EndsLog log left (Ok counts) = IsCounted (lines log) counts × (left ≡ Some [])
-EndsLog log left (Err (errors.No line why)) = against (lines log) ≡ Some (record { line = line; why = why })
+EndsLog log left (Err (errors.No line why)) =
+    against (lines log) ≡ Some (record { line = line; why = why })
 EndsLog log left (Err errors.ReadFault) = Unit {0}
 EndsLog log left (Err errors.Memory) = Unit {0}
 

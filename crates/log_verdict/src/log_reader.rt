@@ -38,7 +38,8 @@ impl LogReader {
 
     /// Takes the next piece of the log.
     pub fn take_piece(&mut self, piece: &[u8]) -> Result<(), CheckError>
-        ensures takes { (bytes : List ℕ) → Follows bytes self.old → Takes (bytes ++ piece.now) self.new result }
+        ensures takes { (bytes : List ℕ) → Follows bytes self.old
+            → Takes (bytes ++ piece.now) self.new result }
         ensures progress { OnOk result (progress_of self.old + length piece.now ≤ progress_of self.new) }
         ensures bounded { OnOk result (progress_of self.new ≤ 4099004097) }
     {
@@ -52,7 +53,8 @@ impl LogReader {
         self.keep(rest)
     }
 
-    /// Takes the log's end: its last line, if that lacks its end, and what the checker says of all.
+    /// Takes the log's end: its last line, if that lacks its end, and what the checker says of
+    /// all.
     pub fn finish(self) -> Result<Counts, CheckError>
         ensures { (bytes : List ℕ) → Follows bytes self → Ends (lines bytes) result }
     {
@@ -72,7 +74,8 @@ impl LogReader {
     /// Takes the rest of a line and its end.
     fn end_line(&mut self, part: &[u8]) -> Result<(), CheckError>
         requires { HasNoEnd part.now }
-        ensures takes { (bytes : List ℕ) → Follows bytes self.old → Takes (bytes ++ (part.now ++ 10 ∷ [])) self.new result }
+        ensures takes { (bytes : List ℕ) → Follows bytes self.old
+            → Takes (bytes ++ (part.now ++ 10 ∷ [])) self.new result }
         ensures progress { OnOk result (progress_of self.old + length part.now + 1 ≤ progress_of self.new) }
     {
         if self.pending.is_empty() {
@@ -92,7 +95,8 @@ impl LogReader {
     /// Keeps the front of a line that has not ended.
     fn keep(&mut self, part: &[u8]) -> Result<(), CheckError>
         requires { HasNoEnd part.now }
-        ensures takes { (bytes : List ℕ) → Follows bytes self.old → Takes (bytes ++ part.now) self.new result }
+        ensures takes { (bytes : List ℕ) → Follows bytes self.old
+            → Takes (bytes ++ part.now) self.new result }
         ensures progress { OnOk result (progress_of self.old + length part.now ≤ progress_of self.new) }
         ensures bounded { OnOk result (progress_of self.new ≤ 4099004097) }
     {
@@ -109,7 +113,8 @@ impl LogReader {
     fn refuse_long(&mut self, part: &[u8]) -> Result<(), CheckError>
         requires no_end { HasNoEnd part.now }
         requires long { 4097 < vec_len self.old.pending + length part.now }
-        ensures refuses { (bytes tail : List ℕ) → Follows bytes self.old → Takes (bytes ++ (part.now ++ tail)) self.new result }
+        ensures refuses { (bytes tail : List ℕ) → Follows bytes self.old
+            → Takes (bytes ++ (part.now ++ tail)) self.new result }
         ensures never { OnOk result ⊥ }
     {
         let count = MOST_PENDING - self.pending.len();

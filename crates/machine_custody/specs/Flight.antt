@@ -19,15 +19,19 @@ unheard Exit c = c.below.up
 -- the words are the oldest of these messages, in their order, up to one that is wrong
 pub data AreOldest : List Word → List Horizontal → Type 0 where
   oldest_none : {messages : List Horizontal} → AreOldest [] messages
-  oldest_says : {message : Message} {others : List Word} {messages : List Horizontal} → AreOldest others messages → AreOldest (words.Says message ∷ others) (message.body ∷ messages)
-  oldest_wrong : {text : List ℕ} {others : List Word} {messages : List Horizontal} → AreOldest (words.Wrong text ∷ others) messages
+  oldest_says : {message : Message} {others : List Word} {messages : List Horizontal}
+      → AreOldest others messages
+      → AreOldest (words.Says message ∷ others) (message.body ∷ messages)
+  oldest_wrong : {text : List ℕ} {others : List Word} {messages : List Horizontal}
+      → AreOldest (words.Wrong text ∷ others) messages
 
 -- ---- what befalls a machine, but a change by hand and a new connection
 
 pub data IsPlain : Event → Scene → Type 0 where
   plain_nothing : {c : Scene} → IsPlain Nothing c
   -- the words that are heard are the oldest messages to their side
-  plain_words : {side : Side} {words : List Word} {c : Scene} → AreOldest words (unheard side c) → IsPlain (Words side words) c
+  plain_words : {side : Side} {words : List Word} {c : Scene} → AreOldest words (unheard side c)
+      → IsPlain (Words side words) c
   plain_notice : {side : Side} {c : Scene} → IsPlain (Notice side) c
   plain_tick : {c : Scene} → IsPlain Tick c
   plain_shutdown : {c : Scene} → IsPlain Shutdown c

@@ -21,27 +21,31 @@ pub data Lies : ℕ → List Board → Type 0 where
   lies_first : {x : ℕ} {bs : List Board} → Lies x (record { id = Some x } ∷ bs)
   lies_later : {x : ℕ} {b : Board} {bs : List Board} → Lies x bs → Lies x (b ∷ bs)
 
--- what a machine's step leaves as it is: the ids that went from the floor by its entry's gap or by the hands at the
--- machine above, those that went by its exit's gap or by the hands at the machine itself, and the ids of boards that don't
--- lie at it
+-- what a machine's step leaves as it is: the ids that went from the floor by its entry's gap or by
+-- the hands at the machine above, those that went by its exit's gap or by the hands at the machine
+-- itself, and the ids of boards that don't lie at it
 pub record Afar : Type 0 where
   pub gone_above : ℕ → Bool
   pub gone_below : ℕ → Bool
   pub elsewhere : ℕ → Bool
 
--- what the halves of a handover hold, by the place of its board: what the outlet holds of a board that is inside, the
--- intake holds too; a board that was taken out by hand is gone; and while the intake alone holds a board that is upstream,
--- it is kept there, or gone
-pub record Holds (gone : ℕ → Bool) (kept : List Record) (p : Place) (o : Out) (i : In) : Type 0 where
+-- what the halves of a handover hold, by the place of its board: what the outlet holds of a board
+-- that is inside, the intake holds too; a board that was taken out by hand is gone; and while the
+-- intake alone holds a board that is upstream, it is kept there, or gone
+pub record Holds (gone : ℕ
+    → Bool) (kept : List Record) (p : Place) (o : Out) (i : In) : Type 0 where
   pub inside : (q : Record) → held_out o ≡ Some q → is_inside p ≡ true → held_in i ≡ Some q
   pub away_out : (q : Record) → held_out o ≡ Some q → is_away p ≡ true → gone q.id ≡ true
   pub away_in : (q : Record) → held_in i ≡ Some q → is_away p ≡ true → gone q.id ≡ true
-  pub upstream : (q : Record) → held_in i ≡ Some q → held_out o ≡ None → is_upstream p ≡ true → Kept q.id kept ⊎ (gone q.id ≡ true)
+  pub upstream : (q : Record) → held_in i ≡ Some q → held_out o ≡ None → is_upstream p ≡ true
+      → Kept q.id kept ⊎ (gone q.id ≡ true)
 
--- a machine that has not read these sensor events stands in the relation of both its links: the ghosts name place and
--- board of each. `above` are the records that the machine above keeps. What each handover's halves hold is where the ghost
--- says. No board that lies here is gone by this machine, and what its outlet holds lies elsewhere once it isn't upstream
-pub record Good (afar : Afar) (above : List Record) (unread : List Sensed) (ga gb : Ghost) (body : Machine) (c : Scene) : Type 0 where
+-- a machine that has not read these sensor events stands in the relation of both its links: the
+-- ghosts name place and board of each. `above` are the records that the machine above keeps. What
+-- each handover's halves hold is where the ghost says. No board that lies here is gone by this
+-- machine, and what its outlet holds lies elsewhere once it isn't upstream
+pub record Good (afar : Afar) (above : List Record) (unread : List Sensed) (ga gb : Ghost)
+    (body : Machine) (c : Scene) : Type 0 where
   pub above_pair : Pair ga (link_above unread body c)
   pub below_pair : Pair gb (link_below unread body c)
   pub boards : Body body.outlet.phase gb.place body.kept body.intake.phase ga.place c.boards
@@ -51,18 +55,25 @@ pub record Good (afar : Afar) (above : List Record) (unread : List Sensed) (ga g
   pub below_holds : Holds afar.gone_below body.kept gb.place body.outlet.phase c.below.intake.phase
   pub entry_role : body.entry.session.role ≡ Downstream
   pub exit_role : body.exit.session.role ≡ Upstream
-  pub away : (r : Record) → held_out body.outlet.phase ≡ Some r → is_upstream gb.place ≡ false → afar.elsewhere r.id ≡ true
+  pub away : (r : Record) → held_out body.outlet.phase ≡ Some r → is_upstream gb.place ≡ false
+      → afar.elsewhere r.id ≡ true
   pub here : (x : ℕ) → Lies x c.boards → afar.gone_below x ≡ true → ⊥
 
--- the boards of the machine above are listed from one ghost to another, and those of the machine below
+-- the boards of the machine above are listed from one ghost to another, and those of the machine
+-- below
 abbrev pub ListsAbove : Out → Ghost → Out → Ghost → Type 0
-ListsAbove o g o2 g2 = (kept : List Record) (i : In) (q : Place) (boards : List Board) → Body o g.place kept i q boards → Body o2 g2.place kept i q boards
+ListsAbove o g o2 g2 =
+    (kept : List Record) (i : In) (q : Place) (boards : List Board)
+    → Body o g.place kept i q boards → Body o2 g2.place kept i q boards
 
 abbrev pub ListsBelow : In → Ghost → In → Ghost → Type 0
-ListsBelow i g i2 g2 = (o : Out) (p : Place) (kept : List Record) (boards : List Board) → Body o p kept i g.place boards → Body o p kept i2 g2.place boards
+ListsBelow i g i2 g2 =
+    (o : Out) (p : Place) (kept : List Record) (boards : List Board)
+    → Body o p kept i g.place boards → Body o p kept i2 g2.place boards
 
 -- what holds behind a micro event that left these sensor events unread
-pub record Goes (afar : Afar) (above : List Record) (unread : List Sensed) (ga gb : Ghost) (c : Scene) (after : Machine) (d : Scene) : Type 0 where
+pub record Goes (afar : Afar) (above : List Record) (unread : List Sensed) (ga gb : Ghost)
+    (c : Scene) (after : Machine) (d : Scene) : Type 0 where
   pub a : Ghost
   pub b : Ghost
   pub good : Good afar above unread a b after d

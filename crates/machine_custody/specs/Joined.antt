@@ -1,4 +1,5 @@
--- A link is connected in the midst of what a machine meets: what the real scene has, and the answer to a second connection.
+-- A link is connected in the midst of what a machine meets: what the real scene has, and the
+-- answer to a second connection.
 use Rattle.std.specs.Prelude.{Bool, List, None, [], codes, false, true, ◌++◌, ◌==◌, ◌∷◌}
 use Rattle.line_base.specs.declared.states.Side.{Side}
 use Rattle.line_base.specs.declared.states.Side.TheVariants.{Entry, Exit}
@@ -17,12 +18,21 @@ use Rattle.machine_custody.specs.Good.{Afar, Goes}
 
 -- the scene with a link at a side that stands or not, and with these messages on it
 abbrev pub with_link : Side → Bool → List Horizontal → List Horizontal → Scene → Scene
-with_link Entry stands up down c = record c { above = record c.above { stands = stands; up = up; down = down } }
-with_link Exit stands up down c = record c { below = record c.below { stands = stands; up = up; down = down } }
+with_link Entry stands up down c =
+    record c { above = record c.above { stands = stands; up = up; down = down } }
+with_link Exit stands up down c =
+    record c { below = record c.below { stands = stands; up = up; down = down } }
 
 -- how a machine describes itself
 abbrev pub described_by : Desk → Service
-described_by desk = record { machine = desk.name; lane = desk.lane; version = codes "1.5"; interface = None; features = record { check_alive = true; forecast = true; query = true; send = true } }
+described_by desk =
+    record {
+      machine = desk.name;
+      lane = desk.lane;
+      version = codes "1.5";
+      interface = None;
+      features = record { check_alive = true; forecast = true; query = true; send = true };
+    }
 
 -- the message that answers a second connection
 abbrev pub is_answer : Horizontal → Bool
@@ -49,4 +59,5 @@ all_met_second (act ∷ others) c = all_met_second others (met_second act c)
 
 -- the step of a second connection keeps the relation
 abbrev pub GoesSecond : Afar → List Record → List Sensed → Ghost → Ghost → Scene → Done → Type 0
-GoesSecond afar above unread ga gb c d = Goes afar above unread ga gb c d.body (all_met_second d.acts c)
+GoesSecond afar above unread ga gb c d =
+    Goes afar above unread ga gb c d.body (all_met_second d.acts c)

@@ -16,8 +16,9 @@ use Rattle.node_core.specs.declared.lane.Body.{Body}
 use Rattle.custody.specs.Pair.{LinkState}
 use Rattle.custody.specs.Words.{sent}
 
--- what lies above a machine: the exit of the machine there with its outlet, whether the link stands, the gap, what is
--- at that machine on the floor, and the messages that are sent and not heard yet, up to it and down from it
+-- what lies above a machine: the exit of the machine there with its outlet, whether the link
+-- stands, the gap, what is at that machine on the floor, and the messages that are sent and not
+-- heard yet, up to it and down from it
 pub record Above : Type 0 where
   pub exit : SessionState
   pub outlet : OutState
@@ -43,7 +44,8 @@ pub record Scene : Type 0 where
   pub above : Above
   pub below : Below
 
--- the link above a machine and the one below it, for a machine that has not read these sensor events
+-- the link above a machine and the one below it, for a machine that has not read these sensor
+-- events
 abbrev pub link_above : List Sensed → Body → Scene → LinkState
 link_above unread body c = record {
   exit = c.above.exit;
@@ -51,7 +53,11 @@ link_above unread body c = record {
   entry = body.entry.session.state;
   intake = body.intake;
   stands = c.above.stands;
-  around = record { up = c.above.far; between = c.above.gap; down = record { boards = c.boards; unread = unread } };
+  around = record {
+    up = c.above.far;
+    between = c.above.gap;
+    down = record { boards = c.boards; unread = unread };
+  };
   up = c.above.up;
   down = c.above.down;
 }
@@ -63,7 +69,11 @@ link_below unread body c = record {
   entry = c.below.entry;
   intake = c.below.intake;
   stands = c.below.stands;
-  around = record { up = record { boards = c.boards; unread = unread }; between = c.below.gap; down = c.below.far };
+  around = record {
+    up = record { boards = c.boards; unread = unread };
+    between = c.below.gap;
+    down = c.below.far;
+  };
   up = c.below.up;
   down = c.below.down;
 }
@@ -71,8 +81,10 @@ link_below unread body c = record {
 -- ---- what an act does there
 
 abbrev pub said : Side → Horizontal → Scene → Scene
-said Entry what c = record c { above = record c.above { up = sent (what ∷ []) c.above.stands c.above.up } }
-said Exit what c = record c { below = record c.below { down = sent (what ∷ []) c.below.stands c.below.down } }
+said Entry what c =
+    record c { above = record c.above { up = sent (what ∷ []) c.above.stands c.above.up } }
+said Exit what c =
+    record c { below = record c.below { down = sent (what ∷ []) c.below.stands c.below.down } }
 
 -- the oldest message to a side is heard
 abbrev pub listened : Side → Scene → Scene

@@ -6,7 +6,8 @@ use Rattle.machine_custody.specs.Good.{Afar, Lies}
 
 -- no board behind the front one has its id
 abbrev pub IsFrontOnce : List Board → Type 0
-IsFrontOnce boards = (x : ℕ) (others : List Board) → boards ≡ record { id = Some x } ∷ others → Lies x others → ⊥
+IsFrontOnce boards =
+    (x : ℕ) (others : List Board) → boards ≡ record { id = Some x } ∷ others → Lies x others → ⊥
 
 pub record IsApart (afar : Afar) (c : Scene) : Type 0 where
   pub distinct : IsFrontOnce c.boards

@@ -1,4 +1,5 @@
-//! What a machine's step keeps. Each law is a contract over the relation of a machine and its two links.
+//! What a machine's step keeps. Each law is a contract over the relation of a machine and its two
+//! links.
 
 ghost use Rattle.std.specs.Prelude.{◌≡◌, ◌∷◌, ◌++◌, [], Bool, List, Option, Some, false, true, ℕ};
 ghost use Rattle.line_base.specs.declared.states.Side.{Side};
@@ -27,41 +28,93 @@ ghost use Rattle.machine_custody.specs.Joined.{GoesSecond, described_by, with_li
 ghost use Rattle.machine_custody.specs.Scene.{Scene, all_met};
 ghost use Rattle.machine_custody.specs.Unique.{IsApart};
 
-/// A step in which no board is changed by hand and no connection is made keeps the relation of both links and of the
-/// machine: it reads its sensor events, hears the oldest messages to a side or a wrong one, notices a close, ticks, shuts
-/// down, meets a fault of a drive, another will or a level of its segment, tells or asks of boards, talks to its
-/// supervisor, and makes its announcements.
+/// A step in which no board is changed by hand and no connection is made keeps the relation of
+/// both links and of the machine: it reads its sensor events, hears the oldest messages to a side
+/// or a wrong one, notices a close, ticks, shuts down, meets a fault of a drive, another will or a
+/// level of its segment, tells or asks of boards, talks to its supervisor, and makes its
+/// announcements.
 pub fn a_step_keeps_both_links()
-    ensures { (afar : Afar) (above : List Record) (ga gb : Ghost) (desk : Desk) (unread : List Sensed) (event : Event) (body : Machine) (c : Scene) → IsPlain event c → OffersFront body → Good afar above unread ga gb body c → GoesBy afar above [] ga gb c (machine_step desk unread event body) }
+    ensures { (afar : Afar) (above : List Record) (ga gb : Ghost) (desk : Desk)
+        (unread : List Sensed) (event : Event) (body : Machine) (c : Scene) → IsPlain event c
+        → OffersFront body → Good afar above unread ga gb body c
+        → GoesBy afar above [] ga gb c (machine_step desk unread event body) }
 {}
 
-/// And so does a step in which a board is put in, taken out, replaced or marked by hand: a new board whose id is none on
-/// the floor, or one that is kept still when the events are read. The ids of boards that go are gone from then on.
+/// And so does a step in which a board is put in, taken out, replaced or marked by hand: a new
+/// board whose id is none on the floor, or one that is kept still when the events are read. The
+/// ids of boards that go are gone from then on.
 pub fn a_change_by_hand_keeps_both_links()
-    ensures insert { (afar : Afar) (above : List Record) (ga gb : Ghost) (gone : ℕ → Bool) (desk : Desk) (unread : List Sensed) (id : ℕ) (barcode : Option (List ℕ)) (body : Machine) (c : Scene) → Good afar above unread ga gb body c → body.intake.phase ≡ inn.Idle → Grows afar.gone_below gone → AreHere gone (c.boards ++ record { id = Some id } ∷ []) → GoesBy (record afar { gone_below = gone }) above [] ga gb c (machine_step desk unread (Insert id barcode) body) }
-    ensures remove { (afar : Afar) (above : List Record) (ga gb : Ghost) (gone : ℕ → Bool) (desk : Desk) (unread : List Sensed) (id : ℕ) (body : Machine) (c : Scene) → Good afar above unread ga gb body c → IsApart afar c → is_kept id (body_read desk unread body).kept ≡ true → Grows afar.gone_below gone → gone id ≡ true → AreHere gone (without_board id c.boards) → GoesBy (record afar { gone_below = gone }) above [] ga gb c (machine_step desk unread (Remove id) body) }
-    ensures replace { (afar : Afar) (above : List Record) (ga gb : Ghost) (gone : ℕ → Bool) (desk : Desk) (unread : List Sensed) (old new : ℕ) (body : Machine) (c : Scene) → Good afar above unread ga gb body c → IsApart afar c → is_kept old (body_read desk unread body).kept ≡ true → Grows afar.gone_below gone → gone old ≡ true → AreHere gone (with_new_id old new c.boards) → GoesBy (record afar { gone_below = gone }) above [] ga gb c (machine_step desk unread (Replace old new) body) }
-    ensures mark { (afar : Afar) (above : List Record) (ga gb : Ghost) (desk : Desk) (unread : List Sensed) (id : ℕ) (quality : Quality) (body : Machine) (c : Scene) → Good afar above unread ga gb body c → (body.outlet.touched ≡ Some id → ⊥) → GoesBy afar above [] ga gb c (machine_step desk unread (Mark id quality) body) }
+    ensures insert { (afar : Afar) (above : List Record) (ga gb : Ghost) (gone : ℕ → Bool)
+        (desk : Desk) (unread : List Sensed) (id : ℕ) (barcode : Option (List ℕ)) (body : Machine)
+        (c : Scene) → Good afar above unread ga gb body c → body.intake.phase ≡ inn.Idle
+        → Grows afar.gone_below gone → AreHere gone (c.boards ++ record { id = Some id } ∷ [])
+        → GoesBy (record afar { gone_below = gone }) above [] ga gb c
+        (machine_step desk unread (Insert id barcode) body) }
+    ensures remove { (afar : Afar) (above : List Record) (ga gb : Ghost) (gone : ℕ → Bool)
+        (desk : Desk) (unread : List Sensed) (id : ℕ) (body : Machine) (c : Scene)
+        → Good afar above unread ga gb body c → IsApart afar c
+        → is_kept id (body_read desk unread body).kept ≡ true → Grows afar.gone_below gone
+        → gone id ≡ true → AreHere gone (without_board id c.boards)
+        → GoesBy (record afar { gone_below = gone }) above [] ga gb c
+        (machine_step desk unread (Remove id) body) }
+    ensures replace { (afar : Afar) (above : List Record) (ga gb : Ghost) (gone : ℕ → Bool)
+        (desk : Desk) (unread : List Sensed) (old new : ℕ) (body : Machine) (c : Scene)
+        → Good afar above unread ga gb body c → IsApart afar c
+        → is_kept old (body_read desk unread body).kept ≡ true → Grows afar.gone_below gone
+        → gone old ≡ true → AreHere gone (with_new_id old new c.boards)
+        → GoesBy (record afar { gone_below = gone }) above [] ga gb c
+        (machine_step desk unread (Replace old new) body) }
+    ensures mark { (afar : Afar) (above : List Record) (ga gb : Ghost) (desk : Desk)
+        (unread : List Sensed) (id : ℕ) (quality : Quality) (body : Machine) (c : Scene)
+        → Good afar above unread ga gb body c → (body.outlet.touched ≡ Some id → ⊥)
+        → GoesBy afar above [] ga gb c (machine_step desk unread (Mark id quality) body) }
 {}
 
-/// The two steps in which a link is connected. The machine below calls: in the relation the link doesn't stand until the
-/// exit above takes the connection, and the real scene differs in that the link stands and the description is on its way.
-/// Then the machine above takes it, and from there on relation and real scene are one.
+/// The two steps in which a link is connected. The machine below calls: in the relation the link
+/// doesn't stand until the exit above takes the connection, and the real scene differs in that the
+/// link stands and the description is on its way. Then the machine above takes it, and from there
+/// on relation and real scene are one.
 pub fn a_first_connection_keeps_both_links()
-    ensures call { (afar : Afar) (above : List Record) (ga gb : Ghost) (desk : Desk) (unread : List Sensed) (body : Machine) (c : Scene) → Good afar above unread ga gb body c → body.entry.session.state ≡ NotConnected → may_connect body.intake.phase ≡ true → GoesBy afar above [] ga gb (with_link Entry false [] [] c) (machine_step desk unread Connect body) }
-    ensures real { (afar : Afar) (above : List Record) (ga gb : Ghost) (desk : Desk) (unread : List Sensed) (body : Machine) (c : Scene) → Good afar above unread ga gb body c → body.entry.session.state ≡ NotConnected → may_connect body.intake.phase ≡ true → all_met (machine_step desk unread Connect body).acts (with_link Entry true [] [] c) ≡ with_link Entry true (message.ServiceDescription (described_by desk) ∷ []) [] (all_met (machine_step desk unread Connect body).acts (with_link Entry false [] [] c)) }
-    ensures take { (afar : Afar) (above : List Record) (ga gb : Ghost) (desk : Desk) (unread : List Sensed) (body : Machine) (c : Scene) (service : Service) → Good afar above unread ga gb body c → body.exit.session.state ≡ NotConnected → c.below.entry ≡ Handshake → Goes afar above [] ga gb c (machine_step desk unread Accepted body).body (all_met (machine_step desk unread Accepted body).acts (with_link Exit true (message.ServiceDescription service ∷ []) [] c)) }
+    ensures call { (afar : Afar) (above : List Record) (ga gb : Ghost) (desk : Desk)
+        (unread : List Sensed) (body : Machine) (c : Scene) → Good afar above unread ga gb body c
+        → body.entry.session.state ≡ NotConnected → may_connect body.intake.phase ≡ true
+        → GoesBy afar above [] ga gb (with_link Entry false [] [] c)
+        (machine_step desk unread Connect body) }
+    ensures real { (afar : Afar) (above : List Record) (ga gb : Ghost) (desk : Desk)
+        (unread : List Sensed) (body : Machine) (c : Scene) → Good afar above unread ga gb body c
+        → body.entry.session.state ≡ NotConnected → may_connect body.intake.phase ≡ true
+        → all_met (machine_step desk unread Connect body).acts (with_link Entry true [] [] c)
+        ≡ with_link Entry true (message.ServiceDescription (described_by desk) ∷ []) []
+        (all_met (machine_step desk unread Connect body).acts (with_link Entry false [] [] c)) }
+    ensures take { (afar : Afar) (above : List Record) (ga gb : Ghost) (desk : Desk)
+        (unread : List Sensed) (body : Machine) (c : Scene) (service : Service)
+        → Good afar above unread ga gb body c → body.exit.session.state ≡ NotConnected
+        → c.below.entry ≡ Handshake
+        → Goes afar above [] ga gb c (machine_step desk unread Accepted body).body
+        (all_met (machine_step desk unread Accepted body).acts
+        (with_link Exit true (message.ServiceDescription service ∷ []) [] c)) }
 {}
 
-/// A second connection: the machine below calls on a link that doesn't stand, and the machine above answers the new
-/// connection, while the first one goes on.
+/// A second connection: the machine below calls on a link that doesn't stand, and the machine
+/// above answers the new connection, while the first one goes on.
 pub fn a_second_connection_keeps_both_links()
-    ensures call { (afar : Afar) (above : List Record) (ga gb : Ghost) (desk : Desk) (unread : List Sensed) (body : Machine) (c : Scene) → Good afar above unread ga gb body c → body.entry.session.state ≡ NotConnected → may_connect body.intake.phase ≡ true → c.above.stands ≡ false → GoesBy afar above [] ga gb c (machine_step desk unread Connect body) }
-    ensures answer { (afar : Afar) (above : List Record) (ga gb : Ghost) (desk : Desk) (unread : List Sensed) (body : Machine) (c : Scene) → Good afar above unread ga gb body c → GoesSecond afar above [] ga gb c (machine_step desk unread Second body) }
+    ensures call { (afar : Afar) (above : List Record) (ga gb : Ghost) (desk : Desk)
+        (unread : List Sensed) (body : Machine) (c : Scene) → Good afar above unread ga gb body c
+        → body.entry.session.state ≡ NotConnected → may_connect body.intake.phase ≡ true
+        → c.above.stands ≡ false
+        → GoesBy afar above [] ga gb c (machine_step desk unread Connect body) }
+    ensures answer { (afar : Afar) (above : List Record) (ga gb : Ghost) (desk : Desk)
+        (unread : List Sensed) (body : Machine) (c : Scene) → Good afar above unread ga gb body c
+        → GoesSecond afar above [] ga gb c (machine_step desk unread Second body) }
 {}
 
-/// A cut of a link, in the midst of a step too, keeps the relation: it is the same before and behind the acts.
+/// A cut of a link, in the midst of a step too, keeps the relation: it is the same before and
+/// behind the acts.
 pub fn a_cut_keeps_both_links()
-    ensures kept { (afar : Afar) (above : List Record) (unread : List Sensed) (ga gb : Ghost) (body : Machine) (c : Scene) (side : Side) → Good afar above unread ga gb body c → Good afar above unread ga gb body (with_link side false [] [] c) }
-    ensures commutes { (side : Side) (acts : List Act) (c : Scene) → all_met acts (with_link side false [] [] c) ≡ with_link side false [] [] (all_met acts c) }
+    ensures kept { (afar : Afar) (above : List Record) (unread : List Sensed) (ga gb : Ghost)
+        (body : Machine) (c : Scene) (side : Side) → Good afar above unread ga gb body c
+        → Good afar above unread ga gb body (with_link side false [] [] c) }
+    ensures commutes { (side : Side) (acts : List Act) (c : Scene)
+        → all_met acts (with_link side false [] [] c)
+        ≡ with_link side false [] [] (all_met acts c) }
 {}

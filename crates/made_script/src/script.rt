@@ -7,8 +7,9 @@ use crate::lines::{insertion, line_at};
 use line_script::ScriptLine;
 use std::marker::Model;
 
-/// The lines of a made script, one after another: two machines that connect, and then for each board from 1 to the
-/// script's number fourteen lines that put it in, hand it over and take it out. Every seventh handover is cut off.
+/// The lines of a made script, one after another: two machines that connect, and then for each
+/// board from 1 to the script's number fourteen lines that put it in, hand it over and take it
+/// out. Every seventh handover is cut off.
 ///
 /// It is seen as the lines that are still to come. No line is kept.
 #[derive(Drop)]

@@ -1,5 +1,5 @@
-//! The program `node`. It makes the words, the file, the ports, the clock and the log of the host's, and hands them to
-//! `node_main`.
+//! The program `node`. It makes the words, the file, the ports, the clock and the log of the
+//! host's, and hands them to `node_main`.
 #![tactic(auto)]
 
 mod file;
@@ -61,8 +61,8 @@ fn copy_of<R: Clone>(rt: &R) -> Result<R, Memory> {
     }
 }
 
-/// The words behind the program's name. Where one of them is no text, there are none, so that the program ends as with no
-/// word.
+/// The words behind the program's name. Where one of them is no text, there are none, so that the
+/// program ends as with no word.
 fn words_of<R: Env + AllocGlobal>(rt: &R) -> Result<Words, Memory> {
     let mut words = Words::new(rt.alloc());
     match env::args(rt) {

@@ -13,7 +13,8 @@ use Rattle.node_settings.specs.declared.key.SettingsError.TheVariants as refusal
 use Rattle.node_settings.specs.declared.settings.Settings.{Settings}
 
 -- nothing was called, and nothing logged
-pub record IsQuiet (given_old given_new : Option (List Given)) (log_old log_new : Option (List ℕ)) : Type 0 where
+pub record IsQuiet (given_old given_new : Option (List Given))
+    (log_old log_new : Option (List ℕ)) : Type 0 where
   pub given : given_new ≡ given_old
   pub log : log_new ≡ log_old
 
@@ -34,22 +35,34 @@ status_of (refusals.Refused key why) = statuses.ConfigRefused key why
 status_of refusals.Memory = statuses.Memory
 
 -- what settings ask for: a run, or their refusal
-abbrev pub DoesSettings : Result Settings Refusal → Option ℤ → Option (List Given) → Option (List Given) → Option (List ℕ) → Option (List ℕ) → NodeStatus → Type 0
-DoesSettings (Ok settings) moment given_old given_new log_old log_new status = RunEndsTold moment settings given_old given_new log_old log_new status
-DoesSettings (Err refusal) moment given_old given_new log_old log_new status = (status ≡ statuses.ConfigRefused refusal.key refusal.why) × IsQuiet given_old given_new log_old log_new
+abbrev pub DoesSettings : Result Settings Refusal → Option ℤ → Option (List Given)
+    → Option (List Given) → Option (List ℕ) → Option (List ℕ) → NodeStatus → Type 0
+DoesSettings (Ok settings) moment given_old given_new log_old log_new status =
+    RunEndsTold moment settings given_old given_new log_old log_new status
+DoesSettings (Err refusal) moment given_old given_new log_old log_new status =
+    (status ≡ statuses.ConfigRefused refusal.key refusal.why)
+    × IsQuiet given_old given_new log_old log_new
 
 -- the file was read, or failed, or memory was wanting before anything was called
-abbrev pub DoesFile : List ℕ → Option ℤ → Option (List Given) → Option (List Given) → Option (List ℕ) → Option (List ℕ) → NodeStatus → Type 0
-DoesFile bytes moment given_old given_new log_old log_new statuses.ReadFault = IsQuiet given_old given_new log_old log_new
-DoesFile bytes moment given_old given_new log_old log_new statuses.Memory = IsQuiet given_old given_new log_old log_new ⊎ DoesSettings (read_of bytes) moment given_old given_new log_old log_new statuses.Memory
-DoesFile bytes moment given_old given_new log_old log_new status = DoesSettings (read_of bytes) moment given_old given_new log_old log_new status
+abbrev pub DoesFile : List ℕ → Option ℤ → Option (List Given) → Option (List Given)
+    → Option (List ℕ) → Option (List ℕ) → NodeStatus → Type 0
+DoesFile bytes moment given_old given_new log_old log_new statuses.ReadFault =
+    IsQuiet given_old given_new log_old log_new
+DoesFile bytes moment given_old given_new log_old log_new statuses.Memory =
+    IsQuiet given_old given_new log_old log_new ⊎ DoesSettings
+    (read_of bytes) moment given_old given_new log_old log_new statuses.Memory
+DoesFile bytes moment given_old given_new log_old log_new status =
+    DoesSettings (read_of bytes) moment given_old given_new log_old log_new status
 
--- WHAT THE PROGRAM DOES: with other than one word nothing but `Usage`; where the file tells its bytes, what its settings ask
--- for
-abbrev pub DoesNode : Bool → Option (List ℕ) → Option ℤ → Option (List Given) → Option (List Given) → Option (List ℕ) → Option (List ℕ) → NodeStatus → Type 0
-DoesNode false left moment given_old given_new log_old log_new status = (status ≡ statuses.Usage) × IsQuiet given_old given_new log_old log_new
+-- WHAT THE PROGRAM DOES: with other than one word nothing but `Usage`; where the file tells its
+-- bytes, what its settings ask for
+abbrev pub DoesNode : Bool → Option (List ℕ) → Option ℤ → Option (List Given) → Option (List Given)
+    → Option (List ℕ) → Option (List ℕ) → NodeStatus → Type 0
+DoesNode false left moment given_old given_new log_old log_new status =
+    (status ≡ statuses.Usage) × IsQuiet given_old given_new log_old log_new
 DoesNode true None moment given_old given_new log_old log_new status = Unit {0}
-DoesNode true (Some bytes) moment given_old given_new log_old log_new status = DoesFile bytes moment given_old given_new log_old log_new status
+DoesNode true (Some bytes) moment given_old given_new log_old log_new status =
+    DoesFile bytes moment given_old given_new log_old log_new status
 
 abbrev pub is_one : List (List ℕ) → Bool
 is_one words = length words == 1
@@ -61,7 +74,8 @@ FitsNode true statuses.Usage = ⊥
 FitsNode true status = Unit {0}
 
 -- no count falls, and a fault comes only where the count of that object rose
-pub record HasCauses (status : NodeStatus) (file_before file_now ports_before ports_now log_before log_now : ℕ) : Type 0 where
+pub record HasCauses (status : NodeStatus)
+    (file_before file_now ports_before ports_now log_before log_now : ℕ) : Type 0 where
   pub file : file_before ≤ file_now
   pub ports : ports_before ≤ ports_now
   pub log : log_before ≤ log_now

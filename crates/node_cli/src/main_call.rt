@@ -11,8 +11,9 @@ use std::alloc::Global;
 
 /// The program `node`: runs the machine that a settings file describes.
 ///
-/// Its one word names the file, whose bytes are `file`. It listens for its panel and its downstream neighbour at `ports`,
-/// connects to its upstream neighbour when its panel says so, and writes what it does to `log`.
+/// Its one word names the file, whose bytes are `file`. It listens for its panel and its
+/// downstream neighbour at `ports`, connects to its upstream neighbour when its panel says so, and
+/// writes what it does to `log`.
 pub fn node_main<S: Source, P: Ports, C: Clock, K: Sink>(
     alloc: Global,
     words: &Words,
@@ -21,10 +22,13 @@ pub fn node_main<S: Source, P: Ports, C: Clock, K: Sink>(
     clock: &mut C,
     log: &mut K,
 ) -> NodeStatus
-    // over a file, ports, a clock and a log that tell: the calls, the log and the status are those of the run
-    ensures does { DoesNode (is_one words.now) (S.left file.old) (C.moment clock.old) (P.given ports.old) (P.given ports.new) (K.contents log.old) (K.contents log.new) result }
+    // over a file, ports, a clock and a log that tell: the calls, the log and the status are those
+    // of the run
+    ensures does { DoesNode (is_one words.now) (S.left file.old) (C.moment clock.old)
+        (P.given ports.old) (P.given ports.new) (K.contents log.old) (K.contents log.new) result }
     ensures fits { FitsNode (is_one words.now) result }
-    ensures causes { HasCauses result (S.faults file.old) (S.faults file.new) (P.faults ports.old) (P.faults ports.new) (K.faults log.old) (K.faults log.new) }
+    ensures causes { HasCauses result (S.faults file.old) (S.faults file.new) (P.faults ports.old)
+        (P.faults ports.new) (K.faults log.old) (K.faults log.new) }
     // what the machine owns is read off the bytes of the log, over the run of every node
     ensures owns { LogTellsOwn }
     // and a way on which too much text waits is closed
@@ -44,9 +48,11 @@ fn run_named<S: Source, P: Ports, C: Clock, K: Sink>(
     clock: &mut C,
     log: &mut K,
 ) -> NodeStatus
-    ensures does { DoesNode (is_one words.now) (S.left file.old) (C.moment clock.old) (P.given ports.old) (P.given ports.new) (K.contents log.old) (K.contents log.new) result }
+    ensures does { DoesNode (is_one words.now) (S.left file.old) (C.moment clock.old)
+        (P.given ports.old) (P.given ports.new) (K.contents log.old) (K.contents log.new) result }
     ensures fits { FitsNode (is_one words.now) result }
-    ensures causes { HasCauses result (S.faults file.old) (S.faults file.new) (P.faults ports.old) (P.faults ports.new) (K.faults log.old) (K.faults log.new) }
+    ensures causes { HasCauses result (S.faults file.old) (S.faults file.new) (P.faults ports.old)
+        (P.faults ports.new) (K.faults log.old) (K.faults log.new) }
 {
     if words.list().len() != 1 {
         return NodeStatus::Usage;

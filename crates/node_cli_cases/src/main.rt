@@ -1,4 +1,5 @@
-//! Whole runs of the program `node` as cases: what it calls of its ports, what it logs, and how it ends.
+//! Whole runs of the program `node` as cases: what it calls of its ports, what it logs, and how it
+//! ends.
 #![tactic(auto)]
 
 mod answers;

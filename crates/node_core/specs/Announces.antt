@@ -32,7 +32,9 @@ is_front offered (Some board) = is_id offered board.id
 
 -- REVOKE: a board is offered, and the exit isn't willing or the front record isn't that board's
 abbrev pub revokes_now : Body → Bool
-revokes_now body = is_idle_phase body.outlet.phase && is_some body.outlet.offered && (not body.exit.willing || not (is_front body.outlet.offered (slice_get body.kept 0)))
+revokes_now body =
+    is_idle_phase body.outlet.phase && is_some body.outlet.offered
+    && (not body.exit.willing || not (is_front body.outlet.offered (slice_get body.kept 0)))
 
 abbrev pub revoke_by : Desk → Bool → Body → Done
 revoke_by desk true body = at_outlet desk out_input.Revoke body
@@ -43,7 +45,9 @@ revoke desk body = revoke_by desk (revokes_now body) body
 
 -- UNREADY: the machine said that it is ready, and the entry isn't willing or there is no place
 abbrev pub unreadies_now : Desk → Body → Bool
-unreadies_now desk body = is_intake_free body && body.intake.ready && (not body.entry.willing || not (has_place desk body))
+unreadies_now desk body =
+    is_intake_free body && body.intake.ready
+    && (not body.entry.willing || not (has_place desk body))
 
 abbrev pub unready_by : Desk → Bool → Body → Done
 unready_by desk true body = at_intake desk in_input.Unready body
@@ -52,9 +56,12 @@ unready_by desk false body = stays body
 abbrev pub unready : Desk → Body → Done
 unready desk body = unready_by desk (unreadies_now desk body) body
 
--- OFFER of the front record: the exit's session stands, the outlet is idle, nothing is offered, and the exit is willing
+-- OFFER of the front record: the exit's session stands, the outlet is idle, nothing is offered,
+-- and the exit is willing
 abbrev pub offers_now : Body → Bool
-offers_now body = is_standing Exit body && is_idle_phase body.outlet.phase && is_none body.outlet.offered && body.exit.willing
+offers_now body =
+    is_standing Exit body && is_idle_phase body.outlet.phase && is_none body.outlet.offered
+    && body.exit.willing
 
 abbrev pub offer_by : Desk → Bool → Option Record → Body → Done
 offer_by desk true (Some front) body = at_outlet desk (out_input.Offer front.id) body
@@ -64,9 +71,12 @@ offer_by desk false _ body = stays body
 abbrev pub offer : Desk → Body → Done
 offer desk body = offer_by desk (offers_now body) (slice_get body.kept 0) body
 
--- READY: the entry's session stands, the intake is idle and not ready, the entry is willing, and there is a place
+-- READY: the entry's session stands, the intake is idle and not ready, the entry is willing, and
+-- there is a place
 abbrev pub readies_now : Desk → Body → Bool
-readies_now desk body = is_standing Entry body && is_intake_free body && not body.intake.ready && body.entry.willing && has_place desk body
+readies_now desk body =
+    is_standing Entry body && is_intake_free body && not body.intake.ready && body.entry.willing
+    && has_place desk body
 
 abbrev pub ready_by : Desk → Bool → Body → Done
 ready_by desk true body = at_intake desk in_input.Ready body
@@ -77,7 +87,8 @@ ready desk body = ready_by desk (readies_now desk body) body
 
 -- START: the entry's session stands, the intake is idle and ready, and an offer stands
 abbrev pub starts_now : Body → Bool
-starts_now body = is_standing Entry body && is_intake_free body && body.intake.ready && is_some body.intake.offer
+starts_now body =
+    is_standing Entry body && is_intake_free body && body.intake.ready && is_some body.intake.offer
 
 abbrev pub start_by : Desk → Bool → Body → Done
 start_by desk true body = at_intake desk in_input.Start body
@@ -88,4 +99,7 @@ start desk body = start_by desk (starts_now body) body
 
 -- the announcements, in this order
 abbrev pub announces : Desk → Body → Done
-announces desk body = and_then (revoke desk body) (λ one. and_then (unready desk one) (λ two. and_then (offer desk two) (λ three. and_then (ready desk three) (start desk))))
+announces desk body =
+    and_then (revoke desk body) (λ one.
+    and_then (unready desk one) (λ two.
+    and_then (offer desk two) (λ three. and_then (ready desk three) (start desk))))

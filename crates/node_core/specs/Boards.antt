@@ -1,4 +1,5 @@
--- What is done by hand: boards are put in, taken out, replaced and marked, drives fail, and the will changes.
+-- What is done by hand: boards are put in, taken out, replaced and marked, drives fail, and the
+-- will changes.
 use Rattle.std.specs.Prelude.{◌≡◌, ◌<◌, ℕ, Bool, true, false, List, [], ◌∷◌, ◌++◌, ◌==◌, Option, None, length, remove, slice_set, if◌then◌else◌}
 use Rattle.line_base.specs.declared.states.Side.{Side}
 use Rattle.line_base.specs.declared.states.Side.TheVariants.{Entry, Exit}
@@ -31,12 +32,15 @@ without id (board ∷ boards) = if board.id == id then boards else board ∷ wit
 -- the records with another in its place
 abbrev pub with_instead : ℕ → Record → List Record → List Record
 with_instead id other [] = []
-with_instead id other (board ∷ boards) = if board.id == id then other ∷ boards else board ∷ with_instead id other boards
+with_instead id other (board ∷ boards) =
+    if board.id == id then other ∷ boards else board ∷ with_instead id other boards
 
 -- the records with its quality changed
 abbrev pub with_mark : ℕ → Quality → List Record → List Record
 with_mark id quality [] = []
-with_mark id quality (board ∷ boards) = if board.id == id then record board { quality = quality } ∷ boards else board ∷ with_mark id quality boards
+with_mark id quality (board ∷ boards) =
+    if board.id == id then record board { quality = quality } ∷ boards else board ∷ with_mark id
+    quality boards
 
 -- the first record of an id stands at this place
 pub record IsFirstAt (id : ℕ) (kept : List Record) (place : ℕ) : Type 0 where
@@ -58,19 +62,27 @@ if_kept false after act body = stays body
 
 -- THE MICRO EVENT: a board is put in at the back
 abbrev pub inserts : Desk → ℕ → Option (List ℕ) → Body → Done
-inserts desk id barcode body = done (with_kept (body.kept ++ plain_record id desk.name barcode ∷ []) body) (acts.Inserts id ∷ [])
+inserts desk id barcode body =
+    done (with_kept (body.kept ++ plain_record id desk.name barcode ∷ []) body)
+    (acts.Inserts id ∷ [])
 
 -- THE MICRO EVENT: a board is taken out
 abbrev pub removes : ℕ → Body → Done
-removes id body = if_kept (is_kept id body.kept) (with_kept (without id body.kept) body) (acts.Removes id) body
+removes id body =
+    if_kept (is_kept id body.kept) (with_kept (without id body.kept) body) (acts.Removes id) body
 
 -- THE MICRO EVENT: another board, with a new id and no barcode, comes into the place of a board
 abbrev pub replaces : Desk → ℕ → ℕ → Body → Done
-replaces desk old new body = if_kept (is_kept old body.kept) (with_kept (with_instead old (plain_record new desk.name None) body.kept) body) (acts.Replaces old new) body
+replaces desk old new body =
+    if_kept (is_kept old body.kept)
+    (with_kept (with_instead old (plain_record new desk.name None) body.kept) body)
+    (acts.Replaces old new) body
 
 -- THE MICRO EVENT: a board is known to be good or failed
 abbrev pub marks : ℕ → Quality → Body → Done
-marks id quality body = if_kept (is_kept id body.kept) (with_kept (with_mark id quality body.kept) body) (acts.Marks id quality) body
+marks id quality body =
+    if_kept (is_kept id body.kept) (with_kept (with_mark id quality body.kept) body)
+    (acts.Marks id quality) body
 
 -- THE MICRO EVENT: the drive of a side fails
 abbrev pub faults : Desk → Side → Body → Done

@@ -36,19 +36,25 @@ has_half_row desk side _ body = true
 -- a message has a row in the tables
 abbrev pub has_row : Desk → Side → Option SessionRow → Body → Bool
 has_row desk side None body = false
-has_row desk side (Some row) body = has_half_row desk side row.actions.first (with_session side row.after body)
+has_row desk side (Some row) body =
+    has_half_row desk side row.actions.first (with_session side row.after body)
 
 abbrev pub text_unless : Bool → List ℕ → Option (List ℕ)
 text_unless true text = None
 text_unless false text = Some text
 
--- the text of the breach that a word is: of a refused frame or too many bytes, or of a message without a row
+-- the text of the breach that a word is: of a refused frame or too many bytes, or of a message
+-- without a row
 abbrev pub breach_of : Desk → Side → Word → Body → Option (List ℕ)
 breach_of desk side (words.Wrong text) body = Some text
-breach_of desk side (words.Says message) body = text_unless (has_row desk side (session_row (session_at side body) (heard message.body (is_some (held body.outlet)))) body) (unexpected (kind_of message.body))
+breach_of desk side (words.Says message) body =
+    text_unless
+    (has_row desk side
+    (session_row (session_at side body) (heard message.body (is_some (held body.outlet)))) body)
+    (unexpected (kind_of message.body))
 
--- the unread events, the words before a breach, the breach with its Notification, its close and what follows of it, and
--- the announcements; and behind each act what the supervisor is told of it
+-- the unread events, the words before a breach, the breach with its Notification, its close and
+-- what follows of it, and the announcements; and behind each act what the supervisor is told of it
 abbrev pub broken_step : Desk → List Sensed → Side → List Word → List ℕ → Body → Done
 broken_step desk unread side front text body =
     telling desk body
@@ -57,16 +63,23 @@ broken_step desk unread side front text body =
 
 -- the first words of a step
 abbrev pub heard_before : Desk → List Sensed → Side → List Word → Body → Body
-heard_before desk unread side front body = (and_then (all_read desk unread body) (all_heard desk side front)).body
+heard_before desk unread side front body =
+    (and_then (all_read desk unread body) (all_heard desk side front)).body
 
--- a step of bytes breaks off at its first word that is a breach, and the words behind it don't count. A bridge's own
--- signals follow as in any step
+-- a step of bytes breaks off at its first word that is a breach, and the words behind it don't
+-- count. A bridge's own signals follow as in any step
 pub record BreaksOff (desk : Desk) (unread : List Sensed) (side : Side) (all : List Word)
     (before after : Body) (own acts : List Act) : Type 0 where
-  pub body : (front : List Word) (word : Word) (others : List Word) (text : List ℕ) → all ≡ front ++ word ∷ others → is_open side (heard_before desk unread side front before) ≡ true
-      → breach_of desk side word (heard_before desk unread side front before) ≡ Some text → after ≡ (broken_step desk unread side front text before).body
-  pub told : (front : List Word) (word : Word) (others : List Word) (text : List ℕ) → all ≡ front ++ word ∷ others → is_open side (heard_before desk unread side front before) ≡ true
-      → breach_of desk side word (heard_before desk unread side front before) ≡ Some text → acts ≡ (broken_step desk unread side front text before).acts ++ own
+  pub body : (front : List Word) (word : Word) (others : List Word) (text : List ℕ)
+      → all ≡ front ++ word ∷ others
+      → is_open side (heard_before desk unread side front before) ≡ true
+      → breach_of desk side word (heard_before desk unread side front before) ≡ Some text
+      → after ≡ (broken_step desk unread side front text before).body
+  pub told : (front : List Word) (word : Word) (others : List Word) (text : List ℕ)
+      → all ≡ front ++ word ∷ others
+      → is_open side (heard_before desk unread side front before) ≡ true
+      → breach_of desk side word (heard_before desk unread side front before) ≡ Some text
+      → acts ≡ (broken_step desk unread side front text before).acts ++ own
 
 abbrev pub BreaksOffAt : Desk → List Sensed → Input → List Word → Body → Body → List Act → List Act
     → Type 0
@@ -75,7 +88,8 @@ BreaksOffAt desk unread (inputs.Bytes side piece) all before after own acts =
 BreaksOffAt desk unread _ all before after own acts = Unit {0}
 
 -- of the words that the input of a step brings
-pub record IsBrokenOff (s : NodeState) (unread : List Sensed) (input : Input) (moment : ℤ) (t : NodeState) (acts : List Act) : Type 0 where
+pub record IsBrokenOff (s : NodeState) (unread : List Sensed) (input : Input) (moment : ℤ)
+    (t : NodeState) (acts : List Act) : Type 0 where
   pub words : List Word
   pub brings : Brings input s.lane t.lane words
   pub breaks :

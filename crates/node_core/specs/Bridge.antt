@@ -16,14 +16,15 @@ use Rattle.node_core.specs.Halves.{front_id}
 use Rattle.node_core.specs.Boards.{marks}
 use Rattle.node_core.specs.Announces.{is_front}
 
--- the segment's Machine Ready is the bridge's will at its entry, its Board Available the will at its exit
+-- the segment's Machine Ready is the bridge's will at its entry, its Board Available the will at
+-- its exit
 abbrev pub with_level_will : SegmentLine → Bool → Body → Body
 with_level_will Ready on body = with_will Entry on body
 with_level_will Available on body = with_will Exit on body
 with_level_will Failed on body = body
 
--- the front board, where a level of the segment says that it is a failed one: Board Available goes on while Failed
--- Board Available is on, and the board isn't known downstream
+-- the front board, where a level of the segment says that it is a failed one: Board Available goes
+-- on while Failed Board Available is on, and the board isn't known downstream
 abbrev pub failed_front : Option BridgeLevels → SegmentLine → Bool → Body → Option ℕ
 failed_front None line on body = None
 failed_front (Some levels) line on body =

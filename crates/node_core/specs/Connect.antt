@@ -21,14 +21,15 @@ if_open false did body = stays body
 abbrev pub opens : Desk → Side → Body → Done
 opens desk side body = session_did desk side (session_row (session_at side body) opened) body
 
--- THE MICRO EVENT: the downstream neighbour connects a second time. What is sent is for the second connection, which
--- is then closed; the first goes on
+-- THE MICRO EVENT: the downstream neighbour connects a second time. What is sent is for the second
+-- connection, which is then closed; the first goes on
 abbrev pub meets_second : Desk → Body → Done
 meets_second desk body = session_did desk Exit (session_row (session_at Exit body) second) body
 
 -- THE MICRO EVENT: the connection of a side is found closed
 abbrev pub notices : Desk → Side → Body → Done
-notices desk side body = if_open (is_open side body) (behind (acts.Notices side ∷ []) (ended desk side body)) body
+notices desk side body =
+    if_open (is_open side body) (behind (acts.Notices side ∷ []) (ended desk side body)) body
 
 -- THE MICRO EVENT: a tick of the clock on a side
 abbrev pub ticks : Desk → Side → Body → Done
@@ -36,7 +37,8 @@ ticks desk side body = session_did desk side (session_row (session_at side body)
 
 -- THE MICRO EVENT: a side shuts down
 abbrev pub shuts_down : Desk → Side → Body → Done
-shuts_down desk side body = session_did desk side (session_row (session_at side body) shutdown) body
+shuts_down desk side body =
+    session_did desk side (session_row (session_at side body) shutdown) body
 
 -- the entry first, then the exit
 abbrev pub both_tick : Desk → Body → Done

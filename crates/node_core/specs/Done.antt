@@ -20,4 +20,5 @@ behind acts d = record { body = d.body; acts = acts ++ d.acts }
 
 -- one after the other
 abbrev pub and_then : Done → (Body → Done) → Done
-and_then first next = record { body = (next first.body).body; acts = first.acts ++ (next first.body).acts }
+and_then first next =
+    record { body = (next first.body).body; acts = first.acts ++ (next first.body).acts }

@@ -1,4 +1,5 @@
--- An input as the micro events have it: bytes as what their frames mean, and new boards with their ids.
+-- An input as the micro events have it: bytes as what their frames mean, and new boards with their
+-- ids.
 use Rattle.std.specs.Prelude.{ℕ, Bool, List, [], ◌∷◌, Option, Result, Ok, Err}
 use Rattle.line_base.specs.declared.states.Side.{Side}
 use Rattle.line_base.specs.declared.states.Side.TheVariants.{Entry, Exit}

@@ -29,11 +29,15 @@ settled (Some board) kept = kept ++ board ∷ []
 
 -- what a row of the outlet table does
 abbrev pub outlet_did : Desk → Body → OutRow → Done
-outlet_did desk body row = done (record body { outlet = row.after; kept = given_back row.act.back body.kept }) (out_told desk body.kept row.act)
+outlet_did desk body row =
+    done (record body { outlet = row.after; kept = given_back row.act.back body.kept })
+    (out_told desk body.kept row.act)
 
 -- what a row of the intake table does
 abbrev pub intake_did : Desk → Body → InRow → Done
-intake_did desk body row = done (record body { intake = row.after; kept = settled row.act.keep body.kept }) (in_told desk row.act)
+intake_did desk body row =
+    done (record body { intake = row.after; kept = settled row.act.keep body.kept })
+    (in_told desk row.act)
 
 abbrev pub outlet_row_did : Desk → Body → Option OutRow → Done
 outlet_row_did desk body None = stays body
@@ -58,7 +62,8 @@ half_closed desk Exit body = at_outlet desk out_input.Closed body
 
 -- a side's connection is at an end: its session has none, and its half hears of it
 abbrev pub ended : Desk → Side → Body → Done
-ended desk side body = half_closed desk side (with_session side (at_rest (session_at side body).role) body)
+ended desk side body =
+    half_closed desk side (with_session side (at_rest (session_at side body).role) body)
 
 -- the front record, where a start opens the outlet, and the records without it
 abbrev pub opening_board : Bool → List Record → Option Record
@@ -76,4 +81,6 @@ front_id (board ∷ boards) = Some board.id
 
 -- what is offered is the front record, and no handover is open then
 abbrev pub OffersFront : Body → Type 0
-OffersFront body = IfSome body.outlet.offered (λ id. (is_idle_phase body.outlet.phase ≡ true) × (front_id body.kept ≡ Some id))
+OffersFront body =
+    IfSome body.outlet.offered (λ id. (is_idle_phase body.outlet.phase ≡ true)
+    × (front_id body.kept ≡ Some id))

@@ -51,7 +51,9 @@ at_entry desk input body = intake_took desk body (intake_row body.intake input)
 
 -- a start takes the front record along, where it opens
 abbrev pub start_took : Desk → ℕ → Bool → Body → Option Done
-start_took desk id opens body = at_exit desk (out_input.Start id (opening_board opens body.kept)) (record body { kept = behind_opening opens body.kept })
+start_took desk id opens body =
+    at_exit desk (out_input.Start id (opening_board opens body.kept))
+    (record body { kept = behind_opening opens body.kept })
 
 -- ---- what a side makes of a message that its session passes on
 
@@ -97,14 +99,19 @@ passed desk side message body (Some did) = behind (acts.Hears side message ∷ [
 
 -- the session took the message
 abbrev pub taken : Desk → Side → Message → Option Action → Actions → Body → Done
-taken desk side message (Some (action.Pass what)) actions body = passed desk side message body (side_took desk side what body)
-taken desk side message _ actions body = behind (acts.Hears side message ∷ []) (actions_did desk side actions body)
+taken desk side message (Some (action.Pass what)) actions body =
+    passed desk side message body (side_took desk side what body)
+taken desk side message _ actions body =
+    behind (acts.Hears side message ∷ []) (actions_did desk side actions body)
 
 -- the session has a row for the message, or none
 abbrev pub rowed : Desk → Side → Message → Body → Option SessionRow → Done
 rowed desk side message body None = breaches desk side (unexpected (kind_of message.body)) body
-rowed desk side message body (Some row) = taken desk side message row.actions.first row.actions (with_session side row.after body)
+rowed desk side message body (Some row) =
+    taken desk side message row.actions.first row.actions (with_session side row.after body)
 
 -- THE MICRO EVENT: a side hears a message
 abbrev pub hears : Desk → Side → Message → Body → Done
-hears desk side message body = rowed desk side message body (session_row (session_at side body) (heard message.body (is_some (held body.outlet))))
+hears desk side message body =
+    rowed desk side message body
+    (session_row (session_at side body) (heard message.body (is_some (held body.outlet))))

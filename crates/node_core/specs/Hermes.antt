@@ -22,7 +22,8 @@ free_state true false = states.BoardAvailable
 free_state false true = states.MachineReady
 free_state true true = states.AvailableAndReady
 
--- the exit of a standing session: by the outlet's phase, and whether a stop was heard of a board that is stuck
+-- the exit of a standing session: by the outlet's phase, and whether a stop was heard of a board
+-- that is stuck
 abbrev pub outlet_state : OutPhase → Bool → Bool → Bool → HermesState
 outlet_state outs.Moving stopped offered ready = states.Transporting
 outlet_state outs.Stuck false offered ready = states.Transporting
@@ -30,7 +31,8 @@ outlet_state outs.Stuck true offered ready = states.TransportStopped
 outlet_state outs.Ended stopped offered ready = states.TransportFinished
 outlet_state outs.Idle stopped offered ready = free_state offered ready
 
--- the entry of a standing session: by the intake's phase, and whether the end of the open handover was heard
+-- the entry of a standing session: by the intake's phase, and whether the end of the open handover
+-- was heard
 abbrev pub intake_state : InPhase → Bool → Bool → Bool → HermesState
 intake_state ins.Taking false offer ready = states.Transporting
 intake_state ins.Stopped false offer ready = states.TransportStopped
@@ -40,8 +42,12 @@ intake_state ins.Waiting heard offer ready = free_state offer ready
 intake_state ins.Idle heard offer ready = free_state offer ready
 
 abbrev pub standing_state : Side → Body → HermesState
-standing_state Entry body = intake_state (in_state.name_of_phase body.intake.phase) (in_state.has_heard body.intake.phase) (is_some body.intake.offer) body.intake.ready
-standing_state Exit body = outlet_state (out_state.name_of_phase body.outlet.phase) (out_state.is_stopped_phase body.outlet.phase) (is_some body.outlet.offered) body.outlet.ready
+standing_state Entry body =
+    intake_state (in_state.name_of_phase body.intake.phase) (in_state.has_heard body.intake.phase)
+    (is_some body.intake.offer) body.intake.ready
+standing_state Exit body =
+    outlet_state (out_state.name_of_phase body.outlet.phase)
+    (out_state.is_stopped_phase body.outlet.phase) (is_some body.outlet.offered) body.outlet.ready
 
 abbrev pub state_in : SessionState → Side → Body → HermesState
 state_in NotConnected side body = states.NotConnected

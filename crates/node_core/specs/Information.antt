@@ -1,5 +1,5 @@
--- What is told of boards beside their handovers: the next one is told of ahead, a board is asked for by its barcode,
--- and such a question is answered.
+-- What is told of boards beside their handovers: the next one is told of ahead, a board is asked
+-- for by its barcode, and such a question is answered.
 use Rattle.std.specs.Prelude.{ℕ, List, [], Option, Some, None, slice_get}
 use Rattle.line_base.specs.declared.states.Side.TheVariants.{Entry, Exit}
 use Rattle.board_record.specs.declared.record.Record.{Record}
@@ -32,10 +32,12 @@ abbrev pub forecasts : Desk → Option Record → List Act
 forecasts desk None = []
 forecasts desk (Some board) = sends desk Exit (bodies.BoardForecast (forecast_of board))
 
--- THE MICRO EVENT: the downstream neighbour is told what board comes next: the front one, if one is kept
+-- THE MICRO EVENT: the downstream neighbour is told what board comes next: the front one, if one
+-- is kept
 abbrev pub forecasts_front : Desk → Body → Done
 forecasts_front desk body = done body (forecasts desk (slice_get body.kept 0))
 
 -- THE MICRO EVENT: the upstream neighbour is asked for the board with this barcode on its top side
 abbrev pub asks_for : Desk → List ℕ → Body → Done
-asks_for desk barcode body = done body (sends desk Entry (bodies.QueryBoardInfo (Some barcode) None))
+asks_for desk barcode body =
+    done body (sends desk Entry (bodies.QueryBoardInfo (Some barcode) None))

@@ -61,7 +61,9 @@ is_used_up used = nat_le (2 ^ 48 - 1) used
 -- ---- the reasons of each input, in their order
 
 abbrev pub may_connect : Body → Result (Unit {0}) No
-may_connect body = no_if (is_open Entry body) no.Connected (no_if (not (in_state.may_connect body.intake.phase)) no.IntakeUnsettled may_do)
+may_connect body =
+    no_if (is_open Entry body) no.Connected
+    (no_if (not (in_state.may_connect body.intake.phase)) no.IntakeUnsettled may_do)
 
 abbrev pub may_accept : Body → Result (Unit {0}) No
 may_accept body = no_if (is_open Exit body) no.Connected may_do
@@ -70,7 +72,8 @@ abbrev pub may_reach : Side → Body → Result (Unit {0}) No
 may_reach side body = no_if (not (is_open side body)) no.NotConnected may_do
 
 abbrev pub may_reach_any : Body → Result (Unit {0}) No
-may_reach_any body = no_if (not (is_open Entry body) && not (is_open Exit body)) no.NotConnected may_do
+may_reach_any body =
+    no_if (not (is_open Entry body) && not (is_open Exit body)) no.NotConnected may_do
 
 abbrev pub may_fault : Side → Body → Result (Unit {0}) No
 may_fault side body = no_if (not (is_handing_over side body)) no.NoHandover may_do
@@ -83,13 +86,16 @@ may_will side on s =
 
 abbrev pub may_level : SegmentLine → Bool → Option BridgeLevels → Result (Unit {0}) No
 may_level line on None = Err no.NotABridge
-may_level line on (Some levels) = no_if (same_bool (level_of line levels.segment) on) no.Same may_do
+may_level line on (Some levels) =
+    no_if (same_bool (level_of line levels.segment) on) no.Same may_do
 
 abbrev pub may_remove : ℕ → Body → Result (Unit {0}) No
 may_remove id body = no_if (not (is_kept id body.kept)) no.NotKept may_do
 
 abbrev pub may_mark : ℕ → Body → Result (Unit {0}) No
-may_mark id body = no_if (not (is_kept id body.kept)) no.NotKept (no_if (out_state.is_id body.outlet.touched id) no.Offered may_do)
+may_mark id body =
+    no_if (not (is_kept id body.kept)) no.NotKept
+    (no_if (out_state.is_id body.outlet.touched id) no.Offered may_do)
 
 abbrev pub may_forecast : Body → Result (Unit {0}) No
 may_forecast body =
@@ -106,7 +112,8 @@ abbrev pub may_supervise : Bool → NodeState → Result (Unit {0}) No
 may_supervise on s = no_if (same_bool s.supervised on) no.Same may_do
 
 abbrev pub may_ask : NodeState → Result (Unit {0}) No
-may_ask s = no_if (not s.supervised) no.NotSupervised (no_if (is_full s.orders) no.QueriesFull may_do)
+may_ask s =
+    no_if (not s.supervised) no.NotSupervised (no_if (is_full s.orders) no.QueriesFull may_do)
 
 -- what the book of work orders has against an answer
 abbrev pub no_answer : Result (Unit {0}) AnswerError → Result (Unit {0}) No
@@ -115,13 +122,19 @@ no_answer (Err (answer_errors.Unknown query)) = Err no.UnknownQuery
 no_answer (Err (answer_errors.Answered query)) = Err (no.Answered query)
 
 abbrev pub may_answer : ℕ → NodeState → Result (Unit {0}) No
-may_answer query s = no_if (not s.supervised) no.NotSupervised (no_answer (answer_of s.orders query))
+may_answer query s =
+    no_if (not s.supervised) no.NotSupervised (no_answer (answer_of s.orders query))
 
 abbrev pub may_insert : NodeState → Result (Unit {0}) No
-may_insert s = no_if (not (is_intake_free s.lane.body)) no.IntakeOpen (no_if (not (has_place (desk_of s (pos 0)) s.lane.body)) no.Full (no_if (is_used_up s.maker.used) no.IdsUsedUp may_do))
+may_insert s =
+    no_if (not (is_intake_free s.lane.body)) no.IntakeOpen
+    (no_if (not (has_place (desk_of s (pos 0)) s.lane.body)) no.Full
+    (no_if (is_used_up s.maker.used) no.IdsUsedUp may_do))
 
 abbrev pub may_replace : ℕ → NodeState → Result (Unit {0}) No
-may_replace id s = no_if (not (is_kept id s.lane.body.kept)) no.NotKept (no_if (is_used_up s.maker.used) no.IdsUsedUp may_do)
+may_replace id s =
+    no_if (not (is_kept id s.lane.body.kept)) no.NotKept
+    (no_if (is_used_up s.maker.used) no.IdsUsedUp may_do)
 
 abbrev pub may_of : NodeState → Input → Result (Unit {0}) No
 may_of s inputs.Nothing = may_do

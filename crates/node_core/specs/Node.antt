@@ -1,5 +1,6 @@
--- A machine: whether it is spent, what it knows of itself, its id maker, its lane, the levels of a bridge, the forecasts
--- of the machine upstream, whether it is supervised, and the work orders that it asked for.
+-- A machine: whether it is spent, what it knows of itself, its id maker, its lane, the levels of a
+-- bridge, the forecasts of the machine upstream, whether it is supervised, and the work orders
+-- that it asked for.
 use Rattle.std.specs.Prelude.{ℕ, ℤ, Bool, true, false, not, List, [], Option, Some, None, length}
 use Rattle.line_base.specs.declared.states.Role.TheVariants.{Upstream, Downstream}
 use Rattle.board_record.specs.Maker.{Maker}
@@ -39,8 +40,8 @@ desk_of s moment = record {
   asked = length s.orders;
 }
 
--- nothing is kept, and no session has a connection. A machine is willing on both sides, and a bridge on none, as no
--- level of its segment is on
+-- nothing is kept, and no session has a connection. A machine is willing on both sides, and a
+-- bridge on none, as no level of its segment is on
 abbrev pub first_body : Bool → Body
 first_body is_bridge = record {
   kept = [];

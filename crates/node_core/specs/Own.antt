@@ -1,5 +1,5 @@
--- What a machine owns, folded over its acts: the ids of the records that it keeps, of the one that its outlet holds, and
--- of the one that its intake takes.
+-- What a machine owns, folded over its acts: the ids of the records that it keeps, of the one that
+-- its outlet holds, and of the one that its intake takes.
 use Rattle.std.specs.Prelude.{ℕ, List, [], ◌∷◌, ◌++◌, ◌==◌, Option, Some, None, drop, map, option_map, if◌then◌else◌}
 use Rattle.board_record.specs.declared.record.Record.{Record}
 use Rattle.handover_out.specs.State.{OutState, held}
@@ -27,7 +27,8 @@ without_id id (mine ∷ others) = if mine == id then others else mine ∷ withou
 -- the ids with another in the first place of this one
 abbrev pub with_id_instead : ℕ → ℕ → List ℕ → List ℕ
 with_id_instead old new [] = []
-with_id_instead old new (mine ∷ others) = if mine == old then new ∷ others else mine ∷ with_id_instead old new others
+with_id_instead old new (mine ∷ others) =
+    if mine == old then new ∷ others else mine ∷ with_id_instead old new others
 
 abbrev pub own_deed : Own → Deed → Own
 own_deed own (deeds.Opens id) = record own { kept = drop 1 own.kept; held = Some id }
@@ -36,7 +37,8 @@ own_deed own (deeds.Leaves id) = record own { held = None }
 own_deed own (deeds.Returns id) = record own { kept = one_of own.held ++ own.kept; held = None }
 own_deed own (deeds.Loses id) = record own { held = None }
 own_deed own (deeds.Starts id) = record own { taking = Some id }
-own_deed own (deeds.Settles id) = record own { kept = own.kept ++ one_of own.taking; taking = None }
+own_deed own (deeds.Settles id) =
+    record own { kept = own.kept ++ one_of own.taking; taking = None }
 own_deed own (deeds.Drops id) = record own { taking = None }
 
 abbrev pub own_act : Own → Act → Own
@@ -58,7 +60,8 @@ abbrev pub id_of : Option Record → Option ℕ
 id_of = option_map (λ (board : Record). board.id)
 
 abbrev pub own_by : List Record → OutState → InState → Own
-own_by kept outlet intake = record { kept = ids_of kept; held = id_of (held outlet); taking = id_of (in_held intake) }
+own_by kept outlet intake =
+    record { kept = ids_of kept; held = id_of (held outlet); taking = id_of (in_held intake) }
 
 -- the own records of a body
 abbrev pub own_of : Body → Own

@@ -18,7 +18,8 @@ saw desk Exit event body = at_outlet desk (out_input.Sensed event) body
 
 -- THE MICRO EVENT: a side reads one sensor event
 abbrev pub reads : Desk → Sensed → Body → Done
-reads desk sensed body = behind (acts.Reads sensed.side sensed.event ∷ []) (saw desk sensed.side sensed.event body)
+reads desk sensed body =
+    behind (acts.Reads sensed.side sensed.event ∷ []) (saw desk sensed.side sensed.event body)
 
 -- the events in order
 abbrev pub all_read : Desk → List Sensed → Body → Done

@@ -23,8 +23,10 @@ closes desk side body = behind (acts.Closes side ∷ []) (half_closed desk side 
 
 abbrev pub action_did : Desk → Side → Action → Body → Done
 action_did desk side action.SendService body = done body (sends desk side (service_of desk))
-action_did desk side (action.Pong id) body = done body (sends desk side (bodies.CheckAlive (Some pings.Answer) id))
-action_did desk side (action.Ping number) body = done body (sends desk side (bodies.CheckAlive (Some pings.Ask) (Some (decimal number))))
+action_did desk side (action.Pong id) body =
+    done body (sends desk side (bodies.CheckAlive (Some pings.Answer) id))
+action_did desk side (action.Ping number) body =
+    done body (sends desk side (bodies.CheckAlive (Some pings.Ask) (Some (decimal number))))
 action_did desk side (action.Tell what) body = done body (sends desk side (tells what))
 action_did desk side action.Close body = closes desk side body
 action_did desk side action.Stand body = at_intake desk in_input.Stand body
@@ -36,13 +38,18 @@ maybe_did desk side (Some action) body = action_did desk side action body
 
 -- what a session has its machine do, in order
 abbrev pub actions_did : Desk → Side → Actions → Body → Done
-actions_did desk side actions body = and_then (maybe_did desk side actions.first body) (λ one. and_then (maybe_did desk side actions.second one) (maybe_did desk side actions.third))
+actions_did desk side actions body =
+    and_then (maybe_did desk side actions.first body) (λ one.
+    and_then (maybe_did desk side actions.second one) (maybe_did desk side actions.third))
 
 -- an input to a side's session that is no message: what its row says, or nothing
 abbrev pub session_did : Desk → Side → Option SessionRow → Body → Done
 session_did desk side None body = stays body
-session_did desk side (Some row) body = actions_did desk side row.actions (with_session side row.after body)
+session_did desk side (Some row) body =
+    actions_did desk side row.actions (with_session side row.after body)
 
 -- THE BREACH: it is told with its text, the neighbour is told too, and the connection is closed
 abbrev pub breaches : Desk → Side → List ℕ → Body → Done
-breaches desk side text body = behind (acts.Breaches side text ∷ (sends desk side (notification 1 severity.Fatal text) ++ acts.Closes side ∷ [])) (ended desk side body)
+breaches desk side text body =
+    behind (acts.Breaches side text ∷ (sends desk side (notification 1 severity.Fatal text)
+    ++ acts.Closes side ∷ [])) (ended desk side body)

@@ -1,5 +1,5 @@
--- THE FOURTH POINT of the machine step: a bridge sets its own signals by what its two handovers do, and tells of each
--- that changed.
+-- THE FOURTH POINT of the machine step: a bridge sets its own signals by what its two handovers
+-- do, and tells of each that changed.
 use Rattle.std.specs.Prelude.{Bool, List, [], ◌∷◌, ◌++◌, Option, Some, None}
 use Rattle.line_base.specs.declared.states.Quality.{Quality}
 use Rattle.smema_bridge.specs.declared.edges.BridgeEdges.{BridgeEdges}
@@ -43,8 +43,8 @@ edges_told edges =
 abbrev pub own_signals : Body → OwnLevels
 own_signals body = signals_of (quality_taken body.intake.phase) (moves_out body)
 
--- what a bridge with these levels tells of its own signals, and a machine that is no bridge nothing. The body stays as
--- it is
+-- what a bridge with these levels tells of its own signals, and a machine that is no bridge
+-- nothing. The body stays as it is
 abbrev pub signalled : Option BridgeLevels → Body → List Act
 signalled None body = []
 signalled (Some before) body = edges_told (bridge_edges before.own (own_signals body))

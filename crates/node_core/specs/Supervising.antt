@@ -1,4 +1,5 @@
--- THE SUPERVISOR: what a machine tells of its boards, behind the acts that are the cause, and what it asks.
+-- THE SUPERVISOR: what a machine tells of its boards, behind the acts that are the cause, and what
+-- it asks.
 use Rattle.std.specs.Prelude.{
   ℕ,
   ◌+◌,
@@ -72,7 +73,8 @@ seen_with event seen = own_after seen event
 
 -- both after an act
 abbrev pub watch_after : Watch → Act → Watch
-watch_after watch (acts.Reads Entry event) = record watch { seen = option_map (seen_with event) watch.seen }
+watch_after watch (acts.Reads Entry event) =
+    record watch { seen = option_map (seen_with event) watch.seen }
 watch_after watch (acts.Deed (deeds.Starts id)) = record watch { seen = Some NotStarted }
 watch_after watch (acts.Deed (deeds.Settles id)) = record watch { seen = None }
 watch_after watch (acts.Deed (deeds.Drops id)) = record watch { seen = None }
@@ -91,7 +93,8 @@ saw_taken (Some seen) = is_taken seen
 
 -- ---- behind which acts
 
--- a board that is dropped since it was taken out has departed; of another that is dropped nothing was told before
+-- a board that is dropped since it was taken out has departed; of another that is dropped nothing
+-- was told before
 abbrev pub tells_deed : Desk → Option Seen → Deed → List Act
 tells_deed desk seen (deeds.Settles id) = arrives desk Transferred id ∷ []
 tells_deed desk seen (deeds.Leaves id) = departs desk Transferred id ∷ []
@@ -102,7 +105,8 @@ tells_deed desk seen _ = []
 abbrev pub tells_cause : Desk → Option Seen → Cause → List Act
 tells_cause desk seen (causes.Inserts id) = arrives desk ByHand id ∷ []
 tells_cause desk seen (causes.Removes id) = departs desk ByHand id ∷ []
-tells_cause desk seen (causes.Replaces old new) = departs desk ByHand old ∷ arrives desk ByHand new ∷ []
+tells_cause desk seen (causes.Replaces old new) =
+    departs desk ByHand old ∷ arrives desk ByHand new ∷ []
 tells_cause desk seen (causes.Deed deed) = tells_deed desk seen deed
 tells_cause desk seen causes.None = []
 
@@ -141,7 +145,8 @@ pub data Supervision : Type 0 where
 -- a question has the next number
 abbrev pub supervision_act : Desk → Supervision → Act
 supervision_act desk (Supervise on) = acts.Sets (settings.Supervise on)
-supervision_act desk (Ask question) = tells_supervisor desk (bodies.QueryWorkOrderInfo (desk.asked + 1) question)
+supervision_act desk (Ask question) =
+    tells_supervisor desk (bodies.QueryWorkOrderInfo (desk.asked + 1) question)
 supervision_act desk (Answer query order) = acts.Answered query order
 
 -- THE MICRO EVENT: it concerns no board and no handover

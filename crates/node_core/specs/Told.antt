@@ -31,7 +31,15 @@ sends desk side what = acts.Sends side (record { stamp = Some desk.moment; body 
 
 -- how a machine describes itself
 abbrev pub service_of : Desk → Horizontal
-service_of desk = bodies.ServiceDescription (record { machine = desk.name; lane = desk.lane; version = codes "1.5"; interface = None; features = record { check_alive = true; forecast = true; query = true; send = true } })
+service_of desk =
+    bodies.ServiceDescription (record {
+      machine = desk.name;
+      lane = desk.lane;
+      version = codes "1.5";
+      interface = None;
+      features =
+          record { check_alive = true; forecast = true; query = true; send = true };
+    })
 
 abbrev pub notification : ℕ → Severity → List ℕ → Horizontal
 notification number severity text = bodies.Notification (record { number = number }) severity text
@@ -77,7 +85,8 @@ offers desk (Some board) = sends desk Exit (bodies.BoardAvailable board)
 abbrev pub out_says : Desk → List Record → OutSend → List Act
 out_says desk kept out_send.BoardAvailable = offers desk (slice_get kept 0)
 out_says desk kept out_send.RevokeBoardAvailable = sends desk Exit bodies.RevokeBoardAvailable
-out_says desk kept (out_send.Finished state id) = sends desk Exit (bodies.TransportFinished state id)
+out_says desk kept (out_send.Finished state id) =
+    sends desk Exit (bodies.TransportFinished state id)
 
 abbrev pub out_sends : Desk → List Record → Option OutSend → List Act
 out_sends desk kept None = []
@@ -94,9 +103,11 @@ abbrev pub in_sends : Desk → Option InSend → List Act
 in_sends desk None = []
 in_sends desk (Some send) = sends desk Entry (in_says send)
 
--- what is told of an act of the outlet, beside these kept records: its deed, its message, its drive
+-- what is told of an act of the outlet, beside these kept records: its deed, its message, its
+-- drive
 abbrev pub out_told : Desk → List Record → OutAct → List Act
-out_told desk kept act = out_does act.deed ++ (out_sends desk kept act.send ++ drives Exit act.drive)
+out_told desk kept act =
+    out_does act.deed ++ (out_sends desk kept act.send ++ drives Exit act.drive)
 
 -- and of an act of the intake
 abbrev pub in_told : Desk → InAct → List Act

@@ -41,25 +41,32 @@ too_long = words.Wrong (codes "message too long")
 -- the words are what these frames mean
 pub data AreMeant : List (List ℕ) → List Word → Type 0 where
   meant_none : AreMeant [] []
-  meant_more : {frame : List ℕ} {frames : List (List ℕ)} {word : Word} {others : List Word} → Means frame word → AreMeant frames others → AreMeant (frame ∷ frames) (word ∷ others)
+  meant_more : {frame : List ℕ} {frames : List (List ℕ)} {word : Word} {others : List Word}
+      → Means frame word → AreMeant frames others → AreMeant (frame ∷ frames) (word ∷ others)
 
--- the words are what the first of these frames mean; where too many bytes stand behind them without an end, the last
--- word may say so
+-- the words are what the first of these frames mean; where too many bytes stand behind them
+-- without an end, the last word may say so
 pub data AreFirst : List (List ℕ) → Option (List ℕ) → List Word → Type 0 where
   first_none : {frames : List (List ℕ)} {rest : Option (List ℕ)} → AreFirst frames rest []
-  first_more : {frame : List ℕ} {frames : List (List ℕ)} {rest : Option (List ℕ)} {word : Word} {others : List Word} → Means frame word → AreFirst frames rest others → AreFirst (frame ∷ frames) rest (word ∷ others)
+  first_more : {frame : List ℕ} {frames : List (List ℕ)} {rest : Option (List ℕ)} {word : Word}
+      {others : List Word} → Means frame word → AreFirst frames rest others
+      → AreFirst (frame ∷ frames) rest (word ∷ others)
   first_too_long : AreFirst [] None (too_long ∷ [])
 
 -- the words are what all frames mean, and these bytes are the rest
 pub data AreAll : List (List ℕ) → Option (List ℕ) → List Word → List ℕ → Type 0 where
   all_none : {rest : List ℕ} → AreAll [] (Some rest) [] rest
-  all_more : {frame : List ℕ} {frames : List (List ℕ)} {rest : Option (List ℕ)} {word : Word} {others : List Word} {left : List ℕ} → Means frame word → AreAll frames rest others left → AreAll (frame ∷ frames) rest (word ∷ others) left
+  all_more : {frame : List ℕ} {frames : List (List ℕ)} {rest : Option (List ℕ)} {word : Word}
+      {others : List Word} {left : List ℕ} → Means frame word → AreAll frames rest others left
+      → AreAll (frame ∷ frames) rest (word ∷ others) left
 
--- the words of a piece that comes behind undelivered bytes: what the first frames of both mean. Where the side is
--- still open after them they are all, and what follows the frames is undelivered
-pub record AreWords (old piece new : List ℕ) (is_open_still : Bool) (words : List Word) : Type 0 where
+-- the words of a piece that comes behind undelivered bytes: what the first frames of both mean.
+-- Where the side is still open after them they are all, and what follows the frames is undelivered
+pub record AreWords (old piece new : List ℕ) (is_open_still : Bool)
+    (words : List Word) : Type 0 where
   pub first : AreFirst (frames_of (old ++ piece)).messages (frames_of (old ++ piece)).rest words
-  pub all : is_open_still ≡ true → AreAll (frames_of (old ++ piece)).messages (frames_of (old ++ piece)).rest words new
+  pub all : is_open_still ≡ true
+      → AreAll (frames_of (old ++ piece)).messages (frames_of (old ++ piece)).rest words new
 
 -- ---- THE LAYER OF MESSAGES: what a word does
 
@@ -71,7 +78,9 @@ word_did desk side (words.Wrong text) body = breaches desk side text body
 -- the words in order, ended by the first close: a side without a connection hears nothing
 abbrev pub all_heard : Desk → Side → List Word → Body → Done
 all_heard desk side [] body = stays body
-all_heard desk side (word ∷ others) body = if_open (is_open side body) (and_then (word_did desk side word body) (all_heard desk side others)) body
+all_heard desk side (word ∷ others) body =
+    if_open (is_open side body)
+    (and_then (word_did desk side word body) (all_heard desk side others)) body
 
 -- ---- what the code does with a piece
 
@@ -87,17 +96,22 @@ Finds waiting left (next.Word word) = TakesWord waiting left word
 Finds waiting left next.More = WantsMore waiting × (left ≡ left_of waiting)
 Finds waiting left next.TooLong = StaysTooLong waiting × (left ≡ waiting)
 
-pub record HearsPiece (desk : Desk) (side : Side) (old piece new : List ℕ) (before after : Body) (told now : List Act) : Type 0 where
+pub record HearsPiece (desk : Desk) (side : Side) (old piece new : List ℕ) (before after : Body)
+    (told now : List Act) : Type 0 where
   pub words : List Word
   pub are : AreWords old piece new (is_open side after) words
   pub body : after ≡ (all_heard desk side words before).body
   pub acts : now ≡ told ++ (all_heard desk side words before).acts
 
 -- as far as it has come: whatever words follow
-pub record IsHearing (desk : Desk) (side : Side) (old front waiting : List ℕ) (before now : Body) (told acts : List Act) : Type 0 where
+pub record IsHearing (desk : Desk) (side : Side) (old front waiting : List ℕ) (before now : Body)
+    (told acts : List Act) : Type 0 where
   pub words : List Word
   pub frames : List (List ℕ)
   pub means : AreMeant frames words
-  pub cut : (later : List ℕ) → frames_of (old ++ (front ++ later)) ≡ stream.behind frames (frames_of (waiting ++ later))
-  pub body : (more : List Word) → (all_heard desk side (words ++ more) before).body ≡ (all_heard desk side more now).body
-  pub heard : (more : List Word) → told ++ (all_heard desk side (words ++ more) before).acts ≡ acts ++ (all_heard desk side more now).acts
+  pub cut : (later : List ℕ)
+      → frames_of (old ++ (front ++ later)) ≡ stream.behind frames (frames_of (waiting ++ later))
+  pub body : (more : List Word)
+      → (all_heard desk side (words ++ more) before).body ≡ (all_heard desk side more now).body
+  pub heard : (more : List Word) → told ++ (all_heard desk side (words ++ more) before).acts ≡ acts
+      ++ (all_heard desk side more now).acts

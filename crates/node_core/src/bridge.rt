@@ -134,8 +134,8 @@ pub(crate) fn after_input(bridge: Option<Bridge>, input: &Input<'_>) -> Option<B
     Some(bridge)
 }
 
-/// A bridge sets its own signals by what its two handovers do, and tells of each that changed. The answer is its levels
-/// then; a machine that is no bridge has none.
+/// A bridge sets its own signals by what its two handovers do, and tells of each that changed. The
+/// answer is its levels then; a machine that is no bridge has none.
 pub(crate) fn signal(
     bridge: Option<Bridge>,
     body: &Body,

@@ -16,7 +16,8 @@ impl Body {
     #[tactic(auto, using(crate::proofs::Opened::is_off))]
     fn session_opens(&mut self, side: Side) -> Actions
         requires { is_open side self.old ≡ false }
-        ensures row { session_row (session_at side self.old) opened ≡ row (session_at side self.new) result }
+        ensures row { session_row (session_at side self.old) opened
+            ≡ row (session_at side self.new) result }
         ensures body { self.new ≡ with_session side (session_at side self.new) self.old }
     {
         match side {
@@ -28,7 +29,8 @@ impl Body {
     #[tactic(auto, using(crate::proofs::Opened::not_off))]
     fn session_ticks(&mut self, side: Side) -> Actions
         requires { is_open side self.old ≡ true }
-        ensures row { session_row (session_at side self.old) tick ≡ row (session_at side self.new) result }
+        ensures row { session_row (session_at side self.old) tick
+            ≡ row (session_at side self.new) result }
         ensures body { self.new ≡ with_session side (session_at side self.new) self.old }
     {
         match side {
@@ -40,7 +42,8 @@ impl Body {
     #[tactic(auto, using(crate::proofs::Opened::not_off))]
     fn session_shuts_down(&mut self, side: Side) -> Actions
         requires { is_open side self.old ≡ true }
-        ensures row { session_row (session_at side self.old) shutdown ≡ row (session_at side self.new) result }
+        ensures row { session_row (session_at side self.old) shutdown
+            ≡ row (session_at side self.new) result }
         ensures body { self.new ≡ with_session side (session_at side self.new) self.old }
     {
         match side {

@@ -5,8 +5,9 @@ use smema_bridge::Bridge;
 use std::alloc::Global;
 use std::marker::Model;
 
-/// What a machine knows of itself in a step: its id text, the number of its lane, its capacity, the moment, of a bridge the
-/// levels of its signals, whether it is supervised, and how many questions it has asked its supervisor.
+/// What a machine knows of itself in a step: its id text, the number of its lane, its capacity,
+/// the moment, of a bridge the levels of its signals, whether it is supervised, and how many
+/// questions it has asked its supervisor.
 #[derive(Drop)]
 pub struct Desk {
     alloc: Global,
@@ -24,7 +25,17 @@ impl Model for Desk {
 
     ghost Value = { Desk };
 
-    ghost view = { λ desk. record { name = desk.name; lane = desk.lane; capacity = desk.capacity; moment = desk.moment; bridge = desk.bridge; supervised = desk.supervised; asked = desk.asked } };
+    ghost view = { λ desk.
+        record {
+          name = desk.name;
+          lane = desk.lane;
+          capacity = desk.capacity;
+          moment = desk.moment;
+          bridge = desk.bridge;
+          supervised = desk.supervised;
+          asked =
+              desk.asked;
+        } };
 }
 
 impl Desk {
@@ -36,7 +47,16 @@ impl Desk {
         moment: Moment,
         bridge: Option<Bridge>,
     ) -> Desk
-        ensures { result ≡ record { name = name; lane = lane; capacity = capacity; moment = moment; bridge = bridge; supervised = false; asked = 0 } }
+        ensures { result
+            ≡ record {
+              name = name;
+              lane = lane;
+              capacity = capacity;
+              moment = moment;
+              bridge = bridge;
+              supervised = false;
+              asked = 0;
+            } }
     {
         Desk {
             alloc,

@@ -163,7 +163,8 @@ impl Body {
         act: OutAct,
         to: &mut Outputs,
     ) -> Result<(), Memory>
-        ensures body { OnOk result (self.new ≡ record self.old { kept = given_back act.back self.old.kept }) }
+        ensures body { OnOk result
+            (self.new ≡ record self.old { kept = given_back act.back self.old.kept }) }
         ensures acts { OnOk result (to.new ≡ to.old ++ out_told desk.now self.old.kept act) }
     {
         tell_out_deed(act.deed, to)?;

@@ -64,7 +64,8 @@ impl Body {
     ) -> Result<(), Memory>
         requires { is_open side self.old ≡ true }
         ensures body { OnOk result (self.new ≡ (breaches desk.now side (unexpected kind) self.old).body) }
-        ensures acts { OnOk result (to.new ≡ to.old ++ (breaches desk.now side (unexpected kind) self.old).acts) }
+        ensures acts { OnOk result
+            (to.new ≡ to.old ++ (breaches desk.now side (unexpected kind) self.old).acts) }
     {
         let breach = Breach { kind };
         let text = Text::plain(desk.alloc(), breach.text().as_bytes())?;
@@ -81,8 +82,12 @@ impl Body {
     ) -> Result<(), Memory>
         requires open { is_open Exit self.old ≡ true }
         requires given { IsGiven self.old.outlet input }
-        ensures body { OnOk result (self.new ≡ (passed desk.now Exit message self.old (at_exit desk.now input self.old)).body) }
-        ensures acts { OnOk result (to.new ≡ to.old ++ (passed desk.now Exit message self.old (at_exit desk.now input self.old)).acts) }
+        ensures body { OnOk result
+            (self.new
+            ≡ (passed desk.now Exit message self.old (at_exit desk.now input self.old)).body) }
+        ensures acts { OnOk result
+            (to.new ≡ to.old
+            ++ (passed desk.now Exit message self.old (at_exit desk.now input self.old)).acts) }
     {
         match self.outlet.apply(input) {
             Ok(act) => {
@@ -103,8 +108,14 @@ impl Body {
     ) -> Result<(), Memory>
         requires open { is_open Exit self.old ≡ true }
         requires offers { OffersFront self.old }
-        ensures body { OnOk result (self.new ≡ (passed desk.now Exit message self.old (start_took desk.now id (would_open self.old.outlet id) self.old)).body) }
-        ensures acts { OnOk result (to.new ≡ to.old ++ (passed desk.now Exit message self.old (start_took desk.now id (would_open self.old.outlet id) self.old)).acts) }
+        ensures body { OnOk result
+            (self.new
+            ≡ (passed desk.now Exit message self.old
+            (start_took desk.now id (would_open self.old.outlet id) self.old)).body) }
+        ensures acts { OnOk result
+            (to.new ≡ to.old
+            ++ (passed desk.now Exit message self.old
+            (start_took desk.now id (would_open self.old.outlet id) self.old)).acts) }
     {
         if !self.outlet.would_open(id) {
             return self.exit_meets(desk, OutInput::Start { id, board: None }, message, to);
@@ -123,8 +134,12 @@ impl Body {
     ) -> Result<(), Memory>
         requires open { is_open Exit self.old ≡ true }
         requires offers { OffersFront self.old }
-        ensures body { OnOk result (self.new ≡ (passed desk.now Exit message self.old (exit_took desk.now word self.old)).body) }
-        ensures acts { OnOk result (to.new ≡ to.old ++ (passed desk.now Exit message self.old (exit_took desk.now word self.old)).acts) }
+        ensures body { OnOk result
+            (self.new
+            ≡ (passed desk.now Exit message self.old (exit_took desk.now word self.old)).body) }
+        ensures acts { OnOk result
+            (to.new ≡ to.old
+            ++ (passed desk.now Exit message self.old (exit_took desk.now word self.old)).acts) }
     {
         match word {
             ExitWord::Ready => self.exit_meets(desk, OutInput::MachineReady, message, to),
@@ -151,8 +166,12 @@ impl Body {
     ) -> Result<(), Memory>
         requires open { is_open Entry self.old ≡ true }
         requires given { IsGivenIn self.old.intake input }
-        ensures body { OnOk result (self.new ≡ (passed desk.now Entry message self.old (at_entry desk.now input self.old)).body) }
-        ensures acts { OnOk result (to.new ≡ to.old ++ (passed desk.now Entry message self.old (at_entry desk.now input self.old)).acts) }
+        ensures body { OnOk result
+            (self.new
+            ≡ (passed desk.now Entry message self.old (at_entry desk.now input self.old)).body) }
+        ensures acts { OnOk result
+            (to.new ≡ to.old
+            ++ (passed desk.now Entry message self.old (at_entry desk.now input self.old)).acts) }
     {
         match self.intake.apply(input) {
             Ok(act) => {
@@ -172,8 +191,12 @@ impl Body {
         to: &mut Outputs,
     ) -> Result<(), Memory>
         requires open { is_open Entry self.old ≡ true }
-        ensures body { OnOk result (self.new ≡ (passed desk.now Entry message self.old (entry_took desk.now word self.old)).body) }
-        ensures acts { OnOk result (to.new ≡ to.old ++ (passed desk.now Entry message self.old (entry_took desk.now word self.old)).acts) }
+        ensures body { OnOk result
+            (self.new
+            ≡ (passed desk.now Entry message self.old (entry_took desk.now word self.old)).body) }
+        ensures acts { OnOk result
+            (to.new ≡ to.old
+            ++ (passed desk.now Entry message self.old (entry_took desk.now word self.old)).acts) }
     {
         match word {
             EntryWord::Available(board) => {
@@ -202,8 +225,13 @@ impl Body {
     ) -> Result<(), Memory>
         requires open { is_open side self.old ≡ true }
         requires offers { OffersFront self.old }
-        ensures body { OnOk result (self.new ≡ (passed desk.now side message self.old (side_took desk.now side what self.old)).body) }
-        ensures acts { OnOk result (to.new ≡ to.old ++ (passed desk.now side message self.old (side_took desk.now side what self.old)).acts) }
+        ensures body { OnOk result
+            (self.new
+            ≡ (passed desk.now side message self.old (side_took desk.now side what self.old)).body) }
+        ensures acts { OnOk result
+            (to.new ≡ to.old
+            ++ (passed desk.now side message self.old
+            (side_took desk.now side what self.old)).acts) }
     {
         match side {
             Side::Entry => self.entry_hears(desk, entry_word(what), message, to),
@@ -222,8 +250,10 @@ impl Body {
     ) -> Result<(), Memory>
         requires open { pass_open actions.first (session_at side self.old).state ≡ true }
         requires offers { OffersFront self.old }
-        ensures body { OnOk result (self.new ≡ (taken desk.now side message actions.first actions self.old).body) }
-        ensures acts { OnOk result (to.new ≡ to.old ++ (taken desk.now side message actions.first actions self.old).acts) }
+        ensures body { OnOk result
+            (self.new ≡ (taken desk.now side message actions.first actions self.old).body) }
+        ensures acts { OnOk result
+            (to.new ≡ to.old ++ (taken desk.now side message actions.first actions self.old).acts) }
     {
         let Actions {
             first,

@@ -32,7 +32,8 @@ fn answer_to(
     top: Option<&Text>,
     bottom: Option<&Text>,
 ) -> Result<Info, Memory>
-    ensures { IfOk result (λ info. info ≡ answer_to kept.now (option_copied top.entry) (option_copied bottom.entry)) }
+    ensures { IfOk result
+        (λ info. info ≡ answer_to kept.now (option_copied top.entry) (option_copied bottom.entry)) }
 {
     match find(kept, top, bottom) {
         Some(place) => info_at(alloc, kept, place),
@@ -62,7 +63,9 @@ impl Body {
         bottom: Option<Text>,
         to: &mut Outputs,
     ) -> Result<(), Memory>
-        ensures { OnOk result (to.new ≡ to.old ++ sends desk.now Exit (bodies.SendBoardInfo (answer_to self.now.kept top bottom))) }
+        ensures { OnOk result
+            (to.new ≡ to.old
+            ++ sends desk.now Exit (bodies.SendBoardInfo (answer_to self.now.kept top bottom))) }
     {
         let info = answer_to(
             desk.alloc(),

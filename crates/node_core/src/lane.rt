@@ -11,7 +11,8 @@ pub struct End {
     pub(crate) willing: bool,
 }
 
-/// What the tables speak of: the records that are kept, the two halves of handovers, and the two sides.
+/// What the tables speak of: the records that are kept, the two halves of handovers, and the two
+/// sides.
 #[derive(Drop)]
 pub struct Body {
     pub(crate) kept: Shelf,

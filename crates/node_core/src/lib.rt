@@ -1,8 +1,8 @@
-//! One machine of a board line: the two ends of its sessions, the two halves of its handovers, and the records of the
-//! boards that it keeps, joined into one step.
+//! One machine of a board line: the two ends of its sessions, the two halves of its handovers, and
+//! the records of the boards that it keeps, joined into one step.
 //!
-//! A step reads the unread sensor events in order, takes one input, makes the announcements that are due, and, at a
-//! bridge, sets its own signals. What it did is a list of acts.
+//! A step reads the unread sensor events in order, takes one input, makes the announcements that
+//! are due, and, at a bridge, sets its own signals. What it did is a list of acts.
 #![tactic(auto)]
 
 mod act;

@@ -149,14 +149,17 @@ impl Body {
 }
 
 impl Node {
-    /// Whether an input may be given now: the first reason against it, on the state before the step.
+    /// Whether an input may be given now: the first reason against it, on the state before the
+    /// step.
     ///
-    /// `Connect`: `Connected`, `IntakeUnsettled`. `Accepted`: `Connected`. `Second`, `Bytes`, `Notice`, and `Tick` and
-    /// `Shutdown` of both sides: `NotConnected`. `Fault`: `NoHandover`. `Will`: `Bridge`, `Same`. `Level`:
-    /// `NotABridge`, `Same`. `Insert`: `IntakeOpen`, `Full`, `IdsUsedUp`. `Remove`: `NotKept`. `Replace`: `NotKept`,
-    /// `IdsUsedUp`. `Mark`: `NotKept`, `Offered`. `Forecast`: `NotStanding`, `NotSupported`, `NothingKept`. `Query`:
-    /// `NotStanding`, `NotSupported`. `Supervise`: `Same`. `Ask`: `NotSupervised`, `QueriesFull`. `Answer`:
-    /// `NotSupervised`, `UnknownQuery`, `Answered` with the number of the query. It takes no memory.
+    /// `Connect`: `Connected`, `IntakeUnsettled`. `Accepted`: `Connected`. `Second`, `Bytes`,
+    /// `Notice`, and `Tick` and `Shutdown` of both sides: `NotConnected`. `Fault`: `NoHandover`.
+    /// `Will`: `Bridge`, `Same`. `Level`: `NotABridge`, `Same`. `Insert`: `IntakeOpen`, `Full`,
+    /// `IdsUsedUp`. `Remove`: `NotKept`. `Replace`: `NotKept`, `IdsUsedUp`. `Mark`: `NotKept`,
+    /// `Offered`. `Forecast`: `NotStanding`, `NotSupported`, `NothingKept`. `Query`:
+    /// `NotStanding`, `NotSupported`. `Supervise`: `Same`. `Ask`: `NotSupervised`, `QueriesFull`.
+    /// `Answer`: `NotSupervised`, `UnknownQuery`, `Answered` with the number of the query. It
+    /// takes no memory.
     pub fn may(&self, input: &Input<'_>) -> Result<(), No>
         ensures { result ≡ may_of self.now input.now }
     {

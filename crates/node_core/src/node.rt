@@ -36,8 +36,10 @@ use supervisory_core::OrderBook;
 
 /// One machine of a board line.
 ///
-/// It is seen as what it knows of itself, its id maker, its lane, the levels of a bridge, the forecasts of the machine
-/// upstream, whether it is supervised, and the work orders that it asked for. After `Memory` it is spent: what it has done by then is not told, and each later step answers `Memory`.
+/// It is seen as what it knows of itself, its id maker, its lane, the levels of a bridge, the
+/// forecasts of the machine upstream, whether it is supervised, and the work orders that it asked
+/// for. After `Memory` it is spent: what it has done by then is not told, and each later step
+/// answers `Memory`.
 #[derive(Drop)]
 pub struct Node {
     pub(crate) spent: bool,
@@ -56,12 +58,27 @@ impl Model for Node {
 
     ghost Value = { NodeState };
 
-    ghost view = { λ n. record { spent = n.spent; name = n.desk.name; number = n.desk.lane; capacity = n.desk.capacity; maker = n.maker; lane = n.lane; bridge = n.desk.bridge; forecasts = n.forecasts; supervised = n.desk.supervised; orders = n.orders } };
+    ghost view = { λ n. record {
+      spent = n.spent;
+      name = n.desk.name;
+      number = n.desk.lane;
+      capacity = n.desk.capacity;
+      maker = n.maker;
+      lane = n.lane;
+      bridge =
+          n.desk.bridge;
+      forecasts = n.forecasts;
+      supervised = n.desk.supervised;
+      orders =
+          n.orders;
+    } };
 
-    ghost invariant = { λ n. n.spent ≡ false → IsSound n.desk.capacity n.lane.body × IsWilling n.desk.bridge n.lane.body };
+    ghost invariant = { λ n. n.spent ≡ false → IsSound n.desk.capacity n.lane.body
+        × IsWilling n.desk.bridge n.lane.body };
 }
 
-/// A body that keeps nothing and has no connections. A bridge's isn't willing on either side, another is on both.
+/// A body that keeps nothing and has no connections. A bridge's isn't willing on either side,
+/// another is on both.
 fn first_body(alloc: Global, is_bridge: bool) -> Body
     ensures { result ≡ first_body is_bridge }
 {
@@ -81,8 +98,8 @@ fn first_body(alloc: Global, is_bridge: bool) -> Body
 }
 
 impl Node {
-    /// A machine that keeps nothing, without connections, willing on both sides; or a bridge, with all levels off and so
-    /// willing on none. It takes the memory of two cutters.
+    /// A machine that keeps nothing, without connections, willing on both sides; or a bridge, with
+    /// all levels off and so willing on none. It takes the memory of two cutters.
     pub fn new(alloc: Global, profile: NodeProfile) -> Result<Node, Memory>
         requires least { 1 ≤ profile.capacity }
         requires most { profile.capacity ≤ 1024 }
@@ -113,10 +130,12 @@ impl Node {
         })
     }
 
-    /// Makes a step at a moment: reads the unread sensor events in order, takes the input, and makes the announcements
-    /// that are due; then a bridge sets its own signals. It answers its acts in their order.
+    /// Makes a step at a moment: reads the unread sensor events in order, takes the input, and
+    /// makes the announcements that are due; then a bridge sets its own signals. It answers its
+    /// acts in their order.
     ///
-    /// `Memory` where there is none for the acts, for records and texts; the machine is spent then.
+    /// `Memory` where there is none for the acts, for records and texts; the machine is spent
+    /// then.
     pub fn step(
         &mut self,
         sensed: &[Sensed],
@@ -129,12 +148,14 @@ impl Node {
         ensures again { IfOk result (λ acts. self.new.spent ≡ false) }
         // what it did is the machine step
         ensures step { IfOk result (Steps self.old sensed.now input.entry moment self.new) }
-        // bytes that mean no message, and messages without a row, break the connection off and nothing else
+        // bytes that mean no message, and messages without a row, break the connection off and
+        // nothing else
         ensures wrong { IfOk result (IsBrokenOff self.old sensed.now input.entry moment self.new) }
         // a bridge is willing by the levels of its segment
         ensures willing { IfOk result (λ acts. IsWilling self.new.bridge self.new.lane.body) }
         // what it owns follows from its acts
-        ensures own { IfOk result (λ acts. own_of self.new.lane.body ≡ own_after (own_of self.old.lane.body) acts) }
+        ensures own { IfOk result
+            (λ acts. own_of self.new.lane.body ≡ own_after (own_of self.old.lane.body) acts) }
     {
         if self.spent {
             return Err(Memory);
@@ -209,7 +230,8 @@ impl Node {
         self.desk.supervised()
     }
 
-    /// The answer to the question of this number. `None` exactly where that question was not asked or not answered.
+    /// The answer to the question of this number. `None` exactly where that question was not asked
+    /// or not answered.
     pub fn kept_answer(&self, query: u64) -> Option<&Text>
         ensures { option_copied result ≡ answer_to self.now.orders query }
     {

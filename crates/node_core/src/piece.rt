@@ -72,7 +72,8 @@ pub(crate) fn hear_piece(
 ) -> Result<(), Memory>
     requires open { is_open side body.old ≡ true }
     requires offers { OffersFront body.old }
-    ensures { OnOk result (HearsPiece desk.now side cutter.old piece.now cutter.new body.old body.new to.old to.new) }
+    ensures { OnOk result
+        (HearsPiece desk.now side cutter.old piece.now cutter.new body.old body.new to.old to.new) }
 {
     let mut at = 0;
     loop {

@@ -77,10 +77,18 @@ impl Body {
     #[tactic(auto, using(crate::proofs::Opened::not_off))]
     pub(crate) fn session_hears(&mut self, side: Side, what: Horizontal) -> Result<Actions, Breach>
         requires { is_open side self.old ≡ true }
-        ensures row { IfOk result (λ actions. session_row (session_at side self.old) (heard what (is_some (held self.old.outlet))) ≡ row (session_at side self.new) actions) }
-        ensures body { IfOk result (λ actions. self.new ≡ with_session side (session_at side self.new) self.old) }
-        ensures open { IfOk result (λ actions. pass_open actions.first (session_at side self.new).state ≡ true) }
-        ensures breach { IfErr result (λ breach. session_row (session_at side self.old) (heard what (is_some (held self.old.outlet))) ≡ None) }
+        ensures row { IfOk result
+            (λ actions.
+            session_row (session_at side self.old) (heard what (is_some (held self.old.outlet)))
+            ≡ row (session_at side self.new) actions) }
+        ensures body { IfOk result
+            (λ actions. self.new ≡ with_session side (session_at side self.new) self.old) }
+        ensures open { IfOk result
+            (λ actions. pass_open actions.first (session_at side self.new).state ≡ true) }
+        ensures breach { IfErr result
+            (λ breach.
+            session_row (session_at side self.old) (heard what (is_some (held self.old.outlet)))
+            ≡ None) }
         ensures unchanged { OnErr result (self.new ≡ self.old) }
     {
         let unsettled = self.outlet.holds().is_some();

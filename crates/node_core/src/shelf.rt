@@ -7,8 +7,8 @@ use line_base::{Memory, Quality};
 use std::alloc::Global;
 use std::marker::Model;
 
-/// The records that a machine keeps, the front first. It is seen as their list alone; what grows takes its memory
-/// itself.
+/// The records that a machine keeps, the front first. It is seen as their list alone; what grows
+/// takes its memory itself.
 #[derive(Drop)]
 pub struct Shelf {
     kept: Kept,

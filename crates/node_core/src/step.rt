@@ -27,7 +27,8 @@ impl Lane {
         to: &mut Outputs,
     ) -> Result<(), Memory>
         requires { OffersFront self.old.body }
-        ensures { OnOk result (HearsBytes desk.now side piece.now self.old self.new to.old to.new) }
+        ensures { OnOk result
+            (HearsBytes desk.now side piece.now self.old self.new to.old to.new) }
     {
         if !self.body.is_open(side) {
             return Ok(());
@@ -69,7 +70,9 @@ impl Lane {
         barcode: Option<Text>,
         to: &mut Outputs,
     ) -> Result<(), Memory>
-        ensures { OnOk result (DoesInput desk.now maker.old maker.new (inputs.Insert barcode) self.old self.new to.old to.new) }
+        ensures { OnOk result
+            (DoesInput desk.now maker.old maker.new
+            (inputs.Insert barcode) self.old self.new to.old to.new) }
     {
         match maker.next() {
             Ok(id) => self.body.insert(desk, id, barcode, to),
@@ -85,7 +88,9 @@ impl Lane {
         old: BoardId,
         to: &mut Outputs,
     ) -> Result<(), Memory>
-        ensures { OnOk result (DoesInput desk.now maker.old maker.new (inputs.Replace old) self.old self.new to.old to.new) }
+        ensures { OnOk result
+            (DoesInput desk.now maker.old maker.new
+            (inputs.Replace old) self.old self.new to.old to.new) }
     {
         match maker.next() {
             Ok(new) => self.body.replace(desk, old, new, to),
@@ -104,7 +109,8 @@ impl Lane {
         requires offers { OffersFront self.old.body }
         requires upstream { self.old.body.exit.session.role ≡ Upstream }
         requires numbered { HasNumber input desk.now }
-        ensures { OnOk result (MeetsInput desk.now maker.old maker.new input.entry self.old self.new to.old to.new) }
+        ensures { OnOk result
+            (MeetsInput desk.now maker.old maker.new input.entry self.old self.new to.old to.new) }
     {
         match input {
             Input::Nothing => Ok(()),
@@ -130,8 +136,8 @@ impl Lane {
         }
     }
 
-    /// A step: the unread events in order, the input, the announcements; and behind each act what the supervisor is told
-    /// of it.
+    /// A step: the unread events in order, the input, the announcements; and behind each act what
+    /// the supervisor is told of it.
     pub(crate) fn step(
         &mut self,
         desk: &Desk,
@@ -142,7 +148,8 @@ impl Lane {
         requires offers { OffersFront self.old.body }
         requires upstream { self.old.body.exit.session.role ≡ Upstream }
         requires numbered { HasNumber input desk.now }
-        ensures { IfOk result (StepsLane desk.now unread.now input.entry maker.old maker.new self.old self.new) }
+        ensures { IfOk result
+            (StepsLane desk.now unread.now input.entry maker.old maker.new self.old self.new) }
     {
         let watch = Watch::of(desk, &self.body);
         let mut acts = Outputs::new(desk.alloc());

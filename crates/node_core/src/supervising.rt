@@ -14,8 +14,8 @@ use line_base::{Memory, Seen, SensorEvent, Side, Text};
 use std::alloc::Global;
 use supervisory_core::{AskError, OrderBook};
 
-/// What decides of what the supervisor is told: whether there is one, and what the sensors saw of the board that the
-/// intake holds.
+/// What decides of what the supervisor is told: whether there is one, and what the sensors saw of
+/// the board that the intake holds.
 #[derive(Clone, Copy)]
 pub struct Watch {
     pub supervised: bool,
@@ -103,7 +103,9 @@ fn tell(desk: &Desk, what: Vertical, to: &mut Outputs) -> Result<(), Memory>
 }
 
 fn passage(desk: &Desk, how: Passing, id: BoardId) -> Result<Passage, Memory>
-    ensures { IfOk result (λ passage. passage ≡ record { machine = desk.now.name; lane = desk.now.lane; how = how; id = id }) }
+    ensures { IfOk result
+        (λ passage.
+        passage ≡ record { machine = desk.now.name; lane = desk.now.lane; how = how; id = id }) }
 {
     Ok(Passage {
         machine: desk.name().copy(desk.alloc())?,
@@ -185,7 +187,8 @@ fn stays_unwatched(act: &Act) -> bool
     !matches!(act, Act::Sets(Setting::Supervise(_)))
 }
 
-/// Whether nothing is to be told behind these acts: the machine isn't supervised, and they don't change that.
+/// Whether nothing is to be told behind these acts: the machine isn't supervised, and they don't
+/// change that.
 fn is_unwatched(desk: &Desk, acts: &[Act]) -> bool
     ensures { result ≡ true → is_unwatched desk.now.supervised acts.now ≡ true }
 {

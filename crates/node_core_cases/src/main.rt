@@ -1,5 +1,6 @@
-//! The cases of two machines: each line has the steps of machine 1 and machine 2, and is written again with the acts of
-//! each step, or the reason against it, and with how both machines stand then.
+//! The cases of two machines: each line has the steps of machine 1 and machine 2, and is written
+//! again with the acts of each step, or the reason against it, and with how both machines stand
+//! then.
 #![tactic(auto)]
 
 ghost use Rattle.std.specs.Prelude.{◌≡◌, ◌<◌, ◌^◌, true};

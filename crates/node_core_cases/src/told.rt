@@ -293,7 +293,8 @@ fn tell_end(state: Transfer, id: BoardId, to: &mut Vec<u8>) -> io::Result<()> {
     ids::tell(id, to)
 }
 
-/// Appends what a machine keeps, how its sides stand, what it was told ahead, and whether it is supervised.
+/// Appends what a machine keeps, how its sides stand, what it was told ahead, and whether it is
+/// supervised.
 pub fn stands(node: &Node, to: &mut Vec<u8>) -> io::Result<()> {
     write!(to, " || kept")?;
     for board in node.kept() {

@@ -55,7 +55,8 @@ fn run_node(rt: &HostRuntime, ports: MachinePorts) -> Result<NodeStatus, Memory>
     ))
 }
 
-/// The settings file. A machine that nobody ends is done after some hundred seconds, since a turn at rest takes a millisecond.
+/// The settings file. A machine that nobody ends is done after some hundred seconds, since a turn
+/// at rest takes a millisecond.
 fn settings_of(alloc: Global, ports: MachinePorts) -> Result<Vec<u8>, Memory> {
     let MachinePorts { panel, downstream } = ports;
     let mut text = Vec::new(alloc);

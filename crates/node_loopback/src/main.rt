@@ -1,7 +1,9 @@
-//! Plays `node` over this computer's sockets: a child is the machine, and its neighbour and its panel are played here. Writes what these
-//! took, the machine's log without the numbers of the turns, and how it ended.
+//! Plays `node` over this computer's sockets: a child is the machine, and its neighbour and its
+//! panel are played here. Writes what these took, the machine's log without the numbers of the
+//! turns, and how it ended.
 //!
-//! With no words it plays. It starts itself with the words `machine PANEL DOWNSTREAM`, two ports, to be the machine.
+//! With no words it plays. It starts itself with the words `machine PANEL DOWNSTREAM`, two ports,
+//! to be the machine.
 #![tactic(auto)]
 
 mod child;

@@ -14,7 +14,8 @@ pub enum Play {
     NodeOverPorts,
     /// The downstream neighbour sends its description a byte at a time, and closes.
     ByteByByte,
-    /// A second neighbour connects downstream while the first stands, and a second panel while a panel stands.
+    /// A second neighbour connects downstream while the first stands, and a second panel while a
+    /// panel stands.
     SecondConnection,
     /// The panel sends a line that is too long, a byte more than a line may have.
     LongLine,
@@ -33,9 +34,11 @@ const WHOLE: usize = 65_536;
 /// How many bytes a line of the panel may have.
 const LINE_BYTES: usize = 4096;
 
-/// Plays with a machine that is started for it, and tells what its peers took, its log and how it ended.
+/// Plays with a machine that is started for it, and tells what its peers took, its log and how it
+/// ended.
 ///
-/// An error where the host fails, or where the machine doesn't answer in time. The machine is killed then.
+/// An error where the host fails, or where the machine doesn't answer in time. The machine is
+/// killed then.
 pub fn play_one(rt: &HostRuntime, play: Play, to: &mut Vec<u8>) -> io::Result<()> {
     append(name_of(play), to)?;
     let ports = free_ports(rt)?;

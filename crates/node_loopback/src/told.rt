@@ -4,7 +4,8 @@ use std::str;
 /// What stands before the moment in a message.
 const TIMESTAMP: &str = " Timestamp=\"";
 
-/// Appends a heading and a text that was taken, without its moments, which are those of the host's clock.
+/// Appends a heading and a text that was taken, without its moments, which are those of the host's
+/// clock.
 pub fn tell_taken(heading: &str, text: &[u8], to: &mut Vec<u8>) -> Result<(), AllocError> {
     append(heading, to)?;
     if text.is_empty() {

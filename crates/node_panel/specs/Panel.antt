@@ -19,15 +19,18 @@ use Rattle.node_panel.specs.declared.line.PanelLine.TheVariants as lines
 -- ---- words
 
 abbrev pub side_of : List ℕ → Result Side LineWhy
-side_of word = if bytes_eq word (codes "in") then Ok Entry else (if bytes_eq word (codes "out") then Ok Exit else Err whys.BadSide)
+side_of word =
+    if bytes_eq word (codes "in") then Ok Entry else
+    (if bytes_eq word (codes "out") then Ok Exit else Err whys.BadSide)
 
 abbrev pub quality_of : List ℕ → Result Quality LineWhy
 quality_of word =
     if bytes_eq word (codes "unknown") then Ok qualities.Unknown else
-    (if bytes_eq word (codes "good") then Ok qualities.Good else (if bytes_eq word (codes "failed") then Ok qualities.Failed else Err whys.BadWord))
+    (if bytes_eq word (codes "good") then Ok qualities.Good else
+    (if bytes_eq word (codes "failed") then Ok qualities.Failed else Err whys.BadWord))
 
--- the sensors of the entry see a board begin, come in, go back and be taken, those of the exit see it leave in place of
--- come in
+-- the sensors of the entry see a board begin, come in, go back and be taken, those of the exit see
+-- it leave in place of come in
 abbrev pub last_event : Side → List ℕ
 last_event Entry = codes "Full"
 last_event Exit = codes "Left"
@@ -40,7 +43,8 @@ abbrev pub event_of : Side → List ℕ → Result SensorEvent LineWhy
 event_of side word =
     if bytes_eq word (codes "Begun") then Ok sensors.Begun else
     (if bytes_eq word (codes "Back") then Ok sensors.Back else
-    (if bytes_eq word (codes "Taken") then Ok sensors.Taken else (if bytes_eq word (last_event side) then Ok (last_event_of side) else Err whys.BadWord)))
+    (if bytes_eq word (codes "Taken") then Ok sensors.Taken else
+    (if bytes_eq word (last_event side) then Ok (last_event_of side) else Err whys.BadWord)))
 
 -- the id that a word spells
 unfoldable pub id_of : List ℕ → Result ℕ LineWhy
@@ -68,18 +72,21 @@ with_side line (side ∷ []) = mapped_ok line (side_of side)
 with_side line (side ∷ other ∷ words) = Err whys.WrongCount
 
 abbrev pub mark_of : List (List ℕ) → Result PanelLine LineWhy
-mark_of (id ∷ quality ∷ []) = then_ok (id_of id) (λ id. mapped_ok (lines.Mark id) (quality_of quality))
+mark_of (id ∷ quality ∷ []) =
+    then_ok (id_of id) (λ id. mapped_ok (lines.Mark id) (quality_of quality))
 mark_of _ = Err whys.WrongCount
 
 abbrev pub made_sense : Side → SensorEvent → PanelLine
 made_sense side event = lines.Sense (record { side = side; event = event })
 
 abbrev pub sense_of : List (List ℕ) → Result PanelLine LineWhy
-sense_of (side ∷ event ∷ []) = then_ok (side_of side) (λ side. mapped_ok (made_sense side) (event_of side event))
+sense_of (side ∷ event ∷ []) =
+    then_ok (side_of side) (λ side. mapped_ok (made_sense side) (event_of side event))
 sense_of _ = Err whys.WrongCount
 
 abbrev pub signal_of : List (List ℕ) → Result PanelLine LineWhy
-signal_of (line ∷ on ∷ []) = then_ok (segment_line_of line) (λ line. mapped_ok (lines.Signal line) (switch_of on))
+signal_of (line ∷ on ∷ []) =
+    then_ok (segment_line_of line) (λ line. mapped_ok (lines.Signal line) (switch_of on))
 signal_of _ = Err whys.WrongCount
 
 abbrev pub query_of : List (List ℕ) → Result PanelLine LineWhy
@@ -90,21 +97,24 @@ query_of (barcode ∷ other ∷ words) = Err whys.WrongCount
 -- a question by one text, and by a place: a magazine and a slot of it
 abbrev pub text_asked : List ℕ → List ℕ → Result PanelLine LineWhy
 text_asked word text =
-    then_ok (asked_by_of word) (λ by. mapped_ok (λ text. lines.Ask (question_of by text)) (token_of text))
+    then_ok (asked_by_of word) (λ by.
+    mapped_ok (λ text. lines.Ask (question_of by text)) (token_of text))
 
 abbrev pub place_asked : List ℕ → List ℕ → List ℕ → Result PanelLine LineWhy
 place_asked word magazine slot =
     then_ok (literal_of (codes "place") word) (λ place. then_ok (token_of magazine)
-    (λ magazine. mapped_ok (λ slot. lines.Ask (questions.Place magazine slot)) (number_in 0 999999999 slot)))
+    (λ magazine.
+    mapped_ok (λ slot. lines.Ask (questions.Place magazine slot))
+    (number_in 0 999999999 slot)))
 
 abbrev pub ask_of : List (List ℕ) → Result PanelLine LineWhy
 ask_of (word ∷ text ∷ []) = text_asked word text
 ask_of (word ∷ magazine ∷ slot ∷ []) = place_asked word magazine slot
 ask_of _ = Err whys.WrongCount
 
--- THE TABLE: `insert [barcode]`, `query barcode`, `ask barcode|order w`, `ask place w s`, `remove id`, `replace id`,
--- `mark id quality`, `hold side`, `go side`, `fault side`, `sense side event`, `signal ready|available|failed on|off`,
--- `connect`, `shutdown`, `tick`, `forecast`, `show`, `end`
+-- THE TABLE: `insert [barcode]`, `query barcode`, `ask barcode|order w`, `ask place w s`, `remove
+-- id`, `replace id`, `mark id quality`, `hold side`, `go side`, `fault side`, `sense side event`,
+-- `signal ready|available|failed on|off`, `connect`, `shutdown`, `tick`, `forecast`, `show`, `end`
 abbrev pub asked_of_connections : List ℕ → List (List ℕ) → Result PanelLine LineWhy
 asked_of_connections first words =
     if bytes_eq first (codes "connect") then bare lines.Connect words else
@@ -120,7 +130,8 @@ asked_of_sides first words =
     (if bytes_eq first (codes "go") then with_side lines.Go words else
     (if bytes_eq first (codes "fault") then with_side lines.Fault words else
     (if bytes_eq first (codes "sense") then sense_of words else
-    (if bytes_eq first (codes "signal") then signal_of words else asked_of_connections first words))))
+    (if bytes_eq first
+    (codes "signal") then signal_of words else asked_of_connections first words))))
 
 abbrev pub asked_of : List ℕ → List (List ℕ) → Result PanelLine LineWhy
 asked_of first words =
@@ -138,8 +149,12 @@ is_comment (b ∷ bs) = b == 35
 
 abbrev pub panel_line_of_words : List (List ℕ) → Result PanelLine LineWhy
 panel_line_of_words [] = Ok lines.Blank
-panel_line_of_words (first ∷ words) = if is_comment first then Ok lines.Blank else asked_of first words
+panel_line_of_words (first ∷ words) =
+    if is_comment first then Ok lines.Blank else asked_of first words
 
 -- what the bytes of one line ask for, or why they are refused: the first refusal that holds
 abbrev pub panel_line_of : List ℕ → Result PanelLine LineWhy
-panel_line_of bytes = if nat_lt 4096 (length bytes) then Err whys.LongLine else (if list_all is_text_byte bytes then panel_line_of_words (words_of bytes) else Err whys.NotText)
+panel_line_of bytes =
+    if nat_lt 4096 (length bytes) then Err whys.LongLine else
+    (if list_all is_text_byte bytes then panel_line_of_words
+    (words_of bytes) else Err whys.NotText)

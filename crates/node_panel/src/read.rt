@@ -9,8 +9,9 @@ use std::alloc::Global;
 
 /// Reads one line of a panel, given without its line end.
 ///
-/// Refuses it for the first reason that holds: more than 4,096 bytes, a byte that is neither a tab nor printable ASCII, an
-/// unknown first word, a wrong count of words, and then, for the words from the left, a bad number, side, id or word.
+/// Refuses it for the first reason that holds: more than 4,096 bytes, a byte that is neither a tab
+/// nor printable ASCII, an unknown first word, a wrong count of words, and then, for the words
+/// from the left, a bad number, side, id or word.
 pub fn read_panel_line(alloc: Global, bytes: &[u8]) -> Result<PanelLine, LineError>
     ensures { Reads (panel_line_of bytes.now) result }
 {

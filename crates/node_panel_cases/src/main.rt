@@ -1,4 +1,5 @@
-//! Cases of `node_panel`, a line each: a line of a panel, and what it asks for or why it is refused.
+//! Cases of `node_panel`, a line each: a line of a panel, and what it asks for or why it is
+//! refused.
 #![tactic(auto)]
 
 mod spelled;

@@ -41,19 +41,29 @@ id_in text = id_found (read_id text)
 
 -- ---- what a line tells
 
--- THE ACT THAT A TEXT TELLS, of those that change what a machine owns: the word, a side or a machine, and the id behind them
+-- THE ACT THAT A TEXT TELLS, of those that change what a machine owns: the word, a side or a
+-- machine, and the id behind them
 abbrev pub act_in : List ℕ → Option Act
 act_in text =
-    if begins_with (codes "opens ") text then Some (acts.Deed (deeds.Opens (id_in (behind_two text))))
-    else if begins_with (codes "leaves ") text then Some (acts.Deed (deeds.Leaves (id_in (behind_two text))))
-    else if begins_with (codes "returns ") text then Some (acts.Deed (deeds.Returns (id_in (behind_two text))))
-    else if begins_with (codes "loses ") text then Some (acts.Deed (deeds.Loses (id_in (behind_two text))))
-    else if begins_with (codes "starts ") text then Some (acts.Deed (deeds.Starts (id_in (behind_two text))))
-    else if begins_with (codes "settles ") text then Some (acts.Deed (deeds.Settles (id_in (behind_two text))))
-    else if begins_with (codes "drops ") text then Some (acts.Deed (deeds.Drops (id_in (behind_two text))))
+    if begins_with (codes "opens ") text then Some
+    (acts.Deed (deeds.Opens (id_in (behind_two text))))
+    else if begins_with (codes "leaves ") text then Some
+    (acts.Deed (deeds.Leaves (id_in (behind_two text))))
+    else if begins_with (codes "returns ") text then Some
+    (acts.Deed (deeds.Returns (id_in (behind_two text))))
+    else if begins_with (codes "loses ") text then Some
+    (acts.Deed (deeds.Loses (id_in (behind_two text))))
+    else if begins_with (codes "starts ") text then Some
+    (acts.Deed (deeds.Starts (id_in (behind_two text))))
+    else if begins_with (codes "settles ") text then Some
+    (acts.Deed (deeds.Settles (id_in (behind_two text))))
+    else if begins_with (codes "drops ") text then Some
+    (acts.Deed (deeds.Drops (id_in (behind_two text))))
     else if begins_with (codes "insert ") text then Some (acts.Inserts (id_in (behind_two text)))
     else if begins_with (codes "remove ") text then Some (acts.Removes (id_in (behind_two text)))
-    else if begins_with (codes "replace ") text then Some (acts.Replaces (id_in (before_blank (behind_two text))) (id_in (behind_blank (behind_two text))))
+    else if begins_with (codes "replace ") text then Some
+    (acts.Replaces (id_in (before_blank (behind_two text)))
+    (id_in (behind_blank (behind_two text))))
     else None
 
 abbrev pub own_told : Option Act → Own → Own
@@ -67,7 +77,9 @@ own_line line own = own_told (act_in (behind_blank line)) own
 -- what is owned behind these bytes, of which a line's front was read before
 abbrev pub own_behind : List ℕ → List ℕ → Own → Own
 own_behind line [] own = own
-own_behind line (b ∷ bytes) own = if b == 10 then own_behind [] bytes (own_line line own) else own_behind (line ++ (b ∷ [])) bytes own
+own_behind line (b ∷ bytes) own =
+    if b == 10 then own_behind [] bytes (own_line line own) else own_behind (line
+    ++ (b ∷ [])) bytes own
 
 -- WHAT IS OWNED BEHIND A LOG, by its bytes and by what was owned before
 abbrev pub own_by_log : List ℕ → Own → Own

@@ -72,17 +72,22 @@ after_panel founds.Failed s = panel_closed s.panel.wire s
 
 -- a session begins with the connection
 abbrev pub supervisory_arrived : Wire → RunState → RunState
-supervisory_arrived wires.Rests s = record (with_wire ways.Supervisory wires.Stands s) { channel = no_session }
+supervisory_arrived wires.Rests s =
+    record (with_wire ways.Supervisory wires.Stands s) { channel = no_session }
 supervisory_arrived wire s = s
 
 abbrev pub supervisory_second : Wire → ℤ → RunState → RunState
 supervisory_second wires.Stands moment s =
-    record s { refusal = Some (record { way = ways.Supervisory; text = text_of moment connected_already }) }
+    record s {
+      refusal = Some
+          (record { way = ways.Supervisory; text = text_of moment connected_already });
+    }
 supervisory_second wire moment s = s
 
 -- bytes are heard message by message
 abbrev pub supervisory_bytes : Wire → List ℕ → RunState → RunState
-supervisory_bytes wires.Stands bytes s = record s { channel = record s.channel { piece = bytes; hears = true } }
+supervisory_bytes wires.Stands bytes s =
+    record s { channel = record s.channel { piece = bytes; hears = true } }
 supervisory_bytes wire bytes s = s
 
 abbrev pub supervisory_closed : Wire → RunState → RunState
@@ -100,10 +105,12 @@ after_supervisory moment founds.Failed s = supervisory_closed s.supervisory.wire
 -- ---- what a poll of a neighbour's way found
 
 -- bytes are heard at a side
-pub record HearsBytes (rules : Rules) (moment : ℤ) (side : Side) (bytes : List ℕ) (s t : RunState) (log : List ℕ) : Type 0 where
+pub record HearsBytes (rules : Rules) (moment : ℤ) (side : Side) (bytes : List ℕ) (s t : RunState)
+    (log : List ℕ) : Type 0 where
   pub piece : Bor (List ℕ)
   pub same : piece.now ≡ bytes
-  pub takes : Takes (may_of s.node (inputs.Bytes side piece)) rules moment (inputs.Bytes side piece) s s t log
+  pub takes : Takes (may_of s.node (inputs.Bytes side piece)) rules moment
+      (inputs.Bytes side piece) s s t log
 
 -- a close is seen where there is a connection
 abbrev pub broken : Way → Bool → RunState → RunState
@@ -111,36 +118,50 @@ broken way true s = with_wire way wires.Breaks s
 broken way false s = s
 
 abbrev pub AfterUpstream : Rules → ℤ → GotBytes → RunState → RunState → List ℕ → Type 0
-AfterUpstream rules moment founds.Arrived s t log = Takes (may_of s.node inputs.Connect) rules moment inputs.Connect (with_wire ways.Upstream wires.Stands s) s t log
+AfterUpstream rules moment founds.Arrived s t log =
+    Takes (may_of s.node inputs.Connect) rules moment inputs.Connect
+    (with_wire ways.Upstream wires.Stands s) s t log
 AfterUpstream rules moment founds.Second s t log = (t ≡ s) × (log ≡ [])
-AfterUpstream rules moment (founds.Bytes bytes) s t log = HearsBytes rules moment Entry bytes s t log
+AfterUpstream rules moment (founds.Bytes bytes) s t log =
+    HearsBytes rules moment Entry bytes s t log
 AfterUpstream rules moment founds.NotYet s t log = (t ≡ s) × (log ≡ [])
-AfterUpstream rules moment founds.Closed s t log = (t ≡ broken ways.Upstream (is_open Entry s.node.lane.body) s) × (log ≡ [])
-AfterUpstream rules moment founds.Failed s t log = (t ≡ broken ways.Upstream (is_open Entry s.node.lane.body) s) × (log ≡ [])
+AfterUpstream rules moment founds.Closed s t log =
+    (t ≡ broken ways.Upstream (is_open Entry s.node.lane.body) s) × (log ≡ [])
+AfterUpstream rules moment founds.Failed s t log =
+    (t ≡ broken ways.Upstream (is_open Entry s.node.lane.body) s) × (log ≡ [])
 
 abbrev pub AfterDownstream : Rules → ℤ → GotBytes → RunState → RunState → List ℕ → Type 0
-AfterDownstream rules moment founds.Arrived s t log = Takes (may_of s.node inputs.Accepted) rules moment inputs.Accepted (with_wire ways.Downstream wires.Stands s) s t log
-AfterDownstream rules moment founds.Second s t log = MeetsSecond (may_of s.node inputs.Second) rules moment inputs.Second s t log
-AfterDownstream rules moment (founds.Bytes bytes) s t log = HearsBytes rules moment Exit bytes s t log
+AfterDownstream rules moment founds.Arrived s t log =
+    Takes (may_of s.node inputs.Accepted) rules moment inputs.Accepted
+    (with_wire ways.Downstream wires.Stands s) s t log
+AfterDownstream rules moment founds.Second s t log =
+    MeetsSecond (may_of s.node inputs.Second) rules moment inputs.Second s t log
+AfterDownstream rules moment (founds.Bytes bytes) s t log =
+    HearsBytes rules moment Exit bytes s t log
 AfterDownstream rules moment founds.NotYet s t log = (t ≡ s) × (log ≡ [])
-AfterDownstream rules moment founds.Closed s t log = (t ≡ broken ways.Downstream (is_open Exit s.node.lane.body) s) × (log ≡ [])
-AfterDownstream rules moment founds.Failed s t log = (t ≡ broken ways.Downstream (is_open Exit s.node.lane.body) s) × (log ≡ [])
+AfterDownstream rules moment founds.Closed s t log =
+    (t ≡ broken ways.Downstream (is_open Exit s.node.lane.body) s) × (log ≡ [])
+AfterDownstream rules moment founds.Failed s t log =
+    (t ≡ broken ways.Downstream (is_open Exit s.node.lane.body) s) × (log ≡ [])
 
 abbrev pub AfterPoll : Rules → ℤ → Way → GotBytes → RunState → RunState → List ℕ → Type 0
 AfterPoll rules moment ways.Panel got s t log = (t ≡ after_panel got s) × (log ≡ [])
 AfterPoll rules moment ways.Upstream got s t log = AfterUpstream rules moment got s t log
 AfterPoll rules moment ways.Downstream got s t log = AfterDownstream rules moment got s t log
-AfterPoll rules moment ways.Supervisory got s t log = (t ≡ after_supervisory moment got s) × (log ≡ [])
+AfterPoll rules moment ways.Supervisory got s t log =
+    (t ≡ after_supervisory moment got s) × (log ≡ [])
 
 -- ---- sending and closing
 
 abbrev pub after_send : Way → Sent → RunState → RunState
-after_send way (sents.Took n) s = with_way way (record (way_at way s) { unsent = drop n (way_at way s).unsent }) s
+after_send way (sents.Took n) s =
+    with_way way (record (way_at way s) { unsent = drop n (way_at way s).unsent }) s
 after_send way sents.NotYet s = s
 after_send way sents.Closed s = with_wire way wires.Breaks s
 after_send way sents.Failed s = with_wire way wires.Breaks s
 
--- the panel's unfinished line goes with its connection, and so do the lines that follow in the same answer
+-- the panel's unfinished line goes with its connection, and so do the lines that follow in the
+-- same answer
 abbrev pub panel_gone : RunState → RunState
 panel_gone s = record s { panel = at_rest; line = []; drops = false; rest = [] }
 
@@ -149,9 +170,11 @@ abbrev pub AfterClose : Rules → ℤ → Way → RunState → RunState → List
 AfterClose rules moment ways.Panel s t log = (t ≡ panel_gone s) × (log ≡ [])
 AfterClose rules moment ways.Upstream s t log =
     let closed = record s { upstream = at_rest } in
-    Takes (may_of s.node (inputs.Notice Entry)) rules moment (inputs.Notice Entry) closed closed t log
+    Takes (may_of s.node (inputs.Notice Entry)) rules moment
+    (inputs.Notice Entry) closed closed t log
 AfterClose rules moment ways.Downstream s t log =
     let closed = record s { downstream = at_rest } in
-    Takes (may_of s.node (inputs.Notice Exit)) rules moment (inputs.Notice Exit) closed closed t log
+    Takes (may_of s.node (inputs.Notice Exit)) rules moment
+    (inputs.Notice Exit) closed closed t log
 AfterClose rules moment ways.Supervisory s t log =
     Unsupervised rules moment (record s { supervisory = at_rest; channel = no_session }) t log

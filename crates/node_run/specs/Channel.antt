@@ -1,4 +1,5 @@
--- The supervisor's channel at a machine: the bytes that came, cut into frames, and whether its session stands.
+-- The supervisor's channel at a machine: the bytes that came, cut into frames, and whether its
+-- session stands.
 use Rattle.std.specs.Prelude.{◌≡◌, ◌-◌, ◌≤◌, ℕ, Bool, true, false, List, [], ◌∷◌, ◌++◌, drop, length, min, not}
 use Rattle.hermes_stream.specs.Cutter.{GivesFrame, StaysTooLong, WantsMore, taken_of}
 use Rattle.hermes_stream.specs.Frames.{left_of, most_bytes}
@@ -15,8 +16,8 @@ abbrev pub is_empty : List ℕ → Bool
 is_empty [] = true
 is_empty (byte ∷ bytes) = false
 
--- the bytes that wait for the end of a message, those of the present answer behind them, whether these are being heard, and
--- whether the session stands
+-- the bytes that wait for the end of a message, those of the present answer behind them, whether
+-- these are being heard, and whether the session stands
 pub record ChannelValue : Type 0 where
   pub waiting : List ℕ
   pub piece : List ℕ
@@ -74,7 +75,8 @@ Finds waiting left (founds.Word word) = TakesWord waiting left word
 Finds waiting left founds.More = WantsMore waiting × (left ≡ left_of waiting)
 Finds waiting left founds.TooLong = StaysTooLong waiting × (left ≡ waiting)
 
--- it goes on being heard, unless no end waits and all bytes of the answer are among those that wait
+-- it goes on being heard, unless no end waits and all bytes of the answer are among those that
+-- wait
 abbrev pub hears_behind : Found → List ℕ → Bool → Bool
 hears_behind founds.More piece hears = not (is_empty piece)
 hears_behind (founds.Word word) piece hears = hears

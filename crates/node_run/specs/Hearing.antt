@@ -48,17 +48,25 @@ connected_already = notification 2 severity.Error (codes "already connected")
 
 -- a message waits to be sent
 abbrev pub said : ℤ → Vertical → RunState → RunState
-said moment body s = record s { supervisory = record s.supervisory { unsent = s.supervisory.unsent ++ text_of moment body } }
+said moment body s =
+    record s {
+      supervisory = record s.supervisory {
+        unsent = s.supervisory.unsent
+            ++ text_of moment body;
+      };
+    }
 
 -- ---- how a session ends
 
 -- where the machine was supervised, it makes a step and is so no more
 abbrev pub Unsupervised : Rules → ℤ → RunState → RunState → List ℕ → Type 0
-Unsupervised rules moment s t log = Takes (may_of s.node (inputs.Supervise false)) rules moment (inputs.Supervise false) s s t log
+Unsupervised rules moment s t log =
+    Takes (may_of s.node (inputs.Supervise false)) rules moment (inputs.Supervise false) s s t log
 
 -- the supervisor is told why, the way is to end, and what else came is dropped
 abbrev pub session_ended : RunState → RunState
-session_ended s = record s { supervisory = record s.supervisory { wire = wires.Ends }; channel = no_session }
+session_ended s =
+    record s { supervisory = record s.supervisory { wire = wires.Ends }; channel = no_session }
 
 abbrev pub broken_off : ℤ → List ℕ → RunState → RunState
 broken_off moment text s = session_ended (said moment (notification 1 severity.Fatal text) s)
@@ -73,7 +81,8 @@ BreaksOff rules moment text s t log = Unsupervised rules moment (broken_off mome
 abbrev pub Describes : Rules → ℤ → RunState → RunState → List ℕ → Type 0
 Describes rules moment s t log =
     let told = said moment (system_of rules.machine_id) s in
-    Takes (may_of s.node (inputs.Supervise true)) rules moment (inputs.Supervise true) told told t log
+    Takes (may_of s.node (inputs.Supervise true)) rules moment
+    (inputs.Supervise true) told told t log
 
 -- what is told of an answer that isn't taken
 abbrev pub untaken : No → List ℕ
@@ -82,14 +91,17 @@ untaken (nos.Answered query) = codes "answered"
 untaken why = codes "not supervised"
 
 -- an answer whose question is open is one step
-abbrev pub AnswersIf : Result (Unit {0}) No → Rules → ℤ → ℕ → List ℕ → RunState → RunState → List ℕ → Type 0
-AnswersIf (Ok done) rules moment query order s t log = TakesStep rules moment [] (inputs.Answer query order) s t log
+abbrev pub AnswersIf : Result (Unit {0}) No → Rules → ℤ → ℕ → List ℕ → RunState → RunState → List ℕ
+    → Type 0
+AnswersIf (Ok done) rules moment query order s t log =
+    TakesStep rules moment [] (inputs.Answer query order) s t log
 AnswersIf (Err why) rules moment query order s t log =
     (t ≡ said moment (notification 0 severity.Warning (untaken why)) s) × (log ≡ [])
 
 abbrev pub DoesAction : VerticalAction → Rules → ℤ → RunState → RunState → List ℕ → Type 0
 DoesAction actions.Describe rules moment s t log = Describes rules moment s t log
-DoesAction (actions.Pong id) rules moment s t log = (t ≡ said moment (bodies.CheckAlive (Some pings.Answer) id) s) × (log ≡ [])
+DoesAction (actions.Pong id) rules moment s t log =
+    (t ≡ said moment (bodies.CheckAlive (Some pings.Answer) id) s) × (log ≡ [])
 DoesAction (actions.Answer query order) rules moment s t log =
     AnswersIf (may_of s.node (inputs.Answer query order)) rules moment query order s t log
 DoesAction actions.Nothing rules moment s t log = (t ≡ s) × (log ≡ [])
@@ -99,9 +111,11 @@ DoesAction actions.Nothing rules moment s t log = (t ≡ s) × (log ≡ [])
 abbrev pub with_stands : Bool → RunState → RunState
 with_stands stands s = record s { channel = record s.channel { stands = stands } }
 
-abbrev pub DoesRow : Option SupervisedRow → Vertical → Rules → ℤ → RunState → RunState → List ℕ → Type 0
+abbrev pub DoesRow : Option SupervisedRow → Vertical → Rules → ℤ → RunState → RunState → List ℕ
+    → Type 0
 DoesRow None body rules moment s t log = BreaksOff rules moment (unexpected (kind_of body)) s t log
-DoesRow (Some row) body rules moment s t log = DoesAction row.action rules moment (with_stands row.after s) t log
+DoesRow (Some row) body rules moment s t log =
+    DoesAction row.action rules moment (with_stands row.after s) t log
 
 abbrev pub DoesWord : Word → Rules → ℤ → RunState → RunState → List ℕ → Type 0
 DoesWord (words.Says message) rules moment s t log =
@@ -111,7 +125,8 @@ DoesWord (words.Wrong text) rules moment s t log = BreaksOff rules moment text s
 abbrev pub DoesFound : Found → Rules → ℤ → RunState → RunState → List ℕ → Type 0
 DoesFound (founds.Word word) rules moment s t log = DoesWord word rules moment s t log
 DoesFound founds.More rules moment s t log = (t ≡ s) × (log ≡ [])
-DoesFound founds.TooLong rules moment s t log = BreaksOff rules moment (codes "message too long") s t log
+DoesFound founds.TooLong rules moment s t log =
+    BreaksOff rules moment (codes "message too long") s t log
 
 abbrev pub with_channel : ChannelValue → RunState → RunState
 with_channel channel s = record s { channel = channel }

@@ -29,7 +29,8 @@ behind_first byte parts = option_map (λ p. (byte ∷ p.0, p.1)) parts
 
 abbrev pub cut_line : List ℕ → Option (List ℕ × List ℕ)
 cut_line [] = None
-cut_line (byte ∷ bytes) = if byte == 10 then Some ([], bytes) else behind_first byte (cut_line bytes)
+cut_line (byte ∷ bytes) =
+    if byte == 10 then Some ([], bytes) else behind_first byte (cut_line bytes)
 
 -- a carriage return at the end of a line is no part of it
 abbrev pub without_return : List ℕ → List ℕ
@@ -70,14 +71,18 @@ input_of (lines.Fault side) = inputs.Fault side
 input_of line = inputs.Nothing
 
 -- a step, whose lines go to the panel too
-pub record StepsAloud (rules : Rules) (moment : ℤ) (sensed : List Sensed) (input : Input) (s t : RunState) (log : List ℕ) : Type 0 where
+pub record StepsAloud (rules : Rules) (moment : ℤ) (sensed : List Sensed) (input : Input)
+    (s t : RunState) (log : List ℕ) : Type 0 where
   pub silent : RunState
   pub takes : TakesStep rules moment sensed input s silent log
   pub after : t ≡ echoed log silent
 
-abbrev pub DoesInput : Result (Unit {0}) No → Rules → ℤ → List Sensed → Input → RunState → RunState → List ℕ → Type 0
-DoesInput (Ok done) rules moment sensed input s t log = StepsAloud rules moment sensed input s t log
-DoesInput (Err why) rules moment sensed input s t log = Tells (no_line s.turn (reasons.Node why)) s t log
+abbrev pub DoesInput : Result (Unit {0}) No → Rules → ℤ → List Sensed → Input → RunState → RunState
+    → List ℕ → Type 0
+DoesInput (Ok done) rules moment sensed input s t log =
+    StepsAloud rules moment sensed input s t log
+DoesInput (Err why) rules moment sensed input s t log =
+    Tells (no_line s.turn (reasons.Node why)) s t log
 
 -- a connection is asked for, or can't be
 abbrev pub AsksIf : Result (Unit {0}) No → RunState → RunState → List ℕ → Type 0
@@ -90,24 +95,30 @@ may_ask false may = may
 
 abbrev pub AsksConnect : Option Address → RunState → RunState → List ℕ → Type 0
 AsksConnect None s t log = Tells (no_line s.turn reasons.NoNeighbour) s t log
-AsksConnect (Some address) s t log = AsksIf (may_ask (has_ended s.upstream.wire) (may_of s.node inputs.Connect)) s t log
+AsksConnect (Some address) s t log =
+    AsksIf (may_ask (has_ended s.upstream.wire) (may_of s.node inputs.Connect)) s t log
 
 abbrev pub shown : Rules → RunState → List ℕ
-shown rules s = show_lines s.turn rules.number s.node.lane.body.kept (outlets.held s.node.lane.body.outlet) (intakes.held s.node.lane.body.intake)
+shown rules s =
+    show_lines s.turn rules.number s.node.lane.body.kept (outlets.held s.node.lane.body.outlet)
+    (intakes.held s.node.lane.body.intake)
 
 abbrev pub DoesAsked : Result PanelLine LineWhy → Rules → ℤ → RunState → RunState → List ℕ → Type 0
 DoesAsked (Err why) rules moment s t log = Tells (refused_line s.turn why) s t log
 DoesAsked (Ok lines.Blank) rules moment s t log = (t ≡ s) × (log ≡ [])
-DoesAsked (Ok lines.End) rules moment s t log = (t ≡ record s { ended = Some statuses.Done }) × (log ≡ [])
+DoesAsked (Ok lines.End) rules moment s t log =
+    (t ≡ record s { ended = Some statuses.Done }) × (log ≡ [])
 DoesAsked (Ok lines.Show) rules moment s t log = Tells (shown rules s) s t log
 DoesAsked (Ok lines.Connect) rules moment s t log = AsksConnect rules.connections.upstream s t log
-DoesAsked (Ok line) rules moment s t log = DoesInput (may_of s.node (input_of line)) rules moment (sensed_of line) (input_of line) s t log
+DoesAsked (Ok line) rules moment s t log =
+    DoesInput (may_of s.node (input_of line)) rules moment (sensed_of line) (input_of line) s t log
 
 -- ---- the next of the panel's lines
 
 -- a front of a line without its end is kept, unless the line is certain to be too long
 abbrev pub KeepsFront : Bool → List ℕ → RunState → RunState → List ℕ → Type 0
-KeepsFront true front s t log = Tells (refused_line s.turn whys.LongLine) (record s { line = []; drops = true }) t log
+KeepsFront true front s t log =
+    Tells (refused_line s.turn whys.LongLine) (record s { line = []; drops = true }) t log
 KeepsFront false front s t log = (t ≡ record s { line = front }) × (log ≡ [])
 
 -- what stands behind the front of a line that is too long is dropped
@@ -117,11 +128,14 @@ Fronts false front s t log = KeepsFront (is_too_long front) front s t log
 
 abbrev pub Ends : Bool → List ℕ → Rules → ℤ → RunState → RunState → List ℕ → Type 0
 Ends true line rules moment s t log = (t ≡ record s { drops = false }) × (log ≡ [])
-Ends false line rules moment s t log = DoesAsked (panel_line_of (without_return line)) rules moment (record s { line = [] }) t log
+Ends false line rules moment s t log =
+    DoesAsked (panel_line_of (without_return line)) rules moment (record s { line = [] }) t log
 
 abbrev pub DoesCut : Option (List ℕ × List ℕ) → Rules → ℤ → RunState → RunState → List ℕ → Type 0
-DoesCut None rules moment s t log = Fronts s.drops (s.line ++ s.rest) (record s { rest = [] }) t log
-DoesCut (Some parts) rules moment s t log = Ends s.drops (s.line ++ parts.0) rules moment (record s { rest = parts.1 }) t log
+DoesCut None rules moment s t log =
+    Fronts s.drops (s.line ++ s.rest) (record s { rest = [] }) t log
+DoesCut (Some parts) rules moment s t log =
+    Ends s.drops (s.line ++ parts.0) rules moment (record s { rest = parts.1 }) t log
 
 -- THE NEXT OF THE PANEL'S LINES, or the front of one
 abbrev pub DoesLine : Rules → ℤ → RunState → RunState → List ℕ → Type 0

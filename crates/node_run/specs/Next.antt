@@ -1,5 +1,5 @@
--- WHAT COMES NEXT in a run: a call of the ports, a line of the panel, a message of the supervisor, a place where nothing is
--- to do, or the end.
+-- WHAT COMES NEXT in a run: a call of the ports, a line of the panel, a message of the supervisor,
+-- a place where nothing is to do, or the end.
 use Rattle.std.specs.Prelude.{◌≡◌, ◌≤◌, ◌⊎◌, ℕ, ◌+◌, ◌<◌, Bool, true, false, ◌||◌, ◌&&◌, not, nat_lt, List, length, Option, None, Some, is_some, if◌then◌else◌}
 use Rattle.line_outside.specs.declared.way.Address.{Address}
 use Rattle.line_outside.specs.declared.way.Way.{Way}
@@ -20,7 +20,8 @@ use Rattle.node_run.specs.declared.way_state.Wire.TheVariants as wires
 abbrev pub most_unsent : ℕ
 most_unsent = 1048576
 
--- a way has to be closed now: its connection is broken; it is to end, and nothing waits; or too much waits
+-- a way has to be closed now: its connection is broken; it is to end, and nothing waits; or too
+-- much waits
 abbrev pub is_due_by : Wire → List ℕ → Bool
 is_due_by wires.Rests unsent = false
 is_due_by wires.Stands unsent = nat_lt most_unsent (length unsent)
@@ -37,9 +38,11 @@ has_ended _ = false
 -- a way that is to end isn't polled, nor is one that isn't set
 abbrev pub is_polled : Rules → RunState → Way → Bool
 is_polled rules s ways.Panel = true
-is_polled rules s ways.Upstream = is_some rules.connections.upstream && not (has_ended s.upstream.wire)
+is_polled rules s ways.Upstream =
+    is_some rules.connections.upstream && not (has_ended s.upstream.wire)
 is_polled rules s ways.Downstream = not (has_ended s.downstream.wire)
-is_polled rules s ways.Supervisory = is_some rules.connections.supervisory_port && not (has_ended s.supervisory.wire)
+is_polled rules s ways.Supervisory =
+    is_some rules.connections.supervisory_port && not (has_ended s.supervisory.wire)
 
 abbrev pub polls : Rules → RunState → Way → Next
 polls rules s way = if is_polled rules s way then nexts.Poll way else nexts.Skip
@@ -63,7 +66,8 @@ listens_if (Some port) = nexts.Listen ways.Supervisory port
 -- what is done at a place
 abbrev pub at_place : Rules → RunState → Place → Next
 at_place rules s places.ListenPanel = nexts.Listen ways.Panel rules.connections.panel_port
-at_place rules s places.ListenDownstream = nexts.Listen ways.Downstream rules.connections.downstream_port
+at_place rules s places.ListenDownstream =
+    nexts.Listen ways.Downstream rules.connections.downstream_port
 at_place rules s places.ListenSupervisory = listens_if rules.connections.supervisory_port
 at_place rules s places.PollPanel = polls rules s ways.Panel
 at_place rules s places.PollUpstream = polls rules s ways.Upstream
@@ -89,7 +93,9 @@ lines_next rules s = if is_empty s.rest then hears_next rules s else nexts.Line
 
 -- before them, a connection that was asked for
 abbrev pub connects_next : Rules → RunState → Next
-connects_next rules s = if s.asks then asks_next rules.connections.upstream (lines_next rules s) else lines_next rules s
+connects_next rules s =
+    if s.asks then asks_next rules.connections.upstream
+    (lines_next rules s) else lines_next rules s
 
 -- before that, the ways that have to be closed, in the order of the polls
 abbrev pub closes_next : Rules → RunState → Next

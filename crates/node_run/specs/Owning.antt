@@ -13,13 +13,17 @@ use Rattle.node_run.specs.Texts.{lines_of, refused_line, no_line, show_lines}
 pub data IsAnswer (number : ℕ) : List ℕ → Type 0 where
   refuses : (turn : ℕ) → (why : LineWhy) → IsAnswer number (refused_line turn why)
   denies : (turn : ℕ) → (reason : Reason) → IsAnswer number (no_line turn reason)
-  shows : (turn : ℕ) → (kept : List Record) → (out : Option Record) → (taking : Option Record) → IsAnswer number (show_lines turn number kept out taking)
+  shows : (turn : ℕ) → (kept : List Record) → (out : Option Record) → (taking : Option Record)
+      → IsAnswer number (show_lines turn number kept out taking)
 
 -- a log tells these acts, in their order
 pub data TellsActs (number : ℕ) : List ℕ → List Act → Type 0 where
   no_lines : TellsActs number [] []
-  step_lines : {log : List ℕ} {told : List Act} → (turn : ℕ) → (acts : List Act) → AreProper acts → TellsActs number log told → TellsActs number (log ++ lines_of turn number acts) (told ++ acts)
-  answer_lines : {log text : List ℕ} {told : List Act} → TellsActs number log told → IsAnswer number text → TellsActs number (log ++ text) told
+  step_lines : {log : List ℕ} {told : List Act} → (turn : ℕ) → (acts : List Act) → AreProper acts
+      → TellsActs number log told
+      → TellsActs number (log ++ lines_of turn number acts) (told ++ acts)
+  answer_lines : {log text : List ℕ} {told : List Act} → TellsActs number log told
+      → IsAnswer number text → TellsActs number (log ++ text) told
 
 -- WHAT A MACHINE OWNS FOLLOWS FROM THE ACTS THAT ITS LOG TELLS
 pub record OwnFollows (number : ℕ) (s t : RunState) (log : List ℕ) : Type 0 where

@@ -1,5 +1,5 @@
--- A RUN: a chain of moves. Each is one call of the ports with its answer, a line of the panel, a message of the supervisor,
--- or a place that is passed.
+-- A RUN: a chain of moves. Each is one call of the ports with its answer, a line of the panel, a
+-- message of the supervisor, or a place that is passed.
 use Rattle.std.specs.Prelude.{◌≡◌, ◌++◌, ℕ, ℤ, false, List, [], ◌∷◌, Option, None, Some}
 use Rattle.line_outside.specs.Given.{Given, Listens, Connects, Polls, Sends, Refuses, Closes}
 use Rattle.line_outside.specs.Ports.{Gains}
@@ -25,26 +25,46 @@ abbrev pub room_bytes : ℕ
 room_bytes = 4096
 
 -- ONE MOVE, with the call that it makes, if it makes one, and its lines in the log
-pub data Moves (rules : Rules) (moment : ℤ) : RunState → List Given → RunState → List ℕ → Type 0 where
-  listens : {s : RunState} {way : Way} {port : ℕ} {opened : Opened} → next_of rules s ≡ nexts.Listen way port → Moves rules moment s (Listens way port opened ∷ []) (after_listen opened s) []
-  connects : {s : RunState} {address : Address} {opened : Opened} → next_of rules s ≡ nexts.Connect address → Moves rules moment s (Connects ways.Upstream address opened ∷ []) (record s { asks = false }) []
-  polls : {s t : RunState} {way : Way} {got : GotBytes} {log : List ℕ} → next_of rules s ≡ nexts.Poll way → AfterPoll rules moment way got (moved_on s) t log → Moves rules moment s (Polls way room_bytes got ∷ []) t log
-  sends : {s : RunState} {way : Way} {sent : Sent} → next_of rules s ≡ nexts.Send way → Moves rules moment s (Sends way (way_at way s).unsent sent ∷ []) (after_send way sent (moved_on s)) []
-  refuses : {s : RunState} {refusal : Refusal} {sent : Sent} → next_of rules s ≡ nexts.Refuse refusal.way → s.refusal ≡ Some refusal → Moves rules moment s (Refuses refusal.way refusal.text sent ∷ []) (record s { refusal = None }) []
-  closes : {s t : RunState} {way : Way} {log : List ℕ} → next_of rules s ≡ nexts.Close way → AfterClose rules moment way s t log → Moves rules moment s (Closes way ∷ []) t log
+pub data Moves (rules : Rules) (moment : ℤ) : RunState → List Given → RunState → List ℕ
+    → Type 0 where
+  listens : {s : RunState} {way : Way} {port : ℕ} {opened : Opened}
+      → next_of rules s ≡ nexts.Listen way port
+      → Moves rules moment s (Listens way port opened ∷ []) (after_listen opened s) []
+  connects : {s : RunState} {address : Address} {opened : Opened}
+      → next_of rules s ≡ nexts.Connect address
+      → Moves rules moment s (Connects ways.Upstream address opened ∷ [])
+      (record s { asks = false }) []
+  polls : {s t : RunState} {way : Way} {got : GotBytes} {log : List ℕ}
+      → next_of rules s ≡ nexts.Poll way → AfterPoll rules moment way got (moved_on s) t log
+      → Moves rules moment s (Polls way room_bytes got ∷ []) t log
+  sends : {s : RunState} {way : Way} {sent : Sent} → next_of rules s ≡ nexts.Send way
+      → Moves rules moment s (Sends way (way_at way s).unsent sent ∷ [])
+      (after_send way sent (moved_on s)) []
+  refuses : {s : RunState} {refusal : Refusal} {sent : Sent}
+      → next_of rules s ≡ nexts.Refuse refusal.way → s.refusal ≡ Some refusal
+      → Moves rules moment s (Refuses refusal.way refusal.text sent ∷ [])
+      (record s { refusal = None }) []
+  closes : {s t : RunState} {way : Way} {log : List ℕ} → next_of rules s ≡ nexts.Close way
+      → AfterClose rules moment way s t log → Moves rules moment s (Closes way ∷ []) t log
   skips : {s : RunState} → next_of rules s ≡ nexts.Skip → Moves rules moment s [] (moved_on s) []
-  does_line : {s t : RunState} {log : List ℕ} → next_of rules s ≡ nexts.Line → DoesLine rules moment s t log → Moves rules moment s [] t log
-  does_hear : {s t : RunState} {log : List ℕ} → next_of rules s ≡ nexts.Hear → DoesHear rules moment s t log → Moves rules moment s [] t log
+  does_line : {s t : RunState} {log : List ℕ} → next_of rules s ≡ nexts.Line
+      → DoesLine rules moment s t log → Moves rules moment s [] t log
+  does_hear : {s t : RunState} {log : List ℕ} → next_of rules s ≡ nexts.Hear
+      → DoesHear rules moment s t log → Moves rules moment s [] t log
 
 -- A RUN from a state, with all its calls and all its log
-pub data Runs (rules : Rules) (moment : ℤ) : RunState → List Given → RunState → List ℕ → Type 0 where
+pub data Runs (rules : Rules) (moment : ℤ) : RunState → List Given → RunState → List ℕ
+    → Type 0 where
   begins : {s : RunState} → Runs rules moment s [] s []
-  goes_on : {s t u : RunState} {calls more : List Given} {log lines : List ℕ} → Runs rules moment s calls t log → Moves rules moment t more u lines → Runs rules moment s (calls ++ more) u (log ++ lines)
+  goes_on : {s t u : RunState} {calls more : List Given} {log lines : List ℕ}
+      → Runs rules moment s calls t log → Moves rules moment t more u lines
+      → Runs rules moment s (calls ++ more) u (log ++ lines)
 
 -- ---- what the ports and the log tell of a run
 
 -- a run that came to its end
-pub record HasRun (rules : Rules) (moment : ℤ) (s t : RunState) (given_old given_new : Option (List Given)) (log_old log_new : Option (List ℕ)) : Type 0 where
+pub record HasRun (rules : Rules) (moment : ℤ) (s t : RunState)
+    (given_old given_new : Option (List Given)) (log_old log_new : Option (List ℕ)) : Type 0 where
   pub calls : List Given
   pub log : List ℕ
   pub run : Runs rules moment s calls t log
@@ -54,11 +74,15 @@ pub record HasRun (rules : Rules) (moment : ℤ) (s t : RunState) (given_old giv
 -- the call that comes next was made, or none was
 pub data CallsNext (rules : Rules) : RunState → List Given → Type 0 where
   no_call : {s : RunState} → CallsNext rules s []
-  polled : {s : RunState} {way : Way} {got : GotBytes} → next_of rules s ≡ nexts.Poll way → CallsNext rules s (Polls way room_bytes got ∷ [])
-  closed : {s : RunState} {way : Way} → next_of rules s ≡ nexts.Close way → CallsNext rules s (Closes way ∷ [])
+  polled : {s : RunState} {way : Way} {got : GotBytes} → next_of rules s ≡ nexts.Poll way
+      → CallsNext rules s (Polls way room_bytes got ∷ [])
+  closed : {s : RunState} {way : Way} → next_of rules s ≡ nexts.Close way
+      → CallsNext rules s (Closes way ∷ [])
 
--- a run that was broken off: the calls are those of a run, and at most the next, and the log is a front of the run's
-pub record HasRunInPart (rules : Rules) (moment : ℤ) (s : RunState) (given_old given_new : Option (List Given)) (log_old log_new : Option (List ℕ)) : Type 0 where
+-- a run that was broken off: the calls are those of a run, and at most the next, and the log is a
+-- front of the run's
+pub record HasRunInPart (rules : Rules) (moment : ℤ) (s : RunState)
+    (given_old given_new : Option (List Given)) (log_old log_new : Option (List ℕ)) : Type 0 where
   pub calls : List Given
   pub last : List Given
   pub log : List ℕ
@@ -68,12 +92,17 @@ pub record HasRunInPart (rules : Rules) (moment : ℤ) (s : RunState) (given_old
   pub told : Gains given_old given_new (calls ++ last)
   pub logged : GrowsInPart log_old log_new log
 
--- HOW A RUN ENDS: by `end`, by its last turn or by a port at which it can't listen, with all its calls and its whole log; or
--- broken off, with a front of them
-abbrev pub RunEnds : Rules → ℤ → RunState → Option (List Given) → Option (List Given) → Option (List ℕ) → Option (List ℕ) → NodeStatus → Type 0
-RunEnds rules moment s given_old given_new log_old log_new statuses.LogFault = HasRunInPart rules moment s given_old given_new log_old log_new
-RunEnds rules moment s given_old given_new log_old log_new statuses.Memory = HasRunInPart rules moment s given_old given_new log_old log_new
-RunEnds rules moment s given_old given_new log_old log_new status = (t : RunState) × HasRun rules moment s t given_old given_new log_old log_new × (next_of rules t ≡ nexts.End status)
+-- HOW A RUN ENDS: by `end`, by its last turn or by a port at which it can't listen, with all its
+-- calls and its whole log; or broken off, with a front of them
+abbrev pub RunEnds : Rules → ℤ → RunState → Option (List Given) → Option (List Given)
+    → Option (List ℕ) → Option (List ℕ) → NodeStatus → Type 0
+RunEnds rules moment s given_old given_new log_old log_new statuses.LogFault =
+    HasRunInPart rules moment s given_old given_new log_old log_new
+RunEnds rules moment s given_old given_new log_old log_new statuses.Memory =
+    HasRunInPart rules moment s given_old given_new log_old log_new
+RunEnds rules moment s given_old given_new log_old log_new status =
+    (t : RunState) × HasRun rules moment s t given_old given_new log_old log_new
+    × (next_of rules t ≡ nexts.End status)
 
 -- whatever is untold, what a run may answer
 abbrev pub IsRunStatus : NodeStatus → Type 0

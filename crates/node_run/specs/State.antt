@@ -1,4 +1,5 @@
--- The state of a run: the machine, its ways, the supervisor's channel, the panel's text, and what comes next.
+-- The state of a run: the machine, its ways, the supervisor's channel, the panel's text, and what
+-- comes next.
 use Rattle.std.specs.Prelude.{ℕ, Bool, false, List, [], Option, None, Some}
 use Rattle.line_outside.specs.declared.way.Way.{Way}
 use Rattle.line_outside.specs.declared.way.Way.TheVariants as ways

@@ -1,4 +1,5 @@
--- A step of the machine in a run: its messages wait on the ways of their sides, and a side that it closes is to end.
+-- A step of the machine in a run: its messages wait on the ways of their sides, and a side that it
+-- closes is to end.
 use Rattle.std.specs.Prelude.{◌≡◌, ◌++◌, ℕ, ℤ, Bool, true, false, List, [], ◌∷◌, Some, Result, Ok, Err, flat_map, if◌then◌else◌}
 use Rattle.std.specs.List.{list_any}
 use Rattle.line_base.specs.declared.states.Side.{Side}
@@ -38,7 +39,8 @@ abbrev pub wire_after : Side → List Act → Wire → Wire
 wire_after side told wire = if list_any (closes_side side) told then wires.Ends else wire
 
 abbrev pub put : Side → List Act → WayValue → WayValue
-put side told way = record { wire = wire_after side told way.wire; unsent = way.unsent ++ messages_for side told }
+put side told way =
+    record { wire = wire_after side told way.wire; unsent = way.unsent ++ messages_for side told }
 
 -- the text of what a supervisor is told, whose session stands; where none stands, it is dropped
 abbrev pub told_for : Bool → Act → List ℕ
@@ -63,7 +65,8 @@ abbrev pub stepped : NodeState → List Act → RunState → RunState
 stepped node told s = record (routed told s) { node = node }
 
 -- ONE STEP, with its lines in the log
-pub record TakesStep (rules : Rules) (moment : ℤ) (sensed : List Sensed) (input : Input) (s t : RunState) (log : List ℕ) : Type 0 where
+pub record TakesStep (rules : Rules) (moment : ℤ) (sensed : List Sensed) (input : Input)
+    (s t : RunState) (log : List ℕ) : Type 0 where
   pub node : NodeState
   pub told : List Act
   pub steps : Steps s.node sensed input moment node told
@@ -72,7 +75,8 @@ pub record TakesStep (rules : Rules) (moment : ℤ) (sensed : List Sensed) (inpu
   pub lines : log ≡ lines_of s.turn rules.number told
 
 -- one step from this state, where the machine can take the input, and else nothing from that one
-abbrev pub Takes : Result (Unit {0}) No → Rules → ℤ → Input → RunState → RunState → RunState → List ℕ → Type 0
+abbrev pub Takes : Result (Unit {0}) No → Rules → ℤ → Input → RunState → RunState → RunState
+    → List ℕ → Type 0
 Takes (Ok done) rules moment input from s t log = TakesStep rules moment [] input from t log
 Takes (Err why) rules moment input from s t log = (t ≡ s) × (log ≡ [])
 
@@ -86,12 +90,17 @@ others [] = []
 others (first ∷ told) = told
 
 abbrev pub refusing_with : List Act → RunState → RunState
-refusing_with told s = record (routed (others told) s) { refusal = Some (record { way = ways.Downstream; text = text_of_first told }) }
+refusing_with told s =
+    record (routed (others told) s) {
+      refusal = Some
+          (record { way = ways.Downstream; text = text_of_first told });
+    }
 
 abbrev pub refusing : NodeState → List Act → RunState → RunState
 refusing node told s = record (refusing_with told s) { node = node }
 
-pub record TakesSecond (rules : Rules) (moment : ℤ) (input : Input) (s t : RunState) (log : List ℕ) : Type 0 where
+pub record TakesSecond (rules : Rules) (moment : ℤ) (input : Input) (s t : RunState)
+    (log : List ℕ) : Type 0 where
   pub node : NodeState
   pub told : List Act
   pub steps : Steps s.node [] input moment node told
@@ -99,13 +108,15 @@ pub record TakesSecond (rules : Rules) (moment : ℤ) (input : Input) (s t : Run
   pub after : t ≡ refusing node told s
   pub lines : log ≡ lines_of s.turn rules.number told
 
-abbrev pub MeetsSecond : Result (Unit {0}) No → Rules → ℤ → Input → RunState → RunState → List ℕ → Type 0
+abbrev pub MeetsSecond : Result (Unit {0}) No → Rules → ℤ → Input → RunState → RunState → List ℕ
+    → Type 0
 MeetsSecond (Ok done) rules moment input s t log = TakesSecond rules moment input s t log
 MeetsSecond (Err why) rules moment input s t log = (t ≡ s) × (log ≡ [])
 
 -- ---- what the code does first: the machine's step and its lines
 
-pub record HasStepped (rules : Rules) (moment : ℤ) (sensed : List Sensed) (input : Input) (told : List Act) (s t : RunState) (log : List ℕ) : Type 0 where
+pub record HasStepped (rules : Rules) (moment : ℤ) (sensed : List Sensed) (input : Input)
+    (told : List Act) (s t : RunState) (log : List ℕ) : Type 0 where
   pub steps : Steps s.node sensed input moment t.node told
   pub proper : AreProper told
   pub after : t ≡ record s { node = t.node }

@@ -1,4 +1,5 @@
--- The log of a machine: its acts as the report of a line tells them, but that the gap of a deed is the word of its side.
+-- The log of a machine: its acts as the report of a line tells them, but that the gap of a deed is
+-- the word of its side.
 use Rattle.std.specs.Prelude.{ℕ, ◌++◌, List, [], Option, None, Some, codes, decimal, flat_map}
 use Rattle.line_base.specs.declared.states.Side.{Side}
 use Rattle.line_base.specs.declared.states.Side.TheVariants.{Entry, Exit}
@@ -50,11 +51,15 @@ no_line turn reason = log_line turn (codes "no: " ++ reason_text reason)
 
 -- what `show` tells: the kept records, and then those that the outlet and the intake hold
 abbrev pub kept_line : ℕ → ℕ → Record → List ℕ
-kept_line turn machine record' = log_line turn (of_board (codes "show") machine record'.id ++ codes " " ++ quality_text record'.quality)
+kept_line turn machine record' =
+    log_line turn (of_board (codes "show") machine record'.id ++ codes " "
+    ++ quality_text record'.quality)
 
 abbrev pub held_line : ℕ → Side → Option Record → List ℕ
 held_line turn side None = []
 held_line turn side (Some record') = log_line turn (at_gap (codes "show") side record'.id)
 
 abbrev pub show_lines : ℕ → ℕ → List Record → Option Record → Option Record → List ℕ
-show_lines turn machine kept out taking = flat_map (kept_line turn machine) kept ++ (held_line turn Exit out ++ held_line turn Entry taking)
+show_lines turn machine kept out taking =
+    flat_map (kept_line turn machine) kept
+    ++ (held_line turn Exit out ++ held_line turn Entry taking)

@@ -31,16 +31,22 @@ profile_of settings = record {
 }
 
 -- where the clock tells its moment, how a run from a state ends
-abbrev pub RunEndsFrom : Option ℤ → Rules → RunState → Option (List Given) → Option (List Given) → Option (List ℕ) → Option (List ℕ) → NodeStatus → Type 0
+abbrev pub RunEndsFrom : Option ℤ → Rules → RunState → Option (List Given) → Option (List Given)
+    → Option (List ℕ) → Option (List ℕ) → NodeStatus → Type 0
 RunEndsFrom None rules s given_old given_new log_old log_new status = Unit {0}
-RunEndsFrom (Some moment) rules s given_old given_new log_old log_new status = RunEnds rules moment s given_old given_new log_old log_new status
+RunEndsFrom (Some moment) rules s given_old given_new log_old log_new status =
+    RunEnds rules moment s given_old given_new log_old log_new status
 
 -- and how the run that settings ask for does
-abbrev pub RunEndsTold : Option ℤ → Settings → Option (List Given) → Option (List Given) → Option (List ℕ) → Option (List ℕ) → NodeStatus → Type 0
-RunEndsTold told settings given_old given_new log_old log_new status = RunEndsFrom told (rules_of settings) (started (new_node (profile_of settings))) given_old given_new log_old log_new status
+abbrev pub RunEndsTold : Option ℤ → Settings → Option (List Given) → Option (List Given)
+    → Option (List ℕ) → Option (List ℕ) → NodeStatus → Type 0
+RunEndsTold told settings given_old given_new log_old log_new status =
+    RunEndsFrom told (rules_of settings)
+    (started (new_node (profile_of settings))) given_old given_new log_old log_new status
 
 -- no count falls, and a fault comes only where the count of that object rose
-pub record HasRunCauses (status : NodeStatus) (ports_before ports_now log_before log_now : ℕ) : Type 0 where
+pub record HasRunCauses (status : NodeStatus)
+    (ports_before ports_now log_before log_now : ℕ) : Type 0 where
   pub ports : ports_before ≤ ports_now
   pub log : log_before ≤ log_now
   pub listen_fault : status ≡ statuses.ListenFault → Rose ports_before ports_now

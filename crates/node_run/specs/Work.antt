@@ -42,15 +42,18 @@ abbrev pub refusal_work : Option Refusal → ℕ
 refusal_work None = 0
 refusal_work (Some refusal) = 1
 
--- a way that is closed has none any more, a side that hears of it has no connection, and a machine isn't supervised
+-- a way that is closed has none any more, a side that hears of it has no connection, and a machine
+-- isn't supervised
 abbrev pub wires_work : RunState → ℕ
 wires_work s =
-    (wire_work s.panel.wire + wire_work s.upstream.wire) + (wire_work s.downstream.wire + wire_work s.supervisory.wire)
+    (wire_work s.panel.wire + wire_work s.upstream.wire) +
+    (wire_work s.downstream.wire + wire_work s.supervisory.wire)
 
 abbrev pub close_work : RunState → ℕ
 close_work s =
     wires_work s
-    + (3 * count s.node.supervised + (3 * count (is_open Entry s.node.lane.body) + 3 * count (is_open Exit s.node.lane.body)))
+    + (3 * count s.node.supervised +
+    (3 * count (is_open Entry s.node.lane.body) + 3 * count (is_open Exit s.node.lane.body)))
 
 -- of the supervisor's bytes each goes first behind those that wait, and then away
 abbrev pub hear_work : ChannelValue → ℕ
@@ -58,7 +61,9 @@ hear_work channel = count channel.hears + (length channel.waiting + 2 * length c
 
 -- what is done at one place
 abbrev pub work_at : RunState → ℕ
-work_at s = 20 * length s.rest + (20 * hear_work s.channel + (count s.asks + (refusal_work s.refusal + close_work s)))
+work_at s =
+    20 * length s.rest +
+    (20 * hear_work s.channel + (count s.asks + (refusal_work s.refusal + close_work s)))
 
 -- how far a run is from its end
 abbrev pub far_of : Rules → RunState → ℕ

@@ -59,7 +59,9 @@ impl Run {
         requires told { self.old.told ≡ [] }
         requires few { length bytes.now ≤ 4096 }
         ensures rules { self.new.rules ≡ self.old.rules }
-        ensures after { OnOk result (AfterPoll self.old.rules moment way (found_of got bytes.now) (moved_on self.old.state) self.new.state self.new.told) }
+        ensures after { OnOk result
+            (AfterPoll self.old.rules moment way (found_of got bytes.now)
+            (moved_on self.old.state) self.new.state self.new.told) }
     {
         self.move_on();
         match way {
@@ -72,7 +74,9 @@ impl Run {
 
     fn after_panel(&mut self, got: Got, bytes: &[u8]) -> Result<(), Memory>
         ensures rules { self.new.rules ≡ self.old.rules }
-        ensures after { OnOk result (self.new ≡ record self.old { state = after_panel (found_of got bytes.now) self.old.state }) }
+        ensures after { OnOk result
+            (self.new
+            ≡ record self.old { state = after_panel (found_of got bytes.now) self.old.state }) }
     {
         let wire = self.panel.wire();
         match got {
@@ -94,7 +98,8 @@ impl Run {
 
     fn set_rest(&mut self, bytes: &[u8]) -> Result<(), Memory>
         ensures rules { self.new.rules ≡ self.old.rules }
-        ensures rest { OnOk result (self.new ≡ record self.old { state = record self.old.state { rest = bytes.now } }) }
+        ensures rest { OnOk result
+            (self.new ≡ record self.old { state = record self.old.state { rest = bytes.now } }) }
     {
         self.rest.clear();
         self.done = 0;
@@ -104,11 +109,15 @@ impl Run {
         }
     }
 
-    /// A session begins with a connection, a second one is refused, and bytes are heard message by message.
+    /// A session begins with a connection, a second one is refused, and bytes are heard message by
+    /// message.
     fn after_supervisory(&mut self, got: Got, bytes: &[u8], moment: Moment) -> Result<(), Memory>
         requires few { length bytes.now ≤ 4096 }
         ensures rules { self.new.rules ≡ self.old.rules }
-        ensures after { OnOk result (self.new ≡ record self.old { state = after_supervisory moment (found_of got bytes.now) self.old.state }) }
+        ensures after { OnOk result
+            (self.new
+            ≡ record self.old
+            { state = after_supervisory moment (found_of got bytes.now) self.old.state }) }
     {
         let wire = self.supervisory.wire();
         match got {
@@ -128,7 +137,9 @@ impl Run {
 
     fn refuse_supervisor(&mut self, moment: Moment) -> Result<(), Memory>
         ensures rules { self.new.rules ≡ self.old.rules }
-        ensures refuses { OnOk result (self.new ≡ record self.old { state = supervisory_second Wire.Stands moment self.old.state }) }
+        ensures refuses { OnOk result
+            (self.new
+            ≡ record self.old { state = supervisory_second Wire.Stands moment self.old.state }) }
     {
         let text = refusal_of_second(self.alloc, moment)?;
         self.refusal = Some(Refusal {
@@ -141,7 +152,9 @@ impl Run {
     fn after_upstream(&mut self, got: Got, bytes: &[u8], moment: Moment) -> Result<(), Memory>
         requires { self.old.told ≡ [] }
         ensures rules { self.new.rules ≡ self.old.rules }
-        ensures after { OnOk result (AfterUpstream self.old.rules moment (found_of got bytes.now) self.old.state self.new.state self.new.told) }
+        ensures after { OnOk result
+            (AfterUpstream self.old.rules moment
+            (found_of got bytes.now) self.old.state self.new.state self.new.told) }
     {
         match got {
             Got::Arrived => self.connect_upstream(moment),
@@ -159,7 +172,9 @@ impl Run {
     fn after_downstream(&mut self, got: Got, bytes: &[u8], moment: Moment) -> Result<(), Memory>
         requires { self.old.told ≡ [] }
         ensures rules { self.new.rules ≡ self.old.rules }
-        ensures after { OnOk result (AfterDownstream self.old.rules moment (found_of got bytes.now) self.old.state self.new.state self.new.told) }
+        ensures after { OnOk result
+            (AfterDownstream self.old.rules moment
+            (found_of got bytes.now) self.old.state self.new.state self.new.told) }
     {
         match got {
             Got::Arrived => self.accept_downstream(moment),
@@ -179,7 +194,9 @@ impl Run {
     fn connect_upstream(&mut self, moment: Moment) -> Result<(), Memory>
         requires { self.old.told ≡ [] }
         ensures rules { self.new.rules ≡ self.old.rules }
-        ensures after { OnOk result (AfterUpstream self.old.rules moment founds.Arrived self.old.state self.new.state self.new.told) }
+        ensures after { OnOk result
+            (AfterUpstream self.old.rules moment founds.Arrived self.old.state self.new.state
+            self.new.told) }
     {
         if self.node.may(&Input::Connect).is_err() {
             return Ok(());
@@ -192,7 +209,9 @@ impl Run {
     fn accept_downstream(&mut self, moment: Moment) -> Result<(), Memory>
         requires { self.old.told ≡ [] }
         ensures rules { self.new.rules ≡ self.old.rules }
-        ensures after { OnOk result (AfterDownstream self.old.rules moment founds.Arrived self.old.state self.new.state self.new.told) }
+        ensures after { OnOk result
+            (AfterDownstream self.old.rules moment founds.Arrived self.old.state self.new.state
+            self.new.told) }
     {
         if self.node.may(&Input::Accepted).is_err() {
             return Ok(());
@@ -204,7 +223,8 @@ impl Run {
     /// The answer to sending.
     pub fn after_send(&mut self, way: Way, sent: Sent)
         requires { IsTurnLeft self.old.state.place self.old.state.turn self.old.rules.turns }
-        ensures { self.new ≡ record self.old { state = after_send way sent (moved_on self.old.state) } }
+        ensures { self.new
+            ≡ record self.old { state = after_send way sent (moved_on self.old.state) } }
     {
         self.move_on();
         match sent {
@@ -214,11 +234,13 @@ impl Run {
         }
     }
 
-    /// A way was closed: its text is dropped, and the machine notices where its side has a connection.
+    /// A way was closed: its text is dropped, and the machine notices where its side has a
+    /// connection.
     pub fn after_close(&mut self, way: Way, moment: Moment) -> Result<(), Memory>
         requires { self.old.told ≡ [] }
         ensures rules { self.new.rules ≡ self.old.rules }
-        ensures after { OnOk result (AfterClose self.old.rules moment way self.old.state self.new.state self.new.told) }
+        ensures after { OnOk result
+            (AfterClose self.old.rules moment way self.old.state self.new.state self.new.told) }
     {
         match way {
             Way::Panel => {
@@ -241,7 +263,8 @@ impl Run {
         }
     }
 
-    /// The panel's unfinished line goes with its connection, and so do the lines that follow in the same answer.
+    /// The panel's unfinished line goes with its connection, and so do the lines that follow in
+    /// the same answer.
     fn leave_panel(&mut self)
         ensures { self.new ≡ record self.old { state = panel_gone self.old.state } }
     {

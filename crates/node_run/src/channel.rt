@@ -33,8 +33,8 @@ pub enum Found {
     TooLong,
 }
 
-/// The channel of a supervisor: the bytes that wait for the end of a message, those of the present answer behind them, of
-/// which some were fed, whether these are being heard, and the session.
+/// The channel of a supervisor: the bytes that wait for the end of a message, those of the present
+/// answer behind them, of which some were fed, whether these are being heard, and the session.
 #[derive(Drop)]
 pub struct Channel {
     cutter: Cutter,
@@ -50,7 +50,12 @@ impl Model for Channel {
 
     ghost Value = { ChannelValue };
 
-    ghost view = { λ c. record { waiting = c.cutter; piece = drop c.fed c.piece.items; hears = c.hears; stands = c.session } };
+    ghost view = { λ c. record {
+      waiting = c.cutter;
+      piece = drop c.fed c.piece.items;
+      hears = c.hears;
+      stands = c.session;
+    } };
 
     ghost invariant = { λ c. (c.fed ≤ vec_len c.piece) × (vec_len c.piece ≤ 4096) };
 }
@@ -131,7 +136,8 @@ impl Channel {
 
     /// What was found says whether bytes are heard further.
     fn note(&mut self, found: &Found)
-        ensures { self.new ≡ record self.old { hears = hears_behind found.now self.old.piece self.old.hears } }
+        ensures { self.new
+            ≡ record self.old { hears = hears_behind found.now self.old.piece self.old.hears } }
     {
         match found {
             Found::More => self.hears = !self.rest().is_empty(),
@@ -155,9 +161,11 @@ impl Channel {
 
     /// The session takes a message.
     pub fn on_message(&mut self, body: Vertical) -> Result<VerticalAction, VerticalKind>
-        ensures row { IfOk result (λ action. supervised_row self.old.stands body ≡ row self.new.stands action) }
+        ensures row { IfOk result
+            (λ action. supervised_row self.old.stands body ≡ row self.new.stands action) }
         ensures kept { IfOk result (λ action. self.new ≡ record self.old { stands = self.new.stands }) }
-        ensures breach { IfErr result (λ kind. (supervised_row self.old.stands body ≡ None) × (kind ≡ kind_of body)) }
+        ensures breach { IfErr result (λ kind. (supervised_row self.old.stands body ≡ None)
+            × (kind ≡ kind_of body)) }
         ensures unchanged { OnErr result (self.new ≡ self.old) }
     {
         self.session.on_message(body)

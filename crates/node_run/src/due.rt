@@ -10,9 +10,9 @@ use crate::way_state::WayState;
 use line_outside::Way;
 
 impl Run {
-    /// What comes next: the end, a second connection that is to be refused, a way that has to be closed, a connection that
-    /// was asked for, the next of the panel's lines, the next of the supervisor's messages, and then what is done at this
-    /// place.
+    /// What comes next: the end, a second connection that is to be refused, a way that has to be
+    /// closed, a connection that was asked for, the next of the panel's lines, the next of the
+    /// supervisor's messages, and then what is done at this place.
     pub fn next(&self) -> Next
         ensures { result ≡ next_of self.now.rules self.now.state }
     {

@@ -27,7 +27,8 @@ impl Run {
     pub fn take_message(&mut self, moment: Moment) -> Result<(), Memory>
         requires { self.old.told ≡ [] }
         ensures rules { self.new.rules ≡ self.old.rules }
-        ensures hears { OnOk result (DoesHear self.old.rules moment self.old.state self.new.state self.new.told) }
+        ensures hears { OnOk result
+            (DoesHear self.old.rules moment self.old.state self.new.state self.new.told) }
     {
         let found = self.find_message()?;
         self.do_found(found, moment)
@@ -37,8 +38,12 @@ impl Run {
     fn find_message(&mut self) -> Result<Found, Memory>
         ensures rules { self.new.rules ≡ self.old.rules }
         ensures told { self.new.told ≡ self.old.told }
-        ensures hears { IfOk result (λ found. HearsNext self.old.state.channel self.new.state.channel found) }
-        ensures kept { IfOk result (λ found. self.new ≡ record self.old { state = with_channel self.new.state.channel self.old.state }) }
+        ensures hears { IfOk result
+            (λ found. HearsNext self.old.state.channel self.new.state.channel found) }
+        ensures kept { IfOk result
+            (λ found.
+            self.new ≡ record self.old
+            { state = with_channel self.new.state.channel self.old.state }) }
     {
         self.channel.next(self.alloc)
     }
@@ -46,7 +51,8 @@ impl Run {
     fn do_found(&mut self, found: Found, moment: Moment) -> Result<(), Memory>
         requires { self.old.told ≡ [] }
         ensures rules { self.new.rules ≡ self.old.rules }
-        ensures does { OnOk result (DoesFound found self.old.rules moment self.old.state self.new.state self.new.told) }
+        ensures does { OnOk result
+            (DoesFound found self.old.rules moment self.old.state self.new.state self.new.told) }
     {
         match found {
             Found::Word(word) => self.do_word(word, moment),
@@ -58,7 +64,8 @@ impl Run {
     fn do_word(&mut self, word: Word, moment: Moment) -> Result<(), Memory>
         requires { self.old.told ≡ [] }
         ensures rules { self.new.rules ≡ self.old.rules }
-        ensures does { OnOk result (DoesWord word self.old.rules moment self.old.state self.new.state self.new.told) }
+        ensures does { OnOk result
+            (DoesWord word self.old.rules moment self.old.state self.new.state self.new.told) }
     {
         match word {
             Word::Says(message) => self.do_body(message.body, moment),
@@ -70,7 +77,9 @@ impl Run {
     fn do_body(&mut self, body: Vertical, moment: Moment) -> Result<(), Memory>
         requires { self.old.told ≡ [] }
         ensures rules { self.new.rules ≡ self.old.rules }
-        ensures does { OnOk result (DoesRow (supervised_row self.old.state.channel.stands body) body self.old.rules moment self.old.state self.new.state self.new.told) }
+        ensures does { OnOk result
+            (DoesRow (supervised_row self.old.state.channel.stands body) body self.old.rules moment
+            self.old.state self.new.state self.new.told) }
     {
         match self.meet(body) {
             Ok(action) => self.do_action(action, moment),
@@ -82,9 +91,15 @@ impl Run {
     fn meet(&mut self, body: Vertical) -> Result<VerticalAction, VerticalKind>
         ensures rules { self.new.rules ≡ self.old.rules }
         ensures told { self.new.told ≡ self.old.told }
-        ensures row { IfOk result (λ action. supervised_row self.old.state.channel.stands body ≡ row self.new.state.channel.stands action) }
-        ensures kept { IfOk result (λ action. self.new ≡ record self.old { state = with_stands self.new.state.channel.stands self.old.state }) }
-        ensures breach { IfErr result (λ kind. (supervised_row self.old.state.channel.stands body ≡ None) × (kind ≡ kind_of body)) }
+        ensures row { IfOk result
+            (λ action. supervised_row self.old.state.channel.stands body
+            ≡ row self.new.state.channel.stands action) }
+        ensures kept { IfOk result
+            (λ action.
+            self.new ≡ record self.old
+            { state = with_stands self.new.state.channel.stands self.old.state }) }
+        ensures breach { IfErr result (λ kind. (supervised_row self.old.state.channel.stands body ≡ None)
+            × (kind ≡ kind_of body)) }
         ensures unchanged { OnErr result (self.new ≡ self.old) }
     {
         self.channel.on_message(body)
@@ -93,7 +108,8 @@ impl Run {
     fn do_action(&mut self, action: VerticalAction, moment: Moment) -> Result<(), Memory>
         requires { self.old.told ≡ [] }
         ensures rules { self.new.rules ≡ self.old.rules }
-        ensures does { OnOk result (DoesAction action self.old.rules moment self.old.state self.new.state self.new.told) }
+        ensures does { OnOk result
+            (DoesAction action self.old.rules moment self.old.state self.new.state self.new.told) }
     {
         match action {
             VerticalAction::Describe => self.describe(moment),
@@ -113,7 +129,8 @@ impl Run {
     fn describe(&mut self, moment: Moment) -> Result<(), Memory>
         requires { self.old.told ≡ [] }
         ensures rules { self.new.rules ≡ self.old.rules }
-        ensures does { OnOk result (Describes self.old.rules moment self.old.state self.new.state self.new.told) }
+        ensures does { OnOk result
+            (Describes self.old.rules moment self.old.state self.new.state self.new.told) }
     {
         let own = self.own_system()?;
         self.say(own, moment)?;
@@ -131,7 +148,10 @@ impl Run {
     fn take_answer(&mut self, query: u64, order: Text, moment: Moment) -> Result<(), Memory>
         requires { self.old.told ≡ [] }
         ensures rules { self.new.rules ≡ self.old.rules }
-        ensures does { OnOk result (AnswersIf (may_of self.old.state.node (inputs.Answer query order)) self.old.rules moment query order self.old.state self.new.state self.new.told) }
+        ensures does { OnOk result
+            (AnswersIf
+            (may_of self.old.state.node (inputs.Answer query order)) self.old.rules moment query
+            order self.old.state self.new.state self.new.told) }
     {
         let input = Input::Answer { query, order };
         match self.may(&input) {
@@ -151,7 +171,9 @@ impl Run {
     fn tell_untaken(&mut self, why: No, moment: Moment) -> Result<(), Memory>
         ensures rules { self.new.rules ≡ self.old.rules }
         ensures told { self.new.told ≡ self.old.told }
-        ensures said { OnOk result (self.new.state ≡ said moment (notification 0 Severity.Warning (untaken why)) self.old.state) }
+        ensures said { OnOk result
+            (self.new.state
+            ≡ said moment (notification 0 Severity.Warning (untaken why)) self.old.state) }
     {
         let told = told_of_untaken(self.alloc, why)?;
         self.say(told, moment)
@@ -175,7 +197,8 @@ impl Run {
         requires told { self.old.told ≡ [] }
         requires plain { is_plain_text text.now ≡ true }
         ensures rules { self.new.rules ≡ self.old.rules }
-        ensures breaks { OnOk result (BreaksOff self.old.rules moment text.now self.old.state self.new.state self.new.told) }
+        ensures breaks { OnOk result
+            (BreaksOff self.old.rules moment text.now self.old.state self.new.state self.new.told) }
     {
         let text = Text::plain(self.alloc, text.as_bytes())?;
         self.break_off(text, moment)
@@ -185,7 +208,8 @@ impl Run {
     fn break_off(&mut self, text: Text, moment: Moment) -> Result<(), Memory>
         requires { self.old.told ≡ [] }
         ensures rules { self.new.rules ≡ self.old.rules }
-        ensures breaks { OnOk result (BreaksOff self.old.rules moment text self.old.state self.new.state self.new.told) }
+        ensures breaks { OnOk result
+            (BreaksOff self.old.rules moment text self.old.state self.new.state self.new.told) }
     {
         self.say(notification(1, Severity::Fatal, text), moment)?;
         self.end_session();
@@ -204,7 +228,8 @@ impl Run {
     pub(crate) fn end_supervision(&mut self, moment: Moment) -> Result<(), Memory>
         requires { self.old.told ≡ [] }
         ensures rules { self.new.rules ≡ self.old.rules }
-        ensures ends { OnOk result (Unsupervised self.old.rules moment self.old.state self.new.state self.new.told) }
+        ensures ends { OnOk result
+            (Unsupervised self.old.rules moment self.old.state self.new.state self.new.told) }
     {
         self.take(Input::Supervise(false), moment)
     }

@@ -9,18 +9,23 @@ ghost use Rattle.node_run.specs.Owning.{OwnFollows, OwnIsRead};
 ghost use Rattle.node_run.specs.Runs.{Runs};
 ghost use Rattle.node_run.specs.State.{RunState, way_at};
 
-/// Where more than 1,048,576 bytes wait on a way that has a connection, nothing but the end, the refusal of a second connection or
-/// a close comes next.
+/// Where more than 1,048,576 bytes wait on a way that has a connection, nothing but the end, the
+/// refusal of a second connection or a close comes next.
 pub fn too_much_text_closes_a_way()
-    ensures { (rules : Rules) (s : RunState) (way : Way) → goes_on (next_of rules s) ≡ true → HasBoundedText (way_at way s) }
+    ensures { (rules : Rules) (s : RunState) (way : Way) → goes_on (next_of rules s) ≡ true
+        → HasBoundedText (way_at way s) }
 {}
 
-/// What a machine owns after a run follows from what it owned before and from the acts that the run's log tells, in their order.
+/// What a machine owns after a run follows from what it owned before and from the acts that the
+/// run's log tells, in their order.
 pub fn what_a_machine_owns_follows_from_its_log()
-    ensures { (rules : Rules) (moment : ℤ) (s t : RunState) (calls : List Given) (log : List ℕ) → Runs rules moment s calls t log → OwnFollows rules.number s t log }
+    ensures { (rules : Rules) (moment : ℤ) (s t : RunState) (calls : List Given) (log : List ℕ)
+        → Runs rules moment s calls t log → OwnFollows rules.number s t log }
 {}
 
-/// What a machine owns after a run is read off the bytes of the run's log, from what it owned before: a log never tells two accounts.
+/// What a machine owns after a run is read off the bytes of the run's log, from what it owned
+/// before: a log never tells two accounts.
 pub fn what_a_machine_owns_is_read_off_its_log()
-    ensures { (rules : Rules) (moment : ℤ) (s t : RunState) (calls : List Given) (log : List ℕ) → Runs rules moment s calls t log → OwnIsRead s t log }
+    ensures { (rules : Rules) (moment : ℤ) (s t : RunState) (calls : List Given) (log : List ℕ)
+        → Runs rules moment s calls t log → OwnIsRead s t log }
 {}

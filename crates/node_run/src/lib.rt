@@ -1,7 +1,7 @@
 //! The run of one machine over TCP: what comes next in it, and what each answer of its ports does.
 //!
-//! A run is a chain of moves: a call of the ports with its answer, or a line of the panel. `next` says which comes, and a
-//! method for each takes its answer.
+//! A run is a chain of moves: a call of the ports with its answer, or a line of the panel. `next`
+//! says which comes, and a method for each takes its answer.
 #![tactic(auto)]
 
 mod after;

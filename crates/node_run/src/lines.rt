@@ -23,7 +23,8 @@ impl Run {
     pub fn take_line(&mut self, moment: Moment) -> Result<(), Memory>
         requires { self.old.told ≡ [] }
         ensures rules { self.new.rules ≡ self.old.rules }
-        ensures line { OnOk result (DoesLine self.old.rules moment self.old.state self.new.state self.new.told) }
+        ensures line { OnOk result
+            (DoesLine self.old.rules moment self.old.state self.new.state self.new.told) }
     {
         if self.cut_rest()? {
             return self.end_line(moment);
@@ -31,11 +32,13 @@ impl Run {
         self.keep_front()
     }
 
-    /// Puts what stands before the next end of a line behind the front of that line. Says whether there is an end.
+    /// Puts what stands before the next end of a line behind the front of that line. Says whether
+    /// there is an end.
     fn cut_rest(&mut self) -> Result<bool, Memory>
         ensures rules { self.new.rules ≡ self.old.rules }
         ensures told { self.new.told ≡ self.old.told }
-        ensures cut { IfOk result (λ is_end. HasCut (cut_line self.old.state.rest) is_end self.old.state self.new.state) }
+        ensures cut { IfOk result
+            (λ is_end. HasCut (cut_line self.old.state.rest) is_end self.old.state self.new.state) }
     {
         match end_of_line(self.rest()) {
             Some(place) => {
@@ -54,7 +57,9 @@ impl Run {
     /// Passes over a byte of the panel's text.
     fn pass_byte(&mut self)
         requires { 1 ≤ length self.old.state.rest }
-        ensures { self.new ≡ record self.old { state = record self.old.state { rest = drop 1 self.old.state.rest } } }
+        ensures { self.new
+            ≡ record self.old
+            { state = record self.old.state { rest = drop 1 self.old.state.rest } } }
     {
         self.done += 1;
     }
@@ -81,7 +86,9 @@ impl Run {
     fn keep_front(&mut self) -> Result<(), Memory>
         requires { self.old.told ≡ [] }
         ensures rules { self.new.rules ≡ self.old.rules }
-        ensures fronts { OnOk result (Fronts self.old.state.drops self.old.state.line self.old.state self.new.state self.new.told) }
+        ensures fronts { OnOk result
+            (Fronts self.old.state.drops self.old.state.line self.old.state self.new.state
+            self.new.told) }
     {
         if self.drops || without_return(self.line.as_slice()).len() <= MOST_LINE_BYTES {
             return Ok(());
@@ -95,7 +102,9 @@ impl Run {
     fn end_line(&mut self, moment: Moment) -> Result<(), Memory>
         requires { self.old.told ≡ [] }
         ensures rules { self.new.rules ≡ self.old.rules }
-        ensures ends { OnOk result (Ends self.old.state.drops self.old.state.line self.old.rules moment self.old.state self.new.state self.new.told) }
+        ensures ends { OnOk result
+            (Ends self.old.state.drops self.old.state.line self.old.rules moment self.old.state
+            self.new.state self.new.told) }
     {
         if self.drops {
             self.drops = false;
@@ -109,7 +118,10 @@ impl Run {
     fn do_text(&mut self, line: &[u8], moment: Moment) -> Result<(), Memory>
         requires { self.old.told ≡ [] }
         ensures rules { self.new.rules ≡ self.old.rules }
-        ensures does { OnOk result (DoesAsked (panel_line_of (without_return line.now)) self.old.rules moment self.old.state self.new.state self.new.told) }
+        ensures does { OnOk result
+            (DoesAsked
+            (panel_line_of (without_return line.now)) self.old.rules moment self.old.state
+            self.new.state self.new.told) }
     {
         match read_panel_line(self.alloc, without_return(line)) {
             Ok(asked) => self.do_line(asked, moment),
@@ -121,7 +133,9 @@ impl Run {
     fn refuse_line(&mut self, why: LineWhy) -> Result<(), Memory>
         requires { self.old.told ≡ [] }
         ensures rules { self.new.rules ≡ self.old.rules }
-        ensures tells { OnOk result (Tells (refused_line self.old.state.turn why) self.old.state self.new.state self.new.told) }
+        ensures tells { OnOk result
+            (Tells (refused_line self.old.state.turn why) self.old.state self.new.state
+            self.new.told) }
     {
         write_refused(self.turn, why, &mut self.told)?;
         self.echo()
@@ -130,7 +144,9 @@ impl Run {
     fn tell_no(&mut self, reason: Reason) -> Result<(), Memory>
         requires { self.old.told ≡ [] }
         ensures rules { self.new.rules ≡ self.old.rules }
-        ensures tells { OnOk result (Tells (no_line self.old.state.turn reason) self.old.state self.new.state self.new.told) }
+        ensures tells { OnOk result
+            (Tells (no_line self.old.state.turn reason) self.old.state self.new.state
+            self.new.told) }
     {
         write_no(self.turn, &reason, &mut self.told)?;
         self.echo()
@@ -139,7 +155,9 @@ impl Run {
     fn do_line(&mut self, asked: PanelLine, moment: Moment) -> Result<(), Memory>
         requires { self.old.told ≡ [] }
         ensures rules { self.new.rules ≡ self.old.rules }
-        ensures does { OnOk result (DoesAsked (Ok asked) self.old.rules moment self.old.state self.new.state self.new.told) }
+        ensures does { OnOk result
+            (DoesAsked
+            (Ok asked) self.old.rules moment self.old.state self.new.state self.new.told) }
     {
         match asked {
             PanelLine::Blank => Ok(()),
@@ -163,7 +181,10 @@ impl Run {
     ) -> Result<(), Memory>
         requires { self.old.told ≡ [] }
         ensures rules { self.new.rules ≡ self.old.rules }
-        ensures does { OnOk result (DoesInput (may_of self.old.state.node input.entry) self.old.rules moment sensed.now input.entry self.old.state self.new.state self.new.told) }
+        ensures does { OnOk result
+            (DoesInput
+            (may_of self.old.state.node input.entry) self.old.rules moment sensed.now input.entry
+            self.old.state self.new.state self.new.told) }
     {
         if let Err(why) = self.node.may(&input) {
             return self.tell_no(Reason::Node(why));
@@ -176,7 +197,9 @@ impl Run {
     fn ask_connection(&mut self) -> Result<(), Memory>
         requires { self.old.told ≡ [] }
         ensures rules { self.new.rules ≡ self.old.rules }
-        ensures asks { OnOk result (AsksConnect self.old.rules.connections.upstream self.old.state self.new.state self.new.told) }
+        ensures asks { OnOk result
+            (AsksConnect self.old.rules.connections.upstream self.old.state self.new.state
+            self.new.told) }
     {
         if self.rules.connections.upstream.is_none() {
             return self.tell_no(Reason::NoNeighbour);

@@ -1,4 +1,5 @@
-//! The moves of a run: one call of the ports with what its answer does, a line of the panel, or a message of the supervisor.
+//! The moves of a run: one call of the ports with what its answer does, a line of the panel, or a
+//! message of the supervisor.
 
 ghost use Rattle.std.specs.Prelude.{◌≡◌, ◌≤◌, [], false, ℤ, OnOk, OnErr, Option, length};
 ghost use Rattle.line_outside.specs.Given.{got_bytes};
@@ -30,8 +31,11 @@ pub fn make_move<P: Ports, C: Clock>(
     requires rest { length run.old.state.rest ≤ 4096 }
     ensures clock { C.moment clock.new ≡ C.moment clock.old }
     ensures counted { P.faults ports.old ≤ P.faults ports.new }
-    ensures moves { OnOk result (MovesAs (C.moment clock.old) run.old run.new (P.given ports.old) (P.given ports.new) (P.faults ports.old) (P.faults ports.new)) }
-    ensures misses { OnErr result (MissesMove run.old.rules run.old.state (P.given ports.old) (P.given ports.new)) }
+    ensures moves { OnOk result
+        (MovesAs (C.moment clock.old) run.old run.new (P.given ports.old) (P.given ports.new)
+        (P.faults ports.old) (P.faults ports.new)) }
+    ensures misses { OnErr result
+        (MissesMove run.old.rules run.old.state (P.given ports.old) (P.given ports.new)) }
 {
     match next {
         Next::End(_) => unreachable!(),
@@ -68,7 +72,9 @@ fn pass_place<P: Ports>(run: &mut Run, ports: &mut P)
     requires told { run.old.told ≡ [] }
     requires rest { length run.old.state.rest ≤ 4096 }
     ensures counted { P.faults ports.old ≤ P.faults ports.new }
-    ensures moves { (told : Option ℤ) → MovesAs told run.old run.new (P.given ports.old) (P.given ports.new) (P.faults ports.old) (P.faults ports.new) }
+    ensures moves { (told : Option ℤ)
+        → MovesAs told run.old run.new (P.given ports.old) (P.given ports.new) (P.faults ports.old)
+        (P.faults ports.new) }
 {
     run.skip();
 }
@@ -80,8 +86,11 @@ fn take_line<P: Ports, C: Clock>(run: &mut Run, ports: &mut P, clock: &mut C) ->
     requires rest { length run.old.state.rest ≤ 4096 }
     ensures clock { C.moment clock.new ≡ C.moment clock.old }
     ensures counted { P.faults ports.old ≤ P.faults ports.new }
-    ensures moves { OnOk result (MovesAs (C.moment clock.old) run.old run.new (P.given ports.old) (P.given ports.new) (P.faults ports.old) (P.faults ports.new)) }
-    ensures misses { OnErr result (MissesMove run.old.rules run.old.state (P.given ports.old) (P.given ports.new)) }
+    ensures moves { OnOk result
+        (MovesAs (C.moment clock.old) run.old run.new (P.given ports.old) (P.given ports.new)
+        (P.faults ports.old) (P.faults ports.new)) }
+    ensures misses { OnErr result
+        (MissesMove run.old.rules run.old.state (P.given ports.old) (P.given ports.new)) }
 {
     let moment = clock.now();
     run.take_line(moment)
@@ -98,8 +107,11 @@ fn take_message<P: Ports, C: Clock>(
     requires rest { length run.old.state.rest ≤ 4096 }
     ensures clock { C.moment clock.new ≡ C.moment clock.old }
     ensures counted { P.faults ports.old ≤ P.faults ports.new }
-    ensures moves { OnOk result (MovesAs (C.moment clock.old) run.old run.new (P.given ports.old) (P.given ports.new) (P.faults ports.old) (P.faults ports.new)) }
-    ensures misses { OnErr result (MissesMove run.old.rules run.old.state (P.given ports.old) (P.given ports.new)) }
+    ensures moves { OnOk result
+        (MovesAs (C.moment clock.old) run.old run.new (P.given ports.old) (P.given ports.new)
+        (P.faults ports.old) (P.faults ports.new)) }
+    ensures misses { OnErr result
+        (MissesMove run.old.rules run.old.state (P.given ports.old) (P.given ports.new)) }
 {
     let moment = clock.now();
     run.take_message(moment)
@@ -110,7 +122,9 @@ fn listen<P: Ports>(run: &mut Run, way: Way, port: u16, ports: &mut P)
     requires told { run.old.told ≡ [] }
     requires rest { length run.old.state.rest ≤ 4096 }
     ensures counted { P.faults ports.old ≤ P.faults ports.new }
-    ensures moves { (told : Option ℤ) → MovesAs told run.old run.new (P.given ports.old) (P.given ports.new) (P.faults ports.old) (P.faults ports.new) }
+    ensures moves { (told : Option ℤ)
+        → MovesAs told run.old run.new (P.given ports.old) (P.given ports.new) (P.faults ports.old)
+        (P.faults ports.new) }
 {
     let opened = ports.listen(way, port);
     run.after_listen(opened);
@@ -121,7 +135,9 @@ fn connect<P: Ports>(run: &mut Run, address: Address, ports: &mut P)
     requires told { run.old.told ≡ [] }
     requires rest { length run.old.state.rest ≤ 4096 }
     ensures counted { P.faults ports.old ≤ P.faults ports.new }
-    ensures moves { (told : Option ℤ) → MovesAs told run.old run.new (P.given ports.old) (P.given ports.new) (P.faults ports.old) (P.faults ports.new) }
+    ensures moves { (told : Option ℤ)
+        → MovesAs told run.old run.new (P.given ports.old) (P.given ports.new) (P.faults ports.old)
+        (P.faults ports.new) }
 {
     ports.connect(Way::Upstream, address);
     run.after_connect();
@@ -140,8 +156,11 @@ fn poll<P: Ports, C: Clock>(
     requires rest { length run.old.state.rest ≤ 4096 }
     ensures clock { C.moment clock.new ≡ C.moment clock.old }
     ensures counted { P.faults ports.old ≤ P.faults ports.new }
-    ensures moves { OnOk result (MovesAs (C.moment clock.old) run.old run.new (P.given ports.old) (P.given ports.new) (P.faults ports.old) (P.faults ports.new)) }
-    ensures misses { OnErr result (MissesMove run.old.rules run.old.state (P.given ports.old) (P.given ports.new)) }
+    ensures moves { OnOk result
+        (MovesAs (C.moment clock.old) run.old run.new (P.given ports.old) (P.given ports.new)
+        (P.faults ports.old) (P.faults ports.new)) }
+    ensures misses { OnErr result
+        (MissesMove run.old.rules run.old.state (P.given ports.old) (P.given ports.new)) }
 {
     let got = ports.poll(way, room);
     let moment = clock.now();
@@ -153,7 +172,9 @@ fn send<P: Ports>(run: &mut Run, way: Way, ports: &mut P)
     requires told { run.old.told ≡ [] }
     requires rest { length run.old.state.rest ≤ 4096 }
     ensures counted { P.faults ports.old ≤ P.faults ports.new }
-    ensures moves { (told : Option ℤ) → MovesAs told run.old run.new (P.given ports.old) (P.given ports.new) (P.faults ports.old) (P.faults ports.new) }
+    ensures moves { (told : Option ℤ)
+        → MovesAs told run.old run.new (P.given ports.old) (P.given ports.new) (P.faults ports.old)
+        (P.faults ports.new) }
 {
     let sent = ports.send(way, run.unsent(way));
     run.after_send(way, sent);
@@ -164,7 +185,9 @@ fn refuse<P: Ports>(run: &mut Run, way: Way, ports: &mut P)
     requires told { run.old.told ≡ [] }
     requires rest { length run.old.state.rest ≤ 4096 }
     ensures counted { P.faults ports.old ≤ P.faults ports.new }
-    ensures moves { (told : Option ℤ) → MovesAs told run.old run.new (P.given ports.old) (P.given ports.new) (P.faults ports.old) (P.faults ports.new) }
+    ensures moves { (told : Option ℤ)
+        → MovesAs told run.old run.new (P.given ports.old) (P.given ports.new) (P.faults ports.old)
+        (P.faults ports.new) }
 {
     ports.refuse(way, run.refusal_text());
     run.after_refuse();
@@ -181,8 +204,11 @@ fn close<P: Ports, C: Clock>(
     requires rest { length run.old.state.rest ≤ 4096 }
     ensures clock { C.moment clock.new ≡ C.moment clock.old }
     ensures counted { P.faults ports.old ≤ P.faults ports.new }
-    ensures moves { OnOk result (MovesAs (C.moment clock.old) run.old run.new (P.given ports.old) (P.given ports.new) (P.faults ports.old) (P.faults ports.new)) }
-    ensures misses { OnErr result (MissesMove run.old.rules run.old.state (P.given ports.old) (P.given ports.new)) }
+    ensures moves { OnOk result
+        (MovesAs (C.moment clock.old) run.old run.new (P.given ports.old) (P.given ports.new)
+        (P.faults ports.old) (P.faults ports.new)) }
+    ensures misses { OnErr result
+        (MissesMove run.old.rules run.old.state (P.given ports.old) (P.given ports.new)) }
 {
     ports.close(way);
     let moment = clock.now();

@@ -1,5 +1,5 @@
-//! What the types of a machine's acts say of them. Each function states it of a kind of part: it goes over the part, and
-//! changes nothing.
+//! What the types of a machine's acts say of them. Each function states it of a kind of part: it
+//! goes over the part, and changes nothing.
 
 ghost use Rattle.std.specs.Prelude.{◌<◌, ◌^◌};
 ghost use Rattle.line_base.specs.Name.{IsName};

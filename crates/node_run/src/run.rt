@@ -53,7 +53,29 @@ impl Model for Run {
 
     ghost Value = { RunView };
 
-    ghost view = { λ r. record { rules = r.rules; state = record { node = r.node; panel = r.panel; upstream = r.upstream; downstream = r.downstream; supervisory = r.supervisory; channel = r.channel; line = r.line.items; drops = r.drops; rest = drop r.done r.rest.items; refusal = option_map (λ refusal. seen_refusal refusal.way refusal.text.items) r.refusal; asks = r.asks; place = r.place; turn = r.turn; ended = r.ended }; told = r.told.items } };
+    ghost view = { λ r. record {
+      rules = r.rules;
+      state = record {
+        node = r.node;
+        panel = r.panel;
+        upstream = r.upstream;
+        downstream = r.downstream;
+        supervisory = r.supervisory;
+        channel = r.channel;
+        line =
+            r.line.items;
+        drops = r.drops;
+        rest = drop r.done r.rest.items;
+        refusal =
+            option_map (λ refusal. seen_refusal refusal.way refusal.text.items) r.refusal;
+        asks =
+            r.asks;
+        place = r.place;
+        turn = r.turn;
+        ended = r.ended;
+      };
+      told = r.told.items;
+    } };
 
     ghost invariant = { λ r. r.done ≤ vec_len r.rest };
 }
@@ -61,7 +83,8 @@ impl Model for Run {
 impl Run {
     /// A run that is before its first turn. It takes the memory of a cutter.
     pub fn new(alloc: Global, rules: Rules, node: Node) -> Result<Run, Memory>
-        ensures { IfOk result (λ run. run ≡ record { rules = rules; state = started node; told = [] }) }
+        ensures { IfOk result
+            (λ run. run ≡ record { rules = rules; state = started node; told = [] }) }
     {
         let channel = Channel::new(alloc)?;
         Ok(Run {
@@ -135,7 +158,8 @@ impl Run {
 
     /// So many bytes that waited on a way were sent.
     pub(crate) fn take_sent(&mut self, way: Way, count: usize)
-        ensures { self.new ≡ record self.old { state = after_send way (sents.Took count) self.old.state } }
+        ensures { self.new
+            ≡ record self.old { state = after_send way (sents.Took count) self.old.state } }
     {
         match way {
             Way::Panel => self.panel.take_front(count),
@@ -172,7 +196,8 @@ impl Run {
     /// Adds lines to the log, and the same to the panel's text.
     pub(crate) fn echo(&mut self) -> Result<(), Memory>
         ensures rules { self.new.rules ≡ self.old.rules }
-        ensures echoed { OnOk result (self.new ≡ record self.old { state = echoed self.old.told self.old.state }) }
+        ensures echoed { OnOk result
+            (self.new ≡ record self.old { state = echoed self.old.told self.old.state }) }
     {
         self.panel.append(self.told.as_slice())
     }

@@ -19,7 +19,8 @@ use std::alloc::Global;
 /// How many bytes a poll takes at most.
 const ROOM_BYTES: usize = 4096;
 
-/// Runs a machine with these settings until its panel says `end`, its turns are used, or something outside fails.
+/// Runs a machine with these settings until its panel says `end`, its turns are used, or something
+/// outside fails.
 pub fn run_node<P: Ports, C: Clock, K: Sink>(
     alloc: Global,
     settings: Settings,
@@ -31,9 +32,11 @@ pub fn run_node<P: Ports, C: Clock, K: Sink>(
     requires most { settings.places.capacity ≤ 1024 }
     requires used { settings.places.used < 2 ^ 48 }
     // over a clock that tells its moment: the calls, the log and the end are those of the run
-    ensures runs { RunEndsTold (C.moment clock.old) settings (P.given ports.old) (P.given ports.new) (K.contents log.old) (K.contents log.new) result }
+    ensures runs { RunEndsTold (C.moment clock.old) settings (P.given ports.old)
+        (P.given ports.new) (K.contents log.old) (K.contents log.new) result }
     ensures fits { IsRunStatus result }
-    ensures causes { HasRunCauses result (P.faults ports.old) (P.faults ports.new) (K.faults log.old) (K.faults log.new) }
+    ensures causes { HasRunCauses result (P.faults ports.old) (P.faults ports.new)
+        (K.faults log.old) (K.faults log.new) }
 {
     let mut room = match vec![in alloc; 0u8; ROOM_BYTES] {
         Ok(room) => room,
@@ -57,9 +60,11 @@ fn run_on<P: Ports, C: Clock, K: Sink>(
     requires room { length room.old ≡ 4096 }
     requires rest { length run.old.state.rest ≤ 4096 }
     requires ended { run.old.state.ended ≡ None }
-    ensures runs { RunEndsFrom (C.moment clock.old) run.old.rules run.old.state (P.given ports.old) (P.given ports.new) (K.contents log.old) (K.contents log.new) result }
+    ensures runs { RunEndsFrom (C.moment clock.old) run.old.rules run.old.state (P.given ports.old)
+        (P.given ports.new) (K.contents log.old) (K.contents log.new) result }
     ensures fits { IsRunStatus result }
-    ensures causes { HasRunCauses result (P.faults ports.old) (P.faults ports.new) (K.faults log.old) (K.faults log.new) }
+    ensures causes { HasRunCauses result (P.faults ports.old) (P.faults ports.new)
+        (K.faults log.old) (K.faults log.new) }
 {
     loop {
         if let Some(status) = move_once(run, room, ports, clock, log) {
@@ -74,7 +79,13 @@ fn new_run(alloc: Global, settings: Settings) -> Result<Run, Memory>
     requires least { 1 ≤ settings.places.capacity }
     requires most { settings.places.capacity ≤ 1024 }
     requires used { settings.places.used < 2 ^ 48 }
-    ensures { IfOk result (λ run. run ≡ record { rules = rules_of settings; state = started (new_node (profile_of settings)); told = [] }) }
+    ensures { IfOk result
+        (λ run. run
+        ≡ record {
+          rules = rules_of settings;
+          state = started (new_node (profile_of settings));
+          told = [];
+        }) }
 {
     let Settings {
         identity,
@@ -114,12 +125,15 @@ fn move_once<P: Ports, C: Clock, K: Sink>(
     requires ended { IsRunEnd run.old.state.ended }
     ensures rules { result ≡ None → run.new.rules ≡ run.old.rules }
     ensures clock { C.moment clock.new ≡ C.moment clock.old }
-    ensures does { DoesOnce result (C.moment clock.old) run.old.rules run.old.state run.new.state (P.given ports.old) (P.given ports.new) (K.contents log.old) (K.contents log.new) }
+    ensures does { DoesOnce result (C.moment clock.old) run.old.rules run.old.state run.new.state
+        (P.given ports.old) (P.given ports.new) (K.contents log.old) (K.contents log.new) }
     ensures rest { result ≡ None → length run.new.state.rest ≤ 4096 }
-    ensures ended { result ≡ None → IsEndCaused run.new.state.ended (P.faults ports.old) (P.faults ports.new) }
+    ensures ended { result ≡ None
+        → IsEndCaused run.new.state.ended (P.faults ports.old) (P.faults ports.new) }
     ensures ports { P.faults ports.old ≤ P.faults ports.new }
     ensures log { K.faults log.old ≤ K.faults log.new }
-    ensures status { IfSome result (λ status. IsOnceStatus run.old.state.ended status (K.faults log.old) (K.faults log.new)) }
+    ensures status { IfSome result
+        (λ status. IsOnceStatus run.old.state.ended status (K.faults log.old) (K.faults log.new)) }
 {
     run.begin_move();
     let next = run.next();

@@ -16,7 +16,9 @@ impl Run {
     pub fn show(&mut self) -> Result<(), Memory>
         requires { self.old.told ≡ [] }
         ensures rules { self.new.rules ≡ self.old.rules }
-        ensures tells { OnOk result (Tells (shown self.old.rules self.old.state) self.old.state self.new.state self.new.told) }
+        ensures tells { OnOk result
+            (Tells (shown self.old.rules self.old.state) self.old.state self.new.state
+            self.new.told) }
     {
         write_all_kept(
             self.turn,
@@ -46,7 +48,8 @@ fn write_all_kept(
     boards: &[Record],
     to: &mut Vec<u8>,
 ) -> Result<(), Memory>
-    ensures { OnOk result (to.new.items ≡ to.old.items ++ flat_map (kept_line turn machine) boards.now) }
+    ensures { OnOk result
+        (to.new.items ≡ to.old.items ++ flat_map (kept_line turn machine) boards.now) }
 {
     for board in boards {
         write_kept(turn, machine, board, to)?;
@@ -63,7 +66,9 @@ fn write_kept(turn: u64, machine: u32, board: &Record, to: &mut Vec<u8>) -> Resu
 }
 
 fn write_held(turn: u64, side: Side, board: Option<&Record>, to: &mut Vec<u8>) -> Result<(), Memory>
-    ensures { OnOk result (to.new.items ≡ to.old.items ++ held_line turn side (option_map (λ board. board.now) board.entry)) }
+    ensures { OnOk result
+        (to.new.items ≡ to.old.items
+        ++ held_line turn side (option_map (λ board. board.now) board.entry)) }
 {
     let Some(board) = board else {
         return Ok(());

@@ -23,7 +23,9 @@ impl Run {
     pub fn take(&mut self, input: Input<'_>, moment: Moment) -> Result<(), Memory>
         requires { self.old.told ≡ [] }
         ensures rules { self.new.rules ≡ self.old.rules }
-        ensures takes { OnOk result (Takes (may_of self.old.state.node input.entry) self.old.rules moment input.entry self.old.state self.old.state self.new.state self.new.told) }
+        ensures takes { OnOk result
+            (Takes (may_of self.old.state.node input.entry) self.old.rules moment input.entry
+            self.old.state self.old.state self.new.state self.new.told) }
     {
         if self.node.may(&input).is_err() {
             return Ok(());
@@ -41,7 +43,9 @@ impl Run {
         requires may { may_of self.old.state.node input ≡ may_do }
         requires told { self.old.told ≡ [] }
         ensures rules { self.new.rules ≡ self.old.rules }
-        ensures takes { OnOk result (TakesStep self.old.rules moment sensed.now input.entry self.old.state self.new.state self.new.told) }
+        ensures takes { OnOk result
+            (TakesStep self.old.rules moment sensed.now input.entry self.old.state self.new.state
+            self.new.told) }
     {
         let acts = self.step_silently(sensed, input, moment)?;
         self.route(acts.list())
@@ -57,7 +61,9 @@ impl Run {
         requires may { may_of self.old.state.node input ≡ may_do }
         requires told { self.old.told ≡ [] }
         ensures rules { self.new.rules ≡ self.old.rules }
-        ensures stepped { IfOk result (λ acts. HasStepped self.old.rules moment sensed.now input.entry acts self.old.state self.new.state self.new.told) }
+        ensures stepped { IfOk result
+            (λ acts. HasStepped self.old.rules moment sensed.now input.entry acts self.old.state
+            self.new.state self.new.told) }
     {
         let acts = self.node.step(sensed, input, moment)?;
         acts_are_proper(acts.list());
@@ -65,8 +71,8 @@ impl Run {
         Ok(acts)
     }
 
-    /// Messages wait on the ways of their sides, those for the supervisor where its session stands, and a side that was
-    /// closed is to end.
+    /// Messages wait on the ways of their sides, those for the supervisor where its session
+    /// stands, and a side that was closed is to end.
     fn route(&mut self, acts: &[Act]) -> Result<(), Memory>
         ensures rules { self.new.rules ≡ self.old.rules }
         ensures routed { OnOk result (self.new ≡ record self.old { state = routed acts.now self.old.state }) }
@@ -79,7 +85,8 @@ impl Run {
 
     fn route_one(&mut self, act: &Act) -> Result<(), Memory>
         ensures rules { self.new.rules ≡ self.old.rules }
-        ensures routed { OnOk result (self.new ≡ record self.old { state = routed (act.now ∷ []) self.old.state }) }
+        ensures routed { OnOk result
+            (self.new ≡ record self.old { state = routed (act.now ∷ []) self.old.state }) }
     {
         match act {
             Act::Sends(Side::Entry, message) => self.upstream.append_message(message),
@@ -97,10 +104,13 @@ impl Run {
         }
     }
 
-    /// What a supervisor is told waits on its way where its session stands, and is dropped where it doesn't.
+    /// What a supervisor is told waits on its way where its session stands, and is dropped where
+    /// it doesn't.
     fn route_told(&mut self, message: &VerticalMessage) -> Result<(), Memory>
         ensures rules { self.new.rules ≡ self.old.rules }
-        ensures routed { OnOk result (self.new ≡ record self.old { state = routed (acts.Tells message.now ∷ []) self.old.state }) }
+        ensures routed { OnOk result
+            (self.new
+            ≡ record self.old { state = routed (acts.Tells message.now ∷ []) self.old.state }) }
     {
         if !self.channel.stands() {
             return Ok(());
@@ -108,11 +118,15 @@ impl Run {
         self.supervisory.append_told(message)
     }
 
-    /// A second connection of the downstream neighbour: the first of the step's messages is for that, and it is refused.
+    /// A second connection of the downstream neighbour: the first of the step's messages is for
+    /// that, and it is refused.
     pub fn meet_second(&mut self, moment: Moment) -> Result<(), Memory>
         requires { self.old.told ≡ [] }
         ensures rules { self.new.rules ≡ self.old.rules }
-        ensures meets { OnOk result (MeetsSecond (may_of self.old.state.node inputs.Second) self.old.rules moment inputs.Second self.old.state self.new.state self.new.told) }
+        ensures meets { OnOk result
+            (MeetsSecond
+            (may_of self.old.state.node inputs.Second) self.old.rules moment inputs.Second
+            self.old.state self.new.state self.new.told) }
     {
         if self.node.may(&Input::Second).is_err() {
             return Ok(());
@@ -124,7 +138,9 @@ impl Run {
         requires may { may_of self.old.state.node inputs.Second ≡ may_do }
         requires told { self.old.told ≡ [] }
         ensures rules { self.new.rules ≡ self.old.rules }
-        ensures takes { OnOk result (TakesSecond self.old.rules moment inputs.Second self.old.state self.new.state self.new.told) }
+        ensures takes { OnOk result
+            (TakesSecond self.old.rules moment inputs.Second self.old.state self.new.state
+            self.new.told) }
     {
         let acts = self.step_silently(&[], Input::Second, moment)?;
         self.refuse_with(acts.list())
@@ -133,7 +149,8 @@ impl Run {
     /// The first of these acts is for the second connection, the others go their ways.
     fn refuse_with(&mut self, acts: &[Act]) -> Result<(), Memory>
         ensures rules { self.new.rules ≡ self.old.rules }
-        ensures refuses { OnOk result (self.new ≡ record self.old { state = refusing_with acts.now self.old.state }) }
+        ensures refuses { OnOk result
+            (self.new ≡ record self.old { state = refusing_with acts.now self.old.state }) }
     {
         let text = match acts.split_first() {
             Some((first, others)) => {

@@ -31,7 +31,8 @@ fn write_line(turn: u64, machine: u32, act: &Act, to: &mut Vec<u8>) -> Result<()
 }
 
 fn write_act_line(turn: u64, machine: u32, act: &Act, to: &mut Vec<u8>) -> Result<(), Memory>
-    ensures { OnOk result (to.new.items ≡ to.old.items ++ log_line turn (act_text machine act.now)) }
+    ensures { OnOk result
+        (to.new.items ≡ to.old.items ++ log_line turn (act_text machine act.now)) }
 {
     written(write!(to, "{turn} "))?;
     write_act(machine, act, to)?;

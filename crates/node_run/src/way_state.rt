@@ -103,7 +103,8 @@ impl WayState {
 
     /// Adds text at the end.
     pub fn append(&mut self, text: &[u8]) -> Result<(), Memory>
-        ensures { OnOk result (self.new ≡ record self.old { unsent = self.old.unsent ++ text.now }) }
+        ensures { OnOk result
+            (self.new ≡ record self.old { unsent = self.old.unsent ++ text.now }) }
     {
         match self.unsent.extend_from_slice(text) {
             Ok(()) => Ok(()),
@@ -113,14 +114,17 @@ impl WayState {
 
     /// Adds a message at the end.
     pub fn append_message(&mut self, message: &Message) -> Result<(), Memory>
-        ensures { OnOk result (self.new ≡ record self.old { unsent = self.old.unsent ++ canonical message.now }) }
+        ensures { OnOk result
+            (self.new ≡ record self.old { unsent = self.old.unsent ++ canonical message.now }) }
     {
         write_horizontal(message, &mut self.unsent)
     }
 
     /// Adds a message for the supervisor at the end.
     pub fn append_told(&mut self, message: &VerticalMessage) -> Result<(), Memory>
-        ensures { OnOk result (self.new ≡ record self.old { unsent = self.old.unsent ++ vertical_canonical message.now }) }
+        ensures { OnOk result
+            (self.new
+            ≡ record self.old { unsent = self.old.unsent ++ vertical_canonical message.now }) }
     {
         write_vertical(message, &mut self.unsent)
     }

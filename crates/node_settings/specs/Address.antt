@@ -5,7 +5,8 @@ use Rattle.line_outside.specs.declared.way.Address.{Address}
 
 -- what stands round the first such byte
 abbrev pub cut_at : ℕ → List ℕ → Option (List ℕ × List ℕ)
-cut_at separator bytes = option_map (λ i. (take i bytes, drop (i + 1) bytes)) (position (λ b. b == separator) bytes)
+cut_at separator bytes =
+    option_map (λ i. (take i bytes, drop (i + 1) bytes)) (position (λ b. b == separator) bytes)
 
 abbrev pub at_most : ℕ → ℕ → Option ℕ
 at_most most number = if nat_le number most then Some number else None
@@ -23,11 +24,15 @@ port_of word = option_and_then at_least_1 (option_and_then (at_most 65535) (numb
 
 -- a part with a point behind it, and what follows
 abbrev pub part_before : List ℕ → Option (ℕ × List ℕ)
-part_before bytes = option_and_then (λ parts. option_map (λ part. (part, parts.1)) (part_of parts.0)) (cut_at 46 bytes)
+part_before bytes =
+    option_and_then (λ parts. option_map (λ part. (part, parts.1)) (part_of parts.0))
+    (cut_at 46 bytes)
 
 abbrev pub host_of : List ℕ → Option (List ℕ)
 host_of bytes =
-    option_and_then (λ a. option_and_then (λ b. option_and_then (λ c. option_map (λ d. a.0 ∷ b.0 ∷ c.0 ∷ d ∷ []) (part_of c.1))
+    option_and_then (λ a.
+    option_and_then (λ b.
+    option_and_then (λ c. option_map (λ d. a.0 ∷ b.0 ∷ c.0 ∷ d ∷ []) (part_of c.1))
     (part_before b.1)) (part_before a.1)) (part_before bytes)
 
 abbrev pub made_address : List ℕ → ℕ → Address
@@ -35,4 +40,7 @@ made_address host port = record { host = host; port = port }
 
 -- WHAT AN ADDRESS SAYS, if it is one: its four parts, and its port
 abbrev pub address_of : List ℕ → Option Address
-address_of bytes = option_and_then (λ parts. option_and_then (λ host. option_map (made_address host) (port_of parts.1)) (host_of parts.0)) (cut_at 58 bytes)
+address_of bytes =
+    option_and_then (λ parts.
+    option_and_then (λ host. option_map (made_address host) (port_of parts.1)) (host_of parts.0))
+    (cut_at 58 bytes)

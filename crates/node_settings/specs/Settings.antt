@@ -33,7 +33,8 @@ named key (Err why) = Err (refusal key why)
 -- ---- the keys in their order
 
 abbrev pub number_of : Members → Result ℕ Refusal
-number_of ms = named keys.Number (required (number_as 1 4294967295) (get_member (codes "number") ms))
+number_of ms =
+    named keys.Number (required (number_as 1 4294967295) (get_member (codes "number") ms))
 
 abbrev pub machine_id_of : Members → Result (List ℕ) Refusal
 machine_id_of ms = named keys.MachineId (required id_text_as (get_member (codes "machine_id") ms))
@@ -42,16 +43,22 @@ abbrev pub lane_of : Members → Result ℕ Refusal
 lane_of ms = named keys.Lane (required (number_as 1 999) (get_member (codes "lane") ms))
 
 abbrev pub made_identity : ℕ → List ℕ → ℕ → Identity
-made_identity number machine_id lane = record { number = number; machine_id = machine_id; lane = lane }
+made_identity number machine_id lane =
+    record { number = number; machine_id = machine_id; lane = lane }
 
 abbrev pub identity_of : Members → Result Identity Refusal
-identity_of ms = then_ok (number_of ms) (λ number. then_ok (machine_id_of ms) (λ machine_id. mapped_ok (made_identity number machine_id) (lane_of ms)))
+identity_of ms =
+    then_ok (number_of ms) (λ number.
+    then_ok (machine_id_of ms) (λ machine_id.
+    mapped_ok (made_identity number machine_id) (lane_of ms)))
 
 abbrev pub capacity_of : Members → Result ℕ Refusal
-capacity_of ms = named keys.Capacity (required (number_as 1 1024) (get_member (codes "capacity") ms))
+capacity_of ms =
+    named keys.Capacity (required (number_as 1 1024) (get_member (codes "capacity") ms))
 
 abbrev pub used_of : Members → Result (Option ℕ) Refusal
-used_of ms = named keys.Used (optional (number_as 0 281474976710655) (get_member (codes "used") ms))
+used_of ms =
+    named keys.Used (optional (number_as 0 281474976710655) (get_member (codes "used") ms))
 
 abbrev pub made_places : ℕ → Option ℕ → Places
 made_places capacity used = record { capacity = capacity; used = unwrap_or used 0 }
@@ -66,14 +73,18 @@ abbrev pub upstream_of : Members → Result (Option Address) Refusal
 upstream_of ms = named keys.Upstream (optional address_as (get_member (codes "upstream") ms))
 
 abbrev pub downstream_port_of : Members → Result (Option ℕ) Refusal
-downstream_port_of ms = named keys.DownstreamPort (optional (number_as 1 65535) (get_member (codes "downstream_port") ms))
+downstream_port_of ms =
+    named keys.DownstreamPort
+    (optional (number_as 1 65535) (get_member (codes "downstream_port") ms))
 
 abbrev pub supervisory_port_of : Members → Result (Option ℕ) Refusal
 supervisory_port_of ms =
-    named keys.SupervisoryPort (optional (number_as 1 65535) (get_member (codes "supervisory_port") ms))
+    named keys.SupervisoryPort
+    (optional (number_as 1 65535) (get_member (codes "supervisory_port") ms))
 
 abbrev pub panel_port_of : Members → Result ℕ Refusal
-panel_port_of ms = named keys.PanelPort (required (number_as 1 65535) (get_member (codes "panel_port") ms))
+panel_port_of ms =
+    named keys.PanelPort (required (number_as 1 65535) (get_member (codes "panel_port") ms))
 
 -- the standard's port of a lane is 50,100 and its number
 abbrev pub made_connections : ℕ → Option Address → Option ℕ → Option ℕ → ℕ → Connections
@@ -88,10 +99,12 @@ abbrev pub connections_of : ℕ → Members → Result Connections Refusal
 connections_of lane ms =
     then_ok (upstream_of ms) (λ upstream. then_ok (downstream_port_of ms) (λ downstream_port.
     then_ok (supervisory_port_of ms) (λ supervisory_port.
-    mapped_ok (made_connections lane upstream downstream_port supervisory_port) (panel_port_of ms))))
+    mapped_ok (made_connections lane upstream downstream_port supervisory_port)
+    (panel_port_of ms))))
 
 abbrev pub turns_of : Members → Result ℕ Refusal
-turns_of ms = named keys.Turns (required (number_as 1 1000000000000) (get_member (codes "turns") ms))
+turns_of ms =
+    named keys.Turns (required (number_as 1 1000000000000) (get_member (codes "turns") ms))
 
 -- ---- how a key is told
 
@@ -113,11 +126,15 @@ key_text keys.Unknown = codes "a key"
 -- ---- keys of unknown names
 
 abbrev pub is_known_of_machine : List ℕ → Bool
-is_known_of_machine key = bytes_eq key (codes "number") || bytes_eq key (codes "machine_id") || bytes_eq key (codes "lane") || bytes_eq key (codes "capacity") || bytes_eq key (codes "used") || bytes_eq key (codes "bridge")
+is_known_of_machine key =
+    bytes_eq key (codes "number") || bytes_eq key (codes "machine_id")
+    || bytes_eq key (codes "lane") || bytes_eq key (codes "capacity")
+    || bytes_eq key (codes "used") || bytes_eq key (codes "bridge")
 
 abbrev pub is_known_of_connections : List ℕ → Bool
 is_known_of_connections key =
-    bytes_eq key (codes "upstream") || bytes_eq key (codes "downstream_port") || bytes_eq key (codes "supervisory_port") || bytes_eq key (codes "panel_port")
+    bytes_eq key (codes "upstream") || bytes_eq key (codes "downstream_port")
+    || bytes_eq key (codes "supervisory_port") || bytes_eq key (codes "panel_port")
     || bytes_eq key (codes "turns")
 
 abbrev pub is_known : List ℕ → Bool
@@ -129,7 +146,8 @@ are_known (member key value ms) = is_known key && are_known ms
 
 -- an unknown key is refused last
 abbrev pub known_turns : Members → ℕ → Result ℕ Refusal
-known_turns ms turns = if are_known ms then Ok turns else Err (refusal keys.Unknown whys.UnknownKey)
+known_turns ms turns =
+    if are_known ms then Ok turns else Err (refusal keys.Unknown whys.UnknownKey)
 
 abbrev pub known_turns_of : Members → Result ℕ Refusal
 known_turns_of ms = then_ok (turns_of ms) (known_turns ms)
@@ -143,11 +161,13 @@ made_settings identity places bridge connections turns = record {
   turns = turns;
 }
 
--- WHAT A DOCUMENT SAYS: its settings, or the refusal of the first key that is refused, in the order of the table; an
--- unknown key last
+-- WHAT A DOCUMENT SAYS: its settings, or the refusal of the first key that is refused, in the
+-- order of the table; an unknown key last
 abbrev pub settings_of : Members → Result Settings Refusal
 settings_of ms =
-    then_ok (identity_of ms) (λ identity. then_ok (places_of ms) (λ places. then_ok (bridge_of ms) (λ bridge. then_ok (connections_of identity.lane ms) (λ connections.
+    then_ok (identity_of ms) (λ identity.
+    then_ok (places_of ms) (λ places.
+    then_ok (bridge_of ms) (λ bridge. then_ok (connections_of identity.lane ms) (λ connections.
     mapped_ok (made_settings identity places bridge connections) (known_turns_of ms)))))
 
 -- the document that bytes are, if they are TOML in UTF-8
@@ -160,7 +180,9 @@ settings_in (Some ms) = settings_of ms
 
 -- WHAT A FILE SAYS
 abbrev pub read_of : List ℕ → Result Settings Refusal
-read_of bytes = if nat_lt 65536 (length bytes) then Err (refusal keys.Document whys.TooLarge) else settings_in (document_of bytes)
+read_of bytes =
+    if nat_lt 65536 (length bytes) then Err (refusal keys.Document whys.TooLarge) else settings_in
+    (document_of bytes)
 
 -- what reading answers, unless memory ran out
 abbrev pub Reads : {A : Type 0} → Result A Refusal → Result A SettingsError → Type 0

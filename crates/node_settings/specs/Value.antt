@@ -26,7 +26,9 @@ number_as low high _ = Err whys.WrongKind
 
 -- a text of 1 to 64 bytes: UTF-8 of allowed characters
 abbrev pub is_id_text : List ℕ → Bool
-is_id_text bytes = (nat_le 1 (length bytes) && nat_le (length bytes) 64) && (is_utf8 bytes && list_all is_allowed_char (chars bytes))
+is_id_text bytes =
+    (nat_le 1 (length bytes) && nat_le (length bytes) 64)
+    && (is_utf8 bytes && list_all is_allowed_char (chars bytes))
 
 abbrev pub id_text_of : List ℕ → Result (List ℕ) ConfigWhy
 id_text_of bytes = if is_id_text bytes then Ok bytes else Err whys.OutOfRange
@@ -52,7 +54,8 @@ bridge_as _ = Err whys.WrongKind
 -- ---- a value at a key
 
 -- one that may be missing
-abbrev pub optional : {A : Type 0} → (Data → Result A ConfigWhy) → Option Data → Result (Option A) ConfigWhy
+abbrev pub optional : {A : Type 0} → (Data → Result A ConfigWhy) → Option Data
+    → Result (Option A) ConfigWhy
 optional kind None = Ok None
 optional kind (Some value) = mapped_ok Some (kind value)
 

@@ -55,7 +55,8 @@ fn port_of(word: &[u8]) -> Option<u16>
 
 /// What stands round the first such byte.
 fn cut_at(bytes: &[u8], separator: u8) -> Option<(&[u8], &[u8])>
-    ensures { option_map (λ parts. (parts.0.now, parts.1.now)) result ≡ cut_at separator bytes.now }
+    ensures { option_map (λ parts. (parts.0.now, parts.1.now)) result
+        ≡ cut_at separator bytes.now }
 {
     let place = place_of(bytes, separator)?;
     Some((&bytes[..place], &bytes[place + 1..]))

@@ -2,7 +2,8 @@ use line_base::Memory;
 use std::fmt;
 use thiserror::Error;
 
-/// What of a settings file is refused: the document as a whole, one of its keys, or a key that is none of them.
+/// What of a settings file is refused: the document as a whole, one of its keys, or a key that is
+/// none of them.
 #[derive(Clone, Copy, Debug, PartialEq, Eq)]
 pub enum ConfigKey {
     Document,

@@ -21,10 +21,11 @@ const FIRST_PORT: u32 = 50_100;
 
 /// Reads the settings of a machine, a document of TOML.
 ///
-/// Refuses, in this order: a document of more than 65,536 bytes, or one that is no TOML (numbers beyond 64 bits and nesting
-/// past 80 are none); then the first of the keys `number`, `machine_id`, `lane`, `capacity`, `used`, `bridge`, `upstream`,
-/// `downstream_port`, `supervisory_port`, `panel_port`, `turns` that is missing but not optional, of the wrong kind or out
-/// of range; and then a key of another name.
+/// Refuses, in this order: a document of more than 65,536 bytes, or one that is no TOML (numbers
+/// beyond 64 bits and nesting past 80 are none); then the first of the keys `number`,
+/// `machine_id`, `lane`, `capacity`, `used`, `bridge`, `upstream`, `downstream_port`,
+/// `supervisory_port`, `panel_port`, `turns` that is missing but not optional, of the wrong kind
+/// or out of range; and then a key of another name.
 pub fn read_settings(alloc: Global, bytes: &[u8]) -> Result<Settings, SettingsError>
     ensures { Reads (read_of bytes.now) result }
 {

@@ -17,7 +17,8 @@ const MOST_ID_BYTES: usize = 64;
 
 /// What stands at a key.
 fn member_at<'a>(table: &'a Table, key: &str) -> Option<&'a Value>
-    ensures { option_map (λ value. view value.now) result ≡ get_member key.now (table_view table.now) }
+    ensures { option_map (λ value. view value.now) result
+        ≡ get_member key.now (table_view table.now) }
 {
     table.get(key)
 }
@@ -30,7 +31,8 @@ pub fn number_at(
     low: u64,
     high: u64,
 ) -> Result<u64, SettingsError>
-    ensures value { Reads (named name (required (number_as low high) (get_member key.now (table_view table.now)))) result }
+    ensures value { Reads (named name
+        (required (number_as low high) (get_member key.now (table_view table.now)))) result }
     ensures within { IfOk result (λ n. n ≤ high) }
 {
     match member_at(table, key) {
@@ -47,7 +49,8 @@ pub fn optional_number_at(
     low: u64,
     high: u64,
 ) -> Result<Option<u64>, SettingsError>
-    ensures value { Reads (named name (optional (number_as low high) (get_member key.now (table_view table.now)))) result }
+    ensures value { Reads (named name
+        (optional (number_as low high) (get_member key.now (table_view table.now)))) result }
     ensures within { IfOk result (λ found. IfSome found (λ n. n ≤ high)) }
 {
     match member_at(table, key) {
@@ -85,7 +88,9 @@ fn number_in(number: i64, name: ConfigKey, low: u64, high: u64) -> Result<u64, S
 
 /// The id text of a machine at a key.
 pub fn id_text_at(alloc: Global, table: &Table, key: &str) -> Result<Text, SettingsError>
-    ensures { Reads (named keys.MachineId (required id_text_as (get_member key.now (table_view table.now)))) result }
+    ensures { Reads
+        (named keys.MachineId (required id_text_as (get_member key.now (table_view table.now))))
+        result }
 {
     match member_at(table, key) {
         Some(value) => id_text_as(alloc, value),
@@ -125,7 +130,9 @@ fn refused(why: ConfigWhy) -> SettingsError
 
 /// The address of the upstream neighbour at a key, which may be missing.
 pub fn optional_address_at(table: &Table, key: &str) -> Result<Option<Address>, SettingsError>
-    ensures { Reads (named keys.Upstream (optional address_as (get_member key.now (table_view table.now)))) result }
+    ensures { Reads
+        (named keys.Upstream (optional address_as (get_member key.now (table_view table.now))))
+        result }
 {
     match member_at(table, key) {
         Some(value) => match address_as(value) {
@@ -150,7 +157,8 @@ fn address_as(value: &Value) -> Result<Address, ConfigWhy>
 
 /// Whether the body is a segment with signals, at a key which may be missing.
 pub fn optional_bridge_at(table: &Table, key: &str) -> Result<Option<bool>, SettingsError>
-    ensures { Reads (named keys.Bridge (optional bridge_as (get_member key.now (table_view table.now)))) result }
+    ensures { Reads
+        (named keys.Bridge (optional bridge_as (get_member key.now (table_view table.now)))) result }
 {
     match member_at(table, key) {
         Some(value) => match bridge_as(value) {

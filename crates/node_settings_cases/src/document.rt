@@ -11,9 +11,9 @@ const LINES: [&str; 6] = [
     "turns = 1000",
 ];
 
-/// The document of a case. Behind `only` it is the text there, and nothing where no text follows. Else it is the file that is
-/// accepted with each change in turn: `-key` leaves its line out, and another line stands in the place of that of its key, or at
-/// the end.
+/// The document of a case. Behind `only` it is the text there, and nothing where no text follows.
+/// Else it is the file that is accepted with each change in turn: `-key` leaves its line out, and
+/// another line stands in the place of that of its key, or at the end.
 pub fn document_of(alloc: Global, line: &str) -> Result<Vec<u8>, AllocError> {
     let mut document = Vec::new(alloc);
     if line == "only" {

@@ -1,4 +1,5 @@
-//! Cases of `node_settings`, a line each: what is another in a file of settings, and what the reader answers to it.
+//! Cases of `node_settings`, a line each: what is another in a file of settings, and what the
+//! reader answers to it.
 #![tactic(auto)]
 
 mod document;

@@ -1,4 +1,5 @@
--- NO FALSE BLAME: a machine tells of a breach at a side only behind a line that spoiled what flows to that side.
+-- NO FALSE BLAME: a machine tells of a breach at a side only behind a line that spoiled what flows
+-- to that side.
 use Rattle.std.specs.Prelude.{List, [], false, length, take, ℕ, ◌++◌, ◌∷◌, ◌≡◌, ◌≤◌}
 use Rattle.std.specs.List.{AllByRecursion}
 use Rattle.line_base.specs.declared.states.Side.{Side}
@@ -18,13 +19,20 @@ WasSpoiled past machine side = IsTold (happenings.Spoils machine side) past
 
 -- a breach at a side of a machine is told only where what flows to that side was spoiled before
 abbrev pub IsBlameTrue : List Happening → List Happening → Type 0
-IsBlameTrue past told = (machine : ℕ) (side : Side) (text : List ℕ) → IsTold (happenings.Done machine (acts.Breaches side text)) told → WasSpoiled past machine side
+IsBlameTrue past told =
+    (machine : ℕ) (side : Side) (text : List ℕ)
+    → IsTold (happenings.Done machine (acts.Breaches side text)) told
+    → WasSpoiled past machine side
 
 -- along the points of a run, where the lines before told this
 abbrev pub AreBlamesTrue : List Happening → List Point → Type 0
 AreBlamesTrue past [] = Unit {0}
-AreBlamesTrue past (point ∷ points) = IsBlameTrue past point.told × AreBlamesTrue (past ++ point.told) points
+AreBlamesTrue past (point ∷ points) =
+    IsBlameTrue past point.told × AreBlamesTrue (past ++ point.told) points
 
 -- THE LAW: from the empty line on, up to the first line that told what was not so
 abbrev pub NoFalseBlame : Type 0
-NoFalseBlame = (asked : List ScriptLine) (points : List Point) (n : ℕ) → AllByRecursion IsFitLine asked → length asked ≤ 1000000 → IsRun no_line asked points → has_lie (take n points) ≡ false → AreBlamesTrue [] (take n points)
+NoFalseBlame =
+    (asked : List ScriptLine) (points : List Point) (n : ℕ) → AllByRecursion IsFitLine asked
+    → length asked ≤ 1000000 → IsRun no_line asked points → has_lie (take n points) ≡ false
+    → AreBlamesTrue [] (take n points)

@@ -14,15 +14,19 @@ use Rattle.line_step.specs.State.{LineState}
 use Rattle.line_step.specs.World.{link_at}
 use Rattle.one_standing.specs.Relation.{Between, Stand}
 
--- what flows in one direction of a link that stands or not, to a side at which these bytes wait: the texts of fit messages,
--- whole; or there is a NUL in the next of them; or nothing will come any more, since the link was cut or the side closed
-pub data Carries (stands : Bool) (waiting : List ℕ) (stream : Stream) : List Horizontal → Type 0 where
-  carries_whole : (said : List Message) → AreFit said → Flows waiting (coming stream) (texts_of said) → Carries stands waiting stream (bodies said)
-  carries_spoiled : {messages : List Horizontal} → Spoiled waiting (coming stream) → Carries stands waiting stream messages
+-- what flows in one direction of a link that stands or not, to a side at which these bytes wait:
+-- the texts of fit messages, whole; or there is a NUL in the next of them; or nothing will come
+-- any more, since the link was cut or the side closed
+pub data Carries (stands : Bool) (waiting : List ℕ) (stream : Stream) : List Horizontal
+    → Type 0 where
+  carries_whole : (said : List Message) → AreFit said
+      → Flows waiting (coming stream) (texts_of said) → Carries stands waiting stream (bodies said)
+  carries_spoiled : {messages : List Horizontal} → Spoiled waiting (coming stream)
+      → Carries stands waiting stream messages
   carries_over : stands ≡ false → coming stream ≡ [] → Carries stands waiting stream []
 
--- what nobody keeps of a line: of each link the ghost of its handover, the messages that are sent and not heard, and the
--- ids that went from the floor there
+-- what nobody keeps of a line: of each link the ghost of its handover, the messages that are sent
+-- and not heard, and the ids that went from the floor there
 pub record Trace : Type 0 where
   pub ghost : ℕ → Ghost
   pub up : ℕ → List Horizontal
@@ -31,15 +35,26 @@ pub record Trace : Type 0 where
 
 -- a line by numbers
 abbrev pub stand_of : LineState → ℕ → Stand
-stand_of s machine = record { body = (node_at s machine).lane.body; place = machine_at s.world.floor machine }
+stand_of s machine =
+    record { body = (node_at s machine).lane.body; place = machine_at s.world.floor machine }
 
 abbrev pub between_of : Trace → LineState → ℕ → Between
-between_of t s link = record { ghost = t.ghost link; stands = (link_at link s.world).stands; gap = gap_at s.world.floor link; up = t.up link; down = t.down link; gone = t.gone link }
+between_of t s link =
+    record {
+      ghost = t.ghost link;
+      stands = (link_at link s.world).stands;
+      gap = gap_at s.world.floor link;
+      up = t.up link;
+      down = t.down link;
+      gone = t.gone link;
+    }
 
 -- the bytes of a link are its messages, and the records of its machines are fit to be told of
 pub record Carried (t : Trace) (s : LineState) (link : ℕ) : Type 0 where
-  pub up : Carries (link_at link s.world).stands (node_at s link).lane.exit_bytes (link_at link s.world).flows.to_upstream (t.up link)
-  pub down : Carries (link_at link s.world).stands (node_at s (link + 1)).lane.entry_bytes (link_at link s.world).flows.to_downstream (t.down link)
+  pub up : Carries (link_at link s.world).stands (node_at s link).lane.exit_bytes
+      (link_at link s.world).flows.to_upstream (t.up link)
+  pub down : Carries (link_at link s.world).stands (node_at s (link + 1)).lane.entry_bytes
+      (link_at link s.world).flows.to_downstream (t.down link)
 
 pub record IsFitMachine (s : LineState) (machine : ℕ) : Type 0 where
   pub body : IsFitBody (node_at s machine).lane.body

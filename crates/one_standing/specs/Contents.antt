@@ -28,15 +28,22 @@ pub record IsMarked (told : List Happening) (machine id : ℕ) : Type 0 where
   pub quality : Quality
   pub marks : IsTold (happenings.Done machine (acts.Marks id quality)) told
 
--- a record that a machine keeps before a line and behind it is the same, unless the line marked its board at that machine
+-- a record that a machine keeps before a line and behind it is the same, unless the line marked
+-- its board at that machine
 abbrev pub KeepsContents : (ℕ → ℕ → Type 0) → LineState → LineState → Type 0
-KeepsContents Marks before after = (machine : ℕ) (was now : Record) → KeepsRecord before machine was → KeepsRecord after machine now → was.id ≡ now.id → (now ≡ was) ⊎ Marks machine now.id
+KeepsContents Marks before after =
+    (machine : ℕ) (was now : Record) → KeepsRecord before machine was
+    → KeepsRecord after machine now → was.id ≡ now.id → (now ≡ was) ⊎ Marks machine now.id
 
 -- along the points of a run, from a state on
 abbrev pub AreContentsKept : LineState → List Point → Type 0
 AreContentsKept s [] = Unit {0}
-AreContentsKept s (point ∷ points) = KeepsContents (IsMarked point.told) s point.after × AreContentsKept point.after points
+AreContentsKept s (point ∷ points) =
+    KeepsContents (IsMarked point.told) s point.after × AreContentsKept point.after points
 
 -- THE LAW: over each line of every script, up to the first one that told what was not so
 abbrev pub ContentsAreKept : Type 0
-ContentsAreKept = (asked : List ScriptLine) (points : List Point) (n : ℕ) → AllByRecursion IsFitLine asked → length asked ≤ 1000000 → IsRun no_line asked points → has_lie (take n points) ≡ false → AreContentsKept no_line (take n points)
+ContentsAreKept =
+    (asked : List ScriptLine) (points : List Point) (n : ℕ) → AllByRecursion IsFitLine asked
+    → length asked ≤ 1000000 → IsRun no_line asked points → has_lie (take n points) ≡ false
+    → AreContentsKept no_line (take n points)

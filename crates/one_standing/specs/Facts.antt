@@ -69,44 +69,68 @@ held_here (Some id) boards = if is_in_list id boards then id ∷ [] else []
 abbrev pub board_with : ℕ → Board
 board_with id = record { id = Some id }
 
--- the boards in a list are, from the front: that of the outlet, if it is in the list, those that are kept, and that of the
--- intake, if it is in the list
+-- the boards in a list are, from the front: that of the outlet, if it is in the list, those that
+-- are kept, and that of the intake, if it is in the list
 abbrev pub AreInOrder : Owned → List Board → Type 0
-AreInOrder own boards = boards ≡ map board_with (held_here own.held boards ++ (own.kept ++ held_here own.taking boards))
+AreInOrder own boards =
+    boards ≡ map board_with (held_here own.held boards
+    ++ (own.kept ++ held_here own.taking boards))
 
 -- the bytes that are undelivered at a machine's entry, and those that are on their way to it
 abbrev pub to_entry : LineState → ℕ → List ℕ
-to_entry s gap = (node_at s (gap + 1)).lane.entry_bytes ++ coming (link_at gap s.world).flows.to_downstream
+to_entry s gap =
+    (node_at s (gap + 1)).lane.entry_bytes ++ coming (link_at gap s.world).flows.to_downstream
 
--- bytes mean these messages first, whatever follows them. Behind a spoiled text, which means none, nothing is said of them
+-- bytes mean these messages first, whatever follows them. Behind a spoiled text, which means none,
+-- nothing is said of them
 abbrev pub AreComing : List ℕ → List Message → Type 0
-AreComing bytes messages = AreFirst (frames_of bytes).messages (frames_of bytes).rest (map (λ (message : Message). words.Says message) messages)
+AreComing bytes messages =
+    AreFirst (frames_of bytes).messages (frames_of bytes).rest
+    (map (λ (message : Message). words.Says message) messages)
 
--- one of them tells that the transport of a board has ended upstream, or describes the machine there
+-- one of them tells that the transport of a board has ended upstream, or describes the machine
+-- there
 pub data LetsGo : List Message → Type 0 where
-  lets_end : {stamp : Option ℤ} {state : Transfer} {id : ℕ} {others : List Message} → LetsGo (record { stamp = stamp; body = bodies.TransportFinished state id } ∷ others)
-  lets_description : {stamp : Option ℤ} {service : Service} {others : List Message} → LetsGo (record { stamp = stamp; body = bodies.ServiceDescription service } ∷ others)
-  lets_later : {message : Message} {others : List Message} → LetsGo others → LetsGo (message ∷ others)
+  lets_end : {stamp : Option ℤ} {state : Transfer} {id : ℕ} {others : List Message}
+      → LetsGo (record { stamp = stamp; body = bodies.TransportFinished state id } ∷ others)
+  lets_description : {stamp : Option ℤ} {service : Service} {others : List Message}
+      → LetsGo (record { stamp = stamp; body = bodies.ServiceDescription service } ∷ others)
+  lets_later : {message : Message} {others : List Message} → LetsGo others
+      → LetsGo (message ∷ others)
 
 -- the facts of a state
 pub record HasCustodyFacts (s : LineState) : Type 0 where
   -- a board that lies begun in a gap: the outlet there holds its id
-  pub begun : (gap : ℕ) (board : Board) → (gap_at s.world.floor gap).lies ≡ gaps.Begun board → IsHeldBy (is_held_at s gap) board
+  pub begun : (gap : ℕ) (board : Board) → (gap_at s.world.floor gap).lies ≡ gaps.Begun board
+      → IsHeldBy (is_held_at s gap) board
   -- one that lies across it: the intake of the next machine holds its id
-  pub left : (gap : ℕ) (board : Board) → (gap_at s.world.floor gap).lies ≡ gaps.Left board → IsHeldBy (is_taken_at s (gap + 1)) board
-  -- an outlet that still holds an id whose board lies across a gap, or in the list of the next machine, has it unread that
-  -- the board left; and where its board is nowhere, that it was taken
-  pub left_unread : (gap other id : ℕ) → is_held_at s gap id ≡ true → LiesLeft s other id → IsUnread s gap event.Left
-  pub inside_unread : (gap id : ℕ) → is_held_at s gap id ≡ true → Lies id (machine_at s.world.floor (gap + 1)).boards → IsUnread s gap event.Left
-  pub taken_unread : (gap id : ℕ) → is_held_at s gap id ≡ true → IsNowhere s id → IsUnread s gap event.Taken
-  -- while the end of a transport, or the description of the machine upstream, is on its way to an entry that has its
-  -- connection still, the outlet holds nothing
-  pub free : (gap : ℕ) (messages : List Message) → is_open Entry (node_at s (gap + 1)).lane.body ≡ true → AreComing (to_entry s gap) messages → LetsGo messages → held_out (node_at s gap).lane.body.outlet.phase ≡ None
+  pub left : (gap : ℕ) (board : Board) → (gap_at s.world.floor gap).lies ≡ gaps.Left board
+      → IsHeldBy (is_taken_at s (gap + 1)) board
+  -- an outlet that still holds an id whose board lies across a gap, or in the list of the next
+  -- machine, has it unread that the board left; and where its board is nowhere, that it was taken
+  pub left_unread : (gap other id : ℕ) → is_held_at s gap id ≡ true → LiesLeft s other id
+      → IsUnread s gap event.Left
+  pub inside_unread : (gap id : ℕ) → is_held_at s gap id ≡ true
+      → Lies id (machine_at s.world.floor (gap + 1)).boards → IsUnread s gap event.Left
+  pub taken_unread : (gap id : ℕ) → is_held_at s gap id ≡ true → IsNowhere s id
+      → IsUnread s gap event.Taken
+  -- while the end of a transport, or the description of the machine upstream, is on its way to an
+  -- entry that has its connection still, the outlet holds nothing
+  pub free : (gap : ℕ) (messages : List Message)
+      → is_open Entry (node_at s (gap + 1)).lane.body ≡ true → AreComing (to_entry s gap) messages
+      → LetsGo messages → held_out (node_at s gap).lane.body.outlet.phase ≡ None
   -- the boards of a list stand in the order of the machine's records
-  pub order : (machine : ℕ) → AreInOrder (owned_by (node_at s machine)) (machine_at s.world.floor machine).boards
+  pub order : (machine : ℕ)
+      → AreInOrder (owned_by (node_at s machine)) (machine_at s.world.floor machine).boards
   -- and where both halves of a handover hold a record, they hold one
-  pub one_record : (gap : ℕ) (above below : Record) → held_out (node_at s gap).lane.body.outlet.phase ≡ Some above → held_in (node_at s (gap + 1)).lane.body.intake.phase ≡ Some below → above ≡ below
+  pub one_record : (gap : ℕ) (above below : Record)
+      → held_out (node_at s gap).lane.body.outlet.phase ≡ Some above
+      → held_in (node_at s (gap + 1)).lane.body.intake.phase ≡ Some below → above ≡ below
 
--- THE LAW: they hold after each line of every script, up to the first one that told what was not so
+-- THE LAW: they hold after each line of every script, up to the first one that told what was not
+-- so
 abbrev pub CustodyFacts : Type 0
-CustodyFacts = (asked : List ScriptLine) (points : List Point) (n : ℕ) → AllByRecursion IsFitLine asked → length asked ≤ 1000000 → IsRun no_line asked points → has_lie (take n points) ≡ false → AllByRecursion (λ (point : Point). HasCustodyFacts point.after) (take n points)
+CustodyFacts =
+    (asked : List ScriptLine) (points : List Point) (n : ℕ) → AllByRecursion IsFitLine asked
+    → length asked ≤ 1000000 → IsRun no_line asked points → has_lie (take n points) ≡ false
+    → AllByRecursion (λ (point : Point). HasCustodyFacts point.after) (take n points)

@@ -30,7 +30,8 @@ pub record IsReached (s : LineState) : Type 0 where
 
 -- ---- UNIQUE IDS, of a state
 
--- a machine of the line made the id: it bears the machine's number, and a count that is at most what that machine has used
+-- a machine of the line made the id: it bears the machine's number, and a count that is at most
+-- what that machine has used
 pub record IsMade (s : LineState) (id : ℕ) : Type 0 where
   pub machine : ℕ
   pub node : NodeState
@@ -44,8 +45,8 @@ pub record IsMade (s : LineState) (id : ℕ) : Type 0 where
 abbrev pub HasMadeId : LineState → Board → Type 0
 HasMadeId s board = (id : ℕ) → board.id ≡ Some id → IsMade s id
 
--- no two boards on the floor share an id, and each id of a board was made by a machine of the line; and so was each id that
--- has a mark, while no line told what was not so
+-- no two boards on the floor share an id, and each id of a board was made by a machine of the
+-- line; and so was each id that has a mark, while no line told what was not so
 pub record HasUniqueIds (s : LineState) : Type 0 where
   pub differ : IdsDiffer s.world.floor
   pub boards : AllByRecursion (HasMadeId s) (boards_of s)
@@ -53,17 +54,18 @@ pub record HasUniqueIds (s : LineState) : Type 0 where
 
 -- ---- THE LEDGER, of a line
 
--- a ledger beside a line: deeds have led to it from the empty one, its marks are those of the machines, and each id that it
--- has seen was made by one of them
+-- a ledger beside a line: deeds have led to it from the empty one, its marks are those of the
+-- machines, and each id that it has seen was made by one of them
 pub record IsBook (ledger : Ledger) (s : LineState) : Type 0 where
   pub past : List Deed
   pub led : ledger ≡ ledger_after_all empty_ledger past
   pub marks : IsLedgerOf ledger s
   pub seen : (id : ℕ) → has_id id ledger.seen ≡ true → IsMade s id
 
--- in a ledger beside the line before, the deeds of what is told are legal one after the other, and they lead to one that is
--- beside the line after, and tells each id's standing
-pub record Books (before after : LineState) (told : List Happening) (ledger : Ledger) : Type 0 where
+-- in a ledger beside the line before, the deeds of what is told are legal one after the other, and
+-- they lead to one that is beside the line after, and tells each id's standing
+pub record Books (before after : LineState) (told : List Happening)
+    (ledger : Ledger) : Type 0 where
   pub legal : AreLegal ledger (deeds_of told)
   pub book : IsBook (ledger_after_all ledger (deeds_of told)) after
   pub standings : IsStandingTold (ledger_after_all ledger (deeds_of told)) after
@@ -89,4 +91,8 @@ IdsAlong = (s : LineState) → IsReached s → HasUniqueIds s
 
 -- of a line and the next one
 abbrev pub LedgerAlong : Type 0
-LedgerAlong = (line : ScriptLine) (before after : LineState) (told : List Happening) → IsReached before → IsFitLine line → before.lines + 1 ≤ 1000000 → LineSteps (before.lines + 1) line before after told → after.unvouched ≡ None → FollowsLine before after told
+LedgerAlong =
+    (line : ScriptLine) (before after : LineState) (told : List Happening) → IsReached before
+    → IsFitLine line → before.lines + 1 ≤ 1000000
+    → LineSteps (before.lines + 1) line before after told → after.unvouched ≡ None
+    → FollowsLine before after told

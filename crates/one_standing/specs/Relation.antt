@@ -1,4 +1,5 @@
--- THE RELATION OF A LINE, by numbers: machines, and what is between them, as functions of their number.
+-- THE RELATION OF A LINE, by numbers: machines, and what is between them, as functions of their
+-- number.
 use Rattle.std.specs.Prelude.{Bool, List, ℕ, ◌≡◌}
 use Rattle.line_base.specs.declared.states.Role.TheVariants.{Downstream, Upstream}
 use Rattle.hermes_horizontal.specs.declared.message.Horizontal.{Horizontal}
@@ -16,8 +17,9 @@ pub record Stand : Type 0 where
   pub body : Machine
   pub place : AtMachine
 
--- what is between two machines: the ghost of their handover, whether the link stands, the gap, the messages that are sent
--- and not heard, and the ids that went from the floor here: by a hand at the machine above, or out of the gap
+-- what is between two machines: the ghost of their handover, whether the link stands, the gap, the
+-- messages that are sent and not heard, and the ids that went from the floor here: by a hand at
+-- the machine above, or out of the gap
 pub record Between : Type 0 where
   pub ghost : Ghost
   pub stands : Bool
@@ -42,19 +44,38 @@ link_between above b below = record {
 abbrev pub scene_between : Stand → Between → Stand → Between → Stand → Scene
 scene_between above ba me bb below = record {
   boards = me.place.boards;
-  above = record { exit = above.body.exit.session.state; outlet = above.body.outlet; stands = ba.stands; gap = ba.gap; far = above.place; up = ba.up; down = ba.down };
-  below = record { entry = below.body.entry.session.state; intake = below.body.intake; stands = bb.stands; gap = bb.gap; far = below.place; up = bb.up; down = bb.down };
+  above = record {
+    exit = above.body.exit.session.state;
+    outlet = above.body.outlet;
+    stands = ba.stands;
+    gap = ba.gap;
+    far = above.place;
+    up = ba.up;
+    down = ba.down;
+  };
+  below = record {
+    entry = below.body.entry.session.state;
+    intake = below.body.intake;
+    stands = bb.stands;
+    gap = bb.gap;
+    far = below.place;
+    up = bb.up;
+    down = bb.down;
+  };
 }
 
 -- two neighbours: the relation of their link, what is offered on it, and what its halves hold
 pub record Neighbours (above : Stand) (b : Between) (below : Stand) : Type 0 where
   pub pair : Pair b.ghost (link_between above b below)
   pub contents : IsContent (gone_by b.gone) (link_between above b below) above.body.kept
-  pub holds : Holds b.gone above.body.kept b.ghost.place above.body.outlet.phase below.body.intake.phase
+  pub holds : Holds b.gone above.body.kept b.ghost.place above.body.outlet.phase
+      below.body.intake.phase
 
--- a machine: its boards are those of its outlet, those that it keeps and that of its intake, and it offers the front one
+-- a machine: its boards are those of its outlet, those that it keeps and that of its intake, and
+-- it offers the front one
 pub record Owns (above : Between) (me : Stand) (below : Between) : Type 0 where
-  pub boards : Body me.body.outlet.phase below.ghost.place me.body.kept me.body.intake.phase above.ghost.place me.place.boards
+  pub boards : Body me.body.outlet.phase below.ghost.place me.body.kept me.body.intake.phase
+      above.ghost.place me.place.boards
   pub entry_role : me.body.entry.session.role ≡ Downstream
   pub exit_role : me.body.exit.session.role ≡ Upstream
   pub offers : OffersFront me.body

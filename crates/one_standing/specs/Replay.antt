@@ -1,4 +1,5 @@
--- THE LEDGER FOLLOWS THE REPORT: what is told of records, read as deeds in a ledger, and the ledger beside the line.
+-- THE LEDGER FOLLOWS THE REPORT: what is told of records, read as deeds in a ledger, and the
+-- ledger beside the line.
 use Rattle.std.specs.Prelude.{List, [], false, length, take, ℕ, ◌++◌, ◌-◌, ◌∷◌, ◌≡◌, ◌≤◌}
 use Rattle.std.specs.List.{AllByRecursion}
 use Rattle.line_script.specs.declared.line.ScriptLine.{ScriptLine}
@@ -20,8 +21,8 @@ use Rattle.line_step.specs.Runs.{IsRun, Point}
 use Rattle.line_step.specs.State.{LineState, marks_in, no_line}
 use Rattle.one_standing.specs.Standing.{IsFitLine}
 
--- what a machine tells of a handover, as a deed: at its exit of the gap of its number, at its entry of the one before. A
--- refusal moves no record
+-- what a machine tells of a handover, as a deed: at its exit of the gap of its number, at its
+-- entry of the one before. A refusal moves no record
 abbrev pub deeds_at_side : ℕ → OwnDeed → List Deed
 deeds_at_side machine (own_deeds.Opens id) = deeds.Opens machine id ∷ []
 deeds_at_side machine (own_deeds.Refuses id) = []
@@ -50,19 +51,29 @@ deeds_of (happening ∷ told) = deeds_in happening ++ deeds_of told
 
 -- the marks of the ledger are those of the machines
 abbrev pub IsLedgerOf : Ledger → LineState → Type 0
-IsLedgerOf ledger s = (entry : Entry) → has_entry entry ledger.marks ≡ has_mark entry.mark (marks_in s entry.id)
+IsLedgerOf ledger s =
+    (entry : Entry) → has_entry entry ledger.marks ≡ has_mark entry.mark (marks_in s entry.id)
 
 -- so the ledger tells each id's standing: that which its marks at the machines give it
 pub record IsStandingTold (ledger : Ledger) (s : LineState) : Type 0 where
-  pub told : (id : ℕ) (standing : Place) → HasStanding (ledgers.marks_in id ledger.marks) standing → HasStanding (marks_in s id) standing
-  pub whole : (id : ℕ) (standing : Place) → HasStanding (marks_in s id) standing → HasStanding (ledgers.marks_in id ledger.marks) standing
+  pub told : (id : ℕ) (standing : Place) → HasStanding (ledgers.marks_in id ledger.marks) standing
+      → HasStanding (marks_in s id) standing
+  pub whole : (id : ℕ) (standing : Place) → HasStanding (marks_in s id) standing
+      → HasStanding (ledgers.marks_in id ledger.marks) standing
 
--- each line's deeds are legal one after the other, and behind them the ledger has the marks, and tells the standings
+-- each line's deeds are legal one after the other, and behind them the ledger has the marks, and
+-- tells the standings
 abbrev pub Follows : Ledger → List Point → Type 0
 Follows ledger [] = Unit {0}
 Follows ledger (point ∷ points) =
-    AreLegal ledger (deeds_of point.told) × IsLedgerOf (ledger_after_all ledger (deeds_of point.told)) point.after × IsStandingTold (ledger_after_all ledger (deeds_of point.told)) point.after × Follows (ledger_after_all ledger (deeds_of point.told)) points
+    AreLegal ledger (deeds_of point.told)
+    × IsLedgerOf (ledger_after_all ledger (deeds_of point.told)) point.after
+    × IsStandingTold (ledger_after_all ledger (deeds_of point.told)) point.after
+    × Follows (ledger_after_all ledger (deeds_of point.told)) points
 
 -- THE LAW: from the empty ledger on, up to the first line that told what was not so
 abbrev pub LedgerFollows : Type 0
-LedgerFollows = (asked : List ScriptLine) (points : List Point) (n : ℕ) → AllByRecursion IsFitLine asked → length asked ≤ 1000000 → IsRun no_line asked points → has_lie (take n points) ≡ false → Follows empty_ledger (take n points)
+LedgerFollows =
+    (asked : List ScriptLine) (points : List Point) (n : ℕ) → AllByRecursion IsFitLine asked
+    → length asked ≤ 1000000 → IsRun no_line asked points → has_lie (take n points) ≡ false
+    → Follows empty_ledger (take n points)

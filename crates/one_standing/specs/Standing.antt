@@ -1,4 +1,5 @@
--- ONE STANDING: each board's record stands with one machine, or in one handover between two neighbours.
+-- ONE STANDING: each board's record stands with one machine, or in one handover between two
+-- neighbours.
 use Rattle.std.specs.Prelude.{Bool, List, Some, [], false, length, take, true, ℕ, ◌-◌, ◌∷◌, ◌≡◌, ◌≢◌, ◌≤◌, ◌⊎◌}
 use Rattle.std.specs.List.{AllByRecursion}
 use Rattle.line_base.specs.Text.{IsText}
@@ -19,13 +20,18 @@ use Rattle.machine_custody.specs.Good.{Lies}
 -- no id lies twice in a list
 pub data AreOnce : List Board → Type 0 where
   once_none : AreOnce []
-  once_more : {board : Board} {boards : List Board} → ((id : ℕ) → board.id ≡ Some id → Lies id boards → ⊥) → AreOnce boards → AreOnce (board ∷ boards)
+  once_more : {board : Board} {boards : List Board}
+      → ((id : ℕ) → board.id ≡ Some id → Lies id boards → ⊥) → AreOnce boards
+      → AreOnce (board ∷ boards)
 
--- a board in a machine's list has an id, and stands with the machine or in a handover at one of its two gaps
+-- a board in a machine's list has an id, and stands with the machine or in a handover at one of
+-- its two gaps
 pub record IsListed (s : LineState) (machine : ℕ) (board : Board) : Type 0 where
   pub id : ℕ
   pub named : board.id ≡ Some id
-  pub stands : HasStanding (marks_in s id) (With machine) ⊎ (HasStanding (marks_in s id) (Between machine) ⊎ HasStanding (marks_in s id) (Between (machine - 1)))
+  pub stands : HasStanding (marks_in s id) (With machine) ⊎
+      (HasStanding (marks_in s id) (Between machine) ⊎ HasStanding (marks_in s id)
+      (Between (machine - 1)))
 
 -- a board in a gap has an id, and stands in the handover there
 pub record IsHandedOver (s : LineState) (gap : ℕ) (board : Board) : Type 0 where
@@ -40,16 +46,23 @@ is_kept_at s machine id = has_id id (owned_by (node_at s machine)).kept
 abbrev pub is_held_at : LineState → ℕ → ℕ → Bool
 is_held_at s machine id = is_held id (owned_by (node_at s machine)).held
 
--- every id with a mark has a standing, and so has every board; a machine keeps the records of boards that lie in its list,
--- and none that its outlet holds; no list has an id twice; and one id at most is in the handover at a gap
+-- every id with a mark has a standing, and so has every board; a machine keeps the records of
+-- boards that lie in its list, and none that its outlet holds; no list has an id twice; and one id
+-- at most is in the handover at a gap
 pub record HasOneStanding (s : LineState) : Type 0 where
-  pub each : (id : ℕ) → marks_in s id ≢ [] → (standing : Place) × HasStanding (marks_in s id) standing
-  pub listed : (machine : ℕ) → AllByRecursion (IsListed s machine) (machine_at s.world.floor machine).boards
-  pub handed_over : (gap : ℕ) → AllByRecursion (IsHandedOver s gap) (boards_in (gap_at s.world.floor gap).lies)
-  pub kept_here : (machine id : ℕ) → is_kept_at s machine id ≡ true → Lies id (machine_at s.world.floor machine).boards
-  pub kept_alone : (machine id : ℕ) → is_kept_at s machine id ≡ true → is_held_at s machine id ≡ true → ⊥
+  pub each : (id : ℕ) → marks_in s id ≢ [] → (standing : Place)
+      × HasStanding (marks_in s id) standing
+  pub listed : (machine : ℕ)
+      → AllByRecursion (IsListed s machine) (machine_at s.world.floor machine).boards
+  pub handed_over : (gap : ℕ)
+      → AllByRecursion (IsHandedOver s gap) (boards_in (gap_at s.world.floor gap).lies)
+  pub kept_here : (machine id : ℕ) → is_kept_at s machine id ≡ true
+      → Lies id (machine_at s.world.floor machine).boards
+  pub kept_alone : (machine id : ℕ) → is_kept_at s machine id ≡ true
+      → is_held_at s machine id ≡ true → ⊥
   pub once : (machine : ℕ) → AreOnce (machine_at s.world.floor machine).boards
-  pub alone : (gap id other : ℕ) → HasStanding (marks_in s id) (Between gap) → HasStanding (marks_in s other) (Between gap) → id ≡ other
+  pub alone : (gap id other : ℕ) → HasStanding (marks_in s id) (Between gap)
+      → HasStanding (marks_in s other) (Between gap) → id ≡ other
 
 -- the barcode of a line is a text, as that of every line which is read is
 abbrev pub IsFitLine : ScriptLine → Type 0
@@ -57,7 +70,10 @@ IsFitLine (lines.Insert machine (Some barcode)) = IsText barcode
 IsFitLine (lines.Query machine barcode) = IsText barcode
 IsFitLine _ = Unit {0}
 
--- THE LAW: it holds after each line of every script, up to the first one that told what was not so. A script has at most
--- 1,000,000 lines
+-- THE LAW: it holds after each line of every script, up to the first one that told what was not
+-- so. A script has at most 1,000,000 lines
 abbrev pub OneStanding : Type 0
-OneStanding = (asked : List ScriptLine) (points : List Point) (n : ℕ) → AllByRecursion IsFitLine asked → length asked ≤ 1000000 → IsRun no_line asked points → has_lie (take n points) ≡ false → AllByRecursion (λ (point : Point). HasOneStanding point.after) (take n points)
+OneStanding =
+    (asked : List ScriptLine) (points : List Point) (n : ℕ) → AllByRecursion IsFitLine asked
+    → length asked ≤ 1000000 → IsRun no_line asked points → has_lie (take n points) ≡ false
+    → AllByRecursion (λ (point : Point). HasOneStanding point.after) (take n points)

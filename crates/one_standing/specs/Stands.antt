@@ -23,9 +23,9 @@ pub record IsAtRest (t : Trace) (s : LineState) (link : ℕ) : Type 0 where
   pub up : t.up link ≡ []
   pub down : t.down link ≡ []
 
--- between two lines of a script: the relation of each two neighbours and of each machine, the bytes of each link, what is
--- at rest at the ends, what stands together in each machine, each link and the line; and each id that went from the floor
--- was made by a machine
+-- between two lines of a script: the relation of each two neighbours and of each machine, the
+-- bytes of each link, what is at rest at the ends, what stands together in each machine, each link
+-- and the line; and each id that went from the floor was made by a machine
 pub record Stands (t : Trace) (s : LineState) : Type 0 where
   pub keeps : Keeps (stand_of s) (between_of t s)
   pub carried : (link : ℕ) → has_link link s ≡ true → Carried t s link

@@ -15,7 +15,8 @@ waiting_at Exit lane = lane.exit_bytes
 
 -- the bytes that wait at an open side may go on to a message
 abbrev pub Waits : Lane → Type 0
-Waits lane = (side : Side) → is_open side lane.body ≡ true → answer_of (waiting_at side lane) ≡ NeedMore
+Waits lane =
+    (side : Side) → is_open side lane.body ≡ true → answer_of (waiting_at side lane) ≡ NeedMore
 
 abbrev pub AreWaiting : LineState → Type 0
 AreWaiting s = (machine : ℕ) → Waits (node_at s machine).lane

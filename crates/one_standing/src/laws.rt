@@ -1,4 +1,5 @@
-//! What holds of the boards of a line over the run of every script. Each law is a contract over the definitions of specs/.
+//! What holds of the boards of a line over the run of every script. Each law is a contract over
+//! the definitions of specs/.
 
 ghost use Rattle.one_standing.specs.Blame.{NoFalseBlame};
 ghost use Rattle.one_standing.specs.Contents.{ContentsAreKept};
@@ -7,11 +8,13 @@ ghost use Rattle.one_standing.specs.Reached.{CustodyAlong, IdsAlong, LedgerAlong
 ghost use Rattle.one_standing.specs.Replay.{LedgerFollows};
 ghost use Rattle.one_standing.specs.Standing.{OneStanding};
 
-/// One standing: after each line of a script, up to the first one that told of a sensor event that was not, every id with a
-/// mark has a standing, with one machine or in the handover at one gap; so has every board in a list and in a gap, with that
-/// machine or in a handover at one of its gaps, and in the handover at that gap; a machine keeps the records of boards that
-/// lie in its list, and none that its outlet holds; no list has an id twice; and at most one id is in the handover at a gap.
-/// It says nothing of a line behind a `lie`, and nothing of a script of more than 1,000,000 lines.
+/// One standing: after each line of a script, up to the first one that told of a sensor event that
+/// was not, every id with a mark has a standing, with one machine or in the handover at one gap;
+/// so has every board in a list and in a gap, with that machine or in a handover at one of its
+/// gaps, and in the handover at that gap; a machine keeps the records of boards that lie in its
+/// list, and none that its outlet holds; no list has an id twice; and at most one id is in the
+/// handover at a gap. It says nothing of a line behind a `lie`, and nothing of a script of more
+/// than 1,000,000 lines.
 pub fn one_standing_after_each_line()
     ensures { OneStanding }
 {
@@ -22,10 +25,11 @@ pub fn one_standing_after_each_line()
     link_messages::laws::the_words_behind_a_nul_are_fit();
 }
 
-/// The custody facts, after the same lines: whose half holds the record of a board that lies begun in a gap, or across it;
-/// what the sensor of an exit saw unread while its outlet holds a board that lies elsewhere or nowhere; that the outlet holds
-/// nothing while the end of a transport, or the description of the machine upstream, is on its way; that the boards of a list
-/// stand in the order of the machine's records; and that two halves of a gap which hold a record hold one.
+/// The custody facts, after the same lines: whose half holds the record of a board that lies begun
+/// in a gap, or across it; what the sensor of an exit saw unread while its outlet holds a board
+/// that lies elsewhere or nowhere; that the outlet holds nothing while the end of a transport, or
+/// the description of the machine upstream, is on its way; that the boards of a list stand in the
+/// order of the machine's records; and that two halves of a gap which hold a record hold one.
 pub fn the_custody_facts_hold_after_each_line()
     ensures { CustodyFacts }
 {
@@ -36,8 +40,9 @@ pub fn the_custody_facts_hold_after_each_line()
     link_messages::laws::the_words_behind_a_nul_are_fit();
 }
 
-/// The ledger follows the report: what is told of records, read as deeds, is legal one deed after the other from the empty
-/// ledger on, and behind each of the same lines the ledger's marks are those of the machines.
+/// The ledger follows the report: what is told of records, read as deeds, is legal one deed after
+/// the other from the empty ledger on, and behind each of the same lines the ledger's marks are
+/// those of the machines.
 pub fn the_ledger_follows_the_report()
     ensures { LedgerFollows }
 {
@@ -48,8 +53,8 @@ pub fn the_ledger_follows_the_report()
     link_messages::laws::the_words_behind_a_nul_are_fit();
 }
 
-/// Contents are kept: over each of the same lines, a record that a machine keeps before the line and behind it is the same,
-/// unless the line tells that the machine marked that board.
+/// Contents are kept: over each of the same lines, a record that a machine keeps before the line
+/// and behind it is the same, unless the line tells that the machine marked that board.
 pub fn contents_are_kept_over_each_line()
     ensures { ContentsAreKept }
 {
@@ -60,8 +65,8 @@ pub fn contents_are_kept_over_each_line()
     link_messages::laws::the_words_behind_a_nul_are_fit();
 }
 
-/// No false blame: in each of the same lines a breach at a side of a machine is told only where an earlier line told that
-/// what flows to that side was spoiled.
+/// No false blame: in each of the same lines a breach at a side of a machine is told only where an
+/// earlier line told that what flows to that side was spoiled.
 pub fn a_breach_is_told_only_behind_a_spoiled_text()
     ensures { NoFalseBlame }
 {
@@ -72,10 +77,11 @@ pub fn a_breach_is_told_only_behind_a_spoiled_text()
     link_messages::laws::the_words_behind_a_nul_are_fit();
 }
 
-/// The same a line at a time. Of each state that the run of a script has led to: one standing and the custody facts, where no
-/// line told of a sensor event that was not; and in any case that no two boards share an id, and that each id was made by a
-/// machine of the line. And of its next line: what is told of records is legal in every ledger that has the marks of the
-/// machines before the line, and leads to one that has those after it.
+/// The same a line at a time. Of each state that the run of a script has led to: one standing and
+/// the custody facts, where no line told of a sensor event that was not; and in any case that no
+/// two boards share an id, and that each id was made by a machine of the line. And of its next
+/// line: what is told of records is legal in every ledger that has the marks of the machines
+/// before the line, and leads to one that has those after it.
 pub fn what_a_run_leads_to()
     ensures standing { StandsAlong }
     ensures custody { CustodyAlong }

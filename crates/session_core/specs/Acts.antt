@@ -16,7 +16,8 @@ two first second = record { first = Some first; second = Some second; third = No
 
 -- what is to be done, in order
 abbrev pub actions_list : Actions → List Action
-actions_list actions = option_to_list actions.first ++ (option_to_list actions.second ++ option_to_list actions.third)
+actions_list actions =
+    option_to_list actions.first ++ (option_to_list actions.second ++ option_to_list actions.third)
 
 -- one of these passes the test
 abbrev pub has_action : (Action → Bool) → List Action → Bool

@@ -4,8 +4,8 @@ use Rattle.hermes_horizontal.specs.declared.message.Features.{Features}
 use Rattle.session_core.specs.declared.state.SessionState.{SessionState}
 use Rattle.session_core.specs.declared.state.SessionState.TheVariants.{NotConnected, Handshake, Standing}
 
--- one end of a session: its part, how far its connection is, how many ticks in a row were silent, how many pings were
--- sent on this connection, and the features that the peer listed
+-- one end of a session: its part, how far its connection is, how many ticks in a row were silent,
+-- how many pings were sent on this connection, and the features that the peer listed
 pub record SessionEnd : Type 0 where
   pub role : Role
   pub state : SessionState
@@ -18,7 +18,8 @@ no_features = record { check_alive = false; forecast = false; query = false; sen
 
 -- no connection
 abbrev pub at_rest : Role → SessionEnd
-at_rest role = record { role = role; state = NotConnected; silent = 0; pings = 0; peer = no_features }
+at_rest role =
+    record { role = role; state = NotConnected; silent = 0; pings = 0; peer = no_features }
 
 -- the same in another state
 abbrev pub in_state : SessionEnd → SessionState → SessionEnd

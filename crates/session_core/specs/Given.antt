@@ -4,8 +4,8 @@ use Rattle.session_core.specs.declared.state.SessionState.TheVariants.{NotConnec
 use Rattle.session_core.specs.End.{SessionEnd}
 use Rattle.session_core.specs.Input.{Input, opened, second, heard, tick, shutdown, closed}
 
--- when an end is given an input: a connection where it has none, a second one where it is the server, and all else
--- where it has one
+-- when an end is given an input: a connection where it has none, a second one where it is the
+-- server, and all else where it has one
 abbrev pub IsGiven : SessionEnd → Input → Type 0
 IsGiven s opened = s.state ≡ NotConnected
 IsGiven s second = (s.role ≡ Upstream) × (s.state ≢ NotConnected)

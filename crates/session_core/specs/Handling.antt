@@ -5,8 +5,8 @@ use Rattle.hermes_horizontal.specs.declared.kind.Kind.TheVariants as kinds
 use Rattle.session_core.specs.declared.handling.Handling.{Handling}
 use Rattle.session_core.specs.declared.handling.Handling.TheVariants.{Pass, Refuse}
 
--- what a standing session does with the messages of handovers, forecasts and board information: each part takes those
--- that the other part sends
+-- what a standing session does with the messages of handovers, forecasts and board information:
+-- each part takes those that the other part sends
 abbrev pub handling_of : Kind → Role → Handling
 handling_of kinds.MachineReady Upstream = Pass
 handling_of kinds.RevokeMachineReady Upstream = Pass

@@ -25,8 +25,8 @@ abbrev pub passing_at : Handling → SessionState → Horizontal → List Horizo
 passing_at Pass Standing message = message ∷ []
 passing_at _ _ _ = []
 
--- the messages that are to be passed on: the one that is heard, where the session stands and its kind is one that the
--- other part sends
+-- the messages that are to be passed on: the one that is heard, where the session stands and its
+-- kind is one that the other part sends
 abbrev pub passing : SessionEnd → Input → List Horizontal
 passing s (heard message _) = passing_at (handling_of (kind_of message) s.role) s.state message
 passing _ _ = []

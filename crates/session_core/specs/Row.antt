@@ -1,4 +1,5 @@
--- The session table as a plain program: what an input does to an end of a session, or that there is no row for it.
+-- The session table as a plain program: what an input does to an end of a session, or that there
+-- is no row for it.
 use Rattle.std.specs.Prelude.{ℕ, Bool, true, false, List, Option, Some, None, nat_eq, if◌then◌else◌}
 use Rattle.line_base.specs.declared.states.Role.{Role}
 use Rattle.line_base.specs.declared.states.Role.TheVariants.{Upstream, Downstream}
@@ -72,24 +73,33 @@ taken_row s (Some actions) = row (taken s) actions
 taken_row _ None = None
 
 abbrev pub traffic_row : SessionState → SessionEnd → Horizontal → Option SessionRow
-traffic_row Standing s message = taken_row s (actions_at (handling_of (kind_of message) s.role) message)
+traffic_row Standing s message =
+    taken_row s (actions_at (handling_of (kind_of message) s.role) message)
 traffic_row _ _ _ = None
 
 abbrev pub heard_row : SessionEnd → Horizontal → Bool → Option SessionRow
-heard_row s (messages.CheckAlive ping id) _ = connected_row s.state (taken s) (alive_actions ping id)
-heard_row s (messages.ServiceDescription service) unsettled = service_row s.state s service.features unsettled
+heard_row s (messages.CheckAlive ping id) _ =
+    connected_row s.state (taken s) (alive_actions ping id)
+heard_row s (messages.ServiceDescription service) unsettled =
+    service_row s.state s service.features unsettled
 heard_row s (messages.Notification _ _ _) _ = connected_row s.state (taken s) nothing
 heard_row s (messages.Other _) _ = connected_row s.state (taken s) nothing
 heard_row s message _ = traffic_row s.state s message
 
 abbrev pub counted : SessionEnd → ℕ → ℕ → Actions → SessionRow
-counted s silent pings actions = record { after = record s { silent = silent; pings = pings }; actions = actions }
+counted s silent pings actions =
+    record { after = record s { silent = silent; pings = pings }; actions = actions }
 
--- a tick after which so many were silent: the peer is given up, or asked for a sign of life, or waited for
+-- a tick after which so many were silent: the peer is given up, or asked for a sign of life, or
+-- waited for
 abbrev pub ticked : SessionEnd → ℕ → SessionRow
 ticked s silent =
-    if is_given_up s.state silent s.peer then record { after = at_rest s.role; actions = one act.Close }
-    else (if nat_eq silent 2 then counted s silent (grown s.pings) (one (act.Ping (grown s.pings))) else counted s silent s.pings nothing)
+    if is_given_up s.state silent s.peer then record {
+      after = at_rest s.role;
+      actions = one act.Close;
+    }
+    else (if nat_eq silent 2 then counted s silent (grown s.pings)
+    (one (act.Ping (grown s.pings))) else counted s silent s.pings nothing)
 
 abbrev pub tick_row : SessionEnd → SessionRow
 tick_row s = ticked s (raised s.silent)

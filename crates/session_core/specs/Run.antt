@@ -28,11 +28,13 @@ abbrev pub is_heard : Bool → Input → Bool
 is_heard true _ = true
 is_heard false input = is_some (described input)
 
--- whether the peer's description was heard on this connection: a connection that is made begins anew
+-- whether the peer's description was heard on this connection: a connection that is made begins
+-- anew
 abbrev pub is_described : SessionState → Bool → Input → Bool
 is_described NotConnected _ input = false
 is_described _ before input = is_heard before input
 
 abbrev pub is_described_after : Bool → SessionEnd → List Input → Bool
 is_described_after before s [] = before
-is_described_after before s (input ∷ inputs) = is_described_after (is_described s.state before input) (step s input) inputs
+is_described_after before s (input ∷ inputs) =
+    is_described_after (is_described s.state before input) (step s input) inputs

@@ -32,17 +32,19 @@ abbrev pub is_upstream : Role → Bool
 is_upstream Upstream = true
 is_upstream Downstream = false
 
--- where the machine closes: at a shutdown, at a tick that gives the peer up, and where the peer describes itself to an
--- upstream end whose outlet holds a board
+-- where the machine closes: at a shutdown, at a tick that gives the peer up, and where the peer
+-- describes itself to an upstream end whose outlet holds a board
 abbrev pub closes_at : SessionEnd → Input → Bool
-closes_at s (heard message unsettled) = is_some (described (heard message unsettled)) && (is_upstream s.role && unsettled)
+closes_at s (heard message unsettled) =
+    is_some (described (heard message unsettled)) && (is_upstream s.role && unsettled)
 closes_at s tick = is_given_up s.state (raised s.silent) s.peer
 closes_at _ shutdown = true
 closes_at _ _ = false
 
 -- where a session comes to stand: where the peer describes itself otherwise
 abbrev pub stands_at : SessionEnd → Input → Bool
-stands_at s (heard message unsettled) = is_some (described (heard message unsettled)) && not (is_upstream s.role && unsettled)
+stands_at s (heard message unsettled) =
+    is_some (described (heard message unsettled)) && not (is_upstream s.role && unsettled)
 stands_at _ _ = false
 
 abbrev pub state_by : Bool → Bool → SessionState → SessionState

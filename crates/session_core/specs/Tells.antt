@@ -12,7 +12,8 @@ pub record Told : Type 0 where
   pub text : List ℕ
 
 abbrev pub told : ℕ → Severity → List ℕ → Told
-told number severity text = record { code = record { number = number }; severity = severity; text = text }
+told number severity text =
+    record { code = record { number = number }; severity = severity; text = text }
 
 -- what the Notifications of a session say
 abbrev pub tell_of : Tell → Told

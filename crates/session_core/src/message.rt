@@ -16,14 +16,16 @@ impl Session {
     /// A message came in. `unsettled` says whether the machine's outlet holds a board.
     ///
     /// A breach exactly where the session table has no row for the message. The session is then
-    /// unchanged, and the machine has to close it by `on_closed`. Where a message is to be passed on,
-    /// the session has a connection.
+    /// unchanged, and the machine has to close it by `on_closed`. Where a message is to be passed
+    /// on, the session has a connection.
     #[tactic(auto, using(crate::proofs::States::pass_opens))]
     pub fn on_message(&mut self, message: Horizontal, unsettled: bool) -> Result<Actions, Breach>
         requires { self.old.state ≢ SessionState.NotConnected }
-        ensures row { IfOk result (λ actions. session_row self.old (heard message unsettled) ≡ row self.new actions) }
+        ensures row { IfOk result
+            (λ actions. session_row self.old (heard message unsettled) ≡ row self.new actions) }
         ensures open { IfOk result (λ actions. pass_open actions.first self.new.state ≡ true) }
-        ensures breach { IfErr result (λ breach. (session_row self.old (heard message unsettled) ≡ None) × (breach.kind ≡ kind_of message)) }
+        ensures breach { IfErr result (λ breach. (session_row self.old (heard message unsettled) ≡ None)
+            × (breach.kind ≡ kind_of message)) }
         ensures unchanged { OnErr result (self.new ≡ self.old) }
     {
         match message {
@@ -48,8 +50,12 @@ impl Session {
 impl Session {
     /// The peer describes itself.
     fn described(&mut self, features: Features, unsettled: bool) -> Result<Actions, Breach>
-        ensures row { IfOk result (λ actions. service_row self.old.state self.old features unsettled ≡ row self.new actions) }
-        ensures breach { IfErr result (λ breach. (service_row self.old.state self.old features unsettled ≡ None) × (breach.kind ≡ Kind.ServiceDescription)) }
+        ensures row { IfOk result
+            (λ actions. service_row self.old.state self.old features unsettled
+            ≡ row self.new actions) }
+        ensures breach { IfErr result
+            (λ breach. (service_row self.old.state self.old features unsettled ≡ None)
+            × (breach.kind ≡ Kind.ServiceDescription)) }
         ensures unchanged { OnErr result (self.new ≡ self.old) }
     {
         if self.state() != SessionState::Handshake {
@@ -74,8 +80,10 @@ impl Session {
 
     /// A message that only a standing session takes.
     fn hear(&mut self, message: Horizontal) -> Result<Actions, Breach>
-        ensures row { IfOk result (λ actions. traffic_row self.old.state self.old message ≡ row self.new actions) }
-        ensures breach { IfErr result (λ breach. (traffic_row self.old.state self.old message ≡ None) × (breach.kind ≡ kind_of message)) }
+        ensures row { IfOk result
+            (λ actions. traffic_row self.old.state self.old message ≡ row self.new actions) }
+        ensures breach { IfErr result (λ breach. (traffic_row self.old.state self.old message ≡ None)
+            × (breach.kind ≡ kind_of message)) }
         ensures unchanged { OnErr result (self.new ≡ self.old) }
     {
         let kind = message.kind();

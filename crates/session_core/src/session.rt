@@ -34,7 +34,13 @@ impl Model for Session {
 
     ghost Value = { SessionEnd };
 
-    ghost view = { λ s. record { role = s.role; state = s.state; silent = s.silent; pings = s.pings; peer = s.peer } };
+    ghost view = { λ s. record {
+      role = s.role;
+      state = s.state;
+      silent = s.silent;
+      pings = s.pings;
+      peer = s.peer;
+    } };
 
     ghost inverse = { λ s. record { role = s.role; state = s.state; silent = s.silent; pings = s.pings; peer = s.peer } };
 }
@@ -87,8 +93,8 @@ impl Session {
         }
     }
 
-    /// A tick of the machine's clock: it raises the count of silent ticks, asks a silent peer for a
-    /// sign of life, and gives one up that stays silent.
+    /// A tick of the machine's clock: it raises the count of silent ticks, asks a silent peer for
+    /// a sign of life, and gives one up that stays silent.
     pub fn on_tick(&mut self) -> Actions
         requires { self.old.state ≢ SessionState.NotConnected }
         ensures { session_row self.old tick ≡ row self.new result }

@@ -13,11 +13,16 @@ pub data BridgeCall : Type 0 where
 
 -- all levels off
 abbrev pub bridge_off : BridgeLevels
-bridge_off = record { segment = record { ready = false; available = false; failed = false }; own = record { available = false; failed = false; ready = false } }
+bridge_off =
+    record {
+      segment = record { ready = false; available = false; failed = false };
+      own = record { available = false; failed = false; ready = false };
+    }
 
 -- the levels after one call
 abbrev pub bridge_after_call : BridgeLevels → BridgeCall → BridgeLevels
-bridge_after_call before (level line on) = record before { segment = with_level line on before.segment }
+bridge_after_call before (level line on) =
+    record before { segment = with_level line on before.segment }
 bridge_after_call before (settle taking moving) = record before { own = signals_of taking moving }
 
 -- the levels after some calls, from what they were before
@@ -33,9 +38,11 @@ bridge_after calls = bridge_after_from bridge_off calls
 abbrev pub last_level : SegmentLine → Bool → List BridgeCall → Bool
 last_level line before [] = before
 last_level line before (settle _ _ ∷ calls) = last_level line before calls
-last_level line before (level other on ∷ calls) = last_level line (if is_same line other then on else before) calls
+last_level line before (level other on ∷ calls) =
+    last_level line (if is_same line other then on else before) calls
 
--- what the bridge's own signals say by the last call that told of the handovers, from what they said before
+-- what the bridge's own signals say by the last call that told of the handovers, from what they
+-- said before
 abbrev pub last_told : OwnLevels → List BridgeCall → OwnLevels
 last_told before [] = before
 last_told before (level _ _ ∷ calls) = last_told before calls

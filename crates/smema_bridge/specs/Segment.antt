@@ -34,7 +34,8 @@ becomes_available Available on segment = on && not segment.available
 becomes_available Ready _ _ = false
 becomes_available Failed _ _ = false
 
--- the board that a set level says to be failed: the front, where Board Available goes on while Failed Board
--- Available is on and the front isn't touched
+-- the board that a set level says to be failed: the front, where Board Available goes on while
+-- Failed Board Available is on and the front isn't touched
 abbrev pub failed_board : SegmentLine → Bool → SegmentLevels → Option ℕ → Bool → Option ℕ
-failed_board line on segment front touched = if becomes_available line on segment && segment.failed && not touched then front else None
+failed_board line on segment front touched =
+    if becomes_available line on segment && segment.failed && not touched then front else None

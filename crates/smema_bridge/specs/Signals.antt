@@ -20,19 +20,31 @@ is_taking_failed (Some qualities.Unknown) = false
 
 -- the levels that say to the segment what the two handovers do
 abbrev pub signals_of : Option Quality → Bool → OwnLevels
-signals_of taking moving = record { available = is_taking taking; failed = is_taking_failed taking; ready = moving }
+signals_of taking moving =
+    record { available = is_taking taking; failed = is_taking_failed taking; ready = moving }
 
 -- the edges of the three signals
 abbrev pub bridge_edges : OwnLevels → OwnLevels → BridgeEdges
-bridge_edges old new = record { available = edge old.available new.available; failed = edge old.failed new.failed; ready = edge old.ready new.ready }
+bridge_edges old new =
+    record {
+      available = edge old.available new.available;
+      failed = edge old.failed new.failed;
+      ready = edge old.ready new.ready;
+    }
 
 -- the levels to a segment that knew the old ones and saw the edges
 abbrev pub following : OwnLevels → BridgeEdges → OwnLevels
-following old seen = record { available = unwrap_or seen.available old.available; failed = unwrap_or seen.failed old.failed; ready = unwrap_or seen.ready old.ready }
+following old seen =
+    record {
+      available = unwrap_or seen.available old.available;
+      failed = unwrap_or seen.failed old.failed;
+      ready = unwrap_or seen.ready old.ready;
+    }
 
 -- a bridge with the levels of its entry's signals, and with that of its exit's
 abbrev pub with_entry : Bool → Bool → BridgeLevels → BridgeLevels
-with_entry available failed bridge = record bridge { own = record bridge.own { available = available; failed = failed } }
+with_entry available failed bridge =
+    record bridge { own = record bridge.own { available = available; failed = failed } }
 
 abbrev pub with_exit : Bool → BridgeLevels → BridgeLevels
 with_exit ready bridge = record bridge { own = record bridge.own { ready = ready } }

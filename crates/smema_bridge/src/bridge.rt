@@ -29,7 +29,20 @@ impl Model for Bridge {
 
     ghost Value = { BridgeLevels };
 
-    ghost view = { λ bridge. record { segment = record { ready = bridge.ready; available = bridge.available; failed = bridge.failed }; own = record { available = bridge.entry.first; failed = bridge.entry.second; ready = bridge.exit } } };
+    ghost view = { λ bridge.
+        record {
+          segment = record {
+            ready = bridge.ready;
+            available = bridge.available;
+            failed = bridge.failed;
+          };
+          own = record {
+            available = bridge.entry.first;
+            failed =
+                bridge.entry.second;
+            ready = bridge.exit;
+          };
+        } };
 
     ghost inverse = { λ levels. record { ready = levels.segment.ready; available = levels.segment.available; failed = levels.segment.failed; entry = record { first = levels.own.available; second = levels.own.failed }; exit = levels.own.ready } };
 }
@@ -67,7 +80,8 @@ impl Bridge {
         ensures failed { result ≡ failed_board line on self.old.segment front touched }
 
         // the levels are those of all calls so far
-        ensures calls { (calls : List BridgeCall) → self.old ≡ bridge_after calls → self.new ≡ bridge_after (calls ++ level line on ∷ []) }
+        ensures calls { (calls : List BridgeCall) → self.old ≡ bridge_after calls
+            → self.new ≡ bridge_after (calls ++ level line on ∷ []) }
     {
         let was_available = self.available;
         self.set_level(line, on);
@@ -103,8 +117,8 @@ impl Bridge {
     /// Sets the bridge's own signals by what its handovers do, and answers their edges.
     ///
     /// `taking` is the quality of the board that the intake is taking, if it takes one; `moving`
-    /// is whether the outlet moves one. At the entry Board Available is on exactly while a board is
-    /// being taken, and Failed Board Available exactly while it is a failed one; at the exit
+    /// is whether the outlet moves one. At the entry Board Available is on exactly while a board
+    /// is being taken, and Failed Board Available exactly while it is a failed one; at the exit
     /// Machine Ready is on exactly while a board moves.
     pub fn settle(&mut self, taking: Option<Quality>, moving: bool) -> BridgeEdges
         ensures own { self.new.own ≡ signals_of taking moving }
@@ -113,7 +127,8 @@ impl Bridge {
         ensures followed { following self.old.own result ≡ self.new.own }
 
         // the levels are those of all calls so far
-        ensures calls { (calls : List BridgeCall) → self.old ≡ bridge_after calls → self.new ≡ bridge_after (calls ++ settle taking moving ∷ []) }
+        ensures calls { (calls : List BridgeCall) → self.old ≡ bridge_after calls
+            → self.new ≡ bridge_after (calls ++ settle taking moving ∷ []) }
     {
         let entry = self.settle_entry(taking);
         let exit = self.settle_exit(moving);
@@ -136,7 +151,10 @@ impl Bridge {
 
     fn settle_entry(&mut self, taking: Option<Quality>) -> Edges
         ensures after { self.new ≡ with_entry (is_taking taking) (is_taking_failed taking) self.old }
-        ensures edges { result ≡ record { first = edge self.old.own.available self.new.own.available; second = edge self.old.own.failed self.new.own.failed } }
+        ensures edges { result ≡ record {
+          first = edge self.old.own.available self.new.own.available;
+          second = edge self.old.own.failed self.new.own.failed;
+        } }
     {
         match taking {
             Some(quality) => self.entry.offer(quality == Quality::Failed),
@@ -146,7 +164,10 @@ impl Bridge {
 
     fn settle_exit(&mut self, moving: bool) -> Edges
         ensures after { self.new ≡ with_exit moving self.old }
-        ensures edges { result ≡ record { first = edge self.old.own.ready self.new.own.ready; second = None } }
+        ensures edges { result ≡ record {
+          first = edge self.old.own.ready self.new.own.ready;
+          second = None;
+        } }
     {
         if moving {
             self.exit.free()

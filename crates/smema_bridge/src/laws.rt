@@ -12,8 +12,11 @@ ghost use Rattle.smema_bridge.specs.Calls.{BridgeCall, bridge_after_from, last_l
 /// say what the handovers did when that was told last: neither knows of the other.
 #[tactic(auto, using(crate::proofs::Calls::keeps_levels, crate::proofs::Calls::keeps_told))]
 pub fn the_last_call_of_each_kind_sets_the_levels()
-    ensures segment { (line : Line) (before : BridgeLevels) (calls : List BridgeCall) → level_of line (bridge_after_from before calls).segment ≡ last_level line (level_of line before.segment) calls }
-    ensures own { (before : BridgeLevels) (calls : List BridgeCall) → (bridge_after_from before calls).own ≡ last_told before.own calls }
+    ensures segment { (line : Line) (before : BridgeLevels) (calls : List BridgeCall)
+        → level_of line (bridge_after_from before calls).segment
+        ≡ last_level line (level_of line before.segment) calls }
+    ensures own { (before : BridgeLevels) (calls : List BridgeCall)
+        → (bridge_after_from before calls).own ≡ last_told before.own calls }
 {}
 
 /// Who follows the edges knows the levels.

@@ -1,5 +1,5 @@
-//! The cases of a segment's signals: each line names an end, or a bridge, and what is called on it,
-//! and is written again with the edges of the last call and the levels after it.
+//! The cases of a segment's signals: each line names an end, or a bridge, and what is called on
+//! it, and is written again with the edges of the last call and the levels after it.
 #![tactic(auto)]
 
 mod bridge;

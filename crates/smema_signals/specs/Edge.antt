@@ -16,4 +16,5 @@ edges old new = record { first = edge old.first new.first; second = edge old.sec
 
 -- the levels to someone who knew the old ones and saw the edges
 abbrev pub following : Levels → Edges → Levels
-following old seen = record { first = unwrap_or seen.first old.first; second = unwrap_or seen.second old.second }
+following old seen =
+    record { first = unwrap_or seen.first old.first; second = unwrap_or seen.second old.second }

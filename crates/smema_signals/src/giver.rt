@@ -45,7 +45,8 @@ impl Giver {
         ensures followed { following self.old result ≡ self.new }
 
         // the levels are those of all calls so far
-        ensures calls { (calls : List GiverCall) → self.old ≡ giver_levels calls → self.new ≡ giver_levels (calls ++ offer failed ∷ []) }
+        ensures calls { (calls : List GiverCall) → self.old ≡ giver_levels calls
+            → self.new ≡ giver_levels (calls ++ offer failed ∷ []) }
     {
         self.change(true, failed)
     }
@@ -57,7 +58,8 @@ impl Giver {
         ensures followed { following self.old result ≡ self.new }
 
         // the levels are those of all calls so far
-        ensures calls { (calls : List GiverCall) → self.old ≡ giver_levels calls → self.new ≡ giver_levels (calls ++ left ∷ []) }
+        ensures calls { (calls : List GiverCall) → self.old ≡ giver_levels calls
+            → self.new ≡ giver_levels (calls ++ left ∷ []) }
     {
         self.change(false, false)
     }

@@ -17,6 +17,8 @@ pub fn edges_tell_the_levels()
 /// The last call sets the levels, whatever was called before.
 #[tactic(auto, using(crate::proofs::Calls::last_giver_call, crate::proofs::Calls::last_taker_call))]
 pub fn the_last_call_sets_the_levels()
-    ensures giver { (before : Level) (calls : List GiverCall) (call : GiverCall) → giver_levels_from before (calls ++ call ∷ []) ≡ set_by_giver call }
-    ensures taker { (before : Level) (calls : List TakerCall) (call : TakerCall) → taker_levels_from before (calls ++ call ∷ []) ≡ set_by_taker call }
+    ensures giver { (before : Level) (calls : List GiverCall) (call : GiverCall)
+        → giver_levels_from before (calls ++ call ∷ []) ≡ set_by_giver call }
+    ensures taker { (before : Level) (calls : List TakerCall) (call : TakerCall)
+        → taker_levels_from before (calls ++ call ∷ []) ≡ set_by_taker call }
 {}

@@ -39,7 +39,8 @@ impl Taker {
         ensures followed { following (with_ready self.old) result ≡ with_ready self.new }
 
         // the level is that of all calls so far
-        ensures calls { (calls : List TakerCall) → with_ready self.old ≡ taker_levels calls → with_ready self.new ≡ taker_levels (calls ++ free ∷ []) }
+        ensures calls { (calls : List TakerCall) → with_ready self.old ≡ taker_levels calls
+            → with_ready self.new ≡ taker_levels (calls ++ free ∷ []) }
     {
         self.change(true)
     }
@@ -51,7 +52,8 @@ impl Taker {
         ensures followed { following (with_ready self.old) result ≡ with_ready self.new }
 
         // the level is that of all calls so far
-        ensures calls { (calls : List TakerCall) → with_ready self.old ≡ taker_levels calls → with_ready self.new ≡ taker_levels (calls ++ full ∷ []) }
+        ensures calls { (calls : List TakerCall) → with_ready self.old ≡ taker_levels calls
+            → with_ready self.new ≡ taker_levels (calls ++ full ∷ []) }
     {
         self.change(false)
     }

@@ -49,7 +49,11 @@ ids_named deed = option_to_list (named_beside deed) ++ named deed ∷ []
 
 -- the ledger after a deed: the taken mark goes, the added mark comes, and the ids are seen
 abbrev pub ledger_after : Ledger → Deed → Ledger
-ledger_after ledger deed = record { marks = without (taken deed) ledger.marks ++ option_to_list (added deed); seen = ledger.seen ++ ids_named deed }
+ledger_after ledger deed =
+    record {
+      marks = without (taken deed) ledger.marks ++ option_to_list (added deed);
+      seen = ledger.seen ++ ids_named deed;
+    }
 
 -- an entry stands, where there is one
 abbrev pub is_found : Option Entry → List Entry → Bool
@@ -66,8 +70,8 @@ abbrev pub is_unseen : Option ℕ → List ℕ → Bool
 is_unseen None seen = true
 is_unseen (Some id) seen = not (has_id id seen)
 
--- a deed is legal where it finds the mark that it takes, does not find the one that it adds, and makes an id that was
--- never seen
+-- a deed is legal where it finds the mark that it takes, does not find the one that it adds, and
+-- makes an id that was never seen
 pub record IsLegal (ledger : Ledger) (deed : Deed) : Type 0 where
   pub takes : is_found (taken deed) ledger.marks ≡ true
   pub adds : is_missing (added deed) ledger.marks ≡ true
@@ -75,7 +79,9 @@ pub record IsLegal (ledger : Ledger) (deed : Deed) : Type 0 where
 
 -- the same as a test
 abbrev pub is_legal : Ledger → Deed → Bool
-is_legal ledger deed = is_found (taken deed) ledger.marks && (is_missing (added deed) ledger.marks && is_unseen (made deed) ledger.seen)
+is_legal ledger deed =
+    is_found (taken deed) ledger.marks
+    && (is_missing (added deed) ledger.marks && is_unseen (made deed) ledger.seen)
 
 -- the ledger after some deeds
 abbrev pub ledger_after_all : Ledger → List Deed → Ledger

@@ -4,7 +4,8 @@ use Rattle.std.specs.List.{list_any}
 use Rattle.standings.specs.declared.mark.Mark.{Mark}
 use Rattle.standings.specs.declared.mark.Mark.TheVariants.{Kept, Outlet, Intake}
 
--- what one machine has: the ids that it keeps, the id that its outlet holds, and the id that its intake holds
+-- what one machine has: the ids that it keeps, the id that its outlet holds, and the id that its
+-- intake holds
 pub record Owned : Type 0 where
   pub kept : List ℕ
   pub held : Option ℕ
@@ -25,14 +26,19 @@ mark_if false mark = []
 
 -- the marks of an id at a machine
 abbrev pub marks_at : ℕ → Owned → ℕ → List Mark
-marks_at machine owned id = mark_if (has_id id owned.kept) (Kept machine) ++ (mark_if (is_held id owned.held) (Outlet machine) ++ mark_if (is_held id owned.taking) (Intake machine))
+marks_at machine owned id =
+    mark_if (has_id id owned.kept) (Kept machine)
+    ++ (mark_if (is_held id owned.held) (Outlet machine)
+    ++ mark_if (is_held id owned.taking) (Intake machine))
 
 -- the marks of an id at machines that are numbered from this number on
 abbrev pub marks_from : ℕ → List Owned → ℕ → List Mark
 marks_from machine [] id = []
-marks_from machine (owned ∷ line) id = marks_at machine owned id ++ marks_from (machine + 1) line id
+marks_from machine (owned ∷ line) id =
+    marks_at machine owned id ++ marks_from (machine + 1) line id
 
--- the marks of an id along a line: each once, in the order of the machines, and at each machine kept, outlet, intake
+-- the marks of an id along a line: each once, in the order of the machines, and at each machine
+-- kept, outlet, intake
 abbrev pub marks_of : List Owned → ℕ → List Mark
 marks_of line id = marks_from 1 line id
 

@@ -16,7 +16,8 @@ is_kept_by machine (Kept other) = other == machine
 is_kept_by machine (Outlet _) = false
 is_kept_by machine (Intake _) = false
 
--- a mark is of the handover at gap k: the outlet of machine k holds the board, or the intake of machine k + 1 does
+-- a mark is of the handover at gap k: the outlet of machine k holds the board, or the intake of
+-- machine k + 1 does
 abbrev pub is_handed_at : ℕ → Mark → Bool
 is_handed_at gap (Kept _) = false
 is_handed_at gap (Outlet machine) = machine == gap
@@ -33,7 +34,8 @@ pub record IsWith (machine : ℕ) (marks : List Mark) : Type 0 where
   pub some : marks ≢ []
   pub alone : list_all (is_kept_by machine) marks ≡ true
 
--- the board is in the handover at gap k, and the machine upstream may keep it still: no other mark stands
+-- the board is in the handover at gap k, and the machine upstream may keep it still: no other mark
+-- stands
 pub record IsBetween (gap : ℕ) (marks : List Mark) : Type 0 where
   pub handed : list_any (is_handed_at gap) marks ≡ true
   pub among : list_all (is_among gap) marks ≡ true
@@ -57,7 +59,8 @@ is_all_among gap marks = list_all (is_among gap) marks
 -- or, where no mark is in a gap, the machine of all
 abbrev pub kept_alone : List Mark → Option Standing
 kept_alone [] = None
-kept_alone (Kept machine ∷ marks) = if list_all (is_kept_by machine) marks then Some (With machine) else None
+kept_alone (Kept machine ∷ marks) =
+    if list_all (is_kept_by machine) marks then Some (With machine) else None
 kept_alone (Outlet _ ∷ _) = None
 kept_alone (Intake _ ∷ _) = None
 

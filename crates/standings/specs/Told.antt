@@ -22,9 +22,11 @@ standing_told None = None
 standing_told (Some (standings.With machine)) = Some (With machine)
 standing_told (Some (standings.Between gap)) = Some (Between gap)
 
--- a new standing is told where it is another than before, and an id is told to be gone where its last mark went.
--- An id that has marks and no standing isn't told of
+-- a new standing is told where it is another than before, and an id is told to be gone where its
+-- last mark went. An id that has marks and no standing isn't told of
 abbrev pub told_of : List Mark → List Mark → Option Told
 told_of [] [] = None
 told_of (_ ∷ _) [] = Some Gone
-told_of before (mark ∷ marks) = if is_same_standing (standing_of (mark ∷ marks)) (standing_of before) then None else standing_told (standing_of (mark ∷ marks))
+told_of before (mark ∷ marks) =
+    if is_same_standing (standing_of (mark ∷ marks))
+    (standing_of before) then None else standing_told (standing_of (mark ∷ marks))

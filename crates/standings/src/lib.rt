@@ -2,9 +2,9 @@
 //!
 //! For a reader, in this order: a *mark* says that a machine has an id in one of three places
 //! (specs/Marks); the marks of an id give it a *standing*, with one machine or between two
-//! neighbours, or none (specs/Standing); a *deed* is a line of a report that moves a board's record
-//! (specs/Deeds); and the *ledger* is the marks as someone knows them who reads the deeds alone,
-//! and says which of them are legal (specs/Ledger).
+//! neighbours, or none (specs/Standing); a *deed* is a line of a report that moves a board's
+//! record (specs/Deeds); and the *ledger* is the marks as someone knows them who reads the deeds
+//! alone, and says which of them are legal (specs/Ledger).
 #![tactic(auto)]
 
 mod deed;

@@ -16,7 +16,8 @@ after_answer orders query text (Err _) = orders
 
 -- a book after a call that had its memory
 abbrev pub after : List Order → Call → List Order
-after orders (asks question) = if is_full orders then orders else orders ++ open_order question ∷ []
+after orders (asks question) =
+    if is_full orders then orders else orders ++ open_order question ∷ []
 after orders (answers query text) = after_answer orders query text (answer_of orders query)
 
 abbrev pub after_all : List Order → List Call → List Order
@@ -26,7 +27,8 @@ after_all orders (call ∷ calls) = after_all (after orders call) calls
 -- what a call gives as an answer to the question of this number, if it was asked
 abbrev pub given_by : List Order → Call → ℕ → Option (List ℕ)
 given_by orders (asks question) query = None
-given_by orders (answers number text) query = if number == query && is_some (order_numbered orders query) then Some text else None
+given_by orders (answers number text) query =
+    if number == query && is_some (order_numbered orders query) then Some text else None
 
 abbrev pub or_else : Option (List ℕ) → Option (List ℕ) → Option (List ℕ)
 or_else None later = later
@@ -35,4 +37,5 @@ or_else (Some text) later = Some text
 -- the first answer that is given to the question of this number once it was asked
 abbrev pub first_answer : List Order → List Call → ℕ → Option (List ℕ)
 first_answer orders [] query = None
-first_answer orders (call ∷ calls) query = or_else (given_by orders call query) (first_answer (after orders call) calls query)
+first_answer orders (call ∷ calls) query =
+    or_else (given_by orders call query) (first_answer (after orders call) calls query)

@@ -1,4 +1,5 @@
--- The work orders that a machine asked for: the list of the questions, each with its first answer, or none.
+-- The work orders that a machine asked for: the list of the questions, each with its first answer,
+-- or none.
 use Rattle.std.specs.Prelude.{◌≡◌, ◌≤◌, ℕ, ◌+◌, ◌-◌, ◌==◌, ◌||◌, Bool, if◌then◌else◌, List, [], ◌∷◌, Option, Some, None, Result, Ok, Err, length, option_and_then, slice_get, slice_set}
 use Rattle.hermes_vertical.specs.declared.message.Question.{Question}
 use Rattle.supervisory_core.specs.declared.order.Order.{Order}
@@ -73,7 +74,8 @@ answer_of orders query = answer_at query (order_numbered orders query)
 
 abbrev pub answered_at : List Order → ℕ → List ℕ → Option Order → List Order
 answered_at orders place text None = orders
-answered_at orders place text (Some order) = slice_set orders place (record order { answer = Some text })
+answered_at orders place text (Some order) =
+    slice_set orders place (record order { answer = Some text })
 
 -- with this answer to the question of this number
 abbrev pub answered : List Order → ℕ → List ℕ → List Order

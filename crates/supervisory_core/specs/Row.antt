@@ -33,7 +33,8 @@ order_row false query order = None
 -- what a message does to a session that stands or not, or that there is no row for it
 abbrev pub supervised_row : Bool → Vertical → Option SupervisedRow
 supervised_row stands (bodies.SupervisoryServiceDescription system) = described_row stands
-supervised_row stands (bodies.SendWorkOrderInfo query order batch product) = order_row stands query order
+supervised_row stands (bodies.SendWorkOrderInfo query order batch product) =
+    order_row stands query order
 supervised_row stands (bodies.CheckAlive ping id) = row stands (alive_action ping id)
 supervised_row stands (bodies.Notification code severity text) = row stands acts.Nothing
 supervised_row stands (bodies.Other name) = row stands acts.Nothing

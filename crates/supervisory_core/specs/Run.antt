@@ -11,7 +11,8 @@ after_row stands None = stands
 -- whether it stands after these messages; one without a row leaves it as it was
 abbrev pub stands_after : Bool → List Vertical → Bool
 stands_after stands [] = stands
-stands_after stands (message ∷ messages) = stands_after (after_row stands (supervised_row stands message)) messages
+stands_after stands (message ∷ messages) =
+    stands_after (after_row stands (supervised_row stands message)) messages
 
 abbrev pub is_description : Vertical → Bool
 is_description (bodies.SupervisoryServiceDescription system) = true

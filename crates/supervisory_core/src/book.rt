@@ -14,7 +14,8 @@ const MOST_OPEN: usize = 256;
 
 /// The work orders that a machine asked for.
 ///
-/// It is seen as the list of the questions, each with its first answer; the first has the number 1.
+/// It is seen as the list of the questions, each with its first answer; the first has the number
+/// 1.
 #[derive(Debug, Drop)]
 pub struct OrderBook {
     orders: Vec<Order>,
@@ -46,8 +47,8 @@ impl OrderBook {
 
     /// Takes a question, and answers its number; the first has the number 1.
     ///
-    /// `QueriesFull` exactly where 256 questions have no answer, or the last number is 2^64 - 1. Else
-    /// `Memory`, where there is no room. After an error the book is as it was.
+    /// `QueriesFull` exactly where 256 questions have no answer, or the last number is 2^64 - 1.
+    /// Else `Memory`, where there is no room. After an error the book is as it was.
     pub fn ask(&mut self, question: Question) -> Result<u64, AskError>
         ensures answer { Asks result (ask_of self.old) }
         ensures asked { OnOk result (self.new ≡ self.old ++ open_order question ∷ []) }
@@ -56,7 +57,8 @@ impl OrderBook {
         ensures unchanged { OnErr result (self.new ≡ self.old) }
 
         // what was answered before stays answered so
-        ensures kept { (query : ℕ) (text : List ℕ) → answer_to self.old query ≡ Some text → answer_to self.new query ≡ Some text }
+        ensures kept { (query : ℕ) (text : List ℕ) → answer_to self.old query ≡ Some text
+            → answer_to self.new query ≡ Some text }
     {
         if self.is_full() {
             return Err(AskError::QueriesFull);
@@ -66,8 +68,8 @@ impl OrderBook {
 
     /// Takes an answer to the question of this number, and keeps it for good.
     ///
-    /// `Unknown` exactly where no question of this number was asked, and `Answered` exactly where it
-    /// was answered before; the book is then as it was. It takes no memory.
+    /// `Unknown` exactly where no question of this number was asked, and `Answered` exactly where
+    /// it was answered before; the book is then as it was. It takes no memory.
     pub fn answer(&mut self, query: u64, order: Text) -> Result<(), AnswerError>
         ensures answer { result ≡ answer_of self.old query }
         ensures answered { OnOk result (self.new ≡ answered self.old query order) }
@@ -75,7 +77,8 @@ impl OrderBook {
         ensures unchanged { OnErr result (self.new ≡ self.old) }
 
         // what was answered before stays answered so
-        ensures kept { (asked : ℕ) (text : List ℕ) → answer_to self.old asked ≡ Some text → answer_to self.new asked ≡ Some text }
+        ensures kept { (asked : ℕ) (text : List ℕ) → answer_to self.old asked ≡ Some text
+            → answer_to self.new asked ≡ Some text }
     {
         if let Err(error) = self.may_answer(query) {
             return Err(error);
@@ -117,7 +120,8 @@ impl OrderBook {
         self.orders.as_slice()
     }
 
-    /// Whether no further question is taken: 256 questions have no answer, or the last number is 2^64 - 1.
+    /// Whether no further question is taken: 256 questions have no answer, or the last number is
+    /// 2^64 - 1.
     pub fn is_full(&self) -> bool
         ensures { result ≡ is_full self.now }
     {

@@ -41,11 +41,12 @@ impl Supervised {
 
     /// A message of the supervisor came in.
     ///
-    /// `Err` with the message's kind exactly where the table of the supervisory session has no row for
-    /// it: a breach. The session is then as it was, and the machine closes the connection.
+    /// `Err` with the message's kind exactly where the table of the supervisory session has no row
+    /// for it: a breach. The session is then as it was, and the machine closes the connection.
     pub fn on_message(&mut self, message: Vertical) -> Result<VerticalAction, VerticalKind>
         ensures row { IfOk result (λ action. supervised_row self.old message ≡ row self.new action) }
-        ensures breach { IfErr result (λ kind. (supervised_row self.old message ≡ None) × (kind ≡ kind_of message)) }
+        ensures breach { IfErr result (λ kind. (supervised_row self.old message ≡ None)
+            × (kind ≡ kind_of message)) }
         ensures unchanged { OnErr result (self.new ≡ self.old) }
     {
         match message {
@@ -63,7 +64,8 @@ impl Supervised {
     /// The supervisor describes itself.
     fn described(&mut self) -> Result<VerticalAction, VerticalKind>
         ensures row { IfOk result (λ action. described_row self.old ≡ row self.new action) }
-        ensures breach { IfErr result (λ kind. (described_row self.old ≡ None) × (kind ≡ VerticalKind.SupervisoryServiceDescription)) }
+        ensures breach { IfErr result (λ kind. (described_row self.old ≡ None)
+            × (kind ≡ VerticalKind.SupervisoryServiceDescription)) }
         ensures unchanged { OnErr result (self.new ≡ self.old) }
     {
         if self.stands {
@@ -76,7 +78,8 @@ impl Supervised {
     /// The supervisor answers a question.
     fn ordered(&self, query: u64, order: Text) -> Result<VerticalAction, VerticalKind>
         ensures row { IfOk result (λ action. order_row self.now query order ≡ row self.now action) }
-        ensures breach { IfErr result (λ kind. (order_row self.now query order ≡ None) × (kind ≡ VerticalKind.SendWorkOrderInfo)) }
+        ensures breach { IfErr result (λ kind. (order_row self.now query order ≡ None)
+            × (kind ≡ VerticalKind.SendWorkOrderInfo)) }
     {
         if !self.stands {
             return Err(VerticalKind::SendWorkOrderInfo);

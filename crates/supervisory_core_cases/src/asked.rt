@@ -27,8 +27,8 @@ pub fn tell(alloc: Global, case: &str, to: &mut Vec<u8>) -> io::Result<()> {
 }
 
 /// Meets a word: `ask` and `place` ask by a barcode and by a place, `ask:N` asks N times,
-/// `answer:N:W` and `breaks:N` answer the question N, by the word W and by a text with a line feed,
-/// and `kept:N` looks at what is kept of it.
+/// `answer:N:W` and `breaks:N` answer the question N, by the word W and by a text with a line
+/// feed, and `kept:N` looks at what is kept of it.
 fn meet(alloc: Global, book: &mut OrderBook, word: &str, to: &mut Vec<u8>) -> io::Result<()> {
     match word.split_once(':') {
         Some(("ask", count)) => ask_often(alloc, book, number(count), to),

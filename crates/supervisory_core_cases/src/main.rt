@@ -1,6 +1,6 @@
 //! The cases of the supervisory channel: each line names a book of work orders or a session, and
-//! then the words of what it meets, and is written again with the answer to the last of them and how
-//! it stands then.
+//! then the words of what it meets, and is written again with the answer to the last of them and
+//! how it stands then.
 #![tactic(auto)]
 
 mod asked;

@@ -1,5 +1,6 @@
--- A STATE THAT IS ANNOUNCED FOR A GAP AND A BOARD: the board is offered at the exit above the gap, the place for it below it
--- is announced, and beside these two announcements nothing is on its way.
+-- A STATE THAT IS ANNOUNCED FOR A GAP AND A BOARD: the board is offered at the exit above the gap,
+-- the place for it below it is announced, and beside these two announcements nothing is on its
+-- way.
 use Rattle.std.specs.Prelude.{Bool, List, Some, [], take, true, ℕ, ◌+◌, ◌∷◌, ◌≡◌}
 use Rattle.line_base.specs.declared.states.Side.TheVariants.{Entry, Exit}
 use Rattle.line_base.specs.declared.states.Quality.{Quality}
@@ -28,12 +29,14 @@ pub record IsTextOf (message : Message) (text : List ℕ) : Type 0 where
 pub data AreTextsOf : List Message → List (List ℕ) → Type 0 where
   no_texts : AreTextsOf [] []
   more_texts : {message : Message} {others : List Message} {text : List ℕ} {texts : List (List ℕ)}
-      → IsTextOf message text → AreTextsOf others texts → AreTextsOf (message ∷ others) (text ∷ texts)
+      → IsTextOf message text → AreTextsOf others texts
+      → AreTextsOf (message ∷ others) (text ∷ texts)
 
--- these messages are on their way, and nothing else: each text spells its message, so none was spoiled,
--- and at the side to which they flow there waits what has arrived of the oldest text, and nothing where
--- none of it has
-pub record AreInFlight (messages : List Message) (waiting : List ℕ) (stream : Stream) : Type 0 where
+-- these messages are on their way, and nothing else: each text spells its message, so none was
+-- spoiled, and at the side to which they flow there waits what has arrived of the oldest text, and
+-- nothing where none of it has
+pub record AreInFlight (messages : List Message) (waiting : List ℕ)
+    (stream : Stream) : Type 0 where
   pub texts : AreTextsOf messages stream.texts
   pub waits : waiting ≡ take stream.arrived (bytes_of stream.texts)
 
@@ -48,7 +51,8 @@ pub record IsOfferInFlight (id : ℕ) (waiting : List ℕ) (stream : Stream) : T
 -- the place is announced: it was heard and stands, or MachineReady is on its way
 pub data IsPlaceAnnounced (ready : Bool) (waiting : List ℕ) (stream : Stream) : Type 0 where
   heard : ready ≡ true → AreInFlight [] waiting stream → IsPlaceAnnounced ready waiting stream
-  in_flight : {message : Message} {quality : Quality} → message.body ≡ bodies.MachineReady quality → AreInFlight (message ∷ []) waiting stream → IsPlaceAnnounced ready waiting stream
+  in_flight : {message : Message} {quality : Quality} → message.body ≡ bodies.MachineReady quality
+      → AreInFlight (message ∷ []) waiting stream → IsPlaceAnnounced ready waiting stream
 
 -- gap k lies under link k, between the exit of machine k and the entry of machine k + 1
 pub record IsAnnounced (s : LineState) (k id : ℕ) : Type 0 where
@@ -60,8 +64,10 @@ pub record IsAnnounced (s : LineState) (k id : ℕ) : Type 0 where
   pub front : front_id (node_at s k).lane.body.kept ≡ Some id
   pub intake : (node_at s (k + 1)).lane.body.intake.phase ≡ inn.Idle
   pub ready : (node_at s (k + 1)).lane.body.intake.ready ≡ true
-  pub board : IsOfferInFlight id (node_at s (k + 1)).lane.entry_bytes (link_at k s.world).flows.to_downstream
-  pub place : IsPlaceAnnounced (node_at s k).lane.body.outlet.ready (node_at s k).lane.exit_bytes (link_at k s.world).flows.to_upstream
+  pub board : IsOfferInFlight id (node_at s (k + 1)).lane.entry_bytes
+      (link_at k s.world).flows.to_downstream
+  pub place : IsPlaceAnnounced (node_at s k).lane.body.outlet.ready (node_at s k).lane.exit_bytes
+      (link_at k s.world).flows.to_upstream
   pub gap : gap_at s.world.floor k ≡ free_gap
   pub exit_read : events_at Exit (machine_at s.world.floor k).unread ≡ []
   pub entry_read : events_at Entry (machine_at s.world.floor (k + 1)).unread ≡ []

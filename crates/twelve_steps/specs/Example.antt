@@ -1,4 +1,5 @@
--- A STATE THAT IS ANNOUNCED, written out: the line of two machines behind the first six lines of this script.
+-- A STATE THAT IS ANNOUNCED, written out: the line of two machines behind the first six lines of
+-- this script.
 --
 --     machine 4
 --     machine 4
@@ -7,9 +8,10 @@
 --     flow 2 in
 --     insert 1
 --
--- A board was put in at machine 1, which has offered it, and machine 2 has said that it is ready; both
--- messages are on their way. So what is asked of an announced state can be met. With the twelve lines
--- that follow in the worked handover (cases of `line_engine`) the board is handed over.
+-- A board was put in at machine 1, which has offered it, and machine 2 has said that it is ready;
+-- both messages are on their way. So what is asked of an announced state can be met. With the
+-- twelve lines that follow in the worked handover (cases of `line_engine`) the board is handed
+-- over.
 use Rattle.std.specs.Prelude.{List, None, Some, [], false, pos, true, ℕ, ◌∷◌, ◌≡◌}
 use Rattle.line_base.specs.declared.states.Quality.TheVariants as quality
 use Rattle.line_base.specs.declared.states.Role.TheVariants.{Downstream, Upstream}
@@ -117,7 +119,9 @@ announced_line = record {
   world = record {
     links = link_between ∷ [];
     floor = record {
-      machines = record empty_machine { boards = record { id = Some first_board } ∷ [] } ∷ empty_machine ∷ [];
+      machines =
+          record empty_machine { boards = record { id = Some first_board } ∷ [] } ∷ empty_machine ∷
+          [];
       gaps = free_gap ∷ [];
     };
     opened = 0;
@@ -132,8 +136,8 @@ first_lines =
     lines.Machine 4 0 ∷ lines.Machine 4 0 ∷ lines.Connect 2
     ∷ lines.Flow 1 Exit None ∷ lines.Flow 2 Entry None ∷ lines.Insert 1 None ∷ []
 
--- THE LAW: a run of these six lines leads to it, none of which told a lie, and it is announced for gap 1
--- and that board
+-- THE LAW: a run of these six lines leads to it, none of which told a lie, and it is announced for
+-- gap 1 and that board
 pub record IsReachedAnnounced : Type 0 where
   pub points : List Point
   pub run : IsRun no_line first_lines points

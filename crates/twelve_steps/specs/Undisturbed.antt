@@ -22,10 +22,12 @@ are_some (_ ∷ _) = true
 
 -- machine m has not read some event of gap k: of the exit above it or of the entry below it
 abbrev pub has_unread_of : ℕ → ℕ → LineState → Bool
-has_unread_of k m s = (m == k && are_some (events_at Exit (machine_at s.world.floor m).unread)) || (m == k + 1 && are_some (events_at Entry (machine_at s.world.floor m).unread))
+has_unread_of k m s =
+    (m == k && are_some (events_at Exit (machine_at s.world.floor m).unread))
+    || (m == k + 1 && are_some (events_at Entry (machine_at s.world.floor m).unread))
 
--- the form of a line is that of a link step of k: the oldest text on link k arrives, a board is moved forth at gap k, or a
--- machine reads what the sensors of gap k saw
+-- the form of a line is that of a link step of k: the oldest text on link k arrives, a board is
+-- moved forth at gap k, or a machine reads what the sensors of gap k saw
 abbrev pub is_of_link : ℕ → LineState → ScriptLine → Bool
 is_of_link k s (lines.Flow machine Exit None) = machine == k
 is_of_link k s (lines.Flow machine Entry None) = machine == k + 1
@@ -70,7 +72,8 @@ pub record IsElsewhere (k machine : ℕ) : Type 0 where
   pub not_above : machine ≢ k
   pub not_below : machine ≢ k + 1
 
--- a line names only machines other than k and k + 1, or a gap other than k. A line that adds a machine or a bridge names none
+-- a line names only machines other than k and k + 1, or a gap other than k. A line that adds a
+-- machine or a bridge names none
 abbrev pub NamesElsewhere : ℕ → ScriptLine → Type 0
 NamesElsewhere k (lines.Machine capacity used) = Unit {0}
 NamesElsewhere k (lines.Bridge capacity used) = Unit {0}
@@ -102,9 +105,10 @@ NamesElsewhere k (lines.Ask machine question) = IsElsewhere k machine
 NamesElsewhere k (lines.Answer machine query order) = IsElsewhere k machine
 NamesElsewhere k _ = ⊥
 
--- A LINE THAT DOESN'T DISTURB the handover at gap k: a link step's form, any `sense`, a `show`, a blank line, a line of
--- elsewhere, and a `flow`, `notice` or `spoil` at the entry of k and the exit of k + 1, and a connection of k with the machine
--- above it. A `lie` is none, nor is an `unseen`
+-- A LINE THAT DOESN'T DISTURB the handover at gap k: a link step's form, any `sense`, a `show`, a
+-- blank line, a line of elsewhere, and a `flow`, `notice` or `spoil` at the entry of k and the
+-- exit of k + 1, and a connection of k with the machine above it. A `lie` is none, nor is an
+-- `unseen`
 pub data IsUndisturbed (k : ℕ) : ScriptLine → Type 0 where
   flows_up : IsUndisturbed k (lines.Flow k Exit None)
   flows_down : IsUndisturbed k (lines.Flow (k + 1) Entry None)
@@ -125,4 +129,5 @@ pub data IsUndisturbed (k : ℕ) : ScriptLine → Type 0 where
 
 pub data AreUndisturbed (k : ℕ) : List ScriptLine → Type 0 where
   none : AreUndisturbed k []
-  more : {line : ScriptLine} {others : List ScriptLine} → IsUndisturbed k line → AreUndisturbed k others → AreUndisturbed k (line ∷ others)
+  more : {line : ScriptLine} {others : List ScriptLine} → IsUndisturbed k line
+      → AreUndisturbed k others → AreUndisturbed k (line ∷ others)

@@ -6,7 +6,8 @@ use line_base::Memory;
 use std::alloc::Global;
 use std::io::Write;
 
-/// Appends what is cut first of a stream: a message with its length, that one is too long, or that none has ended.
+/// Appends what is cut first of a stream: a message with its length, that one is too long, or that
+/// none has ended.
 pub fn tell_cut(alloc: Global, stream: &[u8], to: &mut Vec<u8>) -> Result<(), Memory> {
     let mut cutter = match Cutter::new(alloc) {
         Ok(cutter) => cutter,

@@ -27,9 +27,10 @@ fn main(rt: HostRuntime) -> io::Result<()> {
     Ok(())
 }
 
-/// Appends a case with its answer. Its first word says what is asked of the text behind it: `horizontal` or
-/// `supervisory` whether it is a canonical text of that channel, and what becomes of it where it is cut off or spoiled;
-/// `limit-horizontal` or `limit-supervisory` whether that channel's reader reads it; `cut` whether it is one message of a stream.
+/// Appends a case with its answer. Its first word says what is asked of the text behind it:
+/// `horizontal` or `supervisory` whether it is a canonical text of that channel, and what becomes
+/// of it where it is cut off or spoiled; `limit-horizontal` or `limit-supervisory` whether that
+/// channel's reader reads it; `cut` whether it is one message of a stream.
 fn tell_case(alloc: Global, case: &str, to: &mut Vec<u8>) -> io::Result<()> {
     let (asked, spelled) = case.split_once(' ').unwrap_or((case, ""));
     let mut text = Vec::new(alloc);

@@ -1,4 +1,5 @@
-//! A canonical text: read and written it is itself, and no text that is cut off or spoiled is read.
+//! A canonical text: read and written it is itself, and no text that is cut off or spoiled is
+//! read.
 
 ghost use Rattle.std.specs.Prelude.{◌≤◌, length};
 
@@ -7,9 +8,10 @@ use line_base::Memory;
 use std::alloc::Global;
 use std::io::Write;
 
-/// Appends whether a text is the canonical one of the message that it spells; whether each of its proper fronts is
-/// refused as not ended, at its length; and whether a NUL byte that is put in at each of its bytes is refused there as
-/// no character. What is said otherwise stands in the answer.
+/// Appends whether a text is the canonical one of the message that it spells; whether each of its
+/// proper fronts is refused as not ended, at its length; and whether a NUL byte that is put in at
+/// each of its bytes is refused there as no character. What is said otherwise stands in the
+/// answer.
 pub fn tell_vector(
     alloc: Global,
     channel: Channel,
@@ -57,7 +59,8 @@ fn tell_front(
     tell_other(alloc, channel, &text[..at], wanted.as_slice(), to)
 }
 
-/// How many of one text with a NUL byte put in are refused as they must be; appends what is said of it else.
+/// How many of one text with a NUL byte put in are refused as they must be; appends what is said
+/// of it else.
 fn tell_nul(
     alloc: Global,
     channel: Channel,
