@@ -2,6 +2,7 @@
 use Rattle.std.proofs.Common.{◌≡◌, ◌∙◌, ◌++◌, ◌==◌, ◌||◌, ℕ, Bool, true, false, List, [], ◌∷◌, Option, Some, None, refl, sym, ap, subst, eqb-true}
 use Rattle.std.specs.List.{AllByRecursion, flat_map, list_any}
 use Rattle.std.proofs.lemmas.Bool.{false≢true}
+use Rattle.std.proofs.lemmas.List.Folds.{list_any-append}
 use Rattle.line_base.specs.declared.states.Side.{Side}
 use Rattle.line_base.specs.declared.states.Side.TheVariants.{Entry, Exit}
 use Rattle.board_record.specs.declared.sensed.Sensed.{Sensed}
@@ -240,13 +241,6 @@ ins_are id desk (Supervised what) body is =
 
 -- ---- what the report tells of it
 
-told_join : (f : Happening → Bool) (a b : List Happening)
-    → list_any f (a ++ b) ≡ (list_any f a || list_any f b)
-told_join f [] b = refl
-told_join f (happening ∷ a) b =
-    ap (λ (rest : Bool). f happening || rest) (told_join f a b)
-    ∙ or_join (f happening) (list_any f a) (list_any f b)
-
 or_false : (b : Bool) → (b || false) ≡ b
 or_false true = refl
 or_false false = refl
@@ -292,7 +286,7 @@ pub acts_any : (f : Happening → Bool) (g : Act → Bool) (second : Bool) (mach
 acts_any f g second machine [] world looks = refl
 acts_any f g second machine (act ∷ others) world looks =
     let one = act_did second machine act world in
-    told_join f one.told (acts_did second machine others one.world).told
+    list_any-append f one.told (acts_did second machine others one.world).told
     ∙ ap (λ (b : Bool). b || list_any f (acts_did second machine others one.world).told)
     (act_any f g second machine act world looks)
     ∙ ap (λ (b : Bool). g act || b) (acts_any f g second machine others one.world looks)
@@ -417,13 +411,13 @@ each_none : (f : Happening → Bool) (g : ℕ → List Happening) (ids : List �
     → ((x : ℕ) → list_any f (g x) ≡ false) → list_any f (flat_map g ids) ≡ false
 each_none f g [] every = refl
 each_none f g (x ∷ ids) every =
-    told_join f (g x) (flat_map g ids)
+    list_any-append f (g x) (flat_map g ids)
     ∙ ap (λ (b : Bool). b || list_any f (flat_map g ids)) (every x) ∙ each_none f g ids every
 
 pub with_standings : (f : Happening → Bool) → PassesNone f → (told : List Happening) (before next : LineState)
     → list_any f (told ++ standings_told before next) ≡ list_any f told
 with_standings f none told before next =
-    told_join f told (standings_told before next)
+    list_any-append f told (standings_told before next)
     ∙ ap (λ (b : Bool). list_any f told || b)
     (each_none f (λ x. standing_told x (told_of (marks_in before x) (marks_in next x)))
     (ascending (ids_marked before ++ ids_marked next))

@@ -55,7 +55,7 @@ use Rattle.supervisor_replay.proofs.Lines.{
 }
 use Rattle.supervisor_replay.proofs.Connecting.{connect_takes}
 use Rattle.supervisor_replay.proofs.Sights.{kept_on, placed_of, sole_of, view_of}
-use Rattle.supervisor_replay.proofs.Silent.{left_join, told_join}
+use Rattle.supervisor_replay.proofs.Happenings.{after_append, left_after_append}
 use Rattle.supervisor_replay.proofs.Stepped.{
   Around,
   Behind,
@@ -233,11 +233,11 @@ joined_by id number j input t t2 before between next done past earlier later c f
     (λ was. p.goes.olds id (old_mark t before id (j + 1) p.st (marked_as id (j + 1) between before own was)))
     (λ now. old_mark t2 next id (j + 1) p.st2 now) first_known in
     agreed_by id next past done
-    (both_holds (sym (ap (λ (ts : List Happening). told_after id ts told) is ∙ told_join id earlier later told))
-    (λ gap. ap (λ (ts : List Happening). since_after gap id ts (left gap)) is ∙ left_join gap id earlier later (left gap))
+    (both_holds (sym (ap (λ (ts : List Happening). told_after id ts told) is ∙ after_append id earlier later told))
+    (λ gap. ap (λ (ts : List Happening). since_after gap id ts (left gap)) is ∙ left_after_append gap id earlier later (left gap))
     two.holds)
-    (both_known (ap (λ (ts : List Happening). told_after id ts told) is ∙ told_join id earlier later told)
-    (λ gap. ap (λ (ts : List Happening). since_after gap id ts (left gap)) is ∙ left_join gap id earlier later (left gap))
+    (both_known (ap (λ (ts : List Happening). told_after id ts told) is ∙ after_append id earlier later told)
+    (λ gap. ap (λ (ts : List Happening). since_after gap id ts (left gap)) is ∙ left_after_append gap id earlier later (left gap))
     second_known) where
       old_next : {U : Type 0} → IsOld 1 before.machines id ⊎ U → IsOld 1 next.machines id ⊎ U
       old_next (inl old) = inl (c.passing.goes.olds id old)

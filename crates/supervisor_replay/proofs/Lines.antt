@@ -53,7 +53,8 @@ use Rattle.supervisor_replay.proofs.Sights.{
   started_there,
   view_of,
 }
-use Rattle.supervisor_replay.proofs.Silent.{IsSilent, left_join, told_join}
+use Rattle.supervisor_replay.proofs.Happenings.{after_append, left_after_append}
+use Rattle.supervisor_replay.proofs.Silent.{IsSilent}
 use Rattle.supervisor_replay.proofs.Stepped.{
   Around,
   Behind,
@@ -119,11 +120,11 @@ same_self v = record {
 
 told_is : (id : ℕ) (past done : List Happening)
     → told_of id (past ++ done) ≡ told_after id done (told_of id past)
-told_is id past done = told_join id past done nothing_told
+told_is id past done = after_append id past done nothing_told
 
 left_is : (gap id : ℕ) (past done : List Happening)
     → left_since gap id (past ++ done) ≡ since_after gap id done (left_since gap id past)
-left_is gap id past done = left_join gap id past done false
+left_is gap id past done = left_after_append gap id past done false
 
 unknown_silent : (id : ℕ) (past done : List Happening) → IsSilent done → IsUnknown id past
     → IsUnknown id (past ++ done)

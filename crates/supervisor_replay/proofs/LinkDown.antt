@@ -83,15 +83,6 @@ open_more {id = id} {passes = passes} said message other h =
     (bodies_behind said message) ∙ down_words-append (bodies said) (message.body ∷ [])))
     (open_behind (before_down message.body []) (open_alone message.body other) h)
 
--- offers are passed over that were taken up before
-pub now_passes : {id : ℕ} {words : List DownWord} → OpenAll (IsOther id) false words
-    → OpenAll (IsOther id) true words
-now_passes open_none = open_none
-now_passes (open_new other h) = open_passed (now_passes h)
-now_passes (open_back h) = open_back (now_passes h)
-now_passes (open_end h) = open_end h
-now_passes (open_service h) = open_service (now_passes h)
-
 -- ---- one message more
 
 one_sayable : {message : Message} {said : List Message} → AreSayable (message ∷ said)

@@ -28,7 +28,7 @@ use Rattle.supervisor_replay.proofs.DownForms.{StaysFree, line_free}
 use Rattle.supervisor_replay.proofs.Free.{IsFree, starts_it}
 use Rattle.supervisor_replay.proofs.Leaves.{leaves_act, leaves_held}
 use Rattle.supervisor_replay.proofs.Sending.{held_free}
-use Rattle.supervisor_replay.proofs.Silent.{left_join}
+use Rattle.supervisor_replay.proofs.Happenings.{left_after_append}
 
 -- ---- what the acts of a machine say of it
 
@@ -238,7 +238,7 @@ free_never : (id j : ℕ) (after : LineState) (told past : List Happening)
     → Never id j after (past ++ told)
 free_never id j after told past stays leaves was gone =
     let now : left_since (j + 1) id (past ++ told) ≡ true =
-    left_join (j + 1) id past told false
+    left_after_append (j + 1) id past told false
     ∙ unstarted (j + 1) id told (left_since (j + 1) id past) stays.starts
     ∙ by_left (left_since (j + 1) id past) refl in
     record { still = λ told. now; free = λ left. stays.free (gone left) } where
@@ -272,7 +272,7 @@ never_step alone id j number line before after told past few fit was steps gone 
         free = λ is.
             absurd (elim
             (less_told (j + 1) id told (left_since (j + 1) id past)
-            (sym (left_join (j + 1) id past told false) ∙ is)) [
+            (sym (left_after_append (j + 1) id past told false) ∙ is)) [
               | inl old ↦ false≢true (sym not ∙ old)
               | inr now ↦ false≢true (sym none ∙ now)
             ]);

@@ -49,18 +49,9 @@ use Rattle.line_step.specs.Shown.{
   taken_below,
 }
 use Rattle.line_step.specs.State.{LineState, marks_in}
-use Rattle.supervisor_replay.specs.Replay.{Told, told_after, with_happening}
-use Rattle.supervisor_replay.proofs.Since.{since_after, since_with}
-
-pub told_join : (id : ℕ) (a b : List Happening) (told : Told)
-    → told_after id (a ++ b) told ≡ told_after id b (told_after id a told)
-told_join id [] b told = refl
-told_join id (happening ∷ a) b told = told_join id a b (with_happening id happening told)
-
-pub left_join : (gap id : ℕ) (a b : List Happening) (left : Bool)
-    → since_after gap id (a ++ b) left ≡ since_after gap id b (since_after gap id a left)
-left_join gap id [] b left = refl
-left_join gap id (happening ∷ a) b left = left_join gap id a b (since_with gap id happening left)
+use Rattle.supervisor_replay.specs.Replay.{Told, told_after}
+use Rattle.supervisor_replay.proofs.Happenings.{after_append, left_after_append}
+use Rattle.supervisor_replay.proofs.Since.{since_after}
 
 -- ---- what is silent
 
@@ -74,9 +65,9 @@ none_silent = record { told = λ id told. refl; left = λ gap id left. refl }
 pub both_silent : (a b : List Happening) → IsSilent a → IsSilent b → IsSilent (a ++ b)
 both_silent a b one two = record {
   told = λ id told.
-      told_join id a b told ∙ ap (told_after id b) (one.told id told) ∙ two.told id told;
+      after_append id a b told ∙ ap (told_after id b) (one.told id told) ∙ two.told id told;
   left = λ gap id left.
-      left_join gap id a b left ∙ ap (since_after gap id b) (one.left gap id left)
+      left_after_append gap id a b left ∙ ap (since_after gap id b) (one.left gap id left)
       ∙ two.left gap id left;
 }
 
