@@ -4,6 +4,7 @@ ghost use Rattle.std.specs.Prelude.{◌≡◌, IfOk};
 ghost use Rattle.hermes_horizontal.specs.Parts.{no_info};
 
 use crate::message::{Horizontal, Info, Message, Service};
+use crate::said::Said;
 use line_base::{Memory, Name, Text};
 use std::alloc::Global;
 
@@ -12,7 +13,8 @@ impl Message {
     pub fn copy(&self, alloc: Global) -> Result<Message, Memory>
         ensures { IfOk result (λ copy. copy ≡ self.now) }
     {
-        let body = self.body.copy(alloc)?;
+        let what = self.body.what().copy(alloc)?;
+        let body = Said::new(alloc, what)?;
         Ok(Message {
             stamp: self.stamp,
             body,

@@ -21,6 +21,7 @@ mod proper;
 mod read;
 mod root;
 mod rows;
+mod said;
 mod write;
 
 pub use attr::Attr;
@@ -30,4 +31,5 @@ pub use kind::Kind;
 pub use laws::{refused_once, refused_or_spelled, spelled_once, zero_is_refused};
 pub use message::{Features, Horizontal, Info, Message, Ping, Service};
 pub use read::read_horizontal;
+pub use said::Said;
 pub use write::write_horizontal;

@@ -2,14 +2,15 @@ ghost use Rattle.std.specs.Prelude.{◌≡◌};
 ghost use Rattle.hermes_horizontal.specs.Parts.{kind_of, name_of};
 
 use crate::kind::Kind;
+use crate::said::Said;
 use board_record::{BoardId, Record};
 use line_base::{Code, Decimal, Flip, Moment, Name, Quality, Severity, Text, Transfer};
 
 /// A message: what it says, and when it was sent, where it tells.
-#[derive(Debug, PartialEq, Eq, Drop)]
+#[derive(Debug, Drop)]
 pub struct Message {
     pub stamp: Option<Moment>,
-    pub body: Horizontal,
+    pub body: Said,
 }
 
 /// What a message of the horizontal channel says.

@@ -18,8 +18,8 @@ pub fn parts_are_proper(message: &Message)
     ensures { IsProperMessage message.now }
 {
     optional_moment_is_proper(message.stamp);
-    name_is_proper(&message.body);
-    values_are_proper(&message.body);
+    name_is_proper(message.body.what());
+    values_are_proper(message.body.what());
 }
 
 fn name_is_proper(body: &Horizontal)

@@ -8,7 +8,9 @@ use crate::fault::{Fault, MessageError};
 use crate::message::Message;
 use crate::root::{Opened, open_root};
 use crate::rows::body_of;
+use crate::said::Said;
 use hermes_element::{ElementError, LentElement, read_lent};
+use line_base::Memory;
 use std::alloc::Global;
 
 /// Reads the bytes of one element as a message.
@@ -41,5 +43,8 @@ fn message_of(alloc: Global, root: LentElement<'_>) -> Result<Message, MessageEr
 {
     let Opened { stamp, child } = open_root(root)?;
     let body = body_of(alloc, child)?;
-    Ok(Message { stamp, body })
+    match Said::new(alloc, body) {
+        Ok(body) => Ok(Message { stamp, body }),
+        Err(Memory) => Err(MessageError::Memory),
+    }
 }

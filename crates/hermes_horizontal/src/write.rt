@@ -45,7 +45,7 @@ fn append_message(message: &Message, to: &mut Vec<u8>) -> Result<(), Memory>
     append(to, b"<Hermes")?;
     append_optional_moment(Attr::Timestamp, message.stamp, to)?;
     append(to, b">")?;
-    append_body(&message.body, to)?;
+    append_body(message.body.what(), to)?;
     append(to, b"</Hermes>")
 }
 

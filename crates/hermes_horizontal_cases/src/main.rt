@@ -6,7 +6,7 @@ mod spelled;
 
 use crate::spelled::spell;
 use hermes_horizontal::{
-    Horizontal, Message, MessageError, no_info, read_horizontal, write_horizontal,
+    Horizontal, Message, MessageError, Said, no_info, read_horizontal, write_horizontal,
 };
 use line_base::Memory;
 use std::alloc::Global;
@@ -47,11 +47,12 @@ fn tell(alloc: Global, bytes: &[u8], to: &mut Vec<u8>) -> io::Result<()> {
 
 /// Appends board information that tells nothing, as a message.
 fn tell_nothing(alloc: Global, to: &mut Vec<u8>) -> io::Result<()> {
-    let message = Message {
-        stamp: None,
-        body: Horizontal::SendBoardInfo(no_info()),
-    };
-    within(append_copy(alloc, &message, to))
+    within(append_nothing(alloc, to))
+}
+
+fn append_nothing(alloc: Global, to: &mut Vec<u8>) -> Result<(), Memory> {
+    let body = Said::new(alloc, Horizontal::SendBoardInfo(no_info()))?;
+    append_copy(alloc, &Message { stamp: None, body }, to)
 }
 
 /// Appends the text of a message's copy.

@@ -8,56 +8,53 @@ ghost use Rattle.line_report.specs.declared.happening.Happening.TheVariants as h
 ghost use Rattle.line_step.specs.Acts.{act_did, acts_did, answers, counted, cut_told, is_answer, is_exit, sent_by};
 ghost use Rattle.line_acts.specs.Doing.{is_drive, maybe_cut, told_with};
 
-use crate::act_copy::copy_of;
 use crate::links::link_of;
 use crate::world::World;
 use hermes_horizontal::{Horizontal, Message};
 use line_base::{Memory, Side};
 use line_link::Sent;
 use line_report::{Happened, Happening};
-use node_core::{Act, Deed};
-use std::alloc::Global;
+use node_core::{Act, Deed, Outputs};
 
 /// Where acts are told: which machine did them, and whether in the step of a second connection.
 #[derive(Clone, Copy)]
 pub struct Teller {
-    pub alloc: Global,
     pub machine: u32,
     pub second: bool,
 }
 
-/// Does the acts of a step, in their order.
+/// Does the acts of a step, in their order, and tells them.
 pub fn do_acts(
     teller: &Teller,
-    acts: &[Act],
+    acts: Outputs,
     world: &mut World,
     told: &mut Happened,
 ) -> Result<(), Memory>
     requires { IsMachine world.old.floor teller.now.machine }
     ensures world { OnOk result
-        (world.new ≡ (acts_did teller.now.second teller.now.machine acts.now world.old).world) }
+        (world.new ≡ (acts_did teller.now.second teller.now.machine acts world.old).world) }
     ensures told { OnOk result
         (told.new ≡ told.old
-        ++ (acts_did teller.now.second teller.now.machine acts.now world.old).told) }
+        ++ (acts_did teller.now.second teller.now.machine acts world.old).told) }
     ensures machines { OnOk result (length world.new.floor.machines ≡ length world.old.floor.machines) }
 {
-    for act in acts {
+    for act in acts.into_list() {
         do_act(teller, act, world, told)?;
     }
     Ok(())
 }
 
-fn do_act(teller: &Teller, act: &Act, world: &mut World, told: &mut Happened) -> Result<(), Memory>
+fn do_act(teller: &Teller, act: Act, world: &mut World, told: &mut Happened) -> Result<(), Memory>
     requires { IsMachine world.old.floor teller.now.machine }
     ensures world { OnOk result
-        (world.new ≡ (act_did teller.now.second teller.now.machine act.now world.old).world) }
+        (world.new ≡ (act_did teller.now.second teller.now.machine act world.old).world) }
     ensures told { OnOk result
         (told.new ≡ told.old
-        ++ (act_did teller.now.second teller.now.machine act.now world.old).told) }
+        ++ (act_did teller.now.second teller.now.machine act world.old).told) }
     ensures machines { OnOk result (length world.new.floor.machines ≡ length world.old.floor.machines) }
 {
-    let cut = change(teller, act, world)?;
-    tell_act(teller, act, cut, told)
+    let cut = change(teller, &act, world)?;
+    tell_act(teller.machine, act, cut, told)
 }
 
 // ---- what an act does
@@ -152,7 +149,7 @@ fn send(
 fn answers(second: bool, side: Side, message: &Message) -> bool
     ensures { result ≡ answers second side message.now }
 {
-    second && (is_exit(side) && is_answer(&message.body))
+    second && (is_exit(side) && is_answer(message.body.what()))
 }
 
 fn is_exit(side: Side) -> bool
@@ -183,15 +180,13 @@ fn cut_of(link: u32, sent: Sent) -> Option<u32>
 // ---- what is told of it
 
 /// Tells an act, unless it is a drive, and just behind it the link that it cut.
-fn tell_act(teller: &Teller, act: &Act, cut: Option<u32>, told: &mut Happened) -> Result<(), Memory>
+fn tell_act(machine: u32, act: Act, cut: Option<u32>, told: &mut Happened) -> Result<(), Memory>
     ensures { OnOk result
-        (told.new ≡ told.old ++ told_with (is_drive act.now) teller.now.machine act.now cut) }
+        (told.new ≡ told.old ++ told_with (is_drive act) machine act cut) }
 {
-    if is_drive(act) {
+    if is_drive(&act) {
         return Ok(());
     }
-    let machine = teller.machine;
-    let act = copy_of(teller.alloc, act)?;
     told.tell(Happening::Done { machine, act })?;
     tell_maybe_cut(cut, told)
 }

@@ -2,7 +2,6 @@
 //! which of them the report tells. What that is, is defined in `line_step`.
 #![tactic(auto)]
 
-mod act_copy;
 mod acts;
 mod links;
 mod world;

@@ -79,10 +79,8 @@ impl World {
         if is_first {
             return Ok(());
         }
-        match self.links.push(Link::new(self.alloc)) {
-            Ok(()) => Ok(()),
-            Err(_) => Err(Memory),
-        }
+        self.links.push(Link::new(self.alloc))?;
+        Ok(())
     }
 
     /// How many boards lie on the floor.

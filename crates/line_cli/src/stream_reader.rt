@@ -172,16 +172,10 @@ fn write_message(number: u64, message: &Message, to: &mut Vec<u8>) -> Result<(),
     ensures { OnOk result
         (to.new.items ≡ to.old.items ++ entry number (message_text message.now)) }
 {
-    if let Err(Memory) = append_number(number, to) {
-        return Err(Memory);
-    }
-    if let Err(Memory) = write_body(message, to) {
-        return Err(Memory);
-    }
-    match to.push(b'\n') {
-        Ok(()) => Ok(()),
-        Err(_) => Err(Memory),
-    }
+    append_number(number, to)?;
+    write_body(message, to)?;
+    to.push(b'\n')?;
+    Ok(())
 }
 
 /// Appends a line's number and the space behind it.
@@ -189,19 +183,15 @@ fn append_number(number: u64, to: &mut Vec<u8>) -> Result<(), Memory>
     ensures { OnOk result (to.new.items ≡ to.old.items ++ (decimal number ++ codes " ")) }
 {
     let mut room = itoa::Buffer::new();
-    if let Err(_) = to.extend_from_slice(room.format(number).as_bytes()) {
-        return Err(Memory);
-    }
-    match to.push(b' ') {
-        Ok(()) => Ok(()),
-        Err(_) => Err(Memory),
-    }
+    to.extend_from_slice(room.format(number).as_bytes())?;
+    to.push(b' ')?;
+    Ok(())
 }
 
 fn write_body(message: &Message, to: &mut Vec<u8>) -> Result<(), Memory>
     ensures { OnOk result (to.new.items ≡ to.old.items ++ message_text message.now) }
 {
-    match &message.body {
+    match message.body.what() {
         Horizontal::Other(name) => write_other(name.bytes(), to),
         _ => write_horizontal(message, to),
     }
@@ -210,11 +200,7 @@ fn write_body(message: &Message, to: &mut Vec<u8>) -> Result<(), Memory>
 fn write_other(name: &[u8], to: &mut Vec<u8>) -> Result<(), Memory>
     ensures { OnOk result (to.new.items ≡ to.old.items ++ (codes "other " ++ name.now)) }
 {
-    if let Err(_) = to.extend_from_slice(b"other ") {
-        return Err(Memory);
-    }
-    match to.extend_from_slice(name) {
-        Ok(()) => Ok(()),
-        Err(_) => Err(Memory),
-    }
+    to.extend_from_slice(b"other ")?;
+    to.extend_from_slice(name)?;
+    Ok(())
 }

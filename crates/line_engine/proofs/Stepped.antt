@@ -155,45 +155,44 @@ both_step number machine s between after first second one other = record {
 }
 
 -- the same as the code has it, with what it calls things
-pub tells_step_by : (number machine : ℕ) (input : Input) (s : LineState) (one next : NodeState) (second : Bool) (moment : ℤ) (listed unread : List Sensed) (read w : WorldParts) (did acts : List Act) (told now : List Happening)
+pub tells_step_by : (number machine : ℕ) (input : Input) (s : LineState) (one next : NodeState) (second : Bool) (moment : ℤ) (listed unread : List Sensed) (read w : WorldParts) (acts : List Act) (told now : List Happening)
     → machine_in machine s ≡ Some one
-    → second ≡ is_second input → moment ≡ moment_of number → listed ≡ unread → did ≡ acts
+    → second ≡ is_second input → moment ≡ moment_of number → listed ≡ unread
     → unread ≡ (machine_at s.world.floor machine).unread
     → read ≡ with_floor (with_unread s.world.floor machine []) s.world
     → Steps one listed input moment next acts
     → (one.spent ≡ true → false ≡ true) → next.spent ≡ false
-    → w ≡ (acts_did second machine did read).world
-    → now ≡ told ++ (acts_did second machine did read).told
+    → w ≡ (acts_did second machine acts read).world
+    → now ≡ told ++ (acts_did second machine acts read).told
     → TellsStep number machine input s (with_world w (with_machine machine next s)) told now
-tells_step_by number machine input s one next second moment listed unread read w did acts told now there second_is moment_is listed_is did_is unread_is read_is steps never spent w_is now_is =
-    let did_as : (acts_did second machine did read) ≡ (acts_did (is_second input) machine acts read) =
-    ap (λ b. acts_did b machine did read) second_is ∙ ap (λ a. acts_did (is_second input) machine a read) did_is in
+tells_step_by number machine input s one next second moment listed unread read w acts told now there second_is moment_is listed_is unread_is read_is steps never spent w_is now_is =
+    let did_as : (acts_did second machine acts read) ≡ (acts_did (is_second input) machine acts read) =
+    ap (λ b. acts_did b machine acts read) second_is in
     tells_step number machine input s one next unread read w acts told now there unread_is read_is
     (subst (λ m. Steps one unread input m next acts) moment_is (subst (λ u. Steps one u input moment next acts) listed_is steps))
     (unspent one.spent next.spent never spent)
     (w_is ∙ ap (λ (e : Effect). e.world) did_as)
     (now_is ∙ ap (λ (e : Effect). told ++ e.told) did_as)
 
-pub hears_flow_by : (number machine : ℕ) (side : Side) (count : Option ℕ) (s : LineState) (one next : NodeState) (piece : Bor (List ℕ)) (moment : ℤ) (listed unread : List Sensed) (read come w : WorldParts) (did acts : List Act) (old now : List Happening)
+pub hears_flow_by : (number machine : ℕ) (side : Side) (count : Option ℕ) (s : LineState) (one next : NodeState) (piece : Bor (List ℕ)) (moment : ℤ) (listed unread : List Sensed) (read come w : WorldParts) (acts : List Act) (old now : List Happening)
     → machine_in machine s ≡ Some one
-    → moment ≡ moment_of number → listed ≡ unread → did ≡ acts
+    → moment ≡ moment_of number → listed ≡ unread
     → unread ≡ (machine_at s.world.floor machine).unread
     → read ≡ with_floor (with_unread s.world.floor machine []) s.world
     → piece.now ≡ piece_for machine side count read
     → Steps one listed (inputs.Bytes side piece) moment next acts
     → (one.spent ≡ true → false ≡ true) → next.spent ≡ false
     → come ≡ with_link (link_of machine side) (after_flow (end_of side) count (link_at (link_of machine side) read)) read
-    → w ≡ (acts_did false machine did come).world
-    → old ≡ [] → now ≡ old ++ (acts_did false machine did come).told
+    → w ≡ (acts_did false machine acts come).world
+    → old ≡ [] → now ≡ old ++ (acts_did false machine acts come).told
     → Flows number machine side count s (with_world w (with_machine machine next s)) now
-hears_flow_by number machine side count s one next piece moment listed unread read come w did acts old now there moment_is listed_is did_is unread_is read_is piece_is steps never spent come_is w_is old_is now_is =
-    let did_as : (acts_did false machine did come) ≡ (acts_did false machine acts come) = ap (λ a. acts_did false machine a come) did_is in
+hears_flow_by number machine side count s one next piece moment listed unread read come w acts old now there moment_is listed_is unread_is read_is piece_is steps never spent come_is w_is old_is now_is =
     hears_flow number machine side count s one next piece unread read come w acts now there unread_is read_is piece_is
     (subst (λ m. Steps one unread (inputs.Bytes side piece) m next acts) moment_is (subst (λ u. Steps one u (inputs.Bytes side piece) moment next acts) listed_is steps))
     (unspent one.spent next.spent never spent)
     come_is
-    (w_is ∙ ap (λ (e : Effect). e.world) did_as)
-    (now_is ∙ ap (λ o. o ++ (acts_did false machine did come).told) old_is ∙ ap (λ (e : Effect). e.told) did_as)
+    w_is
+    (now_is ∙ ap (λ o. o ++ (acts_did false machine acts come).told) old_is)
 
 -- the first of the two steps of a connection, as the code has it: the link, its world, what is met, what was told
 pub record Meets (number machine : ℕ) (s between : LineState) (link : ℕ) (w : WorldParts) (joined : Connected) (input : Input) (old told : List Happening) : Type 0 where

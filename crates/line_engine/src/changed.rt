@@ -85,10 +85,8 @@ fn add_id(id: BoardId, ids: &mut Vec<BoardId>) -> Result<(), Memory>
     if is_at(ids.as_slice(), place, id) {
         return Ok(());
     }
-    match ids.insert(place, id) {
-        Ok(()) => Ok(()),
-        Err(_) => Err(Memory),
-    }
+    ids.insert(place, id)?;
+    Ok(())
 }
 
 /// Where an id stands among ids in ascending order, or belongs.

@@ -51,10 +51,8 @@ impl Marks {
     fn add(&mut self, mark: Mark) -> Result<(), Memory>
         ensures { OnOk result (self.new ≡ self.old ++ mark ∷ []) }
     {
-        match self.list.push(mark) {
-            Ok(()) => Ok(()),
-            Err(_) => Err(Memory),
-        }
+        self.list.push(mark)?;
+        Ok(())
     }
 
     /// Another mark, where the board has it.

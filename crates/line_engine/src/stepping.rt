@@ -57,7 +57,6 @@ impl State {
         ensures floor { OnOk result (length self.new.world.floor.machines ≡ length self.new.machines) }
     {
         let teller = Teller {
-            alloc: self.alloc,
             machine,
             second: is_second(&input),
         };
@@ -65,7 +64,7 @@ impl State {
         let moment = moment_of(number);
         let node = &mut self.machines[machine as usize - 1];
         let acts = node.step(sensed.list(), input, moment)?;
-        do_acts(&teller, acts.list(), &mut self.world, told)?;
+        do_acts(&teller, acts, &mut self.world, told)?;
         Ok(())
     }
 
@@ -116,7 +115,6 @@ impl State {
         ensures { IfOk result (Flows number machine side count self.old self.new) }
     {
         let teller = Teller {
-            alloc: self.alloc,
             machine,
             second: false,
         };
@@ -127,7 +125,7 @@ impl State {
         let acts = node.step(sensed.list(), Input::Bytes(side, piece), moment)?;
         self.world.arrive(machine, side, count);
         let mut told = Happened::new(self.alloc);
-        do_acts(&teller, acts.list(), &mut self.world, &mut told)?;
+        do_acts(&teller, acts, &mut self.world, &mut told)?;
         Ok(told)
     }
 }

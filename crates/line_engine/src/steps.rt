@@ -505,10 +505,8 @@ fn add_node(
         ++ new_node (profile_of is_bridge number capacity used) ∷ []) }
 {
     let node = new_node(*machines.allocator(), is_bridge, number, capacity, used)?;
-    match machines.push(node) {
-        Ok(()) => Ok(()),
-        Err(_) => Err(Memory),
-    }
+    machines.push(node)?;
+    Ok(())
 }
 
 /// A machine of the line: its id text is `M` and its number.

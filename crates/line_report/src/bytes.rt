@@ -1,7 +1,7 @@
 //! What is appended to a text. Where memory is wanting, a part of it may stand there, behind what
 //! stood there before.
 
-ghost use Rattle.std.specs.Prelude.{◌≡◌, ◌++◌, OnOk, codes, decimal};
+ghost use Rattle.std.specs.Prelude.{◌≡◌, [], ◌∷◌, ◌++◌, OnOk, codes, decimal};
 ghost use Rattle.board_record.specs.BoardId.{id_text};
 ghost use Rattle.hermes_element.specs.Standing.{StillStands};
 ghost use Rattle.line_report.specs.Texts.{byte_in_line, in_line};
@@ -14,17 +14,44 @@ pub fn append(bytes: &[u8], to: &mut Vec<u8>) -> Result<(), Memory>
     ensures kept { StillStands to.old.items to.new.items }
     ensures written { OnOk result (to.new.items ≡ to.old.items ++ bytes.now) }
 {
-    match to.extend_from_slice(bytes) {
-        Ok(()) => Ok(()),
-        Err(_) => Err(Memory),
-    }
+    to.extend_from_slice(bytes)?;
+    Ok(())
+}
+
+/// Appends one byte to a text.
+fn append_one(byte: u8, to: &mut Vec<u8>) -> Result<(), Memory>
+    ensures kept { StillStands to.old.items to.new.items }
+    ensures written { OnOk result (to.new.items ≡ to.old.items ++ byte ∷ []) }
+{
+    to.push(byte)?;
+    Ok(())
+}
+
+/// Appends a space.
+pub fn append_space(to: &mut Vec<u8>) -> Result<(), Memory>
+    ensures kept { StillStands to.old.items to.new.items }
+    ensures written { OnOk result (to.new.items ≡ to.old.items ++ codes " ") }
+{
+    append_one(b' ', to)
+}
+
+/// Appends the end of a line.
+pub fn append_line_end(to: &mut Vec<u8>) -> Result<(), Memory>
+    ensures kept { StillStands to.old.items to.new.items }
+    ensures written { OnOk result (to.new.items ≡ to.old.items ++ codes "\n") }
+{
+    append_one(b'\n', to)
 }
 
 /// Appends the digits of a number.
+#[tactic(auto, using(crate::proofs::Digits::one_digit))]
 pub fn append_digits(number: u64, to: &mut Vec<u8>) -> Result<(), Memory>
     ensures kept { StillStands to.old.items to.new.items }
     ensures written { OnOk result (to.new.items ≡ to.old.items ++ decimal number) }
 {
+    if number < 10 {
+        return append_one(b'0' + number as u8, to);
+    }
     append(itoa::Buffer::new().format(number).as_bytes(), to)
 }
 
@@ -33,7 +60,7 @@ pub fn append_word(word: &str, to: &mut Vec<u8>) -> Result<(), Memory>
     ensures kept { StillStands to.old.items to.new.items }
     ensures written { OnOk result (to.new.items ≡ to.old.items ++ (codes " " ++ word.now)) }
 {
-    append(b" ", to)?;
+    append_space(to)?;
     append(word.as_bytes(), to)
 }
 
@@ -42,7 +69,7 @@ pub fn append_number(number: u64, to: &mut Vec<u8>) -> Result<(), Memory>
     ensures kept { StillStands to.old.items to.new.items }
     ensures written { OnOk result (to.new.items ≡ to.old.items ++ (codes " " ++ decimal number)) }
 {
-    append(b" ", to)?;
+    append_space(to)?;
     append_digits(number, to)
 }
 
@@ -51,7 +78,7 @@ pub fn append_id(id: BoardId, to: &mut Vec<u8>) -> Result<(), Memory>
     ensures kept { StillStands to.old.items to.new.items }
     ensures written { OnOk result (to.new.items ≡ to.old.items ++ (codes " " ++ id_text id)) }
 {
-    append(b" ", to)?;
+    append_space(to)?;
     id.write(to)
 }
 
@@ -76,5 +103,5 @@ fn append_byte(byte: u8, to: &mut Vec<u8>) -> Result<(), Memory>
     if byte == 13 {
         return append(b"&#13;", to);
     }
-    append(&[byte], to)
+    append_one(byte, to)
 }

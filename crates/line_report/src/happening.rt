@@ -34,7 +34,7 @@ pub enum Reason {
 }
 
 /// One thing that a line of a script does. Each is one line of the report.
-#[derive(Debug, PartialEq, Eq, Drop)]
+#[derive(Debug, Drop)]
 pub enum Happening {
     /// A machine was added at the line's end.
     Machine {

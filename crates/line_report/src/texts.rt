@@ -4,10 +4,14 @@
 ghost use Rattle.std.specs.Prelude.{◌≡◌, ◌++◌, OnOk, codes};
 ghost use Rattle.hermes_element.specs.Standing.{StillStands};
 ghost use Rattle.hermes_vertical.specs.Parts.{name_of};
+ghost use Rattle.node_core.specs.declared.act.Act.TheVariants as acts;
 ghost use Rattle.line_report.specs.declared.happening.Happening.TheVariants as happenings;
 ghost use Rattle.line_report.specs.Texts.{act_text, at_side, between_text, deed_text, entry, happening_text, mark_of, numbered, of_board, passed_text, reason_text, setting_text, switched, told_text, what_text};
 
-use crate::bytes::{append, append_digits, append_id, append_in_line, append_number, append_word};
+use crate::bytes::{
+    append, append_digits, append_id, append_in_line, append_line_end, append_number, append_space,
+    append_word,
+};
 use crate::happening::{Happening, Reason, no_text};
 use crate::words::{
     event_word, line_word, passing_word, ping_mark, quality_word, side_word, signal_word,
@@ -27,9 +31,9 @@ pub fn write_happening(number: u64, what: &Happening, to: &mut Vec<u8>) -> Resul
     ensures written { OnOk result (to.new.items ≡ to.old.items ++ entry number what.now) }
 {
     append_digits(number, to)?;
-    append(b" ", to)?;
+    append_space(to)?;
     write_what(what, to)?;
-    append(b"\n", to)
+    append_line_end(to)
 }
 
 fn write_what(what: &Happening, to: &mut Vec<u8>) -> Result<(), Memory>
@@ -183,16 +187,12 @@ pub fn write_act(machine: u32, act: &Act, to: &mut Vec<u8>) -> Result<(), Memory
         }
         Act::Hears(side, message) => {
             write_side("hears", machine, *side, to)?;
-            write_message(&message.body, to)
+            write_message(message.body.what(), to)
         }
-        Act::Breaches(side, text) => {
-            write_side("breach", machine, *side, to)?;
-            append(b" ", to)?;
-            append_in_line(text.bytes(), to)
-        }
+        Act::Breaches(side, text) => write_breach(machine, *side, text.bytes(), to),
         Act::Sends(side, message) => {
             write_side("sends", machine, *side, to)?;
-            write_message(&message.body, to)
+            write_message(message.body.what(), to)
         }
         Act::Closes(side) => write_side("closes", machine, *side, to),
         Act::Notices(side) => write_side("notices", machine, *side, to),
@@ -212,12 +212,8 @@ pub fn write_act(machine: u32, act: &Act, to: &mut Vec<u8>) -> Result<(), Memory
             write_board("replace", machine, *old, to)?;
             append_id(*new, to)
         }
-        Act::Tells(message) => write_told(machine, &message.body, to),
-        Act::Answered(query, order) => {
-            write_query("answered", machine, *query, to)?;
-            append(b" ", to)?;
-            append_in_line(order.bytes(), to)
-        }
+        Act::Tells(told) => write_told(machine, &told.message().body, to),
+        Act::Answered(query, order) => write_answered(machine, *query, order.bytes(), to),
         Act::Sets(setting) => write_setting(machine, *setting, to),
     }
 }
@@ -241,7 +237,7 @@ fn write_named(machine: u32, body: &Vertical, to: &mut Vec<u8>) -> Result<(), Me
     ensures written { OnOk result (to.new.items ≡ to.old.items ++ (numbered (codes "tells") machine ++ codes " " ++ name_of body.now)) }
 {
     write_numbered("tells", machine, to)?;
-    append(b" ", to)?;
+    append_space(to)?;
     append(body.name(), to)
 }
 
@@ -263,6 +259,28 @@ fn write_query(word: &str, machine: u32, query: u64, to: &mut Vec<u8>) -> Result
 {
     write_numbered(word, machine, to)?;
     append_number(query, to)
+}
+
+/// A question's number, and the work order that answers it.
+fn write_answered(machine: u32, query: u64, order: &[u8], to: &mut Vec<u8>) -> Result<(), Memory>
+    ensures kept { StillStands to.old.items to.new.items }
+    ensures written { OnOk result
+        (to.new.items ≡ to.old.items ++ act_text machine (acts.Answered query order.now)) }
+{
+    write_query("answered", machine, query, to)?;
+    append_space(to)?;
+    append_in_line(order, to)
+}
+
+/// What is wrong with what came on a side.
+fn write_breach(machine: u32, side: Side, text: &[u8], to: &mut Vec<u8>) -> Result<(), Memory>
+    ensures kept { StillStands to.old.items to.new.items }
+    ensures written { OnOk result
+        (to.new.items ≡ to.old.items ++ act_text machine (acts.Breaches side text.now)) }
+{
+    write_side("breach", machine, side, to)?;
+    append_space(to)?;
+    append_in_line(text, to)
 }
 
 fn write_setting(machine: u32, setting: Setting, to: &mut Vec<u8>) -> Result<(), Memory>
@@ -317,7 +335,7 @@ fn write_message(body: &Horizontal, to: &mut Vec<u8>) -> Result<(), Memory>
     ensures kept { StillStands to.old.items to.new.items }
     ensures written { OnOk result (to.new.items ≡ to.old.items ++ (codes " " ++ what_text body.now)) }
 {
-    append(b" ", to)?;
+    append_space(to)?;
     append(body.name(), to)?;
     write_mark(body, to)
 }

@@ -5,7 +5,7 @@ use crate::values::{event_of, id_of, line_of, parted, quality_of, side_of, signa
 use hermes_horizontal::{Message, MessageError, read_horizontal};
 use hermes_vertical::{Vertical, VerticalMessage, read_vertical};
 use line_base::{Memory, Side, Text};
-use node_core::{Act, Deed, Setting};
+use node_core::{Act, Deed, Setting, ToSupervisor};
 use std::alloc::Global;
 
 pub fn act_of(alloc: Global, words: &str) -> Result<Act, Memory> {
@@ -15,7 +15,7 @@ pub fn act_of(alloc: Global, words: &str) -> Result<Act, Memory> {
         "Hears" => Ok(Act::Hears(side_of(first), message_of(alloc, second)?)),
         "Sends" => Ok(Act::Sends(side_of(first), message_of(alloc, second)?)),
         "Breaches" => Ok(Act::Breaches(side_of(first), text_of(alloc, second)?)),
-        "Tells" => Ok(Act::Tells(told_of(alloc, about)?)),
+        "Tells" => Ok(Act::Tells(ToSupervisor::new(alloc, told_of(alloc, about)?)?)),
         "Answered" => answered_of(alloc, about),
         "Connects" => Ok(Act::Connects),
         "Supervise" => Ok(Act::Sets(Setting::Supervise(first == "on"))),

@@ -1,4 +1,4 @@
-ghost use Rattle.std.specs.Prelude.{◌≡◌, [], ◌∷◌, ◌++◌, OnOk};
+ghost use Rattle.std.specs.Prelude.{◌≡◌, [], ◌∷◌, ◌++◌, IfOk, OnOk};
 
 use board_record::BoardId;
 use hermes_horizontal::Message;
@@ -9,7 +9,7 @@ use std::alloc::Global;
 use std::marker::Model;
 
 /// One thing that a machine does in a step.
-#[derive(Debug, PartialEq, Eq, Drop)]
+#[derive(Debug, Drop)]
 pub enum Act {
     /// It reads a sensor event of this side.
     Reads(Side, SensorEvent),
@@ -40,11 +40,47 @@ pub enum Act {
     /// A board, the first, was replaced by hand by another, the second.
     Replaces(BoardId, BoardId),
     /// A supervisor, if there is one, is told of a board or asked for a work order.
-    Tells(VerticalMessage),
+    Tells(ToSupervisor),
     /// The question of this number is answered by this work order.
     Answered(u64, Text),
     /// It was told otherwise.
     Sets(Setting),
+}
+
+/// What a supervisor is told, or asked. It lies apart, so that an act is small: few acts tell a
+/// supervisor, and every act is moved.
+///
+/// It is seen as its message.
+#[derive(Debug, Drop)]
+pub struct ToSupervisor {
+    message: Box<VerticalMessage>,
+}
+
+impl Model for ToSupervisor {
+    ghost use Rattle.hermes_vertical.specs.declared.message.VerticalMessage.{VerticalMessage};
+
+    ghost Value = { VerticalMessage };
+
+    ghost view = { λ told. told.message.value };
+}
+
+impl ToSupervisor {
+    /// Puts aside what a supervisor is told. `Memory` where there is no room for it.
+    pub fn new(alloc: Global, message: VerticalMessage) -> Result<ToSupervisor, Memory>
+        ensures { IfOk result (λ told. told ≡ message) }
+    {
+        match Box::new(alloc, message) {
+            Ok(message) => Ok(ToSupervisor { message }),
+            Err(_) => Err(Memory),
+        }
+    }
+
+    /// Its message.
+    pub fn message(&self) -> &VerticalMessage
+        ensures { result.now ≡ self.now }
+    {
+        &*self.message
+    }
 }
 
 /// What becomes of a board at one of the sides.
@@ -123,8 +159,8 @@ impl Outputs {
         Ok(())
     }
 
-    /// The acts, in their order, to be moved.
-    pub(crate) fn into_list(self) -> Vec<Act>
+    /// The acts, in their order, for one who takes them over.
+    pub fn into_list(self) -> Vec<Act>
         ensures { result.items ≡ self }
     {
         self.acts

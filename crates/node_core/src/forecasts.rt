@@ -27,7 +27,7 @@ fn note_act(alloc: Global, act: &Act, kept: &mut Forecasts) -> Result<(), Memory
             kept.clear();
             Ok(())
         }
-        Act::Hears(Side::Entry, message) => note_heard(alloc, &message.body, kept),
+        Act::Hears(Side::Entry, message) => note_heard(alloc, message.body.what(), kept),
         _ => Ok(()),
     }
 }

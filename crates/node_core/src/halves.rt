@@ -10,7 +10,7 @@ use crate::lane::Body;
 use board_record::Record;
 use handover_in::{InAct, InDeed, InInput, InSend};
 use handover_out::{OutAct, OutDeed, OutInput, OutSend};
-use hermes_horizontal::{Horizontal, Message};
+use hermes_horizontal::{Horizontal, Message, Said};
 use line_base::{Memory, Quality, Side};
 
 /// A message of this moment goes out.
@@ -22,11 +22,12 @@ pub(crate) fn send(
 ) -> Result<(), Memory>
     ensures { OnOk result (to.new ≡ to.old ++ sends desk.now side what) }
 {
+    let body = Said::new(desk.alloc(), what)?;
     to.push(Act::Sends(
         side,
         Message {
             stamp: Some(desk.moment()),
-            body: what,
+            body,
         },
     ))
 }

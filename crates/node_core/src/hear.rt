@@ -18,31 +18,35 @@ use crate::word::{EntryWord, ExitWord};
 use board_record::BoardId;
 use handover_in::InInput;
 use handover_out::OutInput;
-use hermes_horizontal::{Horizontal, Kind, Message};
+use hermes_horizontal::columns::copied;
+use hermes_horizontal::{Horizontal, Kind, Message, Said};
 use line_base::{Memory, Side, Text};
 use session_core::{Action, Actions, Breach};
+use std::alloc::Global;
 
-fn exit_word(what: Horizontal) -> ExitWord
-    ensures { result ≡ exit_word what }
+fn exit_word(alloc: Global, what: &Horizontal) -> Result<ExitWord, Memory>
+    ensures { IfOk result (λ word. word ≡ exit_word what.now) }
 {
     match what {
-        Horizontal::MachineReady { .. } => ExitWord::Ready,
-        Horizontal::RevokeMachineReady => ExitWord::Unready,
-        Horizontal::StartTransport { id } => ExitWord::Start(id),
-        Horizontal::StopTransport { state, id } => ExitWord::Stop(state, id),
-        Horizontal::QueryBoardInfo { top, bottom } => ExitWord::Query(top, bottom),
-        _ => ExitWord::Nothing,
+        Horizontal::MachineReady { .. } => Ok(ExitWord::Ready),
+        Horizontal::RevokeMachineReady => Ok(ExitWord::Unready),
+        Horizontal::StartTransport { id } => Ok(ExitWord::Start(*id)),
+        Horizontal::StopTransport { state, id } => Ok(ExitWord::Stop(*state, *id)),
+        Horizontal::QueryBoardInfo { top, bottom } => {
+            Ok(ExitWord::Query(copied(alloc, top)?, copied(alloc, bottom)?))
+        }
+        _ => Ok(ExitWord::Nothing),
     }
 }
 
-fn entry_word(what: Horizontal) -> EntryWord
-    ensures { result ≡ entry_word what }
+fn entry_word(alloc: Global, what: &Horizontal) -> Result<EntryWord, Memory>
+    ensures { IfOk result (λ word. word ≡ entry_word what.now) }
 {
     match what {
-        Horizontal::BoardAvailable(board) => EntryWord::Available(board),
-        Horizontal::RevokeBoardAvailable => EntryWord::Revoked,
-        Horizontal::TransportFinished { state, id } => EntryWord::Finished(state, id),
-        _ => EntryWord::Nothing,
+        Horizontal::BoardAvailable(board) => Ok(EntryWord::Available(board.copy(alloc)?)),
+        Horizontal::RevokeBoardAvailable => Ok(EntryWord::Revoked),
+        Horizontal::TransportFinished { state, id } => Ok(EntryWord::Finished(*state, *id)),
+        _ => Ok(EntryWord::Nothing),
     }
 }
 
@@ -50,7 +54,7 @@ fn entry_word(what: Horizontal) -> EntryWord
 fn kind_of(message: Message) -> Kind
     ensures { result ≡ kind_of message.body }
 {
-    message.body.kind()
+    message.body.what().kind()
 }
 
 impl Body {
@@ -219,7 +223,7 @@ impl Body {
         &mut self,
         desk: &Desk,
         side: Side,
-        what: Horizontal,
+        what: Said,
         message: Message,
         to: &mut Outputs,
     ) -> Result<(), Memory>
@@ -234,8 +238,14 @@ impl Body {
             (side_took desk.now side what self.old)).acts) }
     {
         match side {
-            Side::Entry => self.entry_hears(desk, entry_word(what), message, to),
-            Side::Exit => self.exit_hears(desk, exit_word(what), message, to),
+            Side::Entry => {
+                let word = entry_word(desk.alloc(), what.what())?;
+                self.entry_hears(desk, word, message, to)
+            }
+            Side::Exit => {
+                let word = exit_word(desk.alloc(), what.what())?;
+                self.exit_hears(desk, word, message, to)
+            }
         }
     }
 
@@ -292,7 +302,7 @@ impl Body {
         ensures body { OnOk result (self.new ≡ (hears desk.now side message self.old).body) }
         ensures acts { OnOk result (to.new ≡ to.old ++ (hears desk.now side message self.old).acts) }
     {
-        let what = message.body.copy(desk.alloc())?;
+        let what = message.body.copy()?;
         match self.session_hears(side, what) {
             Ok(actions) => self.take(desk, side, message, actions, to),
             Err(_) => self.break_off(desk, side, kind_of(message), to),

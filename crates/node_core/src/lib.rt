@@ -30,7 +30,7 @@ mod step;
 mod supervising;
 mod word;
 
-pub use act::{Act, Deed, Outputs, Setting, Signal};
+pub use act::{Act, Deed, Outputs, Setting, Signal, ToSupervisor};
 pub use hermes::HermesState;
 pub use input::{Input, No};
 pub use node::Node;

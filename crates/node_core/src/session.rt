@@ -14,7 +14,7 @@ use crate::desk::Desk;
 use crate::halves::send;
 use crate::lane::Body;
 use handover_in::InInput;
-use hermes_horizontal::{Features, Horizontal, Ping, Service};
+use hermes_horizontal::{Features, Horizontal, Ping, Said, Service};
 use line_base::{Code, Memory, Severity, Side, Text};
 use session_core::{Action, Actions, Breach, SessionState, Tell};
 use std::alloc::Global;
@@ -75,7 +75,7 @@ impl Body {
 
     /// A message comes to a side's session.
     #[tactic(auto, using(crate::proofs::Opened::not_off))]
-    pub(crate) fn session_hears(&mut self, side: Side, what: Horizontal) -> Result<Actions, Breach>
+    pub(crate) fn session_hears(&mut self, side: Side, what: Said) -> Result<Actions, Breach>
         requires { is_open side self.old ≡ true }
         ensures row { IfOk result
             (λ actions.
@@ -143,6 +143,7 @@ impl Body {
                 send(desk, side, what, to)
             }
             Action::Pong(id) => {
+                let id = id.copy(desk.alloc())?;
                 let ping = Some(Ping::Answer);
                 send(desk, side, Horizontal::CheckAlive { ping, id }, to)
             }

@@ -4,7 +4,7 @@ ghost use Rattle.std.specs.Prelude.{◌≡◌, ◌≢◌, [], ◌∷◌, ◌++�
 ghost use Rattle.handover_in.specs.Own.{own_after};
 ghost use Rattle.node_core.specs.Supervising.{Ask, arrives, cause_of, departs, is_unwatched, orders_after, saw_taken, seen_with, stays_unwatched, supervised_after, supervision_act, tells_behind, tells_cause, tells_deed, tells_supervisor, watch_after, watch_of, with_tells};
 
-use crate::act::{Act, Deed, Outputs, Setting};
+use crate::act::{Act, Deed, Outputs, Setting, ToSupervisor};
 use crate::desk::Desk;
 use crate::input::Input;
 use crate::lane::Body;
@@ -96,10 +96,11 @@ fn seen_after(seen: Option<Seen>, event: SensorEvent) -> Option<Seen>
 fn tell(desk: &Desk, what: Vertical, to: &mut Outputs) -> Result<(), Memory>
     ensures { OnOk result (to.new ≡ to.old ++ tells_supervisor desk.now what ∷ []) }
 {
-    to.push(Act::Tells(VerticalMessage {
+    let message = VerticalMessage {
         stamp: Some(desk.moment()),
         body: what,
-    }))
+    };
+    to.push(Act::Tells(ToSupervisor::new(desk.alloc(), message)?))
 }
 
 fn passage(desk: &Desk, how: Passing, id: BoardId) -> Result<Passage, Memory>

@@ -39,8 +39,8 @@ fn tell(act: &Act, to: &mut Vec<u8>) -> io::Result<()> {
             let side = word_of(*side);
             write!(to, "reads {side} {event:?}")
         }
-        Act::Hears(side, message) => tell_message("hears", *side, &message.body, to),
-        Act::Sends(side, message) => tell_message("sends", *side, &message.body, to),
+        Act::Hears(side, message) => tell_message("hears", *side, message.body.what(), to),
+        Act::Sends(side, message) => tell_message("sends", *side, message.body.what(), to),
         Act::Breaches(side, text) => tell_breach(*side, text, to),
         Act::Closes(side) => tell_side("closes", *side, to),
         Act::Notices(side) => tell_side("notices", *side, to),
@@ -80,7 +80,7 @@ fn tell_supervised(act: &Act, to: &mut Vec<u8>) -> io::Result<()> {
             let on = level_of(*on);
             write!(to, "supervise {on}")
         }
-        Act::Tells(message) => tell_supervisor(&message.body, to),
+        Act::Tells(told) => tell_supervisor(&told.message().body, to),
         Act::Answered(query, order) => {
             write!(to, "answered {query}")?;
             tell_text(order, to)

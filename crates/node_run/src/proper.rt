@@ -25,14 +25,14 @@ fn act_is_proper(act: &Act)
     ensures { IsProperAct act.now }
 {
     match act {
-        Act::Hears(_, message) | Act::Sends(_, message) => name_is_proper(&message.body),
+        Act::Hears(_, message) | Act::Sends(_, message) => name_is_proper(message.body.what()),
         Act::Deed(deed) => deed_is_proper(*deed),
         Act::Inserts(id) | Act::Removes(id) => id_is_proper(*id),
         Act::Replaces(old, new) => {
             id_is_proper(*old);
             id_is_proper(*new);
         }
-        Act::Tells(message) => told_is_proper(&message.body),
+        Act::Tells(told) => told_is_proper(&told.message().body),
         Act::Reads(_, _)
         | Act::Breaches(_, _)
         | Act::Closes(_)

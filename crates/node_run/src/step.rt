@@ -91,7 +91,7 @@ impl Run {
         match act {
             Act::Sends(Side::Entry, message) => self.upstream.append_message(message),
             Act::Sends(Side::Exit, message) => self.downstream.append_message(message),
-            Act::Tells(message) => self.route_told(message),
+            Act::Tells(told) => self.route_told(told.message()),
             Act::Closes(Side::Entry) => {
                 self.upstream.set_wire(Wire::Ends);
                 Ok(())

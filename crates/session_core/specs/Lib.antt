@@ -4,6 +4,7 @@ pub mod Breach
 pub mod Tells
 pub mod Handling
 pub mod Input
+pub mod Ping
 pub mod Row
 pub mod Table
 pub mod Given

@@ -3,11 +3,12 @@ ghost use Rattle.line_base.specs.PlainText.{is_plain_text};
 ghost use Rattle.session_core.specs.Acts.{nothing, one, two};
 ghost use Rattle.session_core.specs.Tells.{tell_code, tell_severity, tell_text};
 
-use hermes_horizontal::Horizontal;
-use line_base::{Code, Severity, Text};
+use crate::ping::PingId;
+use hermes_horizontal::Said;
+use line_base::{Code, Severity};
 
 /// What a machine is to do for a session, in this order.
-#[derive(Debug, PartialEq, Eq, Drop)]
+#[derive(Debug, Drop)]
 pub struct Actions {
     pub first: Option<Action>,
     pub second: Option<Action>,
@@ -15,12 +16,12 @@ pub struct Actions {
 }
 
 /// One thing that a machine is to do for a session.
-#[derive(Debug, PartialEq, Eq, Drop)]
+#[derive(Debug, Drop)]
 pub enum Action {
     /// Send the machine's own ServiceDescription.
     SendService,
     /// Send the CheckAlive that answers a ping, with the ping's Id.
-    Pong(Option<Text>),
+    Pong(PingId),
     /// Send a ping, a CheckAlive that asks for an answer, with this number as its Id.
     Ping(u64),
     /// Send a Notification.
@@ -30,7 +31,7 @@ pub enum Action {
     /// Tell the intake that the session stands.
     Stand,
     /// Give this message to the half of the handover, or to the board information.
-    Pass(Horizontal),
+    Pass(Said),
 }
 
 /// The Notifications of a session.

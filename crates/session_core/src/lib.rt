@@ -2,7 +2,7 @@
 //! session passes on.
 //!
 //! A session takes what comes in on a connection and answers what its machine is to do. Messages
-//! are moved, and no call takes memory.
+//! are moved, and no call takes memory but the copy of a ping's Id.
 #![tactic(auto)]
 
 mod actions;
@@ -10,10 +10,12 @@ mod breach;
 mod handling;
 pub mod laws;
 mod message;
+mod ping;
 mod session;
 mod state;
 
 pub use actions::{Action, Actions, Tell};
 pub use breach::Breach;
+pub use ping::PingId;
 pub use session::Session;
 pub use state::SessionState;

@@ -7,10 +7,11 @@ ghost use Rattle.session_core.specs.Row.{session_row, service_row, traffic_row, 
 use crate::actions::{Action, Actions, Tell};
 use crate::breach::Breach;
 use crate::handling::{Handling, handling_of};
+use crate::ping::PingId;
 use crate::session::Session;
 use crate::state::SessionState;
-use hermes_horizontal::{Features, Horizontal, Kind, Ping};
-use line_base::{Role, Text};
+use hermes_horizontal::{Features, Horizontal, Kind, Ping, Said};
+use line_base::Role;
 
 impl Session {
     /// A message came in. `unsettled` says whether the machine's outlet holds a board.
@@ -19,7 +20,7 @@ impl Session {
     /// unchanged, and the machine has to close it by `on_closed`. Where a message is to be passed
     /// on, the session has a connection.
     #[tactic(auto, using(crate::proofs::States::pass_opens))]
-    pub fn on_message(&mut self, message: Horizontal, unsettled: bool) -> Result<Actions, Breach>
+    pub fn on_message(&mut self, message: Said, unsettled: bool) -> Result<Actions, Breach>
         requires { self.old.state ≢ SessionState.NotConnected }
         ensures row { IfOk result
             (λ actions. session_row self.old (heard message unsettled) ≡ row self.new actions) }
@@ -28,10 +29,11 @@ impl Session {
             × (breach.kind ≡ kind_of message)) }
         ensures unchanged { OnErr result (self.new ≡ self.old) }
     {
-        match message {
-            Horizontal::CheckAlive { ping, id } => {
+        match message.what() {
+            Horizontal::CheckAlive { ping, .. } => {
+                let ping = *ping;
                 self.take();
-                Ok(answer_to(ping, id))
+                Ok(answer_to(ping, PingId::of(message)))
             }
             Horizontal::Notification { .. } => {
                 self.take();
@@ -41,8 +43,11 @@ impl Session {
                 self.take();
                 Ok(Actions::nothing())
             }
-            Horizontal::ServiceDescription(service) => self.described(service.features, unsettled),
-            message => self.hear(message),
+            Horizontal::ServiceDescription(service) => {
+                let features = service.features;
+                self.described(features, unsettled)
+            }
+            _ => self.hear(message),
         }
     }
 }
@@ -79,14 +84,12 @@ impl Session {
     }
 
     /// A message that only a standing session takes.
-    fn hear(&mut self, message: Horizontal) -> Result<Actions, Breach>
-        ensures row { IfOk result
-            (λ actions. traffic_row self.old.state self.old message ≡ row self.new actions) }
-        ensures breach { IfErr result (λ breach. (traffic_row self.old.state self.old message ≡ None)
-            × (breach.kind ≡ kind_of message)) }
+    fn hear(&mut self, message: Said) -> Result<Actions, Breach>
+        ensures row { IfOk result (λ actions. traffic_row self.old.state self.old message ≡ row self.new actions) }
+        ensures breach { IfErr result (λ breach. (traffic_row self.old.state self.old message ≡ None) × (breach.kind ≡ kind_of message)) }
         ensures unchanged { OnErr result (self.new ≡ self.old) }
     {
-        let kind = message.kind();
+        let kind = message.what().kind();
         if self.state() != SessionState::Standing {
             return Err(Breach { kind });
         }
@@ -101,7 +104,7 @@ impl Session {
 }
 
 /// What is to be done at a message that is handled so, or that there is no row for it.
-fn actions_at(handling: Handling, message: Horizontal) -> Option<Actions>
+fn actions_at(handling: Handling, message: Said) -> Option<Actions>
     ensures { result ≡ actions_at handling message }
 {
     match handling {
@@ -111,7 +114,7 @@ fn actions_at(handling: Handling, message: Horizontal) -> Option<Actions>
 }
 
 /// A ping is answered with its Id.
-fn answer_to(ping: Option<Ping>, id: Option<Text>) -> Actions
+fn answer_to(ping: Option<Ping>, id: PingId) -> Actions
     ensures { result ≡ alive_actions ping id }
 {
     match ping {

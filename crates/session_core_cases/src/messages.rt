@@ -1,10 +1,10 @@
 //! The messages of the cases, by their words.
 
-use hermes_horizontal::{Horizontal, read_horizontal};
+use hermes_horizontal::{Said, read_horizontal};
 use std::alloc::Global;
 
 /// The message of a word, where it has one.
-pub fn message_of(alloc: Global, word: &str) -> Option<Horizontal> {
+pub fn message_of(alloc: Global, word: &str) -> Option<Said> {
     match read_horizontal(alloc, spelling_of(word).as_bytes()) {
         Ok(message) => Some(message.body),
         Err(_) => None,

@@ -3,9 +3,9 @@
 use board_record::BoardId;
 use hermes_horizontal::Horizontal;
 use line_base::{Quality, Severity, Text, Transfer};
-use session_core::{Action, Session, SessionState, Tell};
+use session_core::{Action, PingId, Session, SessionState, Tell};
 use std::io;
-use std::io::Write;
+use std::io::{ErrorKind, Write};
 
 /// Appends the first thing that is to be done.
 pub fn first(first: &Option<Action>, to: &mut Vec<u8>) -> io::Result<()> {
@@ -46,10 +46,10 @@ fn word_of(action: &Action) -> &'static str {
 /// What an action says beside its word.
 fn rest(action: &Action, to: &mut Vec<u8>) -> io::Result<()> {
     match action {
-        Action::Pong(id) => text(id, to),
+        Action::Pong(id) => pong(id, to),
         Action::Ping(number) => write!(to, " {number}"),
         Action::Tell(tell) => notification(*tell, to),
-        Action::Pass(message) => passed(message, to),
+        Action::Pass(message) => passed(message.what(), to),
         _ => Ok(()),
     }
 }
@@ -57,6 +57,13 @@ fn rest(action: &Action, to: &mut Vec<u8>) -> io::Result<()> {
 fn passed(message: &Horizontal, to: &mut Vec<u8>) -> io::Result<()> {
     write!(to, " {}", message.kind().text())?;
     parts(message, to)
+}
+
+fn pong(id: &PingId, to: &mut Vec<u8>) -> io::Result<()> {
+    match id.copy(*to.allocator()) {
+        Ok(id) => text(&id, to),
+        Err(_) => Err(io::Error::from(ErrorKind::OutOfMemory)),
+    }
 }
 
 fn text(text: &Option<Text>, to: &mut Vec<u8>) -> io::Result<()> {

@@ -1,9 +1,13 @@
+use Rattle.std.proofs.Common.{◌≡◌, ◌++◌, subst}
 use Rattle.std.proofs.lemmas.Result.{on_ok_weaker}
+use Rattle.hermes_horizontal.specs.Canonical.{body_spelling}
 use Rattle.hermes_horizontal.proofs.Writing.{message_written}
 use Rattle.hermes_horizontal.proofs.write.append_message.Goals as goal
 
 pub returns-clause-written : goal.returns-clause-written
-returns-clause-written c = on_ok_weaker c.append-3.result
+returns-clause-written c =
+    let written = subst (λ body. c.append_body.new.to.items ≡ c.append-2.new.to.items ++ body_spelling body) c.what.ensures c.in_ok-append_body.ensures.written in
+    on_ok_weaker c.append-3.result
     (λ e. message_written c.args.message.now c.args.to.now.items c.append.new.to.items c.append_optional_moment.new.to.items c.append-2.new.to.items c.append_body.new.to.items c.append-3.new.to.items
-    c.in_ok-append.ensures.written c.in_ok-append_optional_moment.ensures.written c.in_ok-append-2.ensures.written c.in_ok-append_body.ensures.written e)
+    c.in_ok-append.ensures.written c.in_ok-append_optional_moment.ensures.written c.in_ok-append-2.ensures.written written e)
     c.append-3.ensures.written

@@ -21,5 +21,5 @@ do_acts-requires c =
 pub returns : goal.returns
 returns c =
     let given = given_at c.args.machine (inputs.Notice c.args.side) (the_view c.self.inside) c.index_mut-node.result.now (subst (λ (s : LineState). IsGiven c.args.machine (inputs.Notice c.args.side) s) (sym c.self.view_is) c.requires.given) c.index_mut-node.ensures.value in
-    rw (← c.self.view_is) (hears_flow_by c.args.number c.args.machine c.args.side c.args.count (the_view c.self.inside) c.index_mut-node.result.now c.step.new.self c.next-piece.result c.moment_of-moment.result c.list.result.now c.in_ok-sensed.sensed c.read_all.new.self c.arrive.new.self c.do_acts.new.world c.list-2.result.now c.in_ok-acts.acts c.new-told.result _
-    given.there c.moment_of-moment.ensures c.list.ensures c.list-2.ensures c.in_ok-sensed.ensures.events c.in_ok-sensed.ensures.after c.next-piece.ensures c.in_ok-acts.ensures.step c.in_ok-acts.ensures.spent c.in_ok-acts.ensures.again c.arrive.ensures.after c.in_ok-do_acts.ensures.world c.new-told.ensures c.in_ok-do_acts.ensures.told)
+    rw (← c.self.view_is) (hears_flow_by c.args.number c.args.machine c.args.side c.args.count (the_view c.self.inside) c.index_mut-node.result.now c.step.new.self c.next-piece.result c.moment_of-moment.result c.list.result.now c.in_ok-sensed.sensed c.read_all.new.self c.arrive.new.self c.do_acts.new.world c.in_ok-acts.acts c.new-told.result _
+    given.there c.moment_of-moment.ensures c.list.ensures c.in_ok-sensed.ensures.events c.in_ok-sensed.ensures.after c.next-piece.ensures c.in_ok-acts.ensures.step c.in_ok-acts.ensures.spent c.in_ok-acts.ensures.again c.arrive.ensures.after c.in_ok-do_acts.ensures.world c.new-told.ensures c.in_ok-do_acts.ensures.told)
