@@ -34,13 +34,22 @@ pub fn is_blank(byte: u8) -> bool
     matches!(byte, b' ' | b'\t')
 }
 
-/// Whether each byte is a tab or printable ASCII.
+/// Whether each byte is a tab or printable ASCII. It looks at all of them, so that many are tested at once.
 pub fn is_text(bytes: &[u8]) -> bool
     ensures { result ≡ list_all is_text_byte bytes.now }
 {
-    bytes
-        .iter()
-        .all(|byte| matches!(*byte, b' '..=b'~' | b'\t'))
+    let mut all = true;
+    for byte in bytes {
+        all &= is_text_byte(*byte);
+    }
+    all
+}
+
+#[inline]
+fn is_text_byte(byte: u8) -> bool
+    ensures { result ≡ is_text_byte byte }
+{
+    matches!(byte, b' '..=b'~' | b'\t')
 }
 
 /// The words of a line.
