@@ -21,3 +21,4 @@ pub use breach::InBreach;
 pub use input::InInput;
 pub use intake::Intake;
 pub use phase::{InPhase, Phase};
+pub use sensor::own_after;

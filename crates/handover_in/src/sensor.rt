@@ -135,8 +135,8 @@ impl State {
     }
 }
 
-/// What the sensors have seen of a board after one event more.
-fn own_after(own: Seen, event: SensorEvent) -> Seen
+/// What the sensors at the entry have seen of a board after one event more.
+pub fn own_after(own: Seen, event: SensorEvent) -> Seen
     ensures { result ≡ own_after own event }
 {
     match (event, own) {

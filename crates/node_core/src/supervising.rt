@@ -1,7 +1,6 @@
 //! What a machine tells its supervisor, and what it asks.
 
 ghost use Rattle.std.specs.Prelude.{◌≡◌, ◌≢◌, [], ◌∷◌, ◌++◌, true, IfOk, OnOk, option_map};
-ghost use Rattle.handover_in.specs.Own.{own_after};
 ghost use Rattle.node_core.specs.Supervising.{Ask, arrives, cause_of, departs, is_unwatched, orders_after, saw_taken, seen_with, stays_unwatched, supervised_after, supervision_act, tells_behind, tells_cause, tells_deed, tells_supervisor, watch_after, watch_of, with_tells};
 
 use crate::act::{Act, Deed, Outputs, Setting, ToSupervisor};
@@ -9,6 +8,7 @@ use crate::desk::Desk;
 use crate::input::Input;
 use crate::lane::Body;
 use board_record::BoardId;
+use handover_in::own_after;
 use hermes_vertical::{Passage, Passing, Question, Vertical, VerticalMessage};
 use line_base::{Memory, Seen, SensorEvent, Side, Text};
 use std::alloc::Global;
@@ -68,20 +68,7 @@ impl Watch {
     }
 }
 
-/// What the sensors saw of a board after one event more.
-fn own_after(seen: Seen, event: SensorEvent) -> Seen
-    ensures { result ≡ own_after seen event }
-{
-    match event {
-        SensorEvent::Begun if seen == Seen::NotStarted => Seen::Incomplete,
-        SensorEvent::Full => Seen::Complete,
-        SensorEvent::Back => Seen::NotStarted,
-        SensorEvent::Taken if seen == Seen::Incomplete => Seen::Taken,
-        _ => seen,
-    }
-}
-
-/// The same of the board that an intake holds, if it holds one.
+/// What the sensors saw of the board that an intake holds, if it holds one, after one event more.
 fn seen_after(seen: Option<Seen>, event: SensorEvent) -> Option<Seen>
     ensures { result ≡ option_map (seen_with event) seen }
 {
