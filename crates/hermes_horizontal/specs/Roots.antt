@@ -38,7 +38,8 @@ pub record SpellsBy {Message : Type 0} (Says : Tree → Message
   pub element : form.Spells bytes tree
   pub says : Says tree message
 
--- ---- which elements say no message: the first refusal, root, Timestamp, count, and then the message's attributes
+-- ---- which elements say no message: the first refusal, root, Timestamp, count, and then the
+-- message's attributes
 
 abbrev pub refusal_of_result : {A : Type 0} → Result A Refusal → Option Refusal
 refusal_of_result (Ok value) = None

@@ -52,7 +52,8 @@ values_of at attributes (column ∷ columns) =
     then_ok (value_at at column (first_named (attr_text column.attr) attributes)) (λ value.
     mapped_ok (λ values. value ∷ values) (values_of at attributes columns))
 
--- ---- the features of a service description: the names of the children of its first SupportedFeatures
+-- ---- the features of a service description: the names of the children of its first
+-- SupportedFeatures
 
 abbrev pub has_child : List ℕ → List Tree → Bool
 has_child name trees = list_any (λ tree. bytes_eq tree.name name) trees

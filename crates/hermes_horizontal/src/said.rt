@@ -6,8 +6,8 @@ use std::alloc::Global;
 use std::marker::Model;
 use std::rc::Rc;
 
-/// What a message says. It lies apart, so that a message is small, and so is all that holds one: a message is moved many
-/// times, and its parts are looked at once or twice. An equal one shares it.
+/// What a message says. It lies apart, so that a message is small, and so is all that holds one: a
+/// message is moved many times, and its parts are looked at once or twice. An equal one shares it.
 ///
 /// It is seen as what it says.
 #[derive(Debug, Drop)]

@@ -15,8 +15,8 @@ use thiserror::Error;
 /// The most bytes that a text may have.
 pub const MOST_TEXT_BYTES: usize = 1024;
 
-/// A text of at most so many bytes takes no memory. A barcode or a machine's id is seldom longer, and a longer
-/// room would be moved with each record.
+/// A text of at most so many bytes takes no memory. A barcode or a machine's id is seldom longer, and
+/// a longer room would be moved with each record.
 const INLINE_BYTES: usize = 24;
 
 /// Text of allowed characters, in UTF-8, of at most 1,024 bytes.

@@ -79,8 +79,9 @@ abbrev pub last_of : (Act → Bool) → List Act → Option Act
 last_of test [] = None
 last_of test (act ∷ told) = later_or (last_of test told) (if_it (test act) act)
 
--- ---- OFFERED: a board is offered where the last among these acts is the sending of BoardAvailable with its id: sending
--- BoardAvailable, sending RevokeBoardAvailable, opening, refusing, closing, and noticing a close
+-- ---- OFFERED: a board is offered where the last among these acts is the sending of BoardAvailable
+-- with its id: sending BoardAvailable, sending RevokeBoardAvailable, opening, refusing, closing, and
+-- noticing a close
 
 abbrev pub is_of_offers : Horizontal → Bool
 is_of_offers (bodies.BoardAvailable board) = true
@@ -108,8 +109,8 @@ offered_in _ = None
 abbrev pub offered_by : List Act → Option ℕ
 offered_by told = offered_in (last_of bears_on_offer told)
 
--- ---- READY: the neighbour is ready where the last among these acts is the hearing of MachineReady: hearing MachineReady,
--- hearing RevokeMachineReady, opening, refusing, closing, and noticing a close
+-- ---- READY: the neighbour is ready where the last among these acts is the hearing of MachineReady:
+-- hearing MachineReady, hearing RevokeMachineReady, opening, refusing, closing, and noticing a close
 
 abbrev pub is_of_places : Horizontal → Bool
 is_of_places (bodies.MachineReady quality) = true

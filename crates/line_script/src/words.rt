@@ -34,7 +34,8 @@ pub fn is_blank(byte: u8) -> bool
     matches!(byte, b' ' | b'\t')
 }
 
-/// Whether each byte is a tab or printable ASCII. It looks at all of them, so that many are tested at once.
+/// Whether each byte is a tab or printable ASCII. It looks at all of them, so that many are tested at
+/// once.
 pub fn is_text(bytes: &[u8]) -> bool
     ensures { result ≡ list_all is_text_byte bytes.now }
 {

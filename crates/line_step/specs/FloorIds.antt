@@ -19,9 +19,10 @@ use Rattle.line_script.specs.declared.line.ScriptLine.{ScriptLine}
 abbrev pub boards_of : LineState → List Board
 boards_of s = boards_on s.world.floor
 
--- ---- IDS STAY: an insertion adds a board with its id, a removal and a done `take` take one away, a replacement puts
--- another id for one in its place; a board that comes out of a bridge's segment unseen has no id,
--- one that goes into it unseen is taken away; and nothing else that happens changes a board
+-- ---- IDS STAY: an insertion adds a board with its id, a removal and a done `take` take one away, a
+-- replacement puts another id for one in its place; a board that comes out of a bridge's segment
+-- unseen has no id, one that goes into it unseen is taken away; and nothing else that happens changes
+-- a board
 
 abbrev pub ChangesBoards : Happening → List Board → List Board → Type 0
 ChangesBoards (happenings.Done machine (acts.Inserts id)) old new =
@@ -41,7 +42,8 @@ AllChange [] old new = new ≡ old
 AllChange (happening ∷ told) old new =
     (between : List Board) × ChangesBoards happening old between × AllChange told between new
 
--- ---- UNIQUE IDS: those that were made, by an insertion or a replacement, and those that were named by hand
+-- ---- UNIQUE IDS: those that were made, by an insertion or a replacement, and those that were named
+-- by hand
 
 abbrev pub made_in : Happening → List ℕ
 made_in (happenings.Done machine (acts.Inserts id)) = id ∷ []

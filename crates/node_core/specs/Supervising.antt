@@ -63,7 +63,8 @@ departs desk how id =
     tells_supervisor desk
     (bodies.BoardDeparted (record { machine = desk.name; lane = desk.lane; how = how; id = id }))
 
--- ---- what decides it: whether the machine is supervised, and what its sensors saw of the board that its intake holds
+-- ---- what decides it: whether the machine is supervised, and what its sensors saw of the board that
+-- its intake holds
 
 abbrev pub watch_of : Desk → Body → Watch
 watch_of desk body = record { supervised = desk.supervised; seen = own_of_phase body.intake.phase }

@@ -7,7 +7,8 @@ use line_base::{Memory, Text};
 use std::alloc::Global;
 use std::marker::Model;
 
-/// The Id of a ping that was heard, which goes back with its answer. It is seen as that Id, where the ping has one.
+/// The Id of a ping that was heard, which goes back with its answer. It is seen as that Id, where the
+/// ping has one.
 #[derive(Debug, Drop)]
 pub struct PingId {
     ping: Said,
@@ -30,7 +31,8 @@ impl PingId {
         PingId { ping }
     }
 
-    /// The Id as a text of its own; `None` where the ping has none. `Memory` where there is no room for it.
+    /// The Id as a text of its own; `None` where the ping has none. `Memory` where there is no room
+    /// for it.
     pub fn copy(&self, alloc: Global) -> Result<Option<Text>, Memory>
         ensures { IfOk result (λ id. id ≡ self.now) }
     {
