@@ -50,10 +50,10 @@ announce_unready (live (intake_done a)) h =
 announce_unready (apart a (entry_idle c)) h =
     record { row = _; is = refl; «in» = h; talk = apart a (entry_idle c); body = λ ks. refl; opened = λ k j. (k, j); holds = λ q e. e; quiet = refl; settles = λ q e. absurd (no_board e); recalls = λ s k. k; asked = λ l d a. a }
 
-same_board : {q r : Record} → ◌≡◌ {A = Option Record} (Some q) (Some r) → q ≡ r
+pub same_board : {q r : Record} → ◌≡◌ {A = Option Record} (Some q) (Some r) → q ≡ r
 same_board e = cc
 
-offered : {Q : Record → Type 0} {q : Record} → OfferIs Q (Some q) → Q q
+pub offered : {Q : Record → Type 0} {q : Record} → OfferIs Q (Some q) → Q q
 offered (offer_is n) = n
 
 -- the record that a start names is the one that was offered

@@ -1,16 +1,12 @@
 -- A NUL that is put before the next byte to arrive is in the next frame, and what has a NUL in it is refused.
-use Rattle.std.proofs.Common.{Bool, List, None, Option, Some, [], ap, append-nil, append_assoc, arith, drop, false, inl, inr, length, option_map, refl, subst, suc, sym, take, true, zero, ℕ, ◌++◌, ◌+◌, ◌<◌, ◌∙◌, ◌∷◌, ◌≡◌, ◌≤◌, ◌⊎◌}
+use Rattle.std.proofs.Common.{Bool, List, None, Some, [], ap, append-nil, append_assoc, arith, drop, false, inl, inr, length, option_map, refl, subst, suc, sym, take, true, zero, ℕ, ◌++◌, ◌+◌, ◌<◌, ◌∙◌, ◌∷◌, ◌≡◌, ◌≤◌, ◌⊎◌}
 use Rattle.std.proofs.lemmas.Bool.{cases_lt, cond-false, cond-true}
 use Rattle.std.proofs.lemmas.List.{take-append-drop, take-append-le, take-take, take_all}
-use Rattle.hermes_stream.proofs.Ends.{begins-append, first_end-within}
+use Rattle.hermes_stream.proofs.Ends.{begins-append, first_end-within, mapped}
 use Rattle.hermes_stream.proofs.Streams.{answer_of-need_more, frames_of-frame, frames_of-need_more, frames_of-too_long, has_frame, without_blanks-again, without_blanks-append}
 use Rattle.hermes_stream.specs.Cutter.{GivesFrame, WantsMore}
 use Rattle.hermes_stream.specs.Frames.{Answer, Frame, NeedMore, TooLong, answer_of, begins_with_end, end_within, first_end, frames_of, left_of, most_bytes, without_blanks}
 use Rattle.custody.specs.Bytes.{HasNul, Spoiled}
-
-mapped : (o : Option ℕ) (n : ℕ) → option_map (λ m. m + 1) o ≡ Some n → (m : ℕ) × (o ≡ Some m) × (m + 1 ≡ n)
-mapped None n e = cc
-mapped (Some m) n e = (m, refl, cc)
 
 -- an end that is found within a front is found in the front alone
 found_in_front : (x y : List ℕ) (n : ℕ) → first_end (x ++ y) ≡ Some n → n ≤ length x → first_end x ≡ Some n

@@ -5,9 +5,6 @@ use Rattle.hermes_stream.specs.Cutter.{GivesFrame, StaysTooLong, WantsMore}
 use Rattle.hermes_stream.specs.Frames.{Answer, Frame, Frames, IsOneFrame, NeedMore, TooLong, answer_of, behind, frames_of, left_of}
 use Rattle.custody.specs.Bytes.{Flows, Next}
 
-same_messages : {a c : List (List ℕ)} {k l : Option (List ℕ)} → ◌≡◌ {A = Frames} (record { messages = a; rest = k }) (record { messages = c; rest = l }) → a ≡ c
-same_messages e = ap (λ x. x.messages) e
-
 no_rest : ◌≡◌ {A = Option (List ℕ)} None (Some []) → ⊥
 no_rest e = cc
 
@@ -46,7 +43,7 @@ texts_behind e = cc
 pub first_text : {f t : List ℕ} {fs ts : List (List ℕ)} → f ∷ fs ≡ t ∷ ts → f ≡ t
 first_text e = cc
 
-rebuilt : {ts : List (List ℕ)} {k : Option (List ℕ)} (z : Frames) → z.messages ≡ ts → z.rest ≡ k → z ≡ record { messages = ts; rest = k }
+pub rebuilt : {ts : List (List ℕ)} {k : Option (List ℕ)} (z : Frames) → z.messages ≡ ts → z.rest ≡ k → z ≡ record { messages = ts; rest = k }
 rebuilt z m r = λ i. record { messages = m i; rest = r i }
 
 same_some : {a c : List ℕ} → ◌≡◌ {A = Option (List ℕ)} (Some a) (Some c) → a ≡ c

@@ -1,14 +1,16 @@
 -- What a machine owns is its order, act by act: the outlet's id in front of those that are kept.
 use Rattle.std.proofs.Common.{Bool, List, None, Option, Some, [], ap, append_assoc, eq-eqb, eqb-true, false, refl, slice_get, subst, sym, true, ℕ, ◌++◌, ◌==◌, ◌∙◌, ◌∷◌, ◌≡◌}
+use Rattle.std.proofs.lemmas.Bool.{and_parts}
+use Rattle.line_step.proofs.Unnamed.{apart_ids}
 use Rattle.node_core.specs.Own.{Own, one_of, with_id_instead, without_id}
 use Rattle.node_core.specs.declared.act.Act.{Act}
 use Rattle.node_core.specs.declared.act.Act.TheVariants as acts
 use Rattle.node_core.specs.declared.act.Deed.TheVariants as deeds
 use Rattle.standings.specs.Ledger.{are_different}
 use Rattle.standings.specs.Marks.{has_id}
-use Rattle.one_standing.proofs.LedgerSteps.{all_of, dropped_ids, none_either, settled_ids}
+use Rattle.one_standing.proofs.LedgerSteps.{all_of, dropped_ids, settled_ids}
 use Rattle.one_standing.proofs.LedgerTurns.{different_first, different_rest}
-use Rattle.one_standing.proofs.LedgerWalk.{Announces, Did, Hand, Walk, are_silent, did, hand_inserts, hand_removes, hand_replaces, hand_walks, is_silent, says_last, says_more, says_start, walk_drops, walk_end, walk_leaves, walk_loses, walk_on, walk_opens, walk_returns, walk_settles, and_one, and_two}
+use Rattle.one_standing.proofs.LedgerWalk.{Announces, Did, Hand, Walk, are_silent, did, hand_inserts, hand_removes, hand_replaces, hand_walks, is_silent, says_last, says_more, says_start, walk_drops, walk_end, walk_leaves, walk_loses, walk_on, walk_opens, walk_returns, walk_settles}
 use Rattle.first_in_first_out.specs.Order.{order_with}
 
 -- ---- the order behind some acts
@@ -69,7 +71,7 @@ silent_told _ told is k = record { leads = k.leads; firsts = (tt, k.firsts) }
 
 all_silent : (order : List ℕ) (told : List Act) → are_silent told ≡ true → Queues order told order
 all_silent order [] is = none_told order
-all_silent order (act ∷ told) is = silent_told act told (and_one (is_silent act) (are_silent told) is) (all_silent order told (and_two (is_silent act) (are_silent told) is))
+all_silent order (act ∷ told) is = silent_told act told (and_parts (is_silent act) (are_silent told) is).0 (all_silent order told (and_parts (is_silent act) (are_silent told) is).1)
 
 -- ---- lists of ids
 
@@ -84,7 +86,7 @@ apart_by : (mine id : ℕ) (ids rest : List ℕ) (test : Bool) → (mine == id) 
 apart_by mine id ids rest false is none has = refl
 apart_by mine id ids rest true is none has =
     let kept : has_id mine ids ≡ true = ap (λ (x : ℕ). has_id x ids) (eqb-true mine id is) ∙ has in
-    let no_way : true ≡ false = sym kept ∙ (none_either mine ids rest none).0 in
+    let no_way : true ≡ false = sym kept ∙ (apart_ids mine ids rest none).0 in
     absurd (cc)
 
 removed : (held : Option ℕ) (ids rest : List ℕ) (id : ℕ) → are_different (one_of held ++ (ids ++ rest)) ≡ true → has_id id ids ≡ true → without_id id (one_of held ++ ids) ≡ one_of held ++ without_id id ids

@@ -1,6 +1,7 @@
 -- Without a connection nothing is sent; and what a deed names.
-use Rattle.std.proofs.Common.{◌≡◌, ◌++◌, ◌&&◌, Bool, true, false, List, [], ◌∷◌, Option, None, option_to_list, unwrap_or, refl}
+use Rattle.std.proofs.Common.{◌≡◌, ◌++◌, Bool, true, List, [], ◌∷◌, Option, None, option_to_list, unwrap_or, refl}
 use Rattle.std.specs.List.{list_all}
+use Rattle.std.proofs.lemmas.Bool.{and_parts}
 use Rattle.line_base.specs.declared.states.Seen.{Seen}
 use Rattle.line_base.specs.declared.states.SensorEvent.{SensorEvent}
 use Rattle.board_record.specs.declared.record.Record.{Record}
@@ -82,22 +83,14 @@ row_closed _ _ closed_waiting = (refl, refl)
 pub close_silent : (s : InState) → IsSilent (step s Closed)
 close_silent s = has_row IsSilent s Closed (closed_has_row s.phase) (row_closed s)
 
-both_left : (a b : Bool) → (a && b) ≡ true → a ≡ true
-both_left true b both = refl
-both_left false b both = both
-
-both_right : (a b : Bool) → (a && b) ≡ true → b ≡ true
-both_right true b both = both
-both_right false b both = cc
-
 abbrev AllSilent : InState → List InInput → Type 0
 AllSilent s inputs = (all_sent s inputs ≡ []) × (is_unlinked_phase (after_all s inputs).phase ≡ true)
 
 pub all_silent : (s : InState) (inputs : List InInput) → is_unlinked_phase s.phase ≡ true → list_all is_own inputs ≡ true → AllSilent s inputs
 all_silent s [] unlinked own = (refl, unlinked)
 all_silent s (i ∷ inputs) unlinked own =
-    let first = unlinked_silent s i unlinked (both_left (is_own i) (list_all is_own inputs) own) in
-    let rest = all_silent (step s i).after inputs first.1 (both_right (is_own i) (list_all is_own inputs) own) in
+    let first = unlinked_silent s i unlinked (and_parts (is_own i) (list_all is_own inputs) own).0 in
+    let rest = all_silent (step s i).after inputs first.1 (and_parts (is_own i) (list_all is_own inputs) own).1 in
     let sent : option_to_list (step s i).act.send ++ all_sent (step s i).after inputs ≡ [] = rw (first.0, rest.0) refl in
     (sent, rest.1)
 

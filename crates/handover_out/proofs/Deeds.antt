@@ -1,6 +1,7 @@
 -- Laws on an outlet without a connection, and on the boards that deeds name.
-use Rattle.std.proofs.Common.{◌≡◌, ◌++◌, ◌&&◌, ◌∷◌, [], not, Bool, true, false, List, Option, Some, None, option_to_list, ℕ, refl}
+use Rattle.std.proofs.Common.{◌≡◌, ◌++◌, ◌∷◌, [], Bool, true, false, List, Option, None, option_to_list, ℕ, refl}
 use Rattle.std.specs.List.{list_all}
+use Rattle.std.proofs.lemmas.Bool.{and_parts}
 use Rattle.handover_out.specs.declared.act.OutSend.{OutSend}
 use Rattle.handover_out.specs.declared.input.OutInput.{OutInput}
 use Rattle.handover_out.specs.declared.input.OutInput.TheVariants.{Closed}
@@ -8,7 +9,7 @@ use Rattle.handover_out.specs.declared.phase.Phase.{Phase}
 use Rattle.handover_out.specs.declared.phase.Phase.TheVariants.{Idle, Moving, Stuck, Ended}
 use Rattle.handover_out.specs.State.{OutState}
 use Rattle.handover_out.specs.Row.{OutRow}
-use Rattle.handover_out.specs.Run.{stay, step, after_all}
+use Rattle.handover_out.specs.Run.{step, after_all}
 use Rattle.handover_out.specs.Links.{is_unlinked_phase, is_own, all_sent}
 use Rattle.handover_out.specs.Deeds.{NamesRecord}
 use Rattle.handover_out.specs.Table.{state_of, IsOutletRow, opens, refuses, stop_home, begun_stuck, begun_idle, left_moving, left_stuck, left_stopped, left_unlinked, left_idle, full_stuck, full_idle, back_stuck, back_stopped, back_unlinked, back_idle, taken_moving, taken_stuck, taken_stopped, taken_unlinked, taken_idle, fault_home, fault_stuck, fault_idle, closed_home, closed_stuck, closed_idle}
@@ -40,14 +41,6 @@ pub unlinked_silent : (s : OutState) (input : OutInput) → is_unlinked_phase s.
     → ((step s input).act.send ≡ None) × (is_unlinked_phase (step s input).after.phase ≡ true)
 unlinked_silent = each_step Silent row_silent (λ s input apart own. (refl, apart))
 
-and_left : (a b : Bool) → (a && b) ≡ true → a ≡ true
-and_left true b both = refl
-and_left false b both = both
-
-and_right : (a b : Bool) → (a && b) ≡ true → b ≡ true
-and_right true b both = both
-and_right false b both = cc
-
 none_before : (send : Option OutSend) (sent : List OutSend) → send ≡ None → sent ≡ [] → option_to_list send ++ sent ≡ []
 none_before send sent none nothing = rw (none, nothing) refl
 
@@ -55,8 +48,8 @@ pub all_silent : (s : OutState) (inputs : List OutInput) → is_unlinked_phase s
     → (all_sent s inputs ≡ []) × (is_unlinked_phase (after_all s inputs).phase ≡ true)
 all_silent s [] apart _ = (refl, apart)
 all_silent s (input ∷ inputs) apart own =
-    let first = unlinked_silent s input apart (and_left (is_own input) (list_all is_own inputs) own) in
-    let others = all_silent (step s input).after inputs first.1 (and_right (is_own input) (list_all is_own inputs) own) in
+    let first = unlinked_silent s input apart (and_parts (is_own input) (list_all is_own inputs) own).0 in
+    let others = all_silent (step s input).after inputs first.1 (and_parts (is_own input) (list_all is_own inputs) own).1 in
     (none_before (step s input).act.send (all_sent (step s input).after inputs) first.0 others.0, others.1)
 
 closed_at : (phase : Phase) (o t : Option ℕ) (r : Bool)

@@ -1,12 +1,13 @@
 -- Laws on starts, and on what is offered over a list of inputs.
 use Rattle.std.proofs.Common.{◌≡◌, ◌↔◌, ◌∙◌, ◌&&◌, not, sym, ap, ℕ, Bool, true, false, List, [], ◌∷◌, Option, Some, None, IsSome, IsTrue, IfSome, is_some, unwrap_or, refl}
+use mathlib.Core.Bool.{and-false}
 use Rattle.board_record.specs.declared.record.Record.{Record}
 use Rattle.handover_out.specs.declared.act.OutAct.{OutAct}
 use Rattle.handover_out.specs.declared.input.OutInput.{OutInput}
 use Rattle.handover_out.specs.declared.input.OutInput.TheVariants.{Start}
 use Rattle.handover_out.specs.declared.phase.Phase.{Phase}
-use Rattle.handover_out.specs.declared.phase.Phase.TheVariants.{Idle, Moving, Stuck, Ended}
-use Rattle.handover_out.specs.State.{OutState, is_id, would_open}
+use Rattle.handover_out.specs.declared.phase.Phase.TheVariants.{Idle}
+use Rattle.handover_out.specs.State.{OutState, would_open}
 use Rattle.handover_out.specs.Row.{OutRow, outlet_row, row_if}
 use Rattle.handover_out.specs.Given.{IsGiven}
 use Rattle.handover_out.specs.Run.{stay, step, after_all}
@@ -49,10 +50,6 @@ given_board (Some board) false given = absurd (never (given.0 refl))
 given_board None true given = absurd (never (given.1 refl))
 given_board None false given = refl
 
-and_false : (a : Bool) → (a && false) ≡ false
-and_false true = refl
-and_false false = refl
-
 opens_by : (s : OutState) (id : ℕ) (board : Option Record) → is_some board ≡ would_open s id
     → is_opening (step s (Start id board)).act.deed ≡ would_open s id
 opens_by s id (Some board) _ = opens_exactly s (Start id (Some board))
@@ -65,7 +62,7 @@ opens_given s id board given = opens_by s id board (given_board board (would_ope
 refuses_by : (s : OutState) (id : ℕ) (board : Option Record) → is_some board ≡ would_open s id
     → is_refusing (step s (Start id board)).act.deed ≡ (takes_start s && not (would_open s id))
 refuses_by s id (Some board) is =
-    refuses_exactly s (Start id (Some board)) ∙ sym (ap (λ opening. takes_start s && not opening) (sym is) ∙ and_false (takes_start s))
+    refuses_exactly s (Start id (Some board)) ∙ sym (ap (λ opening. takes_start s && not opening) (sym is) ∙ and-false (takes_start s))
 refuses_by s id None _ = refuses_exactly s (Start id None)
 
 pub refuses_given : (s : OutState) (id : ℕ) (board : Option Record) → IsGiven s (Start id board)

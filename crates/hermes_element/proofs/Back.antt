@@ -1,12 +1,11 @@
 -- The canonical spelling of a writable element spells it.
-use Rattle.std.proofs.Common.{◌≡◌, inl, inr, ℕ, ◌+◌, ◌<◌, ◌≤◌, Bool, true, false, cond, List, [], ◌∷◌, ◌++◌, Some, None, Result, Ok, ◌↔◌, map, length, refl, ap, sym, ◌∙◌, append_assoc, append-nil, arith, subst, length-append}
-use Rattle.std.specs.Prelude.{◌==◌, ◌||◌, nat_lt}
+use Rattle.std.proofs.Common.{◌≡◌, inl, inr, ℕ, ◌+◌, ◌<◌, ◌≤◌, true, false, cond, List, [], ◌∷◌, ◌++◌, Some, None, Result, Ok, ◌↔◌, map, length, refl, ap, sym, ◌∙◌, append_assoc, append-nil, arith, subst, length-append}
+use Rattle.std.specs.Prelude.{◌==◌, nat_lt}
 use Rattle.std.specs.List.{list_any, list_all, flat_map, AllByRecursion, IsDistinct}
 use Rattle.std.specs.Str.{bytes_eq, chars, encode_utf8_all}
 use Rattle.std.specs.Char.{encode_utf8}
 use Rattle.std.proofs.lemmas.Str.{encode_ascii, encodes-chars}
-use Rattle.std.proofs.lemmas.Bool.{cases_lt, cases_Bool, eqb-true, ne_eqb, le-ltb}
-use Rattle.std.proofs.lemmas.Bool.Decides.{nat_tests}
+use Rattle.std.proofs.lemmas.Bool.{cases_lt, cases_Bool, eqb-true, ne_eqb, le-ltb, or_from, and_parts, and_from}
 use Rattle.line_base.specs.Name.{IsName}
 use Rattle.line_base.specs.Text.{is_allowed_char}
 use Rattle.hermes_element.specs.Plain.{Escape, named, decimal, Piece, plain, escaped, piece_text, is_piece, value_text, Assignment, assignment_front, assignment_text, IsAssignment, AreAssignments, Tag, tag_text, IsTag, EndTag, end_text, Content, last, empty, full, content_text, IsContent, Root, lone, holding, root_text, IsRoot, Document}
@@ -16,8 +15,8 @@ use Rattle.hermes_element.specs.Canonical.{escaped_byte, canonical_attribute, ca
 use Rattle.hermes_element.specs.Spelling.{Spells}
 use Rattle.std.proofs.lemmas.Slice.Eq.{bytes_eq-Decides}
 use Rattle.std.proofs.lemmas.List.Folds.{list_any-append}
+use Rattle.hermes_element.proofs.Living.{allowed_top}
 use Rattle.hermes_element.specs.declared.attribute.Attribute.{Attribute}
-use Rattle.hermes_element.proofs.Complete.{and_both, both_true}
 use Rattle.hermes_element.proofs.Wide.{encode_2, encode_3, encode_4}
 use Rattle.hermes_element.proofs.Exact.{spelled_outcome, one_tree}
 use Rattle.hermes_element.proofs.Effects.{root_tree}
@@ -67,9 +66,6 @@ high_text c low top = high_bytes (encode_utf8 c) (elim (cases_lt c 2048) [
   ]
 ])
 
-allowed_top : (c : ℕ) → is_allowed_char c ≡ true → c ≤ 1114111
-allowed_top c h = grind (arith, nat_tests)
-
 plain_piece : (c : ℕ) → is_allowed_char c ≡ true → (c == 38) ≡ false → (c == 60) ≡ false → (c == 62) ≡ false → (c == 34) ≡ false → (c == 10) ≡ false → (c == 13) ≡ false → (c == 9) ≡ false → IsPieceOf c (plain c)
 plain_piece c allowed a1 a2 a3 a4 a5 a6 a7 =
     let top = allowed_top c allowed in
@@ -116,7 +112,7 @@ pieces_of cs = map piece_of cs
 
 pieces_are : (cs : List ℕ) → list_all is_allowed_char cs ≡ true → list_all (is_piece 34) (pieces_of cs) ≡ true
 pieces_are [] h = refl
-pieces_are (c ∷ cs) h = let both = and_both (is_allowed_char c) (list_all is_allowed_char cs) h in both_true (is_piece 34 (piece_of c)) (list_all (is_piece 34) (pieces_of cs)) (piece c both.0).is (pieces_are cs both.1)
+pieces_are (c ∷ cs) h = let both = and_parts (is_allowed_char c) (list_all is_allowed_char cs) h in and_from (is_piece 34 (piece_of c)) (list_all (is_piece 34) (pieces_of cs)) (piece c both.0).is (pieces_are cs both.1)
 
 flat_append : (xs ys : List ℕ) → flat_map escaped_byte (xs ++ ys) ≡ flat_map escaped_byte xs ++ flat_map escaped_byte ys
 flat_append [] ys = refl
@@ -125,19 +121,19 @@ flat_append (x ∷ xs) ys = ap (λ l. escaped_byte x ++ l) (flat_append xs ys) �
 pieces_text : (cs : List ℕ) → list_all is_allowed_char cs ≡ true → value_text (pieces_of cs) ≡ flat_map escaped_byte (encode_utf8_all cs)
 pieces_text [] h = refl
 pieces_text (c ∷ cs) h =
-    let both = and_both (is_allowed_char c) (list_all is_allowed_char cs) h in
+    let both = and_parts (is_allowed_char c) (list_all is_allowed_char cs) h in
     ap (λ l. l ++ value_text (pieces_of cs)) (piece c both.0).text ∙ ap (λ l. flat_map escaped_byte (encode_utf8 c) ++ l) (pieces_text cs both.1) ∙ sym (flat_append (encode_utf8 c) (encode_utf8_all cs))
 
 pieces_value : (cs : List ℕ) → list_all is_allowed_char cs ≡ true → value_from false (pieces_of cs) ≡ encode_utf8_all cs
 pieces_value [] h = refl
 pieces_value (c ∷ cs) h =
-    let both = and_both (is_allowed_char c) (list_all is_allowed_char cs) h in
+    let both = and_parts (is_allowed_char c) (list_all is_allowed_char cs) h in
     (piece c both.0).value (pieces_of cs) ∙ ap (λ l. encode_utf8 c ++ l) (pieces_value cs both.1)
 
 pieces_good : (at : ℕ) (cs : List ℕ) → list_all is_allowed_char cs ≡ true → reference_faults at (pieces_of cs) ≡ []
 pieces_good at [] h = refl
 pieces_good at (c ∷ cs) h =
-    let both = and_both (is_allowed_char c) (list_all is_allowed_char cs) h in
+    let both = and_parts (is_allowed_char c) (list_all is_allowed_char cs) h in
     (piece c both.0).good at (pieces_of cs) ∙ pieces_good (at + length (piece_text (piece_of c))) cs both.1
 
 -- ---- attributes
@@ -176,21 +172,17 @@ assignments_text : (list : List Attribute) → AllByRecursion IsProperAttribute 
 assignments_text [] h = refl
 assignments_text (a ∷ list) h = ap (λ l. l ++ flat_map assignment_text (assignments_of list)) (assignment_is_text a h.0) ∙ ap (λ l. canonical_attribute a ++ l) (assignments_text list h.1)
 
-other_way : (x y : List ℕ) → bytes_eq x y ≡ false → bytes_eq y x ≡ false
+pub other_way : (x y : List ℕ) → bytes_eq x y ≡ false → bytes_eq y x ≡ false
 other_way x y h = elim (cases_Bool (bytes_eq y x)) [
   | inr e ↦ e
   | inl e ↦ let same = (bytes_eq-Decides y x).0 e in let back = (bytes_eq-Decides x y).1 (sym same) in absurd (cc (back, h))
 ]
 
-or_false : (a b : Bool) → a ≡ false → b ≡ false → (a || b) ≡ false
-or_false false b e f = f
-or_false true b e f = absurd (cc)
-
 fresh_more : (names : List (List ℕ)) (name : List ℕ) (list : List Attribute) → AllByRecursion (λ (a : Attribute). list_any (bytes_eq a.name) names ≡ false) list
     → AllByRecursion (λ other. bytes_eq name other ≡ false) (map (λ (a : Attribute). a.name) list) → AllByRecursion (λ (a : Attribute). list_any (bytes_eq a.name) (names ++ name ∷ []) ≡ false) list
 fresh_more names name [] h d = tt
 fresh_more names name (a ∷ list) h d = (
-  list_any-append (bytes_eq a.name) names (name ∷ []) ∙ or_false (list_any (bytes_eq a.name) names) (list_any (bytes_eq a.name) (name ∷ [])) h.0 (or_false (bytes_eq a.name name) false (other_way name a.name d.0) refl),
+  list_any-append (bytes_eq a.name) names (name ∷ []) ∙ or_from (list_any (bytes_eq a.name) names) (list_any (bytes_eq a.name) (name ∷ [])) h.0 (or_from (bytes_eq a.name name) false (other_way name a.name d.0) refl),
   fresh_more names name list h.1 d.1,
 )
 
@@ -284,7 +276,7 @@ content_is_text (more name at attributes (more n a l c r) rest) h =
     ∙ full_form front inside (((60 ∷ 47 ∷ []) ++ name) ++ (62 ∷ [])) (canonical_forest rest)
     ∙ rest_form front inside name (canonical_forest rest)
 
-bytes_eq_same : (word : List ℕ) → bytes_eq word word ≡ true
+pub bytes_eq_same : (word : List ℕ) → bytes_eq word word ≡ true
 bytes_eq_same word = (bytes_eq-Decides word word).1 refl
 
 tag_good : (depth at : ℕ) (name : List ℕ) (list : List Attribute) → HasGoodTag name list → depth < 5 → tag_faults depth at (tag_of name list) ≡ []

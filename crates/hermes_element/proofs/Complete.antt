@@ -4,29 +4,20 @@ use Rattle.std.specs.Prelude.{◌==◌, ◌&&◌, ◌||◌, nat_lt, nat_le}
 use Rattle.std.specs.List.{list_all}
 use Rattle.std.specs.Char.{encode_utf8}
 use Rattle.std.proofs.lemmas.Str.{encode_ascii}
-use Rattle.std.proofs.lemmas.Bool.{cases_lt, cases_Bool, ne_eqb, lt-ltb, le-ltb, ltb-true, le-leb}
+use Rattle.std.proofs.lemmas.Bool.{cases_lt, cases_Bool, ne_eqb, lt-ltb, le-ltb, ltb-true, le-leb, and_parts, and_from, not-true}
 use Rattle.std.proofs.lemmas.Bool.Decides.{nat_tests}
+use Rattle.hermes_element.proofs.Values.{wide_step}
+use Rattle.hermes_element.proofs.Escapes.{letter_59, digit_59, hex_59, letter_35, digit_120}
+use mathlib.Core.Bool.{and-false}
 use Rattle.line_base.specs.Text.{is_allowed_char}
 use Rattle.hermes_element.specs.Plain as form
-use Rattle.hermes_element.specs.Plain.{is_blank, is_quote, is_letter, is_digit, is_hex_digit, is_declared, AreBlanks, Escape, named, decimal, hexadecimal, escape_text, is_escape, Piece, plain, escaped, piece_text, is_piece, value_text}
+use Rattle.hermes_element.specs.Plain.{is_quote, is_letter, is_digit, is_hex_digit, Escape, named, decimal, hexadecimal, escape_text, is_escape, plain, is_piece}
 use Rattle.hermes_element.specs.Checks.{Fault, character_of, spaced}
 use Rattle.hermes_element.specs.Machine.{Build, run, step, act, ◌>>=◌, with_word, refer, with_value, share, least_wide, is_wide_begun, wide, wide_start, wide_next, with_open}
 use Rattle.hermes_element.specs.declared.place.Place.{Place}
 use Rattle.hermes_element.specs.declared.place.Place.TheVariants as places
 use Rattle.hermes_element.proofs.Running.{yes, no}
 use Rattle.hermes_element.proofs.Wide.{encode_2, encode_3, encode_4}
-
-pub and_both : (a b : Bool) → (a && b) ≡ true → (a ≡ true) × (b ≡ true)
-and_both true b h = (refl, h)
-and_both false b h = absurd (cc)
-
-pub both_true : (a b : Bool) → a ≡ true → b ≡ true → (a && b) ≡ true
-both_true true b e f = f
-both_true false b e f = absurd (cc)
-
-pub not_true : (a : Bool) → not a ≡ true → a ≡ false
-not_true false h = refl
-not_true true h = absurd (cc)
 
 pub bind_same : (c : Result Build Fault) (f g : Build → Result Build Fault) → ((b : Build) → f b ≡ g b) → (c >>= f) ≡ (c >>= g)
 bind_same (Ok b) f g h = h b
@@ -60,7 +51,7 @@ module _ (p : Place) (d : ℕ) (test : ℕ → Bool) (g : ℕ → Build → Buil
       → run p d c at (xs ++ rest) ≡ run p d (c >>= (λ b. Ok (folded g xs b))) (at + length xs) rest
   over_all [] rest at c h = ap (λ k. run p d k at rest) (sym (bind_ok c)) ∙ ap (λ k. run p d (c >>= (λ b. Ok b)) k rest) (sym (add-zero at))
   over_all (x ∷ xs) rest at c h =
-      let both = and_both (test x) (list_all test xs) h in
+      let both = and_parts (test x) (list_all test xs) h in
       let place : (at + 1) + length xs ≡ at + suc (length xs) = omega arith in
       over p p d d at x c (λ b. Ok (g x b)) (xs ++ rest) (stays x both.0) (λ b. adds x at b both.0)
       ∙ over_all xs rest (at + 1) (c >>= (λ b. Ok (g x b))) both.1
@@ -71,7 +62,7 @@ pub over_idle : (p : Place) (d : ℕ) (test : ℕ → Bool) → ((x : ℕ) → t
     → (xs rest : List ℕ) (at : ℕ) (c : Result Build Fault) → list_all test xs ≡ true → run p d c at (xs ++ rest) ≡ run p d c (at + length xs) rest
 over_idle p d test stays idle [] rest at c h = ap (λ k. run p d c k rest) (sym (add-zero at))
 over_idle p d test stays idle (x ∷ xs) rest at c h =
-    let both = and_both (test x) (list_all test xs) h in
+    let both = and_parts (test x) (list_all test xs) h in
     let place : (at + 1) + length xs ≡ at + suc (length xs) = omega arith in
     passes p p d d at x c (xs ++ rest) (stays x both.0) (λ b. idle x at b both.0)
     ∙ over_idle p d test stays idle xs rest (at + 1) c both.1 ∙ ap (λ k. run p d c k rest) place
@@ -100,7 +91,7 @@ module _ (lead inner : ℕ → Place) (test : ℕ → Bool) (form : List ℕ →
       → run (lead q) d (c >>= (λ b. Ok (marked at b))) k (xs ++ (59 ∷ rest)) ≡ run (places.Value q) d (c >>= refer at (character_of (form xs))) (k + length xs + 1) rest
   escape_rest q d k at [] rest c some h = absurd (omega arith)
   escape_rest q d k at (x ∷ xs) rest c some h =
-      let both = and_both (test x) (list_all test xs) h in
+      let both = and_parts (test x) (list_all test xs) h in
       let start = c >>= (λ b. Ok (marked at b)) in
       let one = start >>= (λ b. Ok (with_word x b)) in
       let all = one >>= (λ b. Ok (folded with_word xs b)) in
@@ -117,21 +108,6 @@ module _ (lead inner : ℕ → Place) (test : ℕ → Bool) (form : List ℕ →
       ∙ bind_same c (λ b. refer (folded with_word xs (with_word x (marked at b))).scratch.mark (character_of (form (folded with_word xs (with_word x (marked at b))).scratch.word)) (folded with_word xs (with_word x (marked at b)))) (refer at (character_of (form (x ∷ xs)))) done)
       ∙ ap (λ j. run (places.Value q) d (c >>= refer at (character_of (form (x ∷ xs)))) j rest) place
 
-letter_35 : (b : ℕ) → is_letter b ≡ true → (b == 35) ≡ false
-letter_35 b h = grind (arith, nat_tests)
-
-letter_59 : (b : ℕ) → is_letter b ≡ true → (b == 59) ≡ false
-letter_59 b h = grind (arith, nat_tests)
-
-digit_120 : (b : ℕ) → is_digit b ≡ true → (b == 120) ≡ false
-digit_120 b h = grind (arith, nat_tests)
-
-digit_59 : (b : ℕ) → is_digit b ≡ true → (b == 59) ≡ false
-digit_59 b h = grind (arith, nat_tests)
-
-hex_59 : (b : ℕ) → is_hex_digit b ≡ true → (b == 59) ≡ false
-hex_59 b h = grind (arith, nat_tests)
-
 quote_not_38 : (q : ℕ) → is_quote q ≡ true → (38 == q) ≡ false
 quote_not_38 q h = grind (arith, nat_tests)
 
@@ -141,7 +117,7 @@ from_amp q d at c rest h =
     over (places.Value q) (places.Ampersand q) d d at 38 c (λ b. Ok (marked at b)) rest (rw e) (λ b. rw e)
 
 some_run : (test : ℕ → Bool) (xs : List ℕ) → form.is_some_run test xs ≡ true → (0 < length xs) × (list_all test xs ≡ true)
-some_run test xs h = let both = and_both (nat_lt 0 (length xs)) (list_all test xs) h in (ltb-true 0 (length xs) both.0, both.1)
+some_run test xs h = let both = and_parts (nat_lt 0 (length xs)) (list_all test xs) h in (ltb-true 0 (length xs) both.0, both.1)
 
 pub over_escape : (q d at : ℕ) (e : Escape) (rest : List ℕ) (c : Result Build Fault) → is_quote q ≡ true → is_escape e ≡ true
     → run (places.Value q) d c at (escape_text e ++ rest) ≡ run (places.Value q) d (c >>= refer at (character_of e)) (at + length (escape_text e)) rest
@@ -188,10 +164,10 @@ record PlainChar (q c : ℕ) : Type 0 where
 
 plain_char : (q c : ℕ) → is_piece q (plain c) ≡ true → PlainChar q c
 plain_char q c h =
-    let a = and_both (is_allowed_char c && not (c == 60) && not (c == 38)) (not (c == q)) h in
-    let b = and_both (is_allowed_char c && not (c == 60)) (not (c == 38)) a.0 in
-    let d = and_both (is_allowed_char c) (not (c == 60)) b.0 in
-    record { allowed = d.0; open_tag = not_true (c == 60) d.1; amp = not_true (c == 38) b.1; own = not_true (c == q) a.1 }
+    let a = and_parts (is_allowed_char c && not (c == 60) && not (c == 38)) (not (c == q)) h in
+    let b = and_parts (is_allowed_char c && not (c == 60)) (not (c == 38)) a.0 in
+    let d = and_parts (is_allowed_char c) (not (c == 60)) b.0 in
+    record { allowed = d.0; open_tag = not-true (c == 60) d.1; amp = not-true (c == 38) b.1; own = not-true (c == q) a.1 }
 
 spaced_small : (c : ℕ) → c < 128 → spaced c < 128
 spaced_small c h = elim (cases_Bool (c == 9 || c == 10 || c == 13)) [
@@ -232,7 +208,7 @@ top_allowed : (m : ℕ) → 65536 ≤ m → m ≤ 1114111 → is_allowed_char m 
 top_allowed m a b = grind (arith, nat_tests)
 
 begun_if : (floor bits left : ℕ) → is_allowed_char (least_wide floor bits left) ≡ true → least_wide floor bits left < (bits + 1) * share left → is_wide_begun floor bits left ≡ true
-begun_if floor bits left a b = both_true (is_allowed_char (least_wide floor bits left)) (nat_lt (least_wide floor bits left) ((bits + 1) * share left)) a (lt-ltb (least_wide floor bits left) ((bits + 1) * share left) b)
+begun_if floor bits left a b = and_from (is_allowed_char (least_wide floor bits left)) (nat_lt (least_wide floor bits left) ((bits + 1) * share left)) a (lt-ltb (least_wide floor bits left) ((bits + 1) * share left) b)
 
 pub begun_0 : (floor c : ℕ) → is_allowed_char c ≡ true → floor ≤ c → is_wide_begun floor c 0 ≡ true
 begun_0 floor c h low =
@@ -284,23 +260,11 @@ wide_ends q floor bits h = yes (is_wide_begun floor bits 0) (Some (places.Value 
 pub next_is : (q floor bits left x next : ℕ) → 128 ≤ x → x < 192 → bits < 131072 → bits * 64 + (x - 128) ≡ next → wide_next q floor bits left x ≡ wide q floor next (left - 1)
 next_is q floor bits left x next low high fits e =
     yes (nat_le 128 x && nat_lt x 192 && nat_lt bits 131072) (wide q floor (bits * 64 + (x - 128)) (left - 1)) None
-    (both_true (nat_le 128 x && nat_lt x 192) (nat_lt bits 131072) (both_true (nat_le 128 x) (nat_lt x 192) (le-leb 128 x low) (lt-ltb x 192 high)) (lt-ltb bits 131072 fits))
+    (and_from (nat_le 128 x && nat_lt x 192) (nat_lt bits 131072) (and_from (nat_le 128 x) (nat_lt x 192) (le-leb 128 x low) (lt-ltb x 192 high)) (lt-ltb bits 131072 fits))
     ∙ ap (λ n. wide q floor n (left - 1)) e
 
 abbrev adds_byte : ℕ → Build → Build
 adds_byte x b = with_value (x ∷ []) false b
-
-step_high : (q d x : ℕ) → is_quote q ≡ true → 128 ≤ x → step (places.Value q) d x ≡ with_open d (wide_start q x)
-step_high q d x is h =
-    let own : (x == q) ≡ false = grind (arith, nat_tests) in
-    let amp : (x == 38) ≡ false = ne_eqb x 38 (λ e. omega arith) in
-    let tag : (x == 60) ≡ false = ne_eqb x 60 (λ e. omega arith) in
-    let high : nat_lt x 128 ≡ false = le-ltb x 128 h in
-    rw (own, amp, tag, high)
-
-and_false : (r : Bool) → (r && false) ≡ false
-and_false true = refl
-and_false false = refl
 
 act_high : (q k x : ℕ) (b : Build) → is_quote q ≡ true → 128 ≤ x → act (places.Value q) k x b ≡ Ok (adds_byte x b)
 act_high q k x b is h =
@@ -309,7 +273,7 @@ act_high q k x b is h =
     let tab : (x == 9) ≡ false = ne_eqb x 9 (λ e. omega arith) in
     let lf : (x == 10) ≡ false = ne_eqb x 10 (λ e. omega arith) in
     let cr : (x == 13) ≡ false = ne_eqb x 13 (λ e. omega arith) in
-    rw (own, amp, tab, lf, cr, and_false b.scratch.after_cr)
+    rw (own, amp, tab, lf, cr, and-false b.scratch.after_cr)
 
 start_2 : (q x : ℕ) → 192 ≤ x → x < 224 → wide_start q x ≡ wide q 128 (x - 192) 1
 start_2 q x low high = let a = le-ltb x 192 low in let b = lt-ltb x 224 high in rw (a, b)
@@ -325,7 +289,7 @@ high_effect c b h =
     let tab : (c == 9) ≡ false = ne_eqb c 9 (λ e. omega arith) in
     let lf : (c == 10) ≡ false = ne_eqb c 10 (λ e. omega arith) in
     let cr : (c == 13) ≡ false = ne_eqb c 13 (λ e. omega arith) in
-    rw (tab, lf, cr, and_false b.scratch.after_cr)
+    rw (tab, lf, cr, and-false b.scratch.after_cr)
 
 -- one byte after another
 joined : (k : Result Build Fault) (xs ys : List ℕ) (c : ℕ) → 128 ≤ c → encode_utf8 c ≡ xs ++ ys
@@ -352,7 +316,7 @@ over_2 q d at c rest k is h low high =
     let first = begun_1 128 c (c / 64) h (omega arith) low (inl (omega arith)) refl in
     ap (λ l. run (places.Value q) d k at (l ++ rest)) e
     ∙ over (places.Value q) (places.Wide q 128 (c / 64) 1) d d at x k (λ b. Ok (adds_byte x b)) (y ∷ rest)
-    (step_high q d x is (omega arith) ∙ ap (with_open d) (start_2 q x (omega arith) (omega arith) ∙ ap (λ n. wide q 128 n 1) bits ∙ wide_goes q 128 (c / 64) 1 first (omega arith)))
+    (wide_step q d x is (omega arith) ∙ ap (with_open d) (start_2 q x (omega arith) (omega arith) ∙ ap (λ n. wide q 128 n 1) bits ∙ wide_goes q 128 (c / 64) 1 first (omega arith)))
     (λ b. act_high q at x b is (omega arith))
     ∙ over (places.Wide q 128 (c / 64) 1) (places.Value q) d d (at + 1) y (k >>= (λ b. Ok (adds_byte x b))) (λ b. Ok (adds_byte y b)) rest
     (ap (with_open d) (next_is q 128 (c / 64) 1 y c (omega arith) (omega arith) (omega arith) last ∙ wide_ends q 128 c (begun_0 128 c h low)))
@@ -360,10 +324,10 @@ over_2 q d at c rest k is h low high =
     ∙ ap (λ z. run (places.Value q) d z ((at + 1) + 1) rest) (joined k (x ∷ []) (y ∷ []) c low e)
     ∙ ap (λ j. run (places.Value q) d (k >>= (λ b. Ok (plain_effect c b))) j rest) (omega (arith, ap length e))
 
-small : (n : ℕ) → n ≤ 2048 → (n ≤ 2048) ⊎ (n ≡ 65536)
+pub small : (n : ℕ) → n ≤ 2048 → (n ≤ 2048) ⊎ (n ≡ 65536)
 small n h = inl h
 
-exact : (n : ℕ) → n ≡ 65536 → (n ≤ 2048) ⊎ (n ≡ 65536)
+pub exact : (n : ℕ) → n ≡ 65536 → (n ≤ 2048) ⊎ (n ≡ 65536)
 exact n h = inr h
 
 over_3 : (q d at c : ℕ) (rest : List ℕ) (k : Result Build Fault) → is_quote q ≡ true → is_allowed_char c ≡ true → 2048 ≤ c → c < 65536
@@ -380,7 +344,7 @@ over_3 q d at c rest k is h low high =
     let k2 = k1 >>= (λ b. Ok (adds_byte y b)) in
     ap (λ l. run (places.Value q) d k at (l ++ rest)) e
     ∙ over (places.Value q) (places.Wide q 2048 (c / 4096) 2) d d at x k (λ b. Ok (adds_byte x b)) (y ∷ z ∷ rest)
-    (step_high q d x is (omega arith) ∙ ap (with_open d) (start_3 q x (omega arith) (omega arith) ∙ ap (λ n. wide q 2048 n 2) bits ∙ wide_goes q 2048 (c / 4096) 2 (begun_2 2048 c (c / 4096) h (omega arith) low (small 2048 (omega arith)) refl) (omega arith)))
+    (wide_step q d x is (omega arith) ∙ ap (with_open d) (start_3 q x (omega arith) (omega arith) ∙ ap (λ n. wide q 2048 n 2) bits ∙ wide_goes q 2048 (c / 4096) 2 (begun_2 2048 c (c / 4096) h (omega arith) low (small 2048 (omega arith)) refl) (omega arith)))
     (λ b. act_high q at x b is (omega arith))
     ∙ over (places.Wide q 2048 (c / 4096) 2) (places.Wide q 2048 (c / 64) 1) d d (at + 1) y k1 (λ b. Ok (adds_byte y b)) (z ∷ rest)
     (ap (with_open d) (next_is q 2048 (c / 4096) 2 y (c / 64) (omega arith) (omega arith) (omega arith) mid ∙ wide_goes q 2048 (c / 64) 1 (begun_1 2048 c (c / 64) h (omega arith) low (small 2048 (omega arith)) refl) (omega arith)))
@@ -408,7 +372,7 @@ over_4 q d at c rest k is h low high =
     let k3 = k2 >>= (λ b. Ok (adds_byte z b)) in
     ap (λ l. run (places.Value q) d k at (l ++ rest)) e
     ∙ over (places.Value q) (places.Wide q 65536 (c / 262144) 3) d d at x k (λ b. Ok (adds_byte x b)) (y ∷ z ∷ w ∷ rest)
-    (step_high q d x is (omega arith) ∙ ap (with_open d) (start_4 q x (omega arith) ∙ ap (λ n. wide q 65536 n 3) bits ∙ wide_goes q 65536 (c / 262144) 3 (begun_3 c (c / 262144) h low refl) (omega arith)))
+    (wide_step q d x is (omega arith) ∙ ap (with_open d) (start_4 q x (omega arith) ∙ ap (λ n. wide q 65536 n 3) bits ∙ wide_goes q 65536 (c / 262144) 3 (begun_3 c (c / 262144) h low refl) (omega arith)))
     (λ b. act_high q at x b is (omega arith))
     ∙ over (places.Wide q 65536 (c / 262144) 3) (places.Wide q 65536 (c / 4096) 2) d d (at + 1) y k1 (λ b. Ok (adds_byte y b)) (z ∷ w ∷ rest)
     (ap (with_open d) (next_is q 65536 (c / 262144) 3 y (c / 4096) (omega arith) (omega arith) (omega arith) one ∙ wide_goes q 65536 (c / 4096) 2 (begun_2 65536 c (c / 4096) h (omega arith) low (exact 65536 refl) refl) (omega arith)))

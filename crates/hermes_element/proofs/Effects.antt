@@ -15,7 +15,7 @@ use Rattle.hermes_element.specs.declared.attribute.Attribute.{Attribute}
 use Rattle.hermes_element.specs.declared.refusal.Why.{Why}
 use Rattle.hermes_element.specs.declared.refusal.Why.TheVariants as why
 use Rattle.hermes_element.proofs.Tags.{keying}
-use Rattle.hermes_element.proofs.Roots.{innermost-push, outer-push, add_last-push}
+use Rattle.hermes_element.proofs.Roots.{innermost-push, outer-push, add_last-push, length-push}
 use Rattle.hermes_element.proofs.Complete.{folded, words}
 use Rattle.hermes_element.proofs.Parts.{pieces_effect, key_effect, add_key, keys, assignment_effect, assignments_effect, name_effect, add_name, names, tag_effect}
 use Rattle.hermes_element.proofs.Whole.{word_effect, match_effect, end_effect, push_tag, end_empty, content_effect, root_effect}
@@ -193,9 +193,6 @@ end_settle at tag start roots stack top is same =
     ∙ ap (λ (t : Tree). settle (cond (bytes_eq tag.name t.name) [] ((at + 2, why.EndName) ∷ [])) (ended roots (outer (stack ++ top ∷ [])) t)) (innermost-push stack top)
     ∙ ap (λ n. settle (cond (bytes_eq tag.name n) [] ((at + 2, why.EndName) ∷ [])) (ended roots (outer (stack ++ top ∷ [])) top)) same
     ∙ ap (λ s. settle (end_faults at start tag) (ended roots s top)) (outer-push stack top)
-
-length-push : (stack : List Tree) (top : Tree) → length (stack ++ top ∷ []) ≡ length stack + 1
-length-push stack top = omega (arith, length-append stack (top ∷ []))
 
 content_settle : (at : ℕ) (c : Content) (roots : Forest) (stack : List Tree) (top : Tree) → IsContent c
     → content_effect at c (between roots (stack ++ top ∷ [])) ≡ settle (content_faults (length stack + 2) at c) (grown roots stack top (forest_in at c))

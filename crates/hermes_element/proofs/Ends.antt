@@ -2,14 +2,14 @@
 use Rattle.std.proofs.Common.{◌≡◌, inl, inr, ℕ, ◌+◌, true, false, List, [], ◌∷◌, ◌++◌, Some, None, length, refl, ap, sym, ◌∙◌, append_assoc, append-nil, arith, subst}
 use Rattle.std.specs.Prelude.{◌==◌}
 use Rattle.std.proofs.lemmas.Bool.{cases_Bool, eqb-true}
-use Rattle.std.proofs.lemmas.Bool.Decides.{nat_tests}
+use Rattle.hermes_element.proofs.Roots.{declared_not_63}
 use Rattle.line_base.specs.Name.{is_name_start}
 use Rattle.hermes_element.specs.Plain.{is_blank, is_declared, AreBlanks, end_text, content_text, Root, lone, holding, root_text, IsRoot, Declaration, Document, document_text, IsPlain, IsDocument}
 use Rattle.hermes_element.specs.Machine.{to_if}
 use Rattle.hermes_element.specs.declared.place.Place.TheVariants as places
 use Rattle.hermes_element.proofs.Running.{yes, no}
 use Rattle.hermes_element.proofs.Parts.{tag_rest}
-use Rattle.hermes_element.proofs.Whole.{root_rest}
+use Rattle.hermes_element.proofs.Whole.{root_rest, root_split, declaration_split}
 use Rattle.hermes_element.proofs.Sound as sound
 use Rattle.hermes_element.proofs.Sound.{accepts, accept_if}
 
@@ -60,10 +60,6 @@ open_root (x ∷ tail) h = elim (cases_Bool (x == 47)) [
       root_of x tail (sound.start_tag 0 x tail o.0 o.1)
 ]
 
-root_whole : (root : Root) → root_text root ≡ 60 ∷ root_rest root
-root_whole (lone tag) = refl
-root_whole (holding tag inside end) = refl
-
 -- ---- the document
 
 record PrologEnd (bytes : List ℕ) : Type 0 where
@@ -83,18 +79,11 @@ prolog_end bytes h =
       root = r.root;
       blanks = g.all;
       is = r.is;
-      text = ap (λ l. g.front ++ l) (root_whole r.root ∙ ap (λ l. 60 ∷ l) r.text ∙ ap (λ y. y ∷ g.tail) (sym (eqb-true g.head 60 o.0))) ∙ g.text;
+      text = ap (λ l. g.front ++ l) (root_split r.root ∙ ap (λ l. 60 ∷ l) r.text ∙ ap (λ y. y ∷ g.tail) (sym (eqb-true g.head 60 o.0))) ∙ g.text;
     }
-
-declared_not_63 : (b : ℕ) → is_declared b ≡ true → (b == 63) ≡ false
-declared_not_63 b h = grind (arith, nat_tests)
 
 record_document : (d : Document) (bytes : List ℕ) → IsPlain d → document_text d ≡ bytes → IsDocument bytes
 record_document d bytes is e = (d, record { plain = is; text = e })
-
-declaration_split : (blank : ℕ) (body gap root : List ℕ)
-    → ((((60 ∷ 63 ∷ 120 ∷ 109 ∷ 108 ∷ blank ∷ []) ++ body) ++ (63 ∷ 62 ∷ [])) ++ gap) ++ root ≡ 60 ∷ 63 ∷ 120 ∷ 109 ∷ 108 ∷ blank ∷ (body ++ (63 ∷ 62 ∷ (gap ++ root)))
-declaration_split blank body gap root = simp append_assoc
 
 question_close : {x : ℕ} → x ≡ 63 → (tail : List ℕ) → accepts places.DeclarationEnd 0 tail ≡ true → (x ≡ 63) × (rest : List ℕ) × (62 ∷ rest ≡ tail) × (accepts places.Prolog 0 rest ≡ true)
 question_close e [] h = absurd (sound.nothing places.DeclarationEnd 0 refl h)
@@ -145,7 +134,7 @@ first_end (x ∷ tail) h = elim (cases_Bool (x == 63)) [
   | inr other ↦
       let o = sound.only (is_name_start x) places.First places.Name 0 0 x tail (no (x == 63) (Some (places.Question, 0)) (to_if (is_name_start x) places.Name 0) other) h in
       let r = root_of x tail (sound.start_tag 0 x tail o.0 o.1) in
-      record_document (record { declaration = None; gap = []; root = r.root }) (60 ∷ x ∷ tail) (record { declaration = tt; gap = refl; root = r.is }) (root_whole r.root ∙ ap (λ l. 60 ∷ l) r.text)
+      record_document (record { declaration = None; gap = []; root = r.root }) (60 ∷ x ∷ tail) (record { declaration = tt; gap = refl; root = r.is }) (root_split r.root ∙ ap (λ l. 60 ∷ l) r.text)
 ]
 
 pub document_end : (bytes : List ℕ) → accepts places.Start 0 bytes ≡ true → IsDocument bytes

@@ -104,19 +104,19 @@ x_byte bytes at quote depth start mark key value c here x =
 
 -- ---- the three forms
 
-letter_35 : (b : ℕ) → is_letter b ≡ true → (b == 35) ≡ false
+pub letter_35 : (b : ℕ) → is_letter b ≡ true → (b == 35) ≡ false
 letter_35 b h = grind (arith, nat_tests)
 
-letter_59 : (b : ℕ) → is_letter b ≡ true → (b == 59) ≡ false
+pub letter_59 : (b : ℕ) → is_letter b ≡ true → (b == 59) ≡ false
 letter_59 b h = grind (arith, nat_tests)
 
-digit_120 : (b : ℕ) → is_digit b ≡ true → (b == 120) ≡ false
+pub digit_120 : (b : ℕ) → is_digit b ≡ true → (b == 120) ≡ false
 digit_120 b h = grind (arith, nat_tests)
 
-digit_59 : (b : ℕ) → is_digit b ≡ true → (b == 59) ≡ false
+pub digit_59 : (b : ℕ) → is_digit b ≡ true → (b == 59) ≡ false
 digit_59 b h = grind (arith, nat_tests)
 
-hex_59 : (b : ℕ) → is_hex_digit b ≡ true → (b == 59) ≡ false
+pub hex_59 : (b : ℕ) → is_hex_digit b ≡ true → (b == 59) ≡ false
 hex_59 b h = grind (arith, nat_tests)
 
 letters_break : (quote depth start mark : ℕ) (key value : List ℕ) (c : Build) (bytes : List ℕ) (from to : ℕ) → IsSpan is_letter bytes from to → (from < length bytes → get_or bytes from 0 ≡ 35 → ⊥) → (IsGood bytes from to → ⊥)

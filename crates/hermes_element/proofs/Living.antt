@@ -1,7 +1,7 @@
 -- From each place that the reading machine comes to, some bytes lead to the end of a document.
 use Rattle.std.proofs.Common.{◌≡◌, ◌⊎◌, inl, inr, ℕ, zero, suc, ◌+◌, ◌-◌, ◌*◌, ◌/◌, ◌%◌, ◌<◌, ◌≤◌, Bool, true, false, cond, List, [], ◌∷◌, Option, Some, None, refl, ap, sym, ◌∙◌, arith, subst, max}
 use Rattle.std.specs.Prelude.{◌==◌, ◌&&◌, nat_lt, nat_le}
-use Rattle.std.proofs.lemmas.Bool.{cases_Bool, eq-eqb, ne_eqb, lt-ltb, ltb-true, eqb-false}
+use Rattle.std.proofs.lemmas.Bool.{cases_Bool, eq-eqb, ne_eqb, lt-ltb, ltb-true, eqb-false, and_parts}
 use Rattle.std.proofs.lemmas.Bool.Decides.{nat_tests}
 use Rattle.line_base.specs.Text.{is_allowed_char}
 use Rattle.line_base.specs.Name.{is_name_start, is_name_byte}
@@ -10,7 +10,7 @@ use Rattle.hermes_element.specs.Machine.{Stand, step, to_if, step_tag, step_equa
 use Rattle.hermes_element.specs.declared.place.Place.{Place}
 use Rattle.hermes_element.specs.declared.place.Place.TheVariants as places
 use Rattle.hermes_element.proofs.Running.{yes, no}
-use Rattle.hermes_element.proofs.Complete.{and_both, wide_goes, wide_ends, next_is, begun_0, begun_1, begun_2}
+use Rattle.hermes_element.proofs.Complete.{wide_goes, wide_ends, next_is, begun_0, begun_1, begun_2, small as within, exact}
 use Rattle.hermes_element.proofs.Sound.{accepts, accept_if}
 
 -- some bytes lead from the place to the end
@@ -40,9 +40,6 @@ from_content : (d : ℕ) → 0 < d → Leads places.Content d
 from_content zero h = absurd (omega arith)
 from_content (suc n) h = (closers (suc n), ap (λ p. accepts p (suc n) (closers (suc n))) (sym (not_root n)) ∙ closed (suc n))
 
-from_end_tag : (d : ℕ) → 0 < d → accepts places.EndGap d (62 ∷ closers (d - 1)) ≡ true
-from_end_tag d h = closed (d - 1)
-
 from_quoted : (d : ℕ) → accepts places.Quoted d (47 ∷ 62 ∷ closers d) ≡ true
 from_quoted d = closed d
 
@@ -65,11 +62,7 @@ pub record WideLives (quote floor bits left : ℕ) : Type 0 where
   pub low : 128 ≤ floor
   pub floor_is : (floor ≤ 2048) ⊎ (floor ≡ 65536)
 
-floor_fits : (floor : ℕ) → (floor ≤ 2048) ⊎ (floor ≡ 65536) → floor ≤ 65536
-floor_fits floor (inl a) = omega arith
-floor_fits floor (inr a) = omega arith
-
-allowed_top : (c : ℕ) → is_allowed_char c ≡ true → c ≤ 1114111
+pub allowed_top : (c : ℕ) → is_allowed_char c ≡ true → c ≤ 1114111
 allowed_top c h = grind (arith, nat_tests)
 
 step_byte : (q d floor bits left x next : ℕ) (place : Place) (rest : List ℕ) → 128 ≤ x → x < 192 → bits < 131072 → bits * 64 + (x - 128) ≡ next → wide q floor next (left - 1) ≡ Some place
@@ -99,17 +92,17 @@ from_wide_3 q d floor bits c h low some is e =
 from_wide : (q d floor bits left : ℕ) → WideLives q floor bits left → Leads (places.Wide q floor bits left) d
 from_wide q d floor bits zero w = absurd (omega (arith, w.some))
 from_wide q d floor bits (suc zero) w =
-    let both = and_both (is_allowed_char (max floor (bits * 64))) (nat_lt (max floor (bits * 64)) ((bits + 1) * 64)) w.begun in
+    let both = and_parts (is_allowed_char (max floor (bits * 64))) (nat_lt (max floor (bits * 64)) ((bits + 1) * 64)) w.begun in
     let c = max floor (bits * 64) in
     let below : max floor (bits * 64) < (bits + 1) * 64 = ltb-true (max floor (bits * 64)) ((bits + 1) * 64) both.1 in
     ((128 + c % 64) ∷ value_tail q d, from_wide_1 q d floor bits c both.0 (omega arith) w.low (omega arith))
 from_wide q d floor bits (suc (suc zero)) w =
-    let both = and_both (is_allowed_char (max floor (bits * 4096))) (nat_lt (max floor (bits * 4096)) ((bits + 1) * 4096)) w.begun in
+    let both = and_parts (is_allowed_char (max floor (bits * 4096))) (nat_lt (max floor (bits * 4096)) ((bits + 1) * 4096)) w.begun in
     let c = max floor (bits * 4096) in
     let below : max floor (bits * 4096) < (bits + 1) * 4096 = ltb-true (max floor (bits * 4096)) ((bits + 1) * 4096) both.1 in
     ((128 + c / 64 % 64) ∷ (128 + c % 64) ∷ value_tail q d, from_wide_2 q d floor bits c both.0 (omega arith) w.low w.floor_is (omega arith))
 from_wide q d floor bits (suc (suc (suc zero))) w =
-    let both = and_both (is_allowed_char (max floor (bits * 262144))) (nat_lt (max floor (bits * 262144)) ((bits + 1) * 262144)) w.begun in
+    let both = and_parts (is_allowed_char (max floor (bits * 262144))) (nat_lt (max floor (bits * 262144)) ((bits + 1) * 262144)) w.begun in
     let c = max floor (bits * 262144) in
     let below : max floor (bits * 262144) < (bits + 1) * 262144 = ltb-true (max floor (bits * 262144)) ((bits + 1) * 262144) both.1 in
     ((128 + c / 4096 % 64) ∷ (128 + c / 64 % 64) ∷ (128 + c % 64) ∷ value_tail q d, from_wide_3 q d floor bits c both.0 (omega arith) w.low w.floor_is (omega arith))
@@ -143,9 +136,6 @@ Lives _ d = Unit {0}
 
 at_zero : (p : Place) (d : ℕ) (rest : List ℕ) → accepts p 0 rest ≡ true → d ≡ 0 → Leads p d
 at_zero p d rest h e = (rest, ap (λ k. accepts p k rest) e ∙ h)
-
-quoted_first : (q d : ℕ) (p : Place) (x : ℕ) → step p d x ≡ Some (places.Value q, d) → Leads p d
-quoted_first q d p x s = (x ∷ value_tail q d, ap (λ o. accept_if o (λ t e. accepts t e (value_tail q d))) s ∙ from_value q d)
 
 pub leads : (p : Place) (d : ℕ) → Lives p d → Leads p d
 leads places.Start d h = at_zero places.Start d (60 ∷ 97 ∷ 47 ∷ 62 ∷ []) refl h
@@ -226,17 +216,11 @@ live_wide d q floor bits left is few low small =
     ])
     tt
 
-within : (n : ℕ) → n ≤ 2048 → (n ≤ 2048) ⊎ (n ≡ 65536)
-within n h = inl h
-
-exactly : (n : ℕ) → n ≡ 65536 → (n ≤ 2048) ⊎ (n ≡ 65536)
-exactly n h = inr h
-
 live_start : (d q b : ℕ) → is_quote q ≡ true → Live1 d (wide_start q b)
 live_start d q b is = choice1 d (nat_lt b 192) None (cond (nat_lt b 224) (wide q 128 (b - 192) 1) (cond (nat_lt b 240) (wide q 2048 (b - 224) 2) (wide q 65536 (b - 240) 3))) (λ _. tt)
     (choice1 d (nat_lt b 224) (wide q 128 (b - 192) 1) (cond (nat_lt b 240) (wide q 2048 (b - 224) 2) (wide q 65536 (b - 240) 3)) (λ _. live_wide d q 128 (b - 192) 1 is (omega arith) (omega arith) (within 128 (omega arith)))
     (choice1 d (nat_lt b 240) (wide q 2048 (b - 224) 2) (wide q 65536 (b - 240) 3) (λ _. live_wide d q 2048 (b - 224) 2 is (omega arith) (omega arith) (within 2048 (omega arith)))
-    (live_wide d q 65536 (b - 240) 3 is (omega arith) (omega arith) (exactly 65536 refl))))
+    (live_wide d q 65536 (b - 240) 3 is (omega arith) (omega arith) (exact 65536 refl))))
 
 live_value : (d q b : ℕ) → is_quote q ≡ true → Live1 d (step_value q b)
 live_value d q b is = choice1 d (b == q) (Some places.Quoted) (cond (b == 38) (Some (places.Ampersand q)) (cond (b == 60) None (cond (nat_lt b 128) (cond (is_allowed_char b) (Some (places.Value q)) None) (wide_start q b)))) (λ _. tt)

@@ -3,15 +3,17 @@
 use Rattle.std.proofs.Common.{◌≡◌, inl, inr, ℕ, suc, ◌+◌, ◌-◌, ◌<◌, ◌≤◌, true, false, List, [], ◌∷◌, ◌++◌, Result, Ok, Err, length, refl, ap, sym, ◌∙◌, append_assoc, append-nil, add-zero, arith, length-append}
 use Rattle.std.specs.Prelude.{◌==◌}
 use Rattle.std.specs.List.{list_all, flat_map}
-use Rattle.std.proofs.lemmas.Bool.{cases_lt, eq-eqb}
+use Rattle.std.proofs.lemmas.Bool.{cases_lt, eq-eqb, and_parts}
 use Rattle.std.proofs.lemmas.Bool.Decides.{nat_tests}
+use Rattle.hermes_element.proofs.Rising.{length_front, tag_length}
+use Rattle.hermes_element.proofs.Tags.{blank_not_62, blank_not_byte, blank_not_start, start_not_slash}
 use Rattle.line_base.specs.Name.{is_name_start, is_name_byte, IsName}
 use Rattle.hermes_element.specs.Plain.{is_blank, is_quote, AreBlanks, Piece, plain, escaped, piece_text, is_piece, value_text, Assignment, assignment_front, assignment_text, IsAssignment, AreAssignments, Tag, tag_text, IsTag}
 use Rattle.hermes_element.specs.Checks.{Fault, character_of}
 use Rattle.hermes_element.specs.Machine.{Build, run, ◌>>=◌, refer, begin_key, end_key, begin_value, end_value, begin_tag, between, ended, after_element}
 use Rattle.hermes_element.specs.declared.place.Place.{Place}
 use Rattle.hermes_element.specs.declared.place.Place.TheVariants as places
-use Rattle.hermes_element.proofs.Complete.{and_both, bind_ok, bind_assoc, over, passes, folded, over_all, over_idle, plain_effect, over_char, over_escape}
+use Rattle.hermes_element.proofs.Complete.{bind_ok, bind_assoc, over, passes, folded, over_all, over_idle, plain_effect, over_char, over_escape}
 
 no_bytes : (xs : List ℕ) → length xs ≤ 0 → xs ≡ []
 no_bytes [] h = refl
@@ -36,7 +38,7 @@ over_pieces : (q d at : ℕ) (ps : List Piece) (rest : List ℕ) (k : Result Bui
     → run (places.Value q) d k at (value_text ps ++ rest) ≡ run (places.Value q) d (k >>= pieces_effect at ps) (at + length (value_text ps)) rest
 over_pieces q d at [] rest k is h = ap (λ z. run (places.Value q) d z at rest) (sym (bind_ok k)) ∙ ap (λ j. run (places.Value q) d (k >>= pieces_effect at []) j rest) (sym (add-zero at))
 over_pieces q d at (p ∷ ps) rest k is h =
-    let both = and_both (is_piece q p) (list_all (is_piece q) ps) h in
+    let both = and_parts (is_piece q p) (list_all (is_piece q) ps) h in
     let next = at + length (piece_text p) in
     ap (λ l. run (places.Value q) d k at l) (append_assoc (piece_text p) (value_text ps) rest)
     ∙ over_piece q d at p (value_text ps ++ rest) k is both.0
@@ -57,18 +59,6 @@ place_of named = places.Name
 place_of spaced = places.Gap
 place_of quoted = places.Quoted
 
-blank_not_byte : (b : ℕ) → is_blank b ≡ true → is_name_byte b ≡ false
-blank_not_byte b h = grind (arith, nat_tests)
-
-blank_not_start : (b : ℕ) → is_blank b ≡ true → is_name_start b ≡ false
-blank_not_start b h = grind (arith, nat_tests)
-
-blank_not_62 : (b : ℕ) → is_blank b ≡ true → (b == 62) ≡ false
-blank_not_62 b h = grind (arith, nat_tests)
-
-blank_not_61 : (b : ℕ) → is_blank b ≡ true → (b == 61) ≡ false
-blank_not_61 b h = grind (arith, nat_tests)
-
 over_blank : (p : TagPlace) (d at x : ℕ) (rest : List ℕ) (k : Result Build Fault) → is_blank x ≡ true → run (place_of p) d k at (x ∷ rest) ≡ run places.Gap d k (at + 1) rest
 over_blank named d at x rest k h = passes places.Name places.Gap d d at x k rest (rw (blank_not_byte x h, h)) (λ b. rw (blank_not_byte x h, blank_not_62 x h))
 over_blank spaced d at x rest k h = passes places.Gap places.Gap d d at x k rest (rw (blank_not_start x h, h)) (λ b. rw (blank_not_start x h, blank_not_62 x h))
@@ -80,7 +70,7 @@ over_gaps d at xs rest k h = over_idle places.Gap d is_blank (λ x p. rw (blank_
 over_gap : (p : TagPlace) (d at : ℕ) (xs rest : List ℕ) (k : Result Build Fault) → 0 < length xs → AreBlanks xs → run (place_of p) d k at (xs ++ rest) ≡ run places.Gap d k (at + length xs) rest
 over_gap p d at [] rest k some h = absurd (omega arith)
 over_gap p d at (x ∷ xs) rest k some h =
-    let both = and_both (is_blank x) (list_all is_blank xs) h in
+    let both = and_parts (is_blank x) (list_all is_blank xs) h in
     let place : (at + 1) + length xs ≡ at + suc (length xs) = omega arith in
     over_blank p d at x (xs ++ rest) k both.0 ∙ over_gaps d (at + 1) xs rest k both.1 ∙ ap (λ j. run places.Gap d k j rest) place
 
@@ -98,7 +88,7 @@ key_effect at (x ∷ xs) b = begin_key at x b >>= (λ b. Ok (folded add_key xs b
 over_key : (d at : ℕ) (name rest : List ℕ) (k : Result Build Fault) → IsName name → run places.Gap d k at (name ++ rest) ≡ run places.Key d (k >>= key_effect at name) (at + length name) rest
 over_key d at [] rest k h = absurd (cc)
 over_key d at (x ∷ xs) rest k h =
-    let both = and_both (is_name_start x) (list_all is_name_byte xs) h in
+    let both = and_parts (is_name_start x) (list_all is_name_byte xs) h in
     let s = both.0 in
     let place : (at + 1) + length xs ≡ at + suc (length xs) = omega arith in
     over places.Gap places.Key d d at x k (begin_key at x) (xs ++ rest) (rw s) (λ b. rw s)
@@ -111,7 +101,7 @@ over_sign : (d at : ℕ) (before rest : List ℕ) (k : Result Build Fault) → A
 over_sign d at [] rest k h =
     over places.Key places.Before d d at 61 k (end_key at) rest refl (λ b. refl) ∙ ap (λ j. run places.Before d (k >>= end_key at) (j + 1) rest) (sym (add-zero at))
 over_sign d at (x ∷ xs) rest k h =
-    let both = and_both (is_blank x) (list_all is_blank xs) h in
+    let both = and_parts (is_blank x) (list_all is_blank xs) h in
     let s = both.0 in
     let z = k >>= end_key at in
     let place : ((at + 1) + length xs) + 1 ≡ (at + suc (length xs)) + 1 = omega arith in
@@ -138,9 +128,6 @@ abbrev pub assignment_effect : ℕ → Assignment → Build → Result Build Fau
 assignment_effect at a b =
     key_effect (at + length a.gap) a.name b >>= end_key (at + length a.gap + length a.name)
     >>= (λ b. Ok (begin_value (at + length (assignment_front a) - 1) b)) >>= pieces_effect (at + length (assignment_front a)) a.value >>= end_value
-
-length_front : (a : Assignment) → length (assignment_front a) ≡ length a.gap + length a.name + length a.before + 1 + length a.after + 1
-length_front a = simp length-append
 
 front_split : (gap name before after rest : List ℕ) (q : ℕ) → ((((((gap ++ name) ++ before) ++ (61 ∷ [])) ++ after) ++ (q ∷ [])) ++ rest) ≡ gap ++ (name ++ (before ++ (61 ∷ (after ++ (q ∷ rest)))))
 front_split gap name before after rest q = simp append_assoc
@@ -219,16 +206,13 @@ abbrev pub name_effect : ℕ → List ℕ → Build → Result Build Fault
 name_effect at [] b = Ok b
 name_effect at (x ∷ xs) b = begin_tag at x b >>= (λ b. Ok (folded add_name xs b))
 
-start_not_slash : (b : ℕ) → is_name_start b ≡ true → (b == 47) ≡ false
-start_not_slash b h = grind (arith, nat_tests)
-
 start_not_question : (b : ℕ) → is_name_start b ≡ true → (b == 63) ≡ false
 start_not_question b h = grind (arith, nat_tests)
 
 over_name : (d at : ℕ) (name rest : List ℕ) (k : Result Build Fault) → IsName name → run places.Open d k at (name ++ rest) ≡ run places.Name d (k >>= name_effect at name) (at + length name) rest
 over_name d at [] rest k h = absurd (cc)
 over_name d at (x ∷ xs) rest k h =
-    let both = and_both (is_name_start x) (list_all is_name_byte xs) h in
+    let both = and_parts (is_name_start x) (list_all is_name_byte xs) h in
     let s = both.0 in
     let place : (at + 1) + length xs ≡ at + suc (length xs) = omega arith in
     over places.Open places.Name d d at x k (begin_tag at x) (xs ++ rest) (rw (start_not_slash x s, s)) (λ b. rw (start_not_slash x s))
@@ -240,7 +224,7 @@ over_name d at (x ∷ xs) rest k h =
 pub first_name : (at : ℕ) (name rest : List ℕ) (k : Result Build Fault) → IsName name → run places.First 0 k at (name ++ rest) ≡ run places.Open 0 k at (name ++ rest)
 first_name at [] rest k h = absurd (cc)
 first_name at (x ∷ xs) rest k h =
-    let both = and_both (is_name_start x) (list_all is_name_byte xs) h in
+    let both = and_parts (is_name_start x) (list_all is_name_byte xs) h in
     let s = both.0 in
     over places.First places.Name 0 0 at x k (begin_tag at x) (xs ++ rest) (rw (start_not_question x s, s)) (λ b. rw (start_not_question x s))
     ∙ sym (over places.Open places.Name 0 0 at x k (begin_tag at x) (xs ++ rest) (rw (start_not_slash x s, s)) (λ b. rw (start_not_slash x s)))
@@ -256,11 +240,8 @@ pub record OverTag (d at : ℕ) (tag : Tag) (rest : List ℕ) (k : Result Build 
   pub place : TagPlace
   pub same : run places.Open d k (at + 1) (tag_rest tag ++ rest) ≡ run (place_of place) d (k >>= tag_effect at tag) (at + length (tag_text tag)) rest
 
-tag_split : (name list gap rest : List ℕ) → ((name ++ list) ++ gap) ++ rest ≡ name ++ (list ++ (gap ++ rest))
+pub tag_split : (name list gap rest : List ℕ) → ((name ++ list) ++ gap) ++ rest ≡ name ++ (list ++ (gap ++ rest))
 tag_split name list gap rest = simp append_assoc
-
-tag_length : (tag : Tag) → length (tag_text tag) ≡ 1 + length tag.name + length (flat_map assignment_text tag.assignments) + length tag.gap
-tag_length tag = simp length-append (omega arith)
 
 pub over_tag : (d at : ℕ) (tag : Tag) (rest : List ℕ) (k : Result Build Fault) → IsTag tag → OverTag d at tag rest k
 over_tag d at tag rest k is =

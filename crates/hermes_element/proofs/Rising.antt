@@ -31,7 +31,7 @@ at_if : (test : Bool) (at low high : ℕ) (reason : Why) → low ≤ at → at +
 at_if true at low high reason a b = (a, b)
 at_if false at low high reason a b = omega arith
 
-escape_some : (e : Escape) → 0 < length (escape_text e)
+pub escape_some : (e : Escape) → 0 < length (escape_text e)
 escape_some (named word) = omega arith
 escape_some (decimal word) = omega arith
 escape_some (hexadecimal word) = omega arith
@@ -60,7 +60,7 @@ name_some : (name : List ℕ) → IsName name → 0 < length name
 name_some [] h = absurd (cc)
 name_some (x ∷ xs) h = omega arith
 
-length_front : (a : Assignment) → length (assignment_front a) ≡ length a.gap + length a.name + length a.before + 1 + length a.after + 1
+pub length_front : (a : Assignment) → length (assignment_front a) ≡ length a.gap + length a.name + length a.before + 1 + length a.after + 1
 length_front a = simp length-append
 
 length_text : (a : Assignment) → length (assignment_text a) ≡ length (assignment_front a) + length (value_text a.value) + 1
@@ -91,7 +91,7 @@ assignments at names (a ∷ list) is =
     (higher next (next + length (flat_map assignment_text list)) high (assignments_faults next (names ++ a.name ∷ []) list) (omega (arith, length-append (assignment_text a) (flat_map assignment_text list)))
     (assignments next (names ++ a.name ∷ []) list is.1))
 
-tag_length : (tag : Tag) → length (tag_text tag) ≡ 1 + length tag.name + length (flat_map assignment_text tag.assignments) + length tag.gap
+pub tag_length : (tag : Tag) → length (tag_text tag) ≡ 1 + length tag.name + length (flat_map assignment_text tag.assignments) + length tag.gap
 tag_length tag = simp length-append (omega arith)
 
 tag_rising : (depth at : ℕ) (tag : Tag) → IsTag tag → Rising at (at + length (tag_text tag)) (tag_faults depth at tag)
@@ -109,13 +109,13 @@ end_rising at tag end high h = elim (bytes_eq end.name tag.name) as (λ t. Risin
   | false ↦ (omega arith, omega arith)
 ]
 
-end_length : (tag : EndTag) → length (end_text tag) ≡ length tag.name + length tag.gap + 3
+pub end_length : (tag : EndTag) → length (end_text tag) ≡ length tag.name + length tag.gap + 3
 end_length tag = simp length-append (omega arith)
 
 empty_length : (gap t r : List ℕ) → length ((gap ++ (t ++ (47 ∷ 62 ∷ []))) ++ r) ≡ length gap + length t + 2 + length r
 empty_length gap t r = simp length-append (omega arith)
 
-full_length : (gap t inside e r : List ℕ) → length ((gap ++ (((t ++ (62 ∷ [])) ++ inside) ++ e)) ++ r) ≡ length gap + length t + 1 + length inside + length e + length r
+pub full_length : (gap t inside e r : List ℕ) → length ((gap ++ (((t ++ (62 ∷ [])) ++ inside) ++ e)) ++ r) ≡ length gap + length t + 1 + length inside + length e + length r
 full_length gap t inside e r = simp length-append (omega arith)
 
 content_rising : (depth at : ℕ) (c : Content) → IsContent c → Rising at (at + length (content_text c)) (content_faults depth at c)

@@ -1,6 +1,6 @@
 -- How the reading machine goes over what stands around the root, over end tags, and from tag to tag.
 use Rattle.std.proofs.Common.{◌≡◌, ◌⊎◌, inl, inr, ℕ, suc, ◌+◌, ◌-◌, ◌<◌, Bool, true, false, cond, List, [], ◌∷◌, ◌++◌, Option, Some, None, Result, Ok, Err, length, drop, get_or, set, refl, ap, sym, ◌∙◌, arith, subst, length-append}
-use Rattle.std.specs.Prelude.{◌==◌, ◌&&◌, nat_lt, slice_range}
+use Rattle.std.specs.Prelude.{◌==◌, nat_lt, slice_range}
 use Rattle.std.specs.Str.{bytes_eq}
 use Rattle.std.proofs.lemmas.List.{drop_all}
 use Rattle.std.proofs.lemmas.Bool.{cases_lt, cases_Bool, ne_eqb, lt-ltb}
@@ -15,14 +15,7 @@ use Rattle.hermes_element.specs.declared.stop.Stop.{Stop}
 use Rattle.hermes_element.specs.declared.place.Place.{Place}
 use Rattle.hermes_element.specs.declared.place.Place.TheVariants as places
 use Rattle.hermes_element.proofs.Running.{yes, no, over, goes, goes_over, stops as stops_at, ends, faults, faults_over, spans, skips, range_first, IsSpan-rest}
-use Rattle.hermes_element.proofs.Tags.{stop_same, name_has_bytes}
-
-both_true : (a b : Bool) → a ≡ true → b ≡ true → (a && b) ≡ true
-both_true true b e f = f
-both_true false b e f = absurd (cc)
-
-blank_not_62 : (b : ℕ) → is_blank b ≡ true → (b == 62) ≡ false
-blank_not_62 b h = grind (arith, nat_tests)
+use Rattle.hermes_element.proofs.Tags.{stop_same, name_has_bytes, blank_not_62}
 
 -- ---- before the root
 
@@ -40,10 +33,10 @@ prolog_breaks at to c bytes span bad =
       | inr past ↦ ends places.Prolog 0 c to bytes past refl
     ]
 
-declared_not_63 : (b : ℕ) → is_declared b ≡ true → (b == 63) ≡ false
+pub declared_not_63 : (b : ℕ) → is_declared b ≡ true → (b == 63) ≡ false
 declared_not_63 b h = grind (arith, nat_tests)
 
-stays_declared : (b : ℕ) → is_declared b ≡ true → step places.Declaration 0 b ≡ Some (places.Declaration, 0)
+pub stays_declared : (b : ℕ) → is_declared b ≡ true → step places.Declaration 0 b ≡ Some (places.Declaration, 0)
 stays_declared b h =
     no (b == 63) (Some (places.DeclarationEnd, 0)) (cond (is_declared b) (Some (places.Declaration, 0)) None) (declared_not_63 b h)
     ∙ yes (is_declared b) (Some (places.Declaration, 0)) None h
@@ -84,9 +77,6 @@ declaration_over bytes to here e there f =
     let two : (to + 1) + 1 ≡ to + 2 = omega arith in
     declaration_question bytes to here e ∙ goes_over places.DeclarationEnd places.Prolog 0 0 beginning beginning (to + 1) bytes 62 there f refl refl
     ∙ ap (λ k. run_at places.Prolog 0 beginning k bytes) two
-
-start_63 : (b : ℕ) → (b == 63) ≡ true → is_name_start b ≡ false
-start_63 b h = grind (arith, nat_tests)
 
 pub first_open : (bytes : List ℕ) → (1 < length bytes → get_or bytes 1 0 ≡ 63 → ⊥) → run_at places.First 0 beginning 1 bytes ≡ run_at places.Open 0 beginning 1 bytes
 first_open bytes other = elim (cases_lt 1 (length bytes)) [
@@ -240,7 +230,7 @@ content_close depth at to c bytes some span here e f =
     ∙ goes_over places.Open places.Close depth depth c c (to + 1) bytes 47 here f (rw open_there) refl
     ∙ ap (λ k. run_at places.Close depth c k bytes) two
 
-length-push : (stack : List Tree) (top : Tree) → length (stack ++ top ∷ []) ≡ length stack + 1
+pub length-push : (stack : List Tree) (top : Tree) → length (stack ++ top ∷ []) ≡ length stack + 1
 length-push stack top = omega (arith, length-append stack (top ∷ []))
 
 pub closing : (old front : List Tree) (top : Tree) (at : ℕ) (bytes : List ℕ) → old ≡ front ++ top ∷ [] → in_close old at bytes ≡ run_at places.Close (length front + 1) (between none (front ++ top ∷ [])) at bytes

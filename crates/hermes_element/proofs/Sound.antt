@@ -4,20 +4,21 @@ use Rattle.std.specs.Prelude.{◌==◌, nat_lt}
 use Rattle.std.specs.List.{list_all, flat_map}
 use Rattle.std.specs.Char.{encode_utf8}
 use Rattle.std.proofs.lemmas.Str.{encode_ascii}
-use Rattle.std.proofs.lemmas.Bool.{cases_lt, cases_Bool, eqb-true, ne_eqb, lt-ltb, le-ltb}
-use Rattle.std.proofs.lemmas.Bool.Decides.{nat_tests}
+use Rattle.std.proofs.lemmas.Bool.{cases_lt, cases_Bool, eqb-true, ne_eqb, lt-ltb, le-ltb, and_from}
+use Rattle.hermes_element.proofs.Rising.{escape_some}
+use Rattle.hermes_element.proofs.Tags.{blank_not_start}
+use Rattle.hermes_element.proofs.Escapes.{letter_59, digit_59, hex_59}
 use Rattle.line_base.specs.Text.{is_allowed_char}
 use Rattle.line_base.specs.Name.{is_name_start, is_name_byte}
 use Rattle.hermes_element.specs.Plain as form
-use Rattle.hermes_element.specs.Plain.{is_blank, is_quote, is_letter, is_digit, is_hex_digit, is_declared, AreBlanks, Escape, named, decimal, hexadecimal, escape_text, is_escape, Piece, plain, escaped, piece_text, is_piece, value_text, Assignment, assignment_text, IsAssignment, AreAssignments, Tag, tag_text, IsTag, EndTag, end_text, IsEndTag, Content, last, empty, full, content_text, IsContent, Root, lone, holding, root_text, IsRoot, Declaration, declaration_text, IsDeclaration, Document, document_text, IsPlain, IsSpelledBy, IsDocument}
+use Rattle.hermes_element.specs.Plain.{is_blank, is_quote, is_letter, is_digit, is_hex_digit, AreBlanks, Escape, named, decimal, hexadecimal, escape_text, is_escape, Piece, plain, escaped, piece_text, is_piece, value_text, Assignment, assignment_text, IsAssignment, AreAssignments, Tag, tag_text, IsTag, EndTag, end_text, IsEndTag, Content, last, empty, full, content_text, IsContent}
 use Rattle.hermes_element.specs.Machine.{Stand, step, is_end, to_if, step_tag, step_equals, step_end, with_open, wide_start, wide_next, after_element, stop_of, stop_if}
 use Rattle.hermes_element.specs.Steps.{AtPlace, IsOne}
 use Rattle.hermes_element.specs.declared.place.Place.{Place}
 use Rattle.hermes_element.specs.declared.place.Place.TheVariants as places
 use Rattle.hermes_element.proofs.Running.{yes, no}
 use Rattle.hermes_element.proofs.Wide.{start_part, next_part}
-use Rattle.hermes_element.proofs.Complete.{both_true}
-use Rattle.hermes_element.proofs.Parts.{tag_rest}
+use Rattle.hermes_element.proofs.Parts.{tag_rest, tag_split}
 
 abbrev pub accept_if : Option Stand → (Place → ℕ → Bool) → Bool
 accept_if None go = false
@@ -77,7 +78,7 @@ split from depth test stays e [] h = absurd (nothing from depth e h)
 split from depth test stays e (b ∷ bs) h = elim (cases_Bool (test b)) [
   | inl t ↦
       let s = split from depth test stays e bs (back from from depth depth b bs (stays b t) h) in
-      record { front = b ∷ s.front; head = s.head; tail = s.tail; all = both_true (test b) (list_all test s.front) t s.all; other = s.other; text = ap (λ l. b ∷ l) s.text; goes = s.goes }
+      record { front = b ∷ s.front; head = s.head; tail = s.tail; all = and_from (test b) (list_all test s.front) t s.all; other = s.other; text = ap (λ l. b ∷ l) s.text; goes = s.goes }
   | inr f ↦ record { front = []; head = b; tail = bs; all = refl; other = f; text = refl; goes = h }
 ]
 
@@ -99,15 +100,6 @@ module _ (inner : ℕ → Place) (test : ℕ → Bool)
       let s = split (inner q) d test (stays q d) (living q) bytes h in
       let e = only (s.head == 59) (inner q) (places.Value q) d d s.head s.tail (leaves q d s.head s.other) s.goes in
       record { word = s.front; rest = s.tail; all = s.all; text = ap (λ x. s.front ++ (x ∷ s.tail)) (sym (eqb-true s.head 59 e.0)) ∙ s.text; goes = e.1 }
-
-letter_59 : (b : ℕ) → is_letter b ≡ true → (b == 59) ≡ false
-letter_59 b h = grind (arith, nat_tests)
-
-digit_59 : (b : ℕ) → is_digit b ≡ true → (b == 59) ≡ false
-digit_59 b h = grind (arith, nat_tests)
-
-hex_59 : (b : ℕ) → is_hex_digit b ≡ true → (b == 59) ≡ false
-hex_59 b h = grind (arith, nat_tests)
 
 leaving : (t u : Bool) (p r : Place) (d : ℕ) → u ≡ false → with_open d (cond t (Some p) (cond u (Some r) None)) ≡ to_if t p d
 leaving true u p r d e = refl
@@ -131,7 +123,7 @@ record OneEscape (q depth : ℕ) (bytes : List ℕ) : Type 0 where
   goes : accepts (places.Value q) depth rest ≡ true
 
 some_run : (test : ℕ → Bool) (x : ℕ) (xs : List ℕ) → test x ≡ true → list_all test xs ≡ true → form.is_some_run test (x ∷ xs) ≡ true
-some_run test x xs t h = both_true (nat_lt 0 (length (x ∷ xs))) (list_all test (x ∷ xs)) (lt-ltb 0 (length (x ∷ xs)) (omega arith)) (both_true (test x) (list_all test xs) t h)
+some_run test x xs t h = and_from (nat_lt 0 (length (x ∷ xs))) (list_all test (x ∷ xs)) (lt-ltb 0 (length (x ∷ xs)) (omega arith)) (and_from (test x) (list_all test xs) t h)
 
 with_only : (d : ℕ) (t : Bool) (p : Place) → with_open d (cond t (Some p) None) ≡ to_if t p d
 with_only d true p = refl
@@ -231,7 +223,7 @@ before : (q d : ℕ) (p : Piece) (rest bytes : List ℕ) → is_piece q p ≡ tr
 before q d p rest bytes is e v = record {
   pieces = p ∷ v.pieces;
   rest = v.rest;
-  are = both_true (is_piece q p) (list_all (is_piece q) v.pieces) is v.are;
+  are = and_from (is_piece q p) (list_all (is_piece q) v.pieces) is v.are;
   text = append_assoc (piece_text p) (value_text v.pieces) (q ∷ v.rest) ∙ ap (λ l. piece_text p ++ l) v.text ∙ e;
   goes = v.goes;
 }
@@ -247,11 +239,6 @@ encode_first c bytes x e h = elim (cases_lt c 128) [
   | inr low ↦ low
   | inl small ↦ let s = sym (encode_ascii c small) ∙ e in let same : c ≡ x = cc s in absurd (omega arith)
 ]
-
-escape_some : (e : Escape) → 0 < length (escape_text e)
-escape_some (named word) = omega arith
-escape_some (decimal word) = omega arith
-escape_some (hexadecimal word) = omega arith
 
 escape_shorter : (e : Escape) (rest bytes : List ℕ) (n : ℕ) → escape_text e ++ rest ≡ bytes → length bytes ≤ suc n → length rest ≤ n
 escape_shorter e rest bytes n text enough = omega (arith, length-append (escape_text e) rest, ap length text, escape_some e)
@@ -314,9 +301,6 @@ value_end (suc n) q d (x ∷ tail) enough is h =
 pub stay_blank : (p : Place) (d : ℕ) (x : ℕ) (o : Option Stand) → is_blank x ≡ true → cond (is_blank x) (Some (p, d)) o ≡ Some (p, d)
 stay_blank p d x o h = yes (is_blank x) (Some (p, d)) o h
 
-blank_not_start : (b : ℕ) → is_blank b ≡ true → is_name_start b ≡ false
-blank_not_start b h = grind (arith, nat_tests)
-
 record AttributeEnd (depth : ℕ) (gap : List ℕ) (bytes : List ℕ) : Type 0 where
   assignment : Assignment
   rest : List ℕ
@@ -346,7 +330,7 @@ attribute_end d gap x tail start h =
     record {
       assignment = made;
       rest = v.rest;
-      is = λ some blanks. record { some = some; gap = blanks; name = both_true (is_name_start x) (list_all is_name_byte n.front) start n.all; before = b.all; after = a.all; quote = quote.0; value = v.are };
+      is = λ some blanks. record { some = some; gap = blanks; name = and_from (is_name_start x) (list_all is_name_byte n.front) start n.all; before = b.all; after = a.all; quote = quote.0; value = v.are };
       text = attribute_split gap (x ∷ n.front) b.front a.front (value_text v.pieces) v.rest a.head ∙ ap (λ l. gap ++ l) whole;
       goes = v.goes;
       shorter = omega (
@@ -434,7 +418,7 @@ tag_end (suc n) d (x ∷ tail) enough h = elim (cases_Bool (is_blank x)) [
       let g = split places.Gap d is_blank (λ y p. no (is_name_start y) (Some (places.Key, d)) (step_tag d y) (blank_not_start y p) ∙ stay_blank places.Gap d y (cond (y == 47) (Some (places.Slash, d)) (cond (y == 62) (Some (places.Content, d + 1)) None)) p) refl tail
       (back places.Quoted places.Gap d d x tail (rw blank) h) in
       let gap = x ∷ g.front in
-      let blanks = both_true (is_blank x) (list_all is_blank g.front) blank g.all in
+      let blanks = and_from (is_blank x) (list_all is_blank g.front) blank g.all in
       let whole : gap ++ (g.head ∷ g.tail) ≡ x ∷ tail = ap (λ l. x ∷ l) g.text in
       elim (cases_Bool (is_name_start g.head)) [
         | inl start ↦
@@ -456,9 +440,6 @@ pub record StartTag (depth x : ℕ) (bytes : List ℕ) : Type 0 where
   pub text : tag_rest tag ++ (ending_text ending ++ rest) ≡ x ∷ bytes
   pub goes : ending_goes ending depth rest
 
-tag_split : (name list gap rest : List ℕ) → ((name ++ list) ++ gap) ++ rest ≡ name ++ (list ++ (gap ++ rest))
-tag_split name list gap rest = simp append_assoc
-
 pub start_tag : (d x : ℕ) (tail : List ℕ) → is_name_start x ≡ true → accepts places.Name d tail ≡ true → StartTag d x tail
 start_tag d x tail start h =
     let n = split places.Name d is_name_byte (λ b p. yes (is_name_byte b) (Some (places.Name, d)) (step_tag d b) p) refl tail h in
@@ -469,7 +450,7 @@ start_tag d x tail start h =
       tag = record { name = name; assignments = t.assignments; gap = t.gap };
       ending = t.ending;
       rest = t.rest;
-      is = record { name = both_true (is_name_start x) (list_all is_name_byte n.front) start n.all; assignments = t.are; gap = t.blanks };
+      is = record { name = and_from (is_name_start x) (list_all is_name_byte n.front) start n.all; assignments = t.are; gap = t.blanks };
       text = tag_split name (flat_map assignment_text t.assignments) t.gap (ending_text t.ending ++ t.rest) ∙ ap (λ l. name ++ l) t.text ∙ ap (λ l. x ∷ l) n.text;
       goes = t.goes;
     }
@@ -495,7 +476,7 @@ end_tag d (x ∷ tail) h =
     record {
       tag = record { name = x ∷ n.front; gap = g.front };
       rest = g.tail;
-      is = record { name = both_true (is_name_start x) (list_all is_name_byte n.front) s.0 n.all; gap = g.all };
+      is = record { name = and_from (is_name_start x) (list_all is_name_byte n.front) s.0 n.all; gap = g.all };
       text = ap (λ y. (x ∷ n.front) ++ (g.front ++ (y ∷ g.tail))) (sym (eqb-true g.head 62 o.0)) ∙ ap (λ l. (x ∷ n.front) ++ l) g.text ∙ ap (λ l. x ∷ l) n.text;
       goes = subst (λ k. accepts (after_element k) k g.tail ≡ true) e o.1;
     }
@@ -511,16 +492,16 @@ pub record ContentEnd (depth : ℕ) (bytes : List ℕ) : Type 0 where
   pub text : content_text content ++ (end_text end ++ rest) ≡ bytes
   pub goes : accepts (after_element depth) depth rest ≡ true
 
-end_split : (name gap rest : List ℕ) → ((((60 ∷ 47 ∷ []) ++ name) ++ gap) ++ (62 ∷ [])) ++ rest ≡ 60 ∷ 47 ∷ (name ++ (gap ++ (62 ∷ rest)))
+pub end_split : (name gap rest : List ℕ) → ((((60 ∷ 47 ∷ []) ++ name) ++ gap) ++ (62 ∷ [])) ++ rest ≡ 60 ∷ 47 ∷ (name ++ (gap ++ (62 ∷ rest)))
 end_split name gap rest = simp append_assoc
 
-empty_split : (gap t r rest : List ℕ) → ((gap ++ (t ++ (47 ∷ 62 ∷ []))) ++ r) ++ rest ≡ gap ++ (t ++ (47 ∷ 62 ∷ (r ++ rest)))
+pub empty_split : (gap t r rest : List ℕ) → ((gap ++ (t ++ (47 ∷ 62 ∷ []))) ++ r) ++ rest ≡ gap ++ (t ++ (47 ∷ 62 ∷ (r ++ rest)))
 empty_split gap t r rest = simp append_assoc
 
-full_split : (gap t inside e r rest : List ℕ) → ((gap ++ (((t ++ (62 ∷ [])) ++ inside) ++ e)) ++ r) ++ rest ≡ gap ++ (t ++ (62 ∷ (inside ++ (e ++ (r ++ rest)))))
+pub full_split : (gap t inside e r rest : List ℕ) → ((gap ++ (((t ++ (62 ∷ [])) ++ inside) ++ e)) ++ r) ++ rest ≡ gap ++ (t ++ (62 ∷ (inside ++ (e ++ (r ++ rest)))))
 full_split gap t inside e r rest = simp append_assoc
 
-inner : (d : ℕ) → after_element (d + 1) ≡ places.Content
+pub inner : (d : ℕ) → after_element (d + 1) ≡ places.Content
 inner d = no ((d + 1) == 0) places.End places.Content (ne_eqb (d + 1) 0 (λ e. omega arith))
 
 -- the next element and what follows it, once what follows is known
@@ -568,9 +549,6 @@ last_content d gap bytes tail blanks text e = record {
 pub ending_is : (e : Ending) → (e ≡ opens) ⊎ (e ≡ empties)
 ending_is opens = inl refl
 ending_is empties = inr refl
-
-end_some : (tag : EndTag) → 0 < length (end_text tag)
-end_some tag = simp length-append (omega arith)
 
 -- behind a `<` inside an element
 opened : (d : ℕ) (bytes : List ℕ) → accepts places.Open (d + 1) bytes ≡ true

@@ -1,10 +1,10 @@
 -- How the reading machine goes over a start tag.
-use Rattle.std.proofs.Common.{◌≡◌, inl, inr, ℕ, zero, suc, ◌+◌, ◌-◌, ◌<◌, ◌≤◌, Bool, true, false, List, [], ◌∷◌, Some, None, Result, Ok, Err, length, take, drop, get_or, refl, ap, sym, ◌∙◌, arith}
-use Rattle.std.specs.Prelude.{◌==◌, ◌&&◌, slice_range}
+use Rattle.std.proofs.Common.{◌≡◌, inl, inr, ℕ, zero, suc, ◌+◌, ◌-◌, ◌<◌, ◌≤◌, true, false, List, [], ◌∷◌, Some, None, Result, Ok, Err, length, take, drop, get_or, refl, ap, sym, ◌∙◌, arith}
+use Rattle.std.specs.Prelude.{◌==◌, slice_range}
 use Rattle.std.specs.List.{list_any, list_all}
 use Rattle.std.specs.Str.{bytes_eq}
 use Rattle.std.proofs.lemmas.List.{drop_all}
-use Rattle.std.proofs.lemmas.Bool.{cases_lt, cases_Bool, eqb-true, eq-eqb, ne_eqb}
+use Rattle.std.proofs.lemmas.Bool.{cases_lt, cases_Bool, eqb-true, eq-eqb, ne_eqb, and_from}
 use Rattle.std.proofs.lemmas.Bool.Decides.{nat_tests}
 use Rattle.line_base.specs.Name.{is_name_start, is_name_byte, IsName, is_name}
 use Rattle.hermes_element.specs.Plain.{is_blank, is_quote}
@@ -49,13 +49,13 @@ key_over depth at c bytes other fresh = elim (cases_lt at (length bytes)) [
 
 -- ---- blanks
 
-blank_not_start : (b : ℕ) → is_blank b ≡ true → is_name_start b ≡ false
+pub blank_not_start : (b : ℕ) → is_blank b ≡ true → is_name_start b ≡ false
 blank_not_start b h = grind (arith, nat_tests)
 
-blank_not_byte : (b : ℕ) → is_blank b ≡ true → is_name_byte b ≡ false
+pub blank_not_byte : (b : ℕ) → is_blank b ≡ true → is_name_byte b ≡ false
 blank_not_byte b h = grind (arith, nat_tests)
 
-blank_not_62 : (b : ℕ) → is_blank b ≡ true → (b == 62) ≡ false
+pub blank_not_62 : (b : ℕ) → is_blank b ≡ true → (b == 62) ≡ false
 blank_not_62 b h = grind (arith, nat_tests)
 
 pub equals_blanks : (depth at to : ℕ) (c : Build) (bytes : List ℕ) → IsSpan is_blank bytes at to → run_at places.Equals depth c at bytes ≡ run_at places.Equals depth c to bytes
@@ -182,11 +182,7 @@ value_breaks bytes at to here start span depth c equals blanks there sign quote_
 
 -- ---- a start tag
 
-both_true : (a b : Bool) → a ≡ true → b ≡ true → (a && b) ≡ true
-both_true true b e f = f
-both_true false b e f = absurd (cc)
-
-start_not_slash : (b : ℕ) → is_name_start b ≡ true → (b == 47) ≡ false
+pub start_not_slash : (b : ℕ) → is_name_start b ≡ true → (b == 47) ≡ false
 start_not_slash b h = grind (arith, nat_tests)
 
 pub tag_deep : (bytes : List ℕ) (at depth : ℕ) (roots : Forest) (stack : List Tree) → at < length bytes → is_name_start (get_or bytes at 0) ≡ true → length stack ≡ 4
@@ -230,7 +226,7 @@ all_bytes zero at bytes high each = refl
 all_bytes (suc n) at bytes high each =
     let here : at < length bytes = omega arith in
     ap (λ l. list_all is_name_byte (take (suc n) l)) (over bytes at here)
-    ∙ both_true (is_name_byte (get_or bytes at 0)) (list_all is_name_byte (take n (drop (at + 1) bytes))) (each at (omega arith) (omega arith)) (all_bytes n (at + 1) bytes (omega arith) (λ k low below. each k (omega arith) (omega arith)))
+    ∙ and_from (is_name_byte (get_or bytes at 0)) (list_all is_name_byte (take n (drop (at + 1) bytes))) (each at (omega arith) (omega arith)) (all_bytes n (at + 1) bytes (omega arith) (λ k low below. each k (omega arith) (omega arith)))
 
 pub range_name : (bytes : List ℕ) (at to : ℕ) → at < length bytes → is_name_start (get_or bytes at 0) ≡ true → IsSpan is_name_byte bytes at to → IsName (slice_range bytes at to)
 range_name bytes at to here start span =
@@ -238,5 +234,5 @@ range_name bytes at to here start span =
     let high = span.high in
     let e : (at + 1) + (to - (at + 1)) ≡ to = omega arith in
     ap is_name (range_first bytes at to some high)
-    ∙ both_true (is_name_start (get_or bytes at 0)) (list_all is_name_byte (slice_range bytes (at + 1) to)) start
+    ∙ and_from (is_name_start (get_or bytes at 0)) (list_all is_name_byte (slice_range bytes (at + 1) to)) start
     (all_bytes (to - (at + 1)) (at + 1) bytes (omega arith) (λ k low below. span.each k (omega arith) (omega arith)))

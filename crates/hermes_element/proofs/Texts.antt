@@ -1,21 +1,18 @@
 -- Bytes that are UTF-8 of allowed characters, one after another.
-use Rattle.std.proofs.Common.{◌≡◌, ℕ, zero, suc, ◌+◌, ◌-◌, ◌<◌, ◌≤◌, Bool, true, false, List, [], ◌∷◌, ◌++◌, length, take, drop, get_or, refl, ap, sym, ◌∙◌, append-nil, arith, subst}
-use Rattle.std.specs.Prelude.{slice_range, ◌&&◌}
+use Rattle.std.proofs.Common.{◌≡◌, ℕ, zero, suc, ◌+◌, ◌-◌, ◌<◌, ◌≤◌, true, List, [], ◌∷◌, ◌++◌, length, take, drop, get_or, refl, ap, sym, ◌∙◌, append-nil, arith, subst}
+use Rattle.std.specs.Prelude.{slice_range}
 use Rattle.std.specs.Char.{encode_utf8, IsScalar}
 use Rattle.std.specs.Str.{chars}
 use Rattle.std.specs.List.{list_all}
 use Rattle.std.proofs.lemmas.Str.{IsUtf8-append, IsUtf8-nil, IsUtf8-encode, chars-append, chars-encodes, chars-nil, encode_ascii}
 use Rattle.std.proofs.lemmas.List.Folds.{list_all-append}
 use Rattle.std.proofs.lemmas.Bool.Decides.{nat_tests}
+use Rattle.std.proofs.lemmas.Bool.{and_from}
 use Rattle.line_base.specs.Text.{is_allowed_char, IsAllowed}
 use Rattle.hermes_element.specs.Machine.{is_plain}
 use Rattle.hermes_element.specs.Steps.{IsOne, IsSpan}
 use Rattle.hermes_element.proofs.Running.{over}
-use Rattle.hermes_element.proofs.Values.{plain_facts}
-
-both_true : (a b : Bool) → a ≡ true → b ≡ true → (a && b) ≡ true
-both_true true b e f = f
-both_true false b e f = absurd (cc)
+use Rattle.hermes_element.proofs.Values.{plain_facts, allowed_ascii}
 
 pub allowed_scalar : (c : ℕ) → is_allowed_char c ≡ true → IsScalar c
 allowed_scalar c h = grind (arith, nat_tests)
@@ -27,25 +24,22 @@ pub allowed_append : (xs ys : List ℕ) → IsAllowed xs → IsAllowed ys → Is
 allowed_append xs ys a b = record {
   utf8 = IsUtf8-append xs ys a.utf8 b.utf8;
   allowed = ap (list_all is_allowed_char) (chars-append xs ys a.utf8) ∙ list_all-append is_allowed_char (chars xs) (chars ys)
-      ∙ both_true (list_all is_allowed_char (chars xs)) (list_all is_allowed_char (chars ys)) a.allowed b.allowed;
+      ∙ and_from (list_all is_allowed_char (chars xs)) (list_all is_allowed_char (chars ys)) a.allowed b.allowed;
 }
 
 pub chars_one : (c : ℕ) → IsScalar c → chars (encode_utf8 c) ≡ c ∷ []
-chars_one c h = ap chars (sym (append-nil (encode_utf8 c))) ∙ chars-encodes (c ∷ []) (both_true _ true h refl)
+chars_one c h = ap chars (sym (append-nil (encode_utf8 c))) ∙ chars-encodes (c ∷ []) (and_from _ true h refl)
 
 pub allowed_char : (c : ℕ) → is_allowed_char c ≡ true → IsAllowed (encode_utf8 c)
 allowed_char c h =
     let s = allowed_scalar c h in
-    record { utf8 = IsUtf8-encode c s; allowed = ap (list_all is_allowed_char) (chars_one c s) ∙ both_true (is_allowed_char c) true h refl }
+    record { utf8 = IsUtf8-encode c s; allowed = ap (list_all is_allowed_char) (chars_one c s) ∙ and_from (is_allowed_char c) true h refl }
 
 pub allowed_one : (bytes : List ℕ) → IsOne bytes → IsAllowed bytes
 allowed_one bytes one = subst IsAllowed one.text (allowed_char one.char one.allowed)
 
-ascii_allowed : (b : ℕ) → 32 ≤ b → b < 128 → is_allowed_char b ≡ true
-ascii_allowed b low high = grind (arith, nat_tests)
-
 pub allowed_byte : (b : ℕ) → 32 ≤ b → b < 128 → IsAllowed (b ∷ [])
-allowed_byte b low high = subst IsAllowed (encode_ascii b high) (allowed_char b (ascii_allowed b low high))
+allowed_byte b low high = subst IsAllowed (encode_ascii b high) (allowed_char b (allowed_ascii b low high))
 
 pub allowed_plain : (quote b : ℕ) → is_plain quote b ≡ true → IsAllowed (b ∷ [])
 allowed_plain quote b h = let f = plain_facts quote b h in allowed_byte b f.low f.high

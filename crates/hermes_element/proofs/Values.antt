@@ -1,7 +1,7 @@
 -- How the reading machine goes over a value.
 use Rattle.std.proofs.Common.{◌≡◌, ◌⊎◌, inl, inr, ℕ, ◌+◌, ◌<◌, ◌≤◌, Bool, true, false, not, List, [], ◌∷◌, ◌++◌, Some, None, Ok, Err, length, get_or, refl, ap, sym, ◌∙◌, append_assoc, arith}
 use Rattle.std.specs.Prelude.{◌==◌, ◌&&◌, nat_lt, nat_le, slice_range}
-use Rattle.std.proofs.lemmas.Bool.{eq-eqb, ne_eqb, lt-ltb, le-ltb, leb-true}
+use Rattle.std.proofs.lemmas.Bool.{eq-eqb, ne_eqb, lt-ltb, le-ltb, leb-true, and_parts, not-true}
 use Rattle.std.proofs.lemmas.Bool.Decides.{nat_tests}
 use Rattle.line_base.specs.Text.{is_allowed_char}
 use Rattle.hermes_element.specs.Plain.{is_quote}
@@ -21,24 +21,16 @@ pub record PlainFacts (quote b : ℕ) : Type 0 where
   pub amp : (b == 38) ≡ false
   pub open_tag : (b == 60) ≡ false
 
-and_both : (a b : Bool) → (a && b) ≡ true → (a ≡ true) × (b ≡ true)
-and_both true b h = (refl, h)
-and_both false b h = absurd (cc)
-
-not_true : (a : Bool) → not a ≡ true → a ≡ false
-not_true false h = refl
-not_true true h = absurd (cc)
-
 pub plain_facts : (quote b : ℕ) → is_plain quote b ≡ true → PlainFacts quote b
 plain_facts quote b h =
-    let a = and_both (nat_le 32 b && nat_le b 127 && not (b == quote) && not (b == 38)) (not (b == 60)) h in
-    let d = and_both (nat_le 32 b && nat_le b 127 && not (b == quote)) (not (b == 38)) a.0 in
-    let e = and_both (nat_le 32 b && nat_le b 127) (not (b == quote)) d.0 in
-    let f = and_both (nat_le 32 b) (nat_le b 127) e.0 in
+    let a = and_parts (nat_le 32 b && nat_le b 127 && not (b == quote) && not (b == 38)) (not (b == 60)) h in
+    let d = and_parts (nat_le 32 b && nat_le b 127 && not (b == quote)) (not (b == 38)) a.0 in
+    let e = and_parts (nat_le 32 b && nat_le b 127) (not (b == quote)) d.0 in
+    let f = and_parts (nat_le 32 b) (nat_le b 127) e.0 in
     let high = leb-true b 127 f.1 in
-    record { low = leb-true 32 b f.0; high = omega arith; own = not_true (b == quote) e.1; amp = not_true (b == 38) d.1; open_tag = not_true (b == 60) a.1 }
+    record { low = leb-true 32 b f.0; high = omega arith; own = not-true (b == quote) e.1; amp = not-true (b == 38) d.1; open_tag = not-true (b == 60) a.1 }
 
-allowed_ascii : (b : ℕ) → 32 ≤ b → b < 128 → is_allowed_char b ≡ true
+pub allowed_ascii : (b : ℕ) → 32 ≤ b → b < 128 → is_allowed_char b ≡ true
 allowed_ascii b low high = grind (arith, nat_tests)
 
 pub plain_step : (quote depth b : ℕ) → is_plain quote b ≡ true → step (places.Value quote) depth b ≡ Some (places.Value quote, depth)

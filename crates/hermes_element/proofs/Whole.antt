@@ -1,19 +1,21 @@
 -- The reading machine goes over content, the root and whole documents of the plain form.
-use Rattle.std.proofs.Common.{◌≡◌, ℕ, suc, ◌+◌, ◌-◌, Bool, true, false, cond, not, List, [], ◌∷◌, ◌++◌, Option, Some, None, Result, Ok, Err, length, refl, ap, sym, ◌∙◌, append_assoc, append-nil, add-zero, arith, length-append}
-use Rattle.std.specs.Prelude.{◌==◌, nat_lt}
+use Rattle.std.proofs.Common.{◌≡◌, ℕ, suc, ◌+◌, ◌-◌, Bool, true, false, not, List, [], ◌∷◌, ◌++◌, Option, Some, None, Result, Ok, Err, length, refl, ap, sym, ◌∙◌, append_assoc, append-nil, add-zero, arith, length-append}
+use Rattle.std.specs.Prelude.{nat_lt}
 use Rattle.std.specs.List.{list_all, flat_map}
 use Rattle.std.specs.Str.{bytes_eq}
-use Rattle.std.proofs.lemmas.Bool.{ne_eqb, lt-ltb}
-use Rattle.std.proofs.lemmas.Bool.Decides.{nat_tests}
+use Rattle.std.proofs.lemmas.Bool.{lt-ltb, and_parts}
+use Rattle.hermes_element.proofs.Roots.{stays_declared}
+use Rattle.hermes_element.proofs.Sound.{end_split, inner, empty_split, full_split}
+use Rattle.hermes_element.proofs.Rising.{end_length, full_length}
+use Rattle.hermes_element.proofs.Tags.{blank_not_62, blank_not_byte}
 use Rattle.line_base.specs.Name.{is_name_start, is_name_byte, IsName}
 use Rattle.hermes_element.specs.Plain.{is_blank, AreBlanks, is_declared, assignment_text, Tag, tag_text, IsTag, EndTag, end_text, IsEndTag, Content, last, empty, full, content_text, IsContent, Root, lone, holding, root_text, IsRoot, Declaration, declaration_text, IsDeclaration, Document, document_text, IsPlain}
 use Rattle.hermes_element.specs.Checks.{Fault, root_place, root_tag}
-use Rattle.hermes_element.specs.Machine.{Build, Outcome, run, step, ◌>>=◌, with_word, begin_end, check, close, between, ended, innermost, after_element}
+use Rattle.hermes_element.specs.Machine.{Build, Outcome, run, ◌>>=◌, with_word, begin_end, check, close, between, ended, innermost, after_element}
 use Rattle.hermes_element.specs.declared.refusal.Why.TheVariants as why
 use Rattle.hermes_element.specs.declared.place.Place.TheVariants as places
-use Rattle.hermes_element.proofs.Running.{yes, no}
-use Rattle.hermes_element.proofs.Complete.{and_both, bind_same, bind_ok, bind_assoc, over, passes, folded, over_all, over_idle}
-use Rattle.hermes_element.proofs.Parts.{tag_effect, tag_rest, OverTag, over_tag, over_open, over_empty, first_name}
+use Rattle.hermes_element.proofs.Complete.{bind_same, bind_ok, bind_assoc, over, passes, folded, over_all, over_idle}
+use Rattle.hermes_element.proofs.Parts.{tag_effect, tag_rest, OverTag, over_tag, over_open, over_empty, first_name, tag_split}
 
 -- ---- end tags
 
@@ -27,12 +29,6 @@ match_effect b = check (not (bytes_eq b.scratch.word (innermost b.stack).name)) 
 abbrev pub end_effect : ℕ → List ℕ → Build → Result Build Fault
 end_effect at name b = word_effect (at + 2) name b >>= match_effect
 
-blank_not_byte : (b : ℕ) → is_blank b ≡ true → is_name_byte b ≡ false
-blank_not_byte b h = grind (arith, nat_tests)
-
-blank_not_62 : (b : ℕ) → is_blank b ≡ true → (b == 62) ≡ false
-blank_not_62 b h = grind (arith, nat_tests)
-
 check_then : (t : Bool) (fault : Fault) (b : Build) (f : Build → Build) → (check t fault b >>= (λ b. Ok (f b))) ≡ check t fault (f b)
 check_then true fault b f = refl
 check_then false fault b f = refl
@@ -45,7 +41,7 @@ over_end_gap d at [] rest k h =
     ∙ ap (λ n. run (after_element n) n (k >>= match_effect) (at + 1) rest) e
     ∙ ap (λ j. run (after_element d) d (k >>= match_effect) (j + 1) rest) (sym (add-zero at))
 over_end_gap d at (x ∷ xs) rest k h =
-    let both = and_both (is_blank x) (list_all is_blank xs) h in
+    let both = and_parts (is_blank x) (list_all is_blank xs) h in
     let s = both.0 in
     let e : (d + 1) - 1 ≡ d = omega arith in
     let opened : Build → Result Build Fault = λ b. check (not (bytes_eq b.scratch.word (innermost b.stack).name)) (b.scratch.start, why.EndName) (between b.roots b.stack) in
@@ -62,19 +58,13 @@ over_end_gap d at (x ∷ xs) rest k h =
 over_word : (d at : ℕ) (name rest : List ℕ) (k : Result Build Fault) → IsName name → run places.Close d k at (name ++ rest) ≡ run places.EndName d (k >>= word_effect at name) (at + length name) rest
 over_word d at [] rest k h = absurd (cc)
 over_word d at (x ∷ xs) rest k h =
-    let both = and_both (is_name_start x) (list_all is_name_byte xs) h in
+    let both = and_parts (is_name_start x) (list_all is_name_byte xs) h in
     let s = both.0 in
     let place : (at + 1) + length xs ≡ at + suc (length xs) = omega arith in
     over places.Close places.EndName d d at x k (λ b. Ok (begin_end at x b)) (xs ++ rest) (rw s) (λ b. refl)
     ∙ over_all places.EndName d is_name_byte with_word (λ y p. rw p) (λ y j b p. rw p) xs rest (at + 1) (k >>= (λ b. Ok (begin_end at x b))) both.1
     ∙ ap (λ z. run places.EndName d z ((at + 1) + length xs) rest) (bind_assoc k (λ b. Ok (begin_end at x b)) (λ b. Ok (folded with_word xs b)))
     ∙ ap (λ j. run places.EndName d (k >>= word_effect at (x ∷ xs)) j rest) place
-
-end_split : (name gap rest : List ℕ) → ((((60 ∷ 47 ∷ []) ++ name) ++ gap) ++ (62 ∷ [])) ++ rest ≡ 60 ∷ 47 ∷ (name ++ (gap ++ (62 ∷ rest)))
-end_split name gap rest = simp append_assoc
-
-end_length : (tag : EndTag) → length (end_text tag) ≡ length tag.name + length tag.gap + 3
-end_length tag = simp length-append (omega arith)
 
 over_end : (d at : ℕ) (tag : EndTag) (rest : List ℕ) (k : Result Build Fault) → IsEndTag tag
     → run places.Content (d + 1) k at (end_text tag ++ rest) ≡ run (after_element d) d (k >>= end_effect at tag.name) (at + length tag.name + length tag.gap + 3) rest
@@ -108,15 +98,6 @@ content_effect at (full gap tag inside end rest) b =
     tag_effect (at + length gap) tag b >>= push_tag >>= content_effect from inside >>= end_effect to end.name
     >>= content_effect (to + length end.name + length end.gap + 3) rest
 
-in_content : (d : ℕ) → after_element (d + 1) ≡ places.Content
-in_content d = no ((d + 1) == 0) places.End places.Content (ne_eqb (d + 1) 0 (λ e. omega arith))
-
-empty_split : (gap t r rest : List ℕ) → ((gap ++ (t ++ (47 ∷ 62 ∷ []))) ++ r) ++ rest ≡ gap ++ (t ++ (47 ∷ 62 ∷ (r ++ rest)))
-empty_split gap t r rest = simp append_assoc
-
-full_split : (gap t inside e r rest : List ℕ) → ((gap ++ (((t ++ (62 ∷ [])) ++ inside) ++ e)) ++ r) ++ rest ≡ gap ++ (t ++ (62 ∷ (inside ++ (e ++ (r ++ rest)))))
-full_split gap t inside e r rest = simp append_assoc
-
 over_start : (d at : ℕ) (gap : List ℕ) (tag : Tag) (rest : List ℕ) (k : Result Build Fault) → AreBlanks gap → IsTag tag → OverTag (d + 1) (at + length gap) tag rest k
     → run places.Content (d + 1) k at (gap ++ (tag_text tag ++ rest)) ≡ run places.Open (d + 1) k (at + length gap + 1) (tag_rest tag ++ rest)
 over_start d at gap tag rest k h is t =
@@ -130,9 +111,6 @@ bind_3 (Err fault) f g h = refl
 bind_5 : (k : Result Build Fault) (f g h i j : Build → Result Build Fault) → (((((k >>= f) >>= g) >>= h) >>= i) >>= j) ≡ (k >>= (λ b. (((f b >>= g) >>= h) >>= i) >>= j))
 bind_5 (Ok b) f g h i j = refl
 bind_5 (Err fault) f g h i j = refl
-
-full_length : (gap t inside e r : List ℕ) → length ((gap ++ (((t ++ (62 ∷ [])) ++ inside) ++ e)) ++ r) ≡ length gap + length t + 1 + length inside + length e + length r
-full_length gap t inside e r = simp length-append (omega arith)
 
 pub over_content : (d at : ℕ) (c : Content) (rest : List ℕ) (k : Result Build Fault) → IsContent c
     → run places.Content (d + 1) k at (content_text c ++ rest) ≡ run places.Content (d + 1) (k >>= content_effect at c) (at + length (content_text c)) rest
@@ -149,7 +127,7 @@ over_content d at (empty gap tag next) rest k is =
     ∙ over_start d at gap tag (47 ∷ 62 ∷ (content_text next ++ rest)) k is.0 is.1 t
     ∙ t.same
     ∙ over_empty t.place (d + 1) (start + length (tag_text tag)) (content_text next ++ rest) k1
-    ∙ ap (λ p. run p (d + 1) k2 behind (content_text next ++ rest)) (in_content d)
+    ∙ ap (λ p. run p (d + 1) k2 behind (content_text next ++ rest)) (inner d)
     ∙ over_content d behind next rest k2 is.2
     ∙ ap (λ z. run places.Content (d + 1) z (behind + length (content_text next)) rest) (bind_3 k (tag_effect start tag) end_empty (content_effect behind next))
     ∙ ap (λ j. run places.Content (d + 1) (k >>= content_effect at (empty gap tag next)) j rest)
@@ -171,7 +149,7 @@ over_content d at (full gap tag inside end next) rest k is =
     ∙ over_open t.place (d + 1) (start + length (tag_text tag)) (content_text inside ++ (end_text end ++ tail)) k1
     ∙ over_content (d + 1) from inside (end_text end ++ tail) k2 is.2
     ∙ over_end (d + 1) to end tail k3 is.3
-    ∙ ap (λ p. run p (d + 1) k4 behind tail) (in_content d)
+    ∙ ap (λ p. run p (d + 1) k4 behind tail) (inner d)
     ∙ over_content d behind next rest k4 is.4
     ∙ ap (λ z. run places.Content (d + 1) z (behind + length (content_text next)) rest) (bind_5 k (tag_effect start tag) push_tag (content_effect from inside) (end_effect to end.name) (content_effect behind next))
     ∙ ap (λ j. run places.Content (d + 1) (k >>= content_effect at (full gap tag inside end next)) j rest)
@@ -224,27 +202,16 @@ over_root at (holding tag inside end) k is =
 prolog_blanks : (at : ℕ) (xs rest : List ℕ) (k : Result Build Fault) → AreBlanks xs → run places.Prolog 0 k at (xs ++ rest) ≡ run places.Prolog 0 k (at + length xs) rest
 prolog_blanks at xs rest k h = over_idle places.Prolog 0 is_blank (λ y p. rw p) (λ y j b p. refl) xs rest at k h
 
-declared_not_63 : (b : ℕ) → is_declared b ≡ true → (b == 63) ≡ false
-declared_not_63 b h = grind (arith, nat_tests)
-
-stays_declared : (b : ℕ) → is_declared b ≡ true → step places.Declaration 0 b ≡ Some (places.Declaration, 0)
-stays_declared b h =
-    no (b == 63) (Some (places.DeclarationEnd, 0)) (cond (is_declared b) (Some (places.Declaration, 0)) None) (declared_not_63 b h)
-    ∙ yes (is_declared b) (Some (places.Declaration, 0)) None h
-
-root_split : (root : Root) → root_text root ≡ 60 ∷ root_rest root
+pub root_split : (root : Root) → root_text root ≡ 60 ∷ root_rest root
 root_split (lone tag) = refl
 root_split (holding tag inside end) = refl
-
-open_split : (name x y z : List ℕ) → ((name ++ x) ++ y) ++ z ≡ name ++ (x ++ (y ++ z))
-open_split name x y z = simp append_assoc
 
 hold_split : (name x y z i e : List ℕ) → (((((name ++ x) ++ y) ++ z) ++ i) ++ e) ≡ name ++ (x ++ (y ++ (z ++ (i ++ e))))
 hold_split name x y z i e = simp append_assoc
 
 first_root : (at : ℕ) (root : Root) (k : Result Build Fault) → IsTag (root_tag root) → run places.First 0 k at (root_rest root) ≡ run places.Open 0 k at (root_rest root)
 first_root at (lone tag) k is =
-    let split = open_split tag.name (flat_map assignment_text tag.assignments) tag.gap (47 ∷ 62 ∷ []) in
+    let split = tag_split tag.name (flat_map assignment_text tag.assignments) tag.gap (47 ∷ 62 ∷ []) in
     ap (λ l. run places.First 0 k at l) split
     ∙ first_name at tag.name (flat_map assignment_text tag.assignments ++ (tag.gap ++ (47 ∷ 62 ∷ []))) k is.name
     ∙ ap (λ l. run places.Open 0 k at l) (sym split)
@@ -266,7 +233,7 @@ from_prolog at gap root k h is =
     ∙ passes places.Prolog places.Open 0 0 (at + length gap) 60 k (root_rest root) refl (λ b. refl)
     ∙ over_root (at + length gap) root k is
 
-declaration_split : (blank : ℕ) (body gap root : List ℕ)
+pub declaration_split : (blank : ℕ) (body gap root : List ℕ)
     → ((((60 ∷ 63 ∷ 120 ∷ 109 ∷ 108 ∷ blank ∷ []) ++ body) ++ (63 ∷ 62 ∷ [])) ++ gap) ++ root ≡ 60 ∷ 63 ∷ 120 ∷ 109 ∷ 108 ∷ blank ∷ (body ++ (63 ∷ 62 ∷ (gap ++ root)))
 declaration_split blank body gap root = simp append_assoc
 
@@ -281,7 +248,7 @@ from_start None [] root k d h is =
     ∙ first_root 1 root k (root_names root is)
     ∙ over_root 0 root k is
 from_start None (x ∷ xs) root k d h is =
-    let both = and_both (is_blank x) (list_all is_blank xs) h in
+    let both = and_parts (is_blank x) (list_all is_blank xs) h in
     let s = both.0 in
     passes places.Start places.Prolog 0 0 0 x k (xs ++ root_text root) (rw s) (λ b. refl)
     ∙ sym (passes places.Prolog places.Prolog 0 0 0 x k (xs ++ root_text root) (rw s) (λ b. refl))

@@ -1,8 +1,8 @@
 -- Characters of several bytes: the machine's bits and the bytes of UTF-8.
-use Rattle.std.proofs.Common.{◌≡◌, inl, inr, ℕ, zero, suc, ◌+◌, ◌-◌, ◌*◌, ◌/◌, ◌%◌, ◌<◌, ◌≤◌, Bool, true, false, cond, List, [], ◌∷◌, ◌++◌, Some, None, max, refl, ap, sym, ◌∙◌, append_assoc, append-nil, arith, subst}
+use Rattle.std.proofs.Common.{◌≡◌, inl, inr, ℕ, zero, suc, ◌+◌, ◌-◌, ◌*◌, ◌/◌, ◌%◌, ◌<◌, ◌≤◌, true, false, cond, List, [], ◌∷◌, ◌++◌, Some, None, max, refl, ap, sym, ◌∙◌, append_assoc, append-nil, arith, subst}
 use Rattle.std.specs.Prelude.{◌==◌, ◌&&◌, nat_lt, nat_le}
 use Rattle.std.specs.Char.{encode_utf8}
-use Rattle.std.proofs.lemmas.Bool.{cases_lt, cases_Bool, ltb-true, lt-ltb, le-ltb, leb-true}
+use Rattle.std.proofs.lemmas.Bool.{cases_lt, cases_Bool, ltb-true, lt-ltb, le-ltb, leb-true, and_parts}
 use Rattle.std.proofs.lemmas.Bool.Decides.{nat_tests}
 use Rattle.line_base.specs.Text.{is_allowed_char}
 use Rattle.hermes_element.specs.Machine.{share, least_wide, is_wide_begun, wide, wide_start, wide_next}
@@ -24,10 +24,6 @@ pub encode_4 : (c : ℕ) → 65536 ≤ c → encode_utf8 c ≡ (240 + c / 262144
 unfolding encode_utf8
 encode_4 c low =
     let a : nat_lt c 128 ≡ false = grind (arith, nat_tests) in let b : nat_lt c 2048 ≡ false = grind (arith, nat_tests) in let d : nat_lt c 65536 ≡ false = grind (arith, nat_tests) in rw (a, b, d)
-
-and_both : (a b : Bool) → (a && b) ≡ true → (a ≡ true) × (b ≡ true)
-and_both true b h = (refl, h)
-and_both false b h = absurd (cc)
 
 -- ---- the bytes so far are the front of each character that has the bits
 
@@ -80,7 +76,7 @@ next_1 floor bits b bytes low high part = record {
 
 begun : (floor bits left : ℕ) → is_wide_begun floor bits left ≡ true
     → (is_allowed_char (least_wide floor bits left) ≡ true) × (nat_lt (least_wide floor bits left) ((bits + 1) * share left) ≡ true)
-begun floor bits left h = and_both _ _ h
+begun floor bits left h = and_parts _ _ h
 
 same_place : {p q : Place} → Some p ≡ Some q → p ≡ q
 same_place e = cc
@@ -151,8 +147,8 @@ next_part quote floor bits left b bytes place some small part e =
     let next = wide quote floor (bits * 64 + (b - 128)) (left - 1) in
     elim (cases_Bool test) [
       | inl h ↦
-          let outside = and_both (nat_le 128 b && nat_lt b 192) (nat_lt bits 131072) h in
-          let inside = and_both (nat_le 128 b) (nat_lt b 192) outside.0 in
+          let outside = and_parts (nat_le 128 b && nat_lt b 192) (nat_lt bits 131072) h in
+          let inside = and_parts (nat_le 128 b) (nat_lt b 192) outside.0 in
           next_at quote floor bits left b bytes place some small (leb-true 128 b inside.0) (ltb-true b 192 inside.1) part (sym (yes test next None h) ∙ e)
       | inr h ↦ absurd (not_none (sym (no test next None h) ∙ e))
     ]

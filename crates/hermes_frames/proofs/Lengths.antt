@@ -8,7 +8,7 @@ use Rattle.line_base.specs.Number.{fraction_text}
 use Rattle.line_base.specs.Decimal.{six_digits, without_trailing_zeros, decimal_text}
 use Rattle.line_base.specs.Moment.{moment_text}
 use Rattle.line_base.proofs.DecimalTexts.{without_trailing_zeros-IsCut}
-use Rattle.line_base.proofs.Printable.{IsText-moment, length-decimal}
+use Rattle.line_base.proofs.Printable.{IsText-moment, length-decimal, point_length}
 use Rattle.board_record.proofs.IdTexts.{IsText-id}
 use Rattle.hermes_element.specs.declared.attribute.Attribute.{Attribute}
 use Rattle.hermes_element.specs.Canonical.{escaped_byte, canonical_attribute}
@@ -53,17 +53,13 @@ length-attribute a =
 
 -- ---- values, by their kinds
 
-point : (digits : List ℕ) → length (fraction_text digits) ≤ length digits + 1
-point [] = omega arith
-point (c ∷ cs) = omega arith
-
 length-decimal_text : (n : ℕ) → n < 1_000_000_000_000 → length (decimal_text n) ≤ 13
 unfolding decimal_text
 length-decimal_text n small =
     let few = length-decimal-le 6 (n / 1_000_000) (omega arith) (omega arith) (omega arith) in
     let cut = without_trailing_zeros-IsCut (six_digits (n % 1_000_000)) in
     let shorter = cut.shorter in
-    let dot = point (without_trailing_zeros (six_digits (n % 1_000_000))) in
+    let dot = point_length (without_trailing_zeros (six_digits (n % 1_000_000))) in
     let l = length-append (decimal (n / 1_000_000)) (fraction_text (without_trailing_zeros (six_digits (n % 1_000_000)))) in
     omega (arith, few, shorter, dot, l)
 

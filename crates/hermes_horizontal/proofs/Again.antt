@@ -2,8 +2,8 @@
 use Rattle.std.proofs.Common.{◌≡◌, ℕ, ◌&&◌, ◌||◌, not, Bool, true, false, cond, List, [], ◌∷◌, ◌++◌, map, Option, Some, None, Result, Ok, Err, option_map, codes, refl, sym, ap, subst, ◌∙◌, append_assoc}
 use Rattle.std.specs.List.{list_any}
 use Rattle.std.specs.Str.{bytes_eq}
-use Rattle.std.proofs.lemmas.Bool.{and_parts, and_from, or_parts, or_from, not-true, not_from_false, false_from_ne_true, false≢true}
-use Rattle.std.proofs.lemmas.Slice.Eq.{bytes_eq-Decides}
+use Rattle.std.proofs.lemmas.Bool.{and_parts, and_from, or_parts, or_from, not-true, not_from_false}
+use Rattle.hermes_element.proofs.Back.{other_way, bytes_eq_same}
 use Rattle.hermes_element.specs.Element.{Forest, none, more, trees_of}
 use Rattle.hermes_element.specs.Canonical.{unplaced_attribute, unplaced_forest}
 use Rattle.hermes_element.specs.declared.attribute.Attribute.{Attribute}
@@ -98,12 +98,6 @@ AreSuited [] (value ∷ values) = ⊥
 AreSuited (column ∷ columns) [] = ⊥
 AreSuited (column ∷ columns) (value ∷ values) = Suits column value × AreSuited columns values
 
-bytes_same : (bytes : List ℕ) → bytes_eq bytes bytes ≡ true
-bytes_same bytes = (bytes_eq-Decides bytes bytes).1 refl
-
-bytes_other : (a b : List ℕ) → bytes_eq a b ≡ false → bytes_eq b a ≡ false
-bytes_other a b e = false_from_ne_true (bytes_eq b a) (λ t. false≢true (sym e ∙ (bytes_eq-Decides a b).1 (sym ((bytes_eq-Decides b a).0 t))))
-
 skip : (name : List ℕ) (before rest : List Attribute) → list_any (λ attribute. bytes_eq attribute.name name) before ≡ false → first_named name (before ++ rest) ≡ first_named name rest
 skip name [] rest e = refl
 skip name (attribute ∷ before) rest e =
@@ -121,7 +115,7 @@ none_of_row name (column ∷ columns) (Some value ∷ values) e =
 first_of_row : (column : Column) (columns : List Column) (value : Option Value) (values : List (Option Value)) → list_any (is_named (attr_text column.attr)) columns ≡ false
     → first_named (attr_text column.attr) (attribute_if column.attr value ++ attributes_of columns values) ≡ option_map (attribute_of column.attr) value
 first_of_row column columns None values e = none_of_row (attr_text column.attr) columns values e
-first_of_row column columns (Some value) values e = ap (λ (b : Bool). cond b (Some (attribute_of column.attr value)) (first_named (attr_text column.attr) (attributes_of columns values))) (bytes_same (attr_text column.attr))
+first_of_row column columns (Some value) values e = ap (λ (b : Bool). cond b (Some (attribute_of column.attr value)) (first_named (attr_text column.attr) (attributes_of columns values))) (bytes_eq_same (attr_text column.attr))
 
 suits_at : (at : ℕ) (column : Column) (value : Option Value) → Suits column value → value_at at column (option_map (attribute_of column.attr) value) ≡ Ok value
 suits_at at column None h = ap (left_out at column.attr) h
@@ -130,7 +124,7 @@ suits_at at column (Some value) h = ap (value_or_bad 0 column.attr) h
 not_any_more : (attr : Attr) (value : Option Value) (column : Column) (before : List Attribute) → list_any (λ a. bytes_eq a.name (attr_text column.attr)) before ≡ false → is_named (attr_text attr) column ≡ false
     → list_any (λ a. bytes_eq a.name (attr_text column.attr)) (before ++ attribute_if attr value) ≡ false
 not_any_more attr None column [] h e = refl
-not_any_more attr (Some value) column [] h e = or_from (bytes_eq (attr_text attr) (attr_text column.attr)) false (bytes_other (attr_text column.attr) (attr_text attr) e) refl
+not_any_more attr (Some value) column [] h e = or_from (bytes_eq (attr_text attr) (attr_text column.attr)) false (other_way (attr_text column.attr) (attr_text attr) e) refl
 not_any_more attr value column (attribute ∷ before) h e =
     let p = or_parts (bytes_eq attribute.name (attr_text column.attr)) (list_any (λ a. bytes_eq a.name (attr_text column.attr)) before) h in
     or_from (bytes_eq attribute.name (attr_text column.attr)) (list_any (λ a. bytes_eq a.name (attr_text column.attr)) (before ++ attribute_if attr value)) p.0 (not_any_more attr value column before p.1 e)

@@ -125,7 +125,7 @@ made_same : (name name' : List ℕ) (kind kind' : Kind) (values values' : List (
 made_same name name' kind kind' values values' features features' e d f g =
     ap (λ n. made n kind values features) e ∙ ap (λ k. made name' k values features) d ∙ ap (λ v. made name' kind' v features) f ∙ ap (made name' kind' values') g
 
-ok_same : (x y : List (Option Value)) (r : Result (List (Option Value)) Refusal) → r ≡ Ok x → r ≡ Ok y → x ≡ y
+pub ok_same : (x y : List (Option Value)) (r : Result (List (Option Value)) Refusal) → r ≡ Ok x → r ≡ Ok y → x ≡ y
 ok_same x y r e d = cc
 
 -- the element of a message says one body at most

@@ -10,7 +10,7 @@ use Rattle.line_base.specs.Decimal.{six_digits, without_trailing_zeros, decimal_
 use Rattle.line_base.specs.Moment.{fields_of, fields_text, moment_text}
 use Rattle.line_base.specs.declared.civil.Fields.{Fields}
 use Rattle.line_base.proofs.Digits.{digit_is}
-use Rattle.line_base.proofs.DecimalTexts.{without_trailing_zeros-IsCut}
+use Rattle.line_base.proofs.DecimalTexts.{without_trailing_zeros-IsCut, six_are_digits}
 use Rattle.line_base.proofs.Printable.{decimal_digits}
 use Rattle.board_record.specs.BoardId.{id_text}
 use Rattle.board_record.proofs.IdTexts.{is_id_byte, id_bytes}
@@ -42,9 +42,6 @@ plain_number n fits = record { all = plain_digits (decimal n) (decimal_digits n 
 point_before : (digits : List ℕ) → list_all is_unescaped digits ≡ true → list_all is_unescaped (fraction_text digits) ≡ true
 point_before [] h = refl
 point_before (c ∷ cs) h = h
-
-six_are_digits : (n : ℕ) → are_digits (six_digits n) ≡ true
-six_are_digits n = simp digit_is
 
 pub plain_decimal : (n : ℕ) → n < 1_000_000_000_000 → ArePlain (decimal_text n)
 unfolding decimal_text

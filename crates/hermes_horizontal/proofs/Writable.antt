@@ -1,9 +1,9 @@
 -- The element of a message is a writable element, and that of a writable message is proper.
-use Rattle.std.proofs.Common.{◌≡◌, ℕ, ℤ, ◌≤◌, not, Bool, true, false, List, [], ◌∷◌, map, length, Option, Some, None, option_map, codes, refl, sym, ◌∙◌, arith, lit≤}
+use Rattle.std.proofs.Common.{◌≡◌, ℕ, ℤ, ◌≤◌, not, Bool, true, false, List, [], ◌∷◌, map, length, Option, Some, None, option_map, codes, refl, arith, lit≤}
 use Rattle.std.specs.List.{AllByRecursion, IsDistinct, list_any}
 use Rattle.std.specs.Str.{bytes_eq}
-use Rattle.std.proofs.lemmas.Bool.{and_parts, or_parts, not-true, false_from_ne_true, false≢true}
-use Rattle.std.proofs.lemmas.Slice.Eq.{bytes_eq-Decides}
+use Rattle.std.proofs.lemmas.Bool.{and_parts, or_parts, not-true}
+use Rattle.hermes_element.proofs.Back.{other_way}
 use Rattle.line_base.specs.Name.{IsName}
 use Rattle.line_base.proofs.Printable.{IsText-moment}
 use Rattle.hermes_element.specs.Element.{Forest, none}
@@ -76,19 +76,13 @@ each_proper (column ∷ columns) [] fit proper = tt
 each_proper (column ∷ columns) (None ∷ values) fit proper = each_proper columns values fit.1 proper.1
 each_proper (column ∷ columns) (Some value ∷ values) fit proper = (proper_attribute column.attr column value fit.0 proper.0, each_proper columns values fit.1 proper.1)
 
-names_of : List Attribute → List (List ℕ)
-names_of attributes = map (λ (a : Attribute). a.name) attributes
-
-bytes_other : (a b : List ℕ) → bytes_eq a b ≡ false → bytes_eq b a ≡ false
-bytes_other a b e = false_from_ne_true (bytes_eq b a) (λ t. false≢true (sym e ∙ (bytes_eq-Decides a b).1 (sym ((bytes_eq-Decides b a).0 t))))
-
 others_named : (name : List ℕ) (columns : List Column) (values : List (Option Value)) → list_any (is_named name) columns ≡ false → AllByRecursion (λ other. bytes_eq name other ≡ false) (map (λ (a : Attribute). a.name) (attributes_of columns values))
 others_named name [] values e = tt
 others_named name (column ∷ columns) [] e = tt
 others_named name (column ∷ columns) (None ∷ values) e = others_named name columns values (or_parts (is_named name column) (list_any (is_named name) columns) e).1
 others_named name (column ∷ columns) (Some value ∷ values) e =
     let p = or_parts (is_named name column) (list_any (is_named name) columns) e in
-    (bytes_other (attr_text column.attr) name p.0, others_named name columns values p.1)
+    (other_way (attr_text column.attr) name p.0, others_named name columns values p.1)
 
 all_distinct : (columns : List Column) (values : List (Option Value)) → columns_apart columns ≡ true → IsDistinct bytes_eq (map (λ (a : Attribute). a.name) (attributes_of columns values))
 unfolding IsDistinct

@@ -1,9 +1,8 @@
 -- Where the first end of a message stands.
-use Rattle.std.proofs.Common.{◌≡◌, ℕ, zero, suc, ◌+◌, ◌-◌, ◌<◌, ◌≤◌, Bool, true, false, List, [], ◌∷◌, ◌++◌, Option, None, Some, length, take, drop, get_or, eqb, nat_eq, refl, sym, ap, ◌∙◌, arith, option_map, inl, inr}
+use Rattle.std.proofs.Common.{◌≡◌, ℕ, zero, suc, ◌+◌, ◌-◌, ◌<◌, ◌≤◌, Bool, true, false, List, [], ◌∷◌, ◌++◌, Option, None, Some, length, take, drop, get_or, nat_eq, refl, sym, ap, ◌∙◌, arith, option_map, inl, inr}
 use Rattle.std.specs.Cmp.Lexicographic.{pointwise}
-use Rattle.std.specs.List.{ends_with}
-use Rattle.std.proofs.lemmas.List.{length-take, length-take-le, take-append-le, drop-append-le, drop-drop, drop-take, length-drop, take_rest, get_or-take, get_or-drop}
-use Rattle.std.proofs.lemmas.Bool.{false_from_ne_true, cond-true, cond-false, cases_lt, eq-eqb}
+use Rattle.std.proofs.lemmas.List.{length-take, length-take-le, take-append-le, drop-append-le, drop-drop, drop-take, length-drop, get_or-take, get_or-drop}
+use Rattle.std.proofs.lemmas.Bool.{false_from_ne_true, cond-true, cond-false, cases_lt}
 use Rattle.std.proofs.lemmas.Slice.Eq.{bytes_eq-Decides}
 use Rattle.hermes_stream.specs.Frames.{end_tag, begins_with_end, first_end}
 use Rattle.hermes_stream.specs.Scan.{HasNoClose, IsSearched, ends_at}
@@ -44,7 +43,7 @@ first_end-none [] none_at = refl
 first_end-none (b ∷ bytes) none_at =
     cond-false _ _ _ (none_at 0) ∙ ap (option_map (λ n. n + 1)) (first_end-none bytes (λ k. none_at (suc k)))
 
-mapped : (o : Option ℕ) (n : ℕ) → option_map (λ m. m + 1) o ≡ Some n → (m : ℕ) × (o ≡ Some m) × (m + 1 ≡ n)
+pub mapped : (o : Option ℕ) (n : ℕ) → option_map (λ m. m + 1) o ≡ Some n → (m : ℕ) × (o ≡ Some m) × (m + 1 ≡ n)
 mapped None n e = cc
 mapped (Some m) n e = (m, refl, cc)
 

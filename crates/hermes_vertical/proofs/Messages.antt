@@ -1,7 +1,7 @@
 -- An element says at most one supervisory message, and none where it is refused.
-use Rattle.std.proofs.Common.{◌≡◌, ℕ, ℤ, ◌==◌, cond, List, Option, Some, None, Result, Ok, refl, sym, ap, subst, ◌∙◌}
+use Rattle.std.proofs.Common.{◌≡◌, ℕ, ℤ, ◌==◌, cond, List, Option, Some, None, Ok, refl, sym, ap, subst, ◌∙◌}
+use Rattle.hermes_horizontal.proofs.Messages.{ok_same}
 use Rattle.hermes_element.specs.Element.{Tree}
-use Rattle.hermes_horizontal.specs.declared.fault.Refusal.{Refusal}
 use Rattle.hermes_horizontal.specs.declared.message.Features.{Features}
 use Rattle.hermes_horizontal.specs.Values.{Value}
 use Rattle.hermes_horizontal.specs.Roots.{refusal_of_result}
@@ -78,9 +78,6 @@ made_same : (name name' : List ℕ) (kind kind' : VerticalKind) (values values' 
     → name ≡ name' → kind ≡ kind' → values ≡ values' → features ≡ features' → made name kind values features ≡ made name' kind' values' features'
 made_same name name' kind kind' values values' features features' e d f g =
     ap (λ n. made n kind values features) e ∙ ap (λ k. made name' k values features) d ∙ ap (λ v. made name' kind' v features) f ∙ ap (made name' kind' values') g
-
-ok_same : (x y : List (Option Value)) (r : Result (List (Option Value)) Refusal) → r ≡ Ok x → r ≡ Ok y → x ≡ y
-ok_same x y r e d = cc
 
 -- the element of a message says one body at most
 same_body : (child : Tree) (a b : Vertical) → SaysBody child a → SaysBody child b → a ≡ b

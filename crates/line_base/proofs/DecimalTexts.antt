@@ -194,7 +194,7 @@ pub without_trailing_zeros-IsCut : (digits : List ℕ) → IsCut digits (without
 without_trailing_zeros-IsCut [] = record { shorter = omega arith; kept = λ h. h; value = refl }
 without_trailing_zeros-IsCut (c ∷ cs) = cut_before c cs (without_trailing_zeros cs) (without_trailing_zeros-IsCut cs)
 
-six_are_digits : (n : ℕ) → are_digits (six_digits n) ≡ true
+pub six_are_digits : (n : ℕ) → are_digits (six_digits n) ≡ true
 six_are_digits n = simp digit_is
 
 six_value : (n : ℕ) → n < 1_000_000 → value_of (six_digits n) ≡ n

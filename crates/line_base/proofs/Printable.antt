@@ -1,14 +1,14 @@
 -- The texts of values are texts: they are short, and of printable characters.
-use Rattle.std.proofs.Common.{◌≡◌, ◌^◌, ◌/◌, ◌%◌, ◌<◌, ◌≤◌, ◌+◌, ℕ, ℤ, Bool, true, cond, leb, List, [], ◌∷◌, ◌++◌, Some, None, length, refl, ap, ◌∙◌, sym, arith, rules, decimal, length-append, lit≤}
+use Rattle.std.proofs.Common.{◌≡◌, ◌^◌, ◌/◌, ◌%◌, ◌<◌, ◌≤◌, ◌+◌, ℕ, ℤ, Bool, true, cond, leb, List, [], ◌∷◌, ◌++◌, Some, None, length, refl, ap, ◌∙◌, sym, arith, decimal, length-append, lit≤}
 use Rattle.std.proofs.lemmas.Bool.{and_from, and_parts}
 use Rattle.std.proofs.lemmas.Bool.Decides.{nat_tests}
 use Rattle.std.proofs.lemmas.Fmt.{digits_decimal, digits_value-decimal, decimal_nonempty, length-decimal-le}
 use Rattle.std.proofs.lemmas.List.Folds.{list_all-append}
 use Rattle.std.proofs.lemmas.Str.{chars-encodes, encode_ascii}
-use Rattle.std.proofs.lemmas.Str.Parse.{IsNumeralModel, numerals_by_weight}
 use Rattle.std.specs.Char.{is_ascii_digit}
 use Rattle.std.specs.List.{list_all}
 use Rattle.std.specs.Str.{chars}
+use Rattle.line_base.proofs.Written.{own_numerals}
 use Rattle.line_base.specs.Text.{is_allowed_char, IsText}
 use Rattle.line_base.specs.PlainText.{is_plain_byte, is_plain_text}
 use Rattle.line_base.specs.Number.{are_digits, value_of, is_digits, number_of, fraction_text}
@@ -16,7 +16,7 @@ use Rattle.line_base.specs.Decimal.{six_digits, without_trailing_zeros, decimal_
 use Rattle.line_base.specs.Moment.{fields_of, fields_text, moment_text}
 use Rattle.line_base.specs.declared.civil.Fields.{Fields}
 use Rattle.line_base.proofs.Digits.{digit_is, is_digits-true}
-use Rattle.line_base.proofs.DecimalTexts.{without_trailing_zeros-IsCut}
+use Rattle.line_base.proofs.DecimalTexts.{without_trailing_zeros-IsCut, six_are_digits}
 use lib.Utf8.{scalar, scalars, encodes, encode}
 
 record IsPlainByte (b : ℕ) : Type 0 where
@@ -77,9 +77,6 @@ printable_digits (b ∷ bs) digits =
     let parts = and_parts (is_ascii_digit b) (are_digits bs) digits in
     and_from (is_plain_byte b) (list_all is_plain_byte bs) (printable_digit b parts.0) (printable_digits bs parts.1)
 
-own_numerals : IsNumeralModel (λ ds. are_digits ds ≡ true) value_of
-own_numerals = numerals_by_weight (λ ds. are_digits ds ≡ true) (search rules) value_of (search rules)
-
 pub decimal_digits : (n : ℕ) → n < 2 ^ 64 → are_digits (decimal n) ≡ true
 decimal_digits n fits = digits_decimal own_numerals n fits
 
@@ -112,12 +109,9 @@ point_before : (digits : List ℕ) → list_all is_plain_byte digits ≡ true �
 point_before [] h = refl
 point_before (c ∷ cs) h = h
 
-point_length : (digits : List ℕ) → length (fraction_text digits) ≤ length digits + 1
+pub point_length : (digits : List ℕ) → length (fraction_text digits) ≤ length digits + 1
 point_length [] = omega arith
 point_length (c ∷ cs) = omega arith
-
-six_are_digits : (n : ℕ) → are_digits (six_digits n) ≡ true
-six_are_digits n = simp digit_is
 
 pub IsText-millionths : (n : ℕ) → n < 1_000_000_000_000 → IsText (decimal_text n)
 unfolding decimal_text

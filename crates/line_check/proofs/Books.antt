@@ -1,5 +1,5 @@
 -- What a book knows of the ledger.
-use Rattle.std.proofs.Common.{◌≡◌, refl, sym, ◌∙◌, ap, subst, ℕ, ◌==◌, ◌<◌, Bool, true, false, not, ◌&&◌, ◌||◌, List, [], ◌∷◌, ◌++◌, Option, Some, None, Result, Ok, Err, append-nil, IsTrue, is_none, is_some, length, nat_eq, BuildHasherDefault, FoldHasher, option_to_list, if◌then◌else◌, eqb-true, eq-eqb, arith}
+use Rattle.std.proofs.Common.{◌≡◌, refl, sym, ◌∙◌, ap, ℕ, ◌==◌, Bool, true, false, not, ◌&&◌, ◌||◌, List, [], ◌∷◌, ◌++◌, Option, Some, None, append-nil, IsTrue, is_none, is_some, length, nat_eq, BuildHasherDefault, FoldHasher, option_to_list, if◌then◌else◌, eqb-true, eq-eqb, arith}
 use Rattle.std.specs.List.{list_all, list_any}
 use Rattle.standings.specs.declared.mark.Mark.{Mark}
 use Rattle.standings.specs.declared.entry.Entry.{Entry}
@@ -15,10 +15,8 @@ use Rattle.line_check.specs.declared.table.Table.{Table}
 use Rattle.line_check.specs.Table.{marks_of}
 use Rattle.line_check.specs.Book.{IsBook}
 use Rattle.standings.specs.Deeds.{added, taken}
-use Rattle.standings.specs.Ledger.{Ledger, has_entry, ids_named, is_found, is_missing, is_same_entry, ledger_after, mark_of_id, marks_in, without}
-use Rattle.standings.proofs.Standings.{and_first, and_second}
-use Rattle.standings.proofs.Entries.{or_assoc, or_false, same_entry_is}
-use Rattle.standings.proofs.Ids.{others_stay}
+use Rattle.standings.specs.Ledger.{Ledger, has_entry, ids_named, ledger_after, mark_of_id, marks_in, without}
+use Rattle.standings.proofs.Ids.{others_stay, has_id-append, marks_in-append, marks_in-without_one}
 use Rattle.line_check.specs.Log.{all_stand, ids_in, stands}
 use Rattle.line_check.specs.Marks.{added_at, added_by, changed_by, is_some_mark, lack_standing, taken_at, taken_by, without_mark}
 
@@ -35,16 +33,6 @@ has_entry-marks_in entry (first ∷ marks) = mark_step entry first marks (first.
 
 -- MARKS behind a deed
 
-mark_of_id-append : (is : Bool) (mark : Mark) (front back : List Mark) → mark_of_id is mark (front ++ back) ≡ mark_of_id is mark front ++ back
-mark_of_id-append true mark front back = refl
-mark_of_id-append false mark front back = refl
-
-marks_in-append : (id : ℕ) (front back : List Entry) → marks_in id (front ++ back) ≡ marks_in id front ++ marks_in id back
-marks_in-append id [] back = refl
-marks_in-append id (first ∷ front) back =
-    ap (λ (l : List Mark). mark_of_id (first.id == id) first.mark l) (marks_in-append id front back)
-    ∙ mark_of_id-append (first.id == id) first.mark (marks_in id front) (marks_in id back)
-
 -- an entry of this id goes
 here_step : (id : ℕ) (out first : Entry) (marks : List Entry) (here ids gone : Bool) → (first.id == id) ≡ here → is_same_mark first.mark out.mark ≡ gone → ids ≡ here
     → marks_in id (without (Some out) marks) ≡ without_mark out.mark (marks_in id marks)
@@ -60,22 +48,9 @@ marks_in-without_here id out [] at = refl
 marks_in-without_here id out (first ∷ marks) at =
     here_step id out first marks (first.id == id) (first.id == out.id) (is_same_mark first.mark out.mark) refl refl (ap (λ (i : ℕ). first.id == i) (eqb-true out.id id at)) (marks_in-without_here id out marks at)
 
--- an entry of another id goes
-there_step : (id : ℕ) (out first : Entry) (marks : List Entry) (is_out : Bool) → is_same_entry first out ≡ is_out → (out.id == id) ≡ false
-    → marks_in id (without (Some out) marks) ≡ marks_in id marks
-    → marks_in id (if not is_out then first ∷ without (Some out) marks else without (Some out) marks) ≡ mark_of_id (first.id == id) first.mark (marks_in id marks)
-there_step id out first marks true same apart later =
-    let unlike : (first.id == id) ≡ false = ap (λ (e : Entry). e.id == id) (same_entry_is first out same) ∙ apart in
-    rw unlike later
-there_step id out first marks false same apart later = ap (λ (l : List Mark). mark_of_id (first.id == id) first.mark l) later
-
-marks_in-without_there : (id : ℕ) (out : Entry) (marks : List Entry) → (out.id == id) ≡ false → marks_in id (without (Some out) marks) ≡ marks_in id marks
-marks_in-without_there id out [] apart = refl
-marks_in-without_there id out (first ∷ marks) apart = there_step id out first marks (is_same_entry first out) refl apart (marks_in-without_there id out marks apart)
-
 taken_step : (id : ℕ) (out : Entry) (marks : List Entry) (here : Bool) → (out.id == id) ≡ here → marks_in id (without (Some out) marks) ≡ taken_at out id (marks_in id marks)
 taken_step id out marks true at = marks_in-without_here id out marks at ∙ rw at refl
-taken_step id out marks false at = marks_in-without_there id out marks at ∙ rw at refl
+taken_step id out marks false at = marks_in-without_one id out marks at ∙ rw at refl
 
 marks_in-without : (id : ℕ) (out : Option Entry) (marks : List Entry) → marks_in id (without out marks) ≡ taken_by out id (marks_in id marks)
 marks_in-without id None marks = refl
@@ -97,10 +72,6 @@ marks_in-after ledger deed id =
     ∙ ap (λ (l : List Mark). added_by (added deed) id l) (marks_in-without id (taken deed) ledger.marks)
 
 -- IDS that were seen
-
-pub has_id-append : (id : ℕ) (front back : List ℕ) → has_id id (front ++ back) ≡ (has_id id front || has_id id back)
-has_id-append id [] back = refl
-has_id-append id (first ∷ front) back = ap (λ (b : Bool). (first == id) || b) (has_id-append id front back) ∙ sym (or_assoc (first == id) (has_id id front) (has_id id back))
 
 -- an id has a mark exactly where one of the entries is of it
 in_step : (id : ℕ) (first : Entry) (marks : List Entry) (here : Bool) → has_id id (ids_in marks) ≡ is_some_mark (marks_in id marks)

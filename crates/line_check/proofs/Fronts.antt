@@ -1,17 +1,17 @@
 -- A line that is too long counts by its front.
-use Rattle.std.proofs.Common.{◌≡◌, refl, sym, ◌∙◌, ap, subst, ℕ, ◌+◌, ◌-◌, ◌<◌, ◌≤◌, ◌==◌, Bool, true, false, not, ◌&&◌, ◌||◌, List, [], ◌∷◌, ◌++◌, Option, Some, None, cond, drop, take, length, length-append, length-drop, nat_le, nat_lt, arith, if◌then◌else◌, lt-ltb, leb-true}
+use Rattle.std.proofs.Common.{◌≡◌, refl, sym, ◌∙◌, ap, ℕ, ◌+◌, ◌-◌, ◌<◌, ◌≤◌, ◌==◌, Bool, true, false, not, ◌&&◌, ◌||◌, List, [], ◌∷◌, ◌++◌, Option, Some, None, drop, take, length, length-append, length-drop, nat_le, nat_lt, arith, if◌then◌else◌, lt-ltb, leb-true}
 use Rattle.std.proofs.lemmas.Bool.Decides.{nat_tests}
 use Rattle.std.proofs.lemmas.List.{drop-append-le, length-take-le, take-append-le}
-use Rattle.std.proofs.lemmas.Bool.{leb-false}
+use Rattle.std.proofs.lemmas.Bool.{leb-false, and_right, and_left}
 use Rattle.std.specs.Char.{is_ascii_digit}
 use Rattle.std.specs.List.{list_all}
 use Rattle.line_base.specs.Number.{is_digits, value_of}
 use Rattle.line_check.specs.declared.group.Group.{Group}
 use Rattle.line_check.specs.declared.why.CheckWhy.{CheckWhy}
-use Rattle.line_check.specs.declared.why.CheckWhy.TheVariants.{Long, Lines, Form, Turn, Legal, Standing}
+use Rattle.line_check.specs.declared.why.CheckWhy.TheVariants.{Long}
 use Rattle.line_check.specs.Words.{cut_at_space, parts_at, space_from}
-use Rattle.line_check.specs.LogLine.{group_in, group_of, group_with, is_machine, is_turn, read_group}
-use Rattle.line_check.specs.Log.{Against, against, against_from, all_stand, ends_before, is_same_group, ledger_of, or_later, reason_at}
+use Rattle.line_check.specs.LogLine.{group_in, group_of, group_with, is_machine, is_turn}
+use Rattle.line_check.specs.Log.{against, against_from, all_stand, ends_before, is_same_group, ledger_of, or_later, reason_at}
 use Rattle.line_check.specs.Checking.{own_reason_at}
 use Rattle.line_check.proofs.Reasons.{or_standing, reason_at-own}
 
@@ -61,21 +61,13 @@ cut_behind front more is =
 
 -- WORDS that are too long
 
-and_no : (a b : Bool) → b ≡ false → (a && b) ≡ false
-and_no true b is = is
-and_no false b is = refl
-
-no_and : (a b : Bool) → a ≡ false → (a && b) ≡ false
-no_and true b is = cc
-no_and false b is = refl
-
 digits_long : (low high : ℕ) (word : List ℕ) → high < length word → is_digits low high word ≡ false
 digits_long low high word long =
     let few : nat_le (length word) high ≡ false = grind (arith, nat_tests) in
-    and_no (list_all is_ascii_digit word) (nat_le low (length word) && nat_le (length word) high) (and_no (nat_le low (length word)) (nat_le (length word) high) few)
+    and_right (list_all is_ascii_digit word) (nat_le low (length word) && nat_le (length word) high) (and_right (nat_le low (length word)) (nat_le (length word) high) few)
 
 machine_long : (word : List ℕ) → 2 < length word → is_machine word ≡ false
-machine_long word long = no_and (is_digits 1 2 word) (nat_lt 0 (value_of word) && (nat_le (value_of word) 64 && (length word == 1 || nat_le 10 (value_of word)))) (digits_long 1 2 word long)
+machine_long word long = and_left (is_digits 1 2 word) (nat_lt 0 (value_of word) && (nat_le (value_of word) 64 && (length word == 1 || nat_le 10 (value_of word)))) (digits_long 1 2 word long)
 
 machine_short : (word : List ℕ) → is_machine word ≡ true → length word ≤ 2
 machine_short word is = pick (nat_le (length word) 2) refl where

@@ -1,13 +1,14 @@
 -- A log that nothing is against.
-use Rattle.std.proofs.Common.{◌≡◌, refl, sym, ◌∙◌, ap, subst, ℕ, ◌+◌, ◌==◌, Bool, true, false, not, ◌&&◌, ◌||◌, List, [], ◌∷◌, ◌++◌, Option, Some, None, IfSome, append_assoc, append-nil, is_some, length, if◌then◌else◌, eqb-true}
+use Rattle.std.proofs.Common.{◌≡◌, refl, sym, ◌∙◌, ap, subst, ℕ, ◌+◌, ◌==◌, Bool, true, false, not, ◌&&◌, ◌||◌, List, [], ◌∷◌, ◌++◌, Option, Some, None, IfSome, append-nil, is_some, length, eqb-true}
 use Rattle.std.specs.List.{list_all}
+use Rattle.std.proofs.lemmas.Bool.{and_parts}
 use Rattle.standings.specs.declared.mark.Mark.{Mark}
 use Rattle.standings.specs.declared.entry.Entry.{Entry}
 use Rattle.standings.specs.declared.deed.Deed.{Deed}
 use Rattle.standings.specs.Marks.{has_id}
 use Rattle.standings.specs.Standing.{HasStanding, Place, standing_of}
-use Rattle.standings.specs.Ledger.{AreLegal, IsLegal, Ledger, empty_ledger, is_legal, ledger_after, ledger_after_all, marks_in}
-use Rattle.standings.proofs.Standings.{and_first, and_second, found, one_standing}
+use Rattle.standings.specs.Ledger.{AreLegal, Ledger, is_legal, ledger_after_all, marks_in}
+use Rattle.standings.proofs.Standings.{found, one_standing}
 use Rattle.standings.proofs.Ids.{tested_legal}
 use Rattle.line_check.specs.declared.reading.Reading.{Reading}
 use Rattle.line_check.specs.declared.reading.Reading.TheVariants.{Nothing, Bad, Does}
@@ -67,10 +68,10 @@ none_at first (next ∷ before) line after none =
 stand_in : (all marks : List Entry) (id : ℕ) → list_all (λ (entry : Entry). stands (marks_in entry.id all)) marks ≡ true → has_id id (ids_in marks) ≡ true → stands (marks_in id all) ≡ true
 stand_in all [] id stand there = cc
 stand_in all (first ∷ marks) id stand there =
-    pick (first.id == id) refl there (stand_in all marks id (and_second (stands (marks_in first.id all)) (list_all (λ (entry : Entry). stands (marks_in entry.id all)) marks) stand)) where
+    pick (first.id == id) refl there (stand_in all marks id (and_parts (stands (marks_in first.id all)) (list_all (λ (entry : Entry). stands (marks_in entry.id all)) marks) stand).1) where
       pick : (here : Bool) → (first.id == id) ≡ here → (here || has_id id (ids_in marks)) ≡ true → (has_id id (ids_in marks) ≡ true → stands (marks_in id all) ≡ true) → stands (marks_in id all) ≡ true
       pick true is there later =
-          ap (λ (i : ℕ). stands (marks_in i all)) (sym (eqb-true first.id id is)) ∙ and_first (stands (marks_in first.id all)) (list_all (λ (entry : Entry). stands (marks_in entry.id all)) marks) stand
+          ap (λ (i : ℕ). stands (marks_in i all)) (sym (eqb-true first.id id is)) ∙ (and_parts (stands (marks_in first.id all)) (list_all (λ (entry : Entry). stands (marks_in entry.id all)) marks) stand).0
       pick false is there later = later there
 
 pub one_standing_of : (marks : List Mark) → stands marks ≡ true → HasOneStanding marks

@@ -1,6 +1,5 @@
 -- How a run goes on, and how it ends.
-use Rattle.std.proofs.Common.{◌≡◌, ◌≤◌, ◌+◌, inl, inr, ℕ, Bool, List, [], ◌++◌, length, take, Option, None, Some, Ok, Err, is_some, option_map, refl, sym, ap, subst, ◌∙◌, append_assoc, append-nil, arith}
-use Rattle.std.proofs.lemmas.List.{take-take, take-append-le}
+use Rattle.std.proofs.Common.{◌≡◌, ◌≤◌, ◌+◌, inl, inr, ℕ, Bool, List, [], ◌++◌, Option, None, Some, Ok, Err, is_some, option_map, refl, sym, ap, subst, ◌∙◌, append_assoc, append-nil, arith}
 use Rattle.line_outside.specs.Faults.{Rose}
 use Rattle.line_outside.specs.Sink.{Grows, GrowsInPart, PushesAll}
 use Rattle.line_outside.specs.declared.pushing.Pushed.{Pushed}
@@ -300,9 +299,3 @@ causes-write_fault reads reads' writes before after r w more rose = record { rea
 pub causes-read_fault : (pushed : Pushed) (now now' : Option (List ℕ)) (text : List ℕ) (reads reads' reads'' writes before after : ℕ) → reads ≤ reads' → reads' ≤ reads'' → Rose reads' reads'' → writes ≤ before → PushesAll now now' before after text pushed → HasCauses statuses.ReadFault reads reads'' writes after
 causes-read_fault pushes.Whole now now' text reads reads' reads'' writes before after r r' rose w pushed = record { reads = omega arith; writes = omega (arith, w, pushed.0); read_fault = λ is. rose_after reads reads' reads'' r r' rose; write_fault = λ is. cc }
 causes-read_fault pushes.Failed now now' text reads reads' reads'' writes before after r r' rose w pushed = record { reads = omega arith; writes = omega (arith, w, pushed.0); read_fault = λ is. rose_after reads reads' reads'' r r' rose; write_fault = λ is. cc }
-
--- a room's front, as the room was lent out and came back
-pub front-room : (count len : ℕ) (front room rest whole : List ℕ) → count ≤ length room → length room ≤ len → front ≡ take count whole → whole ≡ take len (room ++ rest) → front ≡ take count room
-front-room count len front room rest whole few fits is back =
-    let within : count ≤ len = omega arith in
-    is ∙ ap (take count) back ∙ take-take count len (room ++ rest) within ∙ rw take-append-le refl

@@ -1,23 +1,15 @@
 -- How std's `lines` cuts a text whose front holds no line end.
-use Rattle.std.proofs.Common.{◌≡◌, ◌==◌, ◌<◌, ◌≤◌, ◌+◌, ◌-◌, ℕ, Bool, true, false, List, [], ◌∷◌, ◌++◌, length, take, refl, ap, ◌∙◌, arith, cond, if◌then◌else◌, length-append}
+use Rattle.std.proofs.Common.{◌≡◌, ◌==◌, ◌<◌, ◌+◌, ◌-◌, ℕ, Bool, false, List, [], ◌∷◌, ◌++◌, length, refl, ap, ◌∙◌, arith, if◌then◌else◌, length-append}
 use Rattle.std.specs.List.{slice_split, onto_first, AllByRecursion}
 use Rattle.std.proofs.lemmas.Bool.Decides.{nat_tests}
-use Rattle.std.proofs.lemmas.List.{length-take-le}
 use Rattle.std.proofs.lemmas.List.Elements.{recursion_from_All, All-append}
 use Rattle.std.proofs.lemmas.List.Splits.{slice_split_at, slice_split_none, slice_split-cons_no}
 use Rattle.std.specs.Str.Lines.{lines, lines_of_parts, strip_carriage_return}
+use Rattle.log_verdict.proofs.LinesLemmas.{cond_parts, length-strip}
 use Rattle.line_cli.specs.LineEnds.{HasNoEnd}
 
 abbrev is_end : ℕ → Bool
 is_end b = b == 10
-
-onto_first_parts : (b : ℕ) (parts : List (List ℕ)) → (first : List ℕ) × (others : List (List ℕ)) × (onto_first b parts ≡ first ∷ others)
-onto_first_parts b [] = (b ∷ [], [], refl)
-onto_first_parts b (part ∷ parts) = (b ∷ part, parts, refl)
-
-cond_parts : (t : Bool) (b : ℕ) (parts : List (List ℕ)) → (first : List ℕ) × (others : List (List ℕ)) × (cond t ([] ∷ parts) (onto_first b parts) ≡ first ∷ others)
-cond_parts true b parts = ([], parts, refl)
-cond_parts false b parts = onto_first_parts b parts
 
 -- there is always a first part
 pub record Parts (bytes : List ℕ) : Type 0 where
@@ -45,14 +37,6 @@ lines-last front none = rw (slice_split_none is_end front none.none) refl
 split-front : (front more first : List ℕ) (others : List (List ℕ)) → AllByRecursion (λ b. is_end b ≡ false) front → slice_split is_end more ≡ first ∷ others → slice_split is_end (front ++ more) ≡ (front ++ first) ∷ others
 split-front [] more first others none split = split
 split-front (b ∷ bs) more first others none split = slice_split-cons_no is_end b (bs ++ more) none.0 ∙ ap (onto_first b) (split-front bs more first others none.1 split)
-
-strip_by : (t : Bool) (line : List ℕ) → length line ≤ length (if t then take (length line - 1) line else line) + 1
-strip_by true line = omega (arith, length-take-le (length line - 1) line (omega arith))
-strip_by false line = omega arith
-
--- at most one byte is dropped from a line
-pub length-strip : (line : List ℕ) → length line ≤ length (strip_carriage_return line) + 1
-length-strip line = strip_by _ line
 
 -- the first line has more than 4,096 bytes
 pub record StartsLong (all : List (List ℕ)) : Type 0 where

@@ -1,6 +1,7 @@
 -- What a line does to the script and the report of all that follows.
 use Rattle.std.proofs.Common.{◌≡◌, ◌<◌, ◌≤◌, ◌+◌, ◌==◌, ℕ, Bool, true, false, List, [], ◌∷◌, ◌++◌, Some, Result, Ok, Err, length, refl, sym, ap, subst, ◌∙◌, arith, append_assoc, append-nil, length-append, lt-ltb, ltb-false, nat_lt}
 use Rattle.std.specs.Str.Lines.{lines, strip_carriage_return}
+use Rattle.log_verdict.proofs.LinesLemmas.{length-strip}
 use Rattle.line_script.specs.declared.line.ScriptLine.{ScriptLine}
 use Rattle.line_script.specs.declared.line.LineWhy.{LineWhy}
 use Rattle.line_script.specs.declared.line.LineWhy.TheVariants as whys
@@ -16,7 +17,7 @@ use Rattle.line_cli.specs.Script.{Script, meaning_at, script_from, behind_lines}
 use Rattle.line_cli.specs.Reader.{Place, IsDone, IsRefused, DoesLine, RefusesAs, Advances, Takes, Finishes, Sums, script_behind, entries}
 use Rattle.line_cli.specs.declared.script_run.RunError.{RunError}
 use Rattle.line_cli.specs.declared.script_run.RunError.TheVariants as errors
-use Rattle.line_cli.proofs.LinesLemmas.{lines-end, lines-last, lines-long, length-strip, StartsLong}
+use Rattle.line_cli.proofs.LinesLemmas.{lines-end, lines-last, lines-long, StartsLong}
 
 -- some lines, and others behind them
 pub behind-behind : (first second : List ScriptLine) (script : Script) → behind_lines first (behind_lines second script) ≡ behind_lines (first ++ second) script

@@ -3,6 +3,7 @@ use Rattle.std.proofs.Common.{Bool, List, None, Option, ap, append-nil, append_a
 use Rattle.std.proofs.lemmas.List.{take_all}
 use Rattle.std.specs.Prelude.{is_some, take}
 use Rattle.std.specs.List.{AllByRecursion}
+use Rattle.supervisor_replay.proofs.Agreeing.{run_lines}
 use Rattle.line_script.specs.declared.line.ScriptLine.{ScriptLine}
 use Rattle.line_report.specs.declared.happening.Happening.{Happening}
 use Rattle.line_step.specs.Lies.{has_lie}
@@ -14,20 +15,10 @@ use Rattle.one_standing.specs.Blame.{AreBlamesTrue, IsBlameTrue, NoFalseBlame}
 use Rattle.one_standing.specs.Contents.{AreContentsKept, ContentsAreKept, IsMarked, KeepsContents}
 use Rattle.one_standing.specs.Reached.{IsReached}
 use Rattle.one_standing.specs.Standing.{IsFitLine}
-use Rattle.one_standing.proofs.Reaching.{behind_more, lines_more, run_more, fit_more, length_more}
+use Rattle.one_standing.proofs.Reaching.{behind_more, run_more, fit_more, length_more}
 use Rattle.line_engine.specs.Blames.{BlamesNext}
 use Rattle.line_engine.specs.Indexed.{Entries}
 use Rattle.line_engine.proofs.Keeping.{Step, as_seen}
-
--- as many lines were counted as the run has
-lines_run : (s : LineState) (asked : List ScriptLine) (points : List Point) → IsRun s asked points → (state_behind s points).lines ≡ s.lines + length asked
-lines_run s [] [] run = omega arith
-lines_run s [] (point ∷ points) run = absurd run
-lines_run s (line ∷ asked) [] run = absurd run
-lines_run s (line ∷ asked) (point ∷ points) run =
-    let here = lines_more (s.lines + 1) line s point.after point.told run.0 in
-    let rest = lines_run point.after asked points run.1 in
-    omega (arith, here, rest)
 
 -- ---- a run with the line behind it, as the laws ask for it
 
@@ -42,7 +33,7 @@ longer : (line : ScriptLine) (before after : LineState) (told : List Happening) 
 longer line before after told asked points one few steps none fit run behind =
     let point : Point = record { told = told; after = after } in
     let more : IsRun no_line (asked ++ line ∷ []) (points ++ point ∷ []) = run_more no_line asked points line point run (subst (λ (s : LineState). LineSteps (s.lines + 1) line s after told) (sym behind) steps) in
-    let lines = lines_run no_line asked points run in
+    let lines = run_lines no_line asked points run in
     let counted = ap (λ (s : LineState). s.lines) behind in
     let long = length_more asked line in
     record {

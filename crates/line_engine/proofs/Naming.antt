@@ -1,18 +1,15 @@
 -- A machine's id text is a plain text.
 use Rattle.std.proofs.Common.{◌≡◌, ◌&&◌, ◌<◌, ◌≤◌, ◌^◌, ◌++◌, ℕ, Bool, true, false, List, [], ◌∷◌, length, refl, arith, le-leb}
 use Rattle.std.specs.Prelude.{codes, decimal, nat_le}
-use Rattle.std.proofs.lemmas.Bool.Decides.{nat_tests}
 use Rattle.std.proofs.lemmas.Fmt.{digits_decimal, length-decimal-le}
 use Rattle.std.specs.Char.{is_ascii_digit}
 use Rattle.std.specs.List.{list_all}
+use Rattle.line_base.proofs.Printable.{printable_digit}
 use Rattle.line_base.proofs.Written.{own_numerals}
 use Rattle.line_base.specs.PlainText.{is_plain_byte, is_plain_text}
 
-digit_plain : (b : ℕ) → is_ascii_digit b ≡ true → is_plain_byte b ≡ true
-digit_plain b digit = grind (arith, nat_tests)
-
 digits_plain_by : (t : Bool) (b : ℕ) (bs : List ℕ) → is_ascii_digit b ≡ t → (t && list_all is_ascii_digit bs) ≡ true → (list_all is_ascii_digit bs ≡ true → list_all is_plain_byte bs ≡ true) → list_all is_plain_byte (b ∷ bs) ≡ true
-digits_plain_by true b bs test all later = rw (digit_plain b test) (later all)
+digits_plain_by true b bs test all later = rw (printable_digit b test) (later all)
 digits_plain_by false b bs test all later = absurd (cc)
 
 digits_plain : (bytes : List ℕ) → list_all is_ascii_digit bytes ≡ true → list_all is_plain_byte bytes ≡ true

@@ -1,7 +1,9 @@
 -- A LINE, as each machine sees it, with its form: the machine is as it was and tells nothing, or it made one step, and only a line
 -- of a hand at this machine has it changed by hand.
-use Rattle.std.proofs.Common.{Bool, Err, List, None, Ok, Option, Result, Some, [], ap, append-nil, eq-eqb, false, inl, inr, length, refl, subst, sym, true, ℕ, ◌++◌, ◌+◌, ◌-◌, ◌∙◌, ◌∷◌, ◌≡◌, ◌≢◌, ◌≤◌, ◌⊎◌}
-use Rattle.std.proofs.lemmas.Bool.{false≢true}
+use Rattle.std.proofs.Common.{Bool, Err, List, Ok, Option, Result, Some, [], ap, append-nil, false, inl, inr, length, refl, subst, sym, true, ℕ, ◌++◌, ◌+◌, ◌-◌, ◌∙◌, ◌∷◌, ◌≡◌, ◌≢◌, ◌≤◌, ◌⊎◌}
+use Rattle.one_standing.proofs.RestLine.{node_there}
+use Rattle.one_standing.proofs.LineForms.{there_may}
+use Rattle.one_standing.proofs.HandSteps.{not_touched}
 use Rattle.line_base.specs.declared.states.Quality.{Quality}
 use Rattle.line_base.specs.declared.states.Side.{Side}
 use Rattle.board_record.specs.declared.sensed.Sensed.{Sensed}
@@ -32,14 +34,13 @@ use Rattle.line_report.specs.declared.happening.Happening.{Happening}
 use Rattle.line_report.specs.declared.happening.Happening.TheVariants as happenings
 use Rattle.line_step.specs.Lines.{Becomes, Connects, Flows, LineDoes, LineSteps, Moves, Unless, arrived, connecting, cut_in, lied, met, move_told, moved, spoil_told, spoiled, unseen, unvouched_told}
 use Rattle.line_step.specs.Numbered.{Stand, node_at, stand_at}
-use Rattle.line_step.specs.Reasons.{May, behind_own, if_there, may_add, may_connect, may_cut, may_do, may_flow, may_give, may_lie, may_spoil, may_unseen}
+use Rattle.line_step.specs.Reasons.{May, behind_own, may_add, may_connect, may_cut, may_do, may_flow, may_give, may_lie, may_spoil, may_unseen}
 use Rattle.line_step.specs.Shown.{shown, standings_told}
 use Rattle.line_step.specs.State.{LineState, machine_in, one_more}
 use Rattle.line_step.specs.Steps.{MachineSteps, is_second, moment_of, read_by, unread_by}
 use Rattle.line_step.specs.World.{end_of, link_at, link_of}
 use Rattle.line_step.proofs.Changing.{step_changes}
 use Rattle.line_step.proofs.Numbers.{machine_set_own, machine_within, same_or_not}
-use Rattle.one_standing.proofs.Mirroring.{node_there}
 use Rattle.line_history.proofs.OfferingStep.{IsNoHand}
 use Rattle.line_history.proofs.OfferingWhole.{IsMarkable}
 use Rattle.line_history.proofs.View.{apart_of, arrived_stand, connecting_stand, cut_none, done_append, done_by, more_body, move_still, none_join, other_acts, own_acts, same_machines, shown_none, standings_none, undriven, undriven_signals, undriven_step, unvouched_none, unwilled}
@@ -139,16 +140,9 @@ passes_second false false why other is = refl
 passes_second false true why other is = cc
 passes_second true two why other is = cc
 
-not_touched : (touched : Option ℕ) (id : ℕ) → is_id touched id ≡ false → touched ≡ Some id → ⊥
-not_touched None id other is = cc
-not_touched (Some own) id other is = false≢true (sym other ∙ ap (λ (t : Option ℕ). is_id t id) is ∙ eq-eqb id id refl)
-
 own_first : (may : Result (Unit {0}) No) (next : May) → behind_own may next ≡ may_do → may ≡ own.may_do
 own_first (Ok _) next is = refl
 own_first (Err why) next is = cc
-
-there_may : (found : Option NodeState) (node : NodeState) (may : NodeState → May) → found ≡ Some node → if_there found may ≡ may_do → may node ≡ may_do
-there_may found node may is done = rw is at done
 
 mark_free : (machine id : ℕ) (quality : Quality) (s : LineState) (node : NodeState) → machine_in machine s ≡ Some node → may_give machine (inputs.Mark id quality) s ≡ may_do → node.lane.body.outlet.touched ≡ Some id → ⊥
 mark_free machine id quality s node there may =

@@ -1,9 +1,12 @@
 -- What a machine's step leaves of the floor: what lies in each gap, the boards in each list but those that go by hand, and no
 -- sensor event that the machine has not read.
-use Rattle.std.proofs.Common.{Bool, List, None, Option, Some, [], ap, arith, false, inl, inr, leb-false, leb-true, length, length-set, eq-eqb, nat_le, refl, suc, subst, sym, true, zero, ℕ, ◌&&◌, ◌++◌, ◌-◌, ◌<◌, ◌==◌, ◌∙◌, ◌∷◌, ◌≡◌, ◌≢◌, ◌≤◌, ◌⊎◌}
-use Rattle.std.specs.Prelude.{cond, nat_lt, not, remove, slice_set}
+use Rattle.std.proofs.Common.{Bool, List, None, Option, Some, [], ap, arith, false, inl, inr, length, eq-eqb, refl, suc, subst, sym, true, zero, ℕ, ◌&&◌, ◌++◌, ◌-◌, ◌<◌, ◌==◌, ◌∙◌, ◌∷◌, ◌≡◌, ◌≢◌, ◌≤◌, ◌⊎◌}
+use Rattle.std.specs.Prelude.{nat_lt, not, remove, slice_set}
+use Rattle.std.proofs.lemmas.Bool.{not-true, and_parts}
+use Rattle.line_world.proofs.Keeping.{drive_lies, none_behind}
+use Rattle.line_step.proofs.OnFloor.{sent-floor}
+use Rattle.line_step.proofs.Counting.{machine_places}
 use Rattle.line_base.specs.declared.states.Side.{Side}
-use Rattle.line_base.specs.declared.states.Side.TheVariants.{Entry, Exit}
 use Rattle.hermes_horizontal.specs.Canonical.{canonical}
 use Rattle.hermes_horizontal.specs.declared.message.Message.{Message}
 use Rattle.line_world.specs.FloorPlan.{AtMachine, FloorPlan, empty_machine, gap_at, machine_at, place_of, with_boards, with_drive, with_gap, with_machine, with_new_id, without_board}
@@ -19,20 +22,13 @@ use Rattle.line_step.specs.Acts.{act_did, counted, acts_did, answers, sent_by}
 use Rattle.line_step.specs.Steps.{read_by}
 use Rattle.line_step.specs.World.{WorldParts, end_of, link_at, link_of, with_link}
 use Rattle.line_step.proofs.Floors.{gap_other, gap_own, gap_past, gaps_stay, place_other, place_own, places_stay}
-use Rattle.line_step.proofs.Numbers.{floor_stays, number_past, same_or_not}
-use Rattle.one_standing.proofs.LedgerWalk.{and_one, and_two}
+use Rattle.line_step.proofs.Numbers.{floor_stays, same_or_not, beyond_or_not}
 
 -- ---- what lies in the gaps
 
-within_or_past : (n count : ℕ) → (n ≤ count) ⊎ (count < n)
-within_or_past n count = by (nat_le n count) refl where
-  by : (b : Bool) → nat_le n count ≡ b → (n ≤ count) ⊎ (count < n)
-  by true is = inl (leb-true n count is)
-  by false is = inr (leb-false n count is)
-
 own_lies : (plan : FloorPlan) (gap : ℕ) (now : AtGap) → now.lies ≡ (gap_at plan gap).lies → (gap_at (with_gap plan gap now) gap).lies ≡ (gap_at plan gap).lies
 own_lies plan zero now same = refl
-own_lies plan (suc place) now same = by (within_or_past (suc place) (length plan.gaps)) where
+own_lies plan (suc place) now same = by (beyond_or_not (suc place) (length plan.gaps)) where
   by : (suc place ≤ length plan.gaps) ⊎ (length plan.gaps < suc place) → (gap_at (with_gap plan (suc place) now) (suc place)).lies ≡ (gap_at plan (suc place)).lies
   by (inl within) = ap (λ (g : AtGap). g.lies) (gap_own plan (suc place) now (omega arith) within) ∙ same
   by (inr past) = ap (λ (g : AtGap). g.lies) (gap_past plan (suc place) now past)
@@ -42,10 +38,6 @@ gap_lies plan gap other now same = by (same_or_not other gap) where
   by : (other ≡ gap) ⊎ (other ≢ gap) → (gap_at (with_gap plan gap now) other).lies ≡ (gap_at plan other).lies
   by (inl is) = subst (λ (k : ℕ). (gap_at (with_gap plan gap now) k).lies ≡ (gap_at plan k).lies) (sym is) (own_lies plan gap now same)
   by (inr apart) = ap (λ (g : AtGap). g.lies) (gap_other plan gap other now apart)
-
-driven_lies : (gap : AtGap) (side : Side) (on : Bool) → (with_drive gap side on).lies ≡ gap.lies
-driven_lies gap Entry on = refl
-driven_lies gap Exit on = refl
 
 link_floor : (link : ℕ) (parts : LinkParts) (world : WorldParts) (gap : ℕ) → (gap_at (with_link link parts world).floor gap).lies ≡ (gap_at world.floor gap).lies
 link_floor link parts world gap = ap (λ (f : FloorPlan). (gap_at f gap).lies) (floor_stays link parts world)
@@ -73,7 +65,7 @@ act_lies second machine (acts.Closes side) world gap = link_floor (link_of machi
 act_lies second machine (acts.Notices side) world gap = link_floor (link_of machine side) (after_close (end_of side) (link_at (link_of machine side) world)) world gap
 act_lies second machine (acts.Drive side on) world gap =
     let own = gap_at world.floor (link_of machine side) in
-    gap_lies world.floor (link_of machine side) gap (with_drive own side on) (driven_lies own side on)
+    gap_lies world.floor (link_of machine side) gap (with_drive own side on) (drive_lies own side on)
 act_lies second machine (acts.Inserts id) world gap = boards_lies world.floor machine _ gap
 act_lies second machine (acts.Removes id) world gap = boards_lies world.floor machine _ gap
 act_lies second machine (acts.Replaces old new) world gap = boards_lies world.floor machine _ gap
@@ -97,22 +89,15 @@ read_lies machine world gap = ap (λ (g : AtGap). g.lies) (gaps_stay world.floor
 
 -- ---- what is at the machines
 
-place_past : (plan : FloorPlan) (machine : ℕ) → length plan.machines < machine → machine_at plan machine ≡ empty_machine
-place_past plan machine past = number_past plan.machines machine empty_machine past
-
-machines_length : (test : Bool) (plan : FloorPlan) (place : ℕ) (now : AtMachine) → length (cond test (record plan { machines = slice_set plan.machines place now }) plan).machines ≡ length plan.machines
-machines_length true plan place now = length-set plan.machines place now
-machines_length false plan place now = refl
-
 -- a machine that isn't there doesn't change
 own_place : (P : AtMachine → Type 0) (plan : FloorPlan) (machine : ℕ) (now : AtMachine) → P now → (machine_at plan machine ≡ empty_machine → P empty_machine) → P (machine_at (with_machine plan machine now) machine)
 own_place P plan zero now own past = past refl
-own_place P plan (suc place) now own past = by (within_or_past (suc place) (length plan.machines)) where
+own_place P plan (suc place) now own past = by (beyond_or_not (suc place) (length plan.machines)) where
   by : (suc place ≤ length plan.machines) ⊎ (length plan.machines < suc place) → P (machine_at (with_machine plan (suc place) now) (suc place))
   by (inl within) = subst P (sym (place_own plan (suc place) now (omega arith) within)) own
   by (inr behind) =
-      let same : length (with_machine plan (suc place) now).machines ≡ length plan.machines = machines_length (nat_lt 0 (suc place)) plan (suc place - 1) now in
-      subst P (sym (place_past (with_machine plan (suc place) now) (suc place) (omega (arith, behind, same)))) (past (place_past plan (suc place) behind))
+      let same : length (with_machine plan (suc place) now).machines ≡ length plan.machines = machine_places (nat_lt 0 (suc place)) plan (suc place - 1) now in
+      subst P (sym (none_behind (with_machine plan (suc place) now) (suc place) (omega (arith, behind, same)))) (past (none_behind plan (suc place) behind))
 
 boards_unread : (plan : FloorPlan) (machine : ℕ) (boards : List Board) (other : ℕ) → (machine_at (with_boards plan machine boards) other).unread ≡ (machine_at plan other).unread
 boards_unread plan machine boards other = by (same_or_not other machine) where
@@ -122,15 +107,8 @@ boards_unread plan machine boards other = by (same_or_not other machine) where
       (own_place (λ (a : AtMachine). a.unread ≡ (machine_at plan machine).unread) plan machine (record (machine_at plan machine) { boards = boards }) refl (λ none. ap (λ (a : AtMachine). a.unread) (sym none)))
   by (inr apart) = ap (λ (a : AtMachine). a.unread) (place_other plan machine other (record (machine_at plan machine) { boards = boards }) apart)
 
-same_place : (machine : ℕ) (a b : WorldParts) → b.floor ≡ a.floor → machine_at b.floor machine ≡ machine_at a.floor machine
-same_place machine a b same = ap (λ (f : FloorPlan). machine_at f machine) same
-
-sent_floor : (answer : Bool) (machine : ℕ) (side : Side) (message : Message) (world : WorldParts) → (sent_by answer machine side message world).world.floor ≡ world.floor
-sent_floor true machine side message world = floor_stays machine (after_answer (canonical message) (link_at machine world)) world
-sent_floor false machine side message world = floor_stays (link_of machine side) (after_send (end_of side) (canonical message) (link_at (link_of machine side) world)) world
-
 act_unread : (second : Bool) (machine : ℕ) (act : Act) (world : WorldParts) (other : ℕ) → (machine_at (act_did second machine act world).world.floor other).unread ≡ (machine_at world.floor other).unread
-act_unread second machine (acts.Sends side message) world other = ap (λ (f : FloorPlan). (machine_at f other).unread) (sent_floor (answers second side message) machine side message world)
+act_unread second machine (acts.Sends side message) world other = ap (λ (f : FloorPlan). (machine_at f other).unread) (sent-floor (answers second side message) machine side message world)
 act_unread second machine (acts.Closes side) world other = ap (λ (f : FloorPlan). (machine_at f other).unread) (floor_stays (link_of machine side) (after_close (end_of side) (link_at (link_of machine side) world)) world)
 act_unread second machine (acts.Notices side) world other = ap (λ (f : FloorPlan). (machine_at f other).unread) (floor_stays (link_of machine side) (after_close (end_of side) (link_at (link_of machine side) world)) world)
 act_unread second machine (acts.Drive side on) world other = ap (λ (a : AtMachine). a.unread) (places_stay world.floor (link_of machine side) other (with_drive (gap_at world.floor (link_of machine side)) side on))
@@ -213,18 +191,14 @@ boards_lists x plan machine boards other less = by (same_or_not other machine) w
       (own_place (λ (a : AtMachine). Lies x a.boards → Lies x (machine_at plan machine).boards) plan machine (record (machine_at plan machine) { boards = boards }) less (λ none l. none_lies l))
   by (inr apart) = λ l. subst (λ (a : AtMachine). Lies x a.boards) (place_other plan machine other (record (machine_at plan machine) { boards = boards }) apart) l
 
-not_true : (b : Bool) → not b ≡ true → b ≡ false
-not_true false is = refl
-not_true true is = sym is
-
 act_lists : (x : ℕ) (second : Bool) (machine : ℕ) (act : Act) (world : WorldParts) (other : ℕ) → makes_not x act ≡ true → Lies x (machine_at (act_did second machine act world).world.floor other).boards → Lies x (machine_at world.floor other).boards
-act_lists x second machine (acts.Sends side message) world other new lies = subst (λ (f : FloorPlan). Lies x (machine_at f other).boards) (sent_floor (answers second side message) machine side message world) lies
+act_lists x second machine (acts.Sends side message) world other new lies = subst (λ (f : FloorPlan). Lies x (machine_at f other).boards) (sent-floor (answers second side message) machine side message world) lies
 act_lists x second machine (acts.Closes side) world other new lies = subst (λ (f : FloorPlan). Lies x (machine_at f other).boards) (floor_stays (link_of machine side) (after_close (end_of side) (link_at (link_of machine side) world)) world) lies
 act_lists x second machine (acts.Notices side) world other new lies = subst (λ (f : FloorPlan). Lies x (machine_at f other).boards) (floor_stays (link_of machine side) (after_close (end_of side) (link_at (link_of machine side) world)) world) lies
 act_lists x second machine (acts.Drive side on) world other new lies = subst (λ (a : AtMachine). Lies x a.boards) (places_stay world.floor (link_of machine side) other (with_drive (gap_at world.floor (link_of machine side)) side on)) lies
-act_lists x second machine (acts.Inserts id) world other new lies = boards_lists x world.floor machine _ other (λ l. lies_last id (machine_at world.floor machine).boards (not_true (id == x) new) l) lies
+act_lists x second machine (acts.Inserts id) world other new lies = boards_lists x world.floor machine _ other (λ l. lies_last id (machine_at world.floor machine).boards (not-true (id == x) new) l) lies
 act_lists x second machine (acts.Removes id) world other new lies = boards_lists x world.floor machine _ other (λ l. lies_without x id (machine_at world.floor machine).boards l) lies
-act_lists x second machine (acts.Replaces old now) world other new lies = boards_lists x world.floor machine _ other (λ l. lies_renamed x old now (machine_at world.floor machine).boards (not_true (now == x) new) l) lies
+act_lists x second machine (acts.Replaces old now) world other new lies = boards_lists x world.floor machine _ other (λ l. lies_renamed x old now (machine_at world.floor machine).boards (not-true (now == x) new) l) lies
 act_lists x second machine (acts.Deed deed) world other new lies = subst (λ (f : FloorPlan). Lies x (machine_at f other).boards) (deed_floor deed world) lies
 act_lists x second machine (acts.Reads side event) world other new lies = lies
 act_lists x second machine (acts.Hears side message) world other new lies = lies
@@ -239,8 +213,8 @@ act_lists x second machine (acts.Sets setting) world other new lies = lies
 pub acts_lists : (x : ℕ) (second : Bool) (machine : ℕ) (told : List Act) (world : WorldParts) (other : ℕ) → make_not x told ≡ true → Lies x (machine_at (acts_did second machine told world).world.floor other).boards → Lies x (machine_at world.floor other).boards
 acts_lists x second machine [] world other new lies = lies
 acts_lists x second machine (act ∷ told) world other new lies =
-    act_lists x second machine act world other (and_one (makes_not x act) (make_not x told) new)
-    (acts_lists x second machine told (act_did second machine act world).world other (and_two (makes_not x act) (make_not x told) new) lies)
+    act_lists x second machine act world other (and_parts (makes_not x act) (make_not x told) new).0
+    (acts_lists x second machine told (act_did second machine act world).world other (and_parts (makes_not x act) (make_not x told) new).1 lies)
 
 pub read_lists : (x machine : ℕ) (world : WorldParts) (other : ℕ) → Lies x (machine_at (read_by machine world).floor other).boards → Lies x (machine_at world.floor other).boards
 read_lists x machine world other = by (same_or_not other machine) where

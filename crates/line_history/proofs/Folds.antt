@@ -2,6 +2,7 @@
 -- said.
 use Rattle.std.proofs.Common.{Bool, List, None, Option, Some, [], ap, false, refl, subst, sym, true, ℕ, ◌&&◌, ◌++◌, ◌==◌, ◌||◌, ◌∙◌, ◌∷◌, ◌≡◌}
 use Rattle.std.specs.Prelude.{not}
+use Rattle.std.proofs.lemmas.Bool.{and_from, and_parts}
 use Rattle.line_base.specs.declared.states.Side.TheVariants.{Entry}
 use Rattle.line_base.specs.declared.states.Transfer.TheVariants.{Complete}
 use Rattle.hermes_horizontal.specs.declared.message.Horizontal.{Horizontal}
@@ -10,7 +11,6 @@ use Rattle.node_core.specs.declared.act.Act.{Act}
 use Rattle.node_core.specs.declared.act.Act.TheVariants as acts
 use Rattle.node_core.specs.declared.act.Deed.TheVariants as deeds
 use Rattle.custody.specs.LookBack.{IsSaid as IsSaidSince, Since, just_started}
-use Rattle.one_standing.proofs.LedgerWalk.{and_one, and_two}
 
 -- ---- the fold
 
@@ -100,22 +100,18 @@ aside_same h _ is = (refl, refl)
 pub aside_heard : (h : Hearing) (told : List Act) → are_aside told ≡ true → heard_all h told ≡ h
 aside_heard h [] is = refl
 aside_heard h (act ∷ told) is =
-    let same = (aside_same h act (and_one (is_aside act) (are_aside told) is)).0 in
-    ap (λ (x : Hearing). heard_all x told) same ∙ aside_heard h told (and_two (is_aside act) (are_aside told) is)
+    let same = (aside_same h act (and_parts (is_aside act) (are_aside told) is).0).0 in
+    ap (λ (x : Hearing). heard_all x told) same ∙ aside_heard h told (and_parts (is_aside act) (are_aside told) is).1
 
 pub aside_orderly : {P : ℕ → Type 0} (h : Hearing) (told : List Act) → are_aside told ≡ true → Orderly P h told
 aside_orderly h [] is = ends
 aside_orderly {P = P} h (act ∷ told) is =
-    let same = aside_same h act (and_one (is_aside act) (are_aside told) is) in
-    goes_on same.1 (subst (λ (x : Hearing). Orderly P x told) (sym same.0) (aside_orderly h told (and_two (is_aside act) (are_aside told) is)))
-
-both_true : (x y : Bool) → x ≡ true → y ≡ true → (x && y) ≡ true
-both_true true y is more = more
-both_true false y is more = is
+    let same = aside_same h act (and_parts (is_aside act) (are_aside told) is).0 in
+    goes_on same.1 (subst (λ (x : Hearing). Orderly P x told) (sym same.0) (aside_orderly h told (and_parts (is_aside act) (are_aside told) is).1))
 
 pub aside_append : (a b : List Act) → are_aside a ≡ true → are_aside b ≡ true → are_aside (a ++ b) ≡ true
 aside_append [] b one two = two
-aside_append (act ∷ a) b one two = both_true (is_aside act) (are_aside (a ++ b)) (and_one (is_aside act) (are_aside a) one) (aside_append a b (and_two (is_aside act) (are_aside a) one) two)
+aside_append (act ∷ a) b one two = and_from (is_aside act) (are_aside (a ++ b)) (and_parts (is_aside act) (are_aside a) one).0 (aside_append a b (and_parts (is_aside act) (are_aside a) one).1 two)
 
 -- ---- acts that leave the list of the machine as it is, and in which no board is said to have left
 
@@ -132,4 +128,4 @@ are_inner (act ∷ told) = is_inner act && are_inner told
 
 pub inner_append : (a b : List Act) → are_inner a ≡ true → are_inner b ≡ true → are_inner (a ++ b) ≡ true
 inner_append [] b one two = two
-inner_append (act ∷ a) b one two = both_true (is_inner act) (are_inner (a ++ b)) (and_one (is_inner act) (are_inner a) one) (inner_append a b (and_two (is_inner act) (are_inner a) one) two)
+inner_append (act ∷ a) b one two = and_from (is_inner act) (are_inner (a ++ b)) (and_parts (is_inner act) (are_inner a) one).0 (inner_append a b (and_parts (is_inner act) (are_inner a) one).1 two)

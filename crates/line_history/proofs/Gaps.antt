@@ -1,9 +1,12 @@
 -- What the report tells of a gap, as a fold: the board of the last start, until that is answered or settled, and whether a
 -- board was dropped since; and what the acts of the two machines at the gap do to it.
-use Rattle.std.proofs.Common.{Bool, List, None, Option, Some, [], ap, append-nil, append_assoc, arith, eq-eqb, eqb-true, false, refl, subst, sym, true, ℕ, ◌++◌, ◌+◌, ◌==◌, ◌||◌, ◌∙◌, ◌∷◌, ◌≡◌, ◌⊎◌, inl, inr, length, suc, zero}
+use Rattle.std.proofs.Common.{Bool, List, None, Option, Some, [], ap, append-nil, append_assoc, arith, eqb-true, false, refl, subst, sym, true, ℕ, ◌++◌, ◌+◌, ◌==◌, ◌||◌, ◌∙◌, ◌∷◌, ◌≡◌, ◌⊎◌, inl, inr, length, suc, zero}
 use Rattle.std.specs.Prelude.{drop, if◌then◌else◌}
 use Rattle.std.specs.List.{list_any}
-use Rattle.std.proofs.lemmas.Bool.{and_parts, false≢true}
+use Rattle.std.proofs.lemmas.Bool.{and_parts, false≢true, or_parts}
+use Rattle.line_history.proofs.Said.{some_id}
+use Rattle.custody.proofs.Rows.{same as same_number}
+use mathlib.Core.Bool.{or-false, or_assoc}
 use Rattle.line_base.specs.declared.states.Side.TheVariants.{Entry}
 use Rattle.hermes_horizontal.specs.declared.message.Horizontal.{Horizontal}
 use Rattle.hermes_horizontal.specs.declared.message.Horizontal.TheVariants as bodies
@@ -23,7 +26,7 @@ use Rattle.line_history.specs.Opened.{gap_deed, gap_deeds, if_it, is_above, is_b
 use Rattle.line_history.specs.Settled.{is_start}
 use Rattle.line_history.proofs.LinkUp.{starts_of}
 use Rattle.line_history.proofs.Orders.{Orders, is_plain, orders_end, orders_hears, orders_on, orders_opens, orders_refuses, orders_starts}
-use Rattle.line_history.proofs.Started.{hand_open, open_act, open_all, silent_all, silent_open, walk_open}
+use Rattle.line_history.proofs.Started.{hand_open, open_act, open_all, silent_all, silent_open, walk_open, none_some}
 use Rattle.line_history.proofs.View.{done_act, done_by, told_of_act, undriven}
 
 -- ---- the fold
@@ -76,27 +79,13 @@ split_on deed told s = record { before = deed ∷ s.before; since = s.since; tol
 abbrev Last : Gap → List Deed → ℕ → Bool → Type 0
 Last g told id dropped = Split id dropped told ⊎ ((g.last ≡ Some id) × ((list_any is_other told ≡ false) × ((g.dropped || list_any (is_drop id) told) ≡ dropped)))
 
-none_some : {X : Type 0} (id : ℕ) → ◌≡◌ {A = Option ℕ} None (Some id) → X
-none_some id is = cc
-
-some_same : (a b : ℕ) → ◌≡◌ {A = Option ℕ} (Some a) (Some b) → a ≡ b
-some_same a b is = cc
-
-or_false : (b : Bool) → (b || false) ≡ b
-or_false true = refl
-or_false false = refl
-
-or_three : (a b c : Bool) → ((a || b) || c) ≡ (a || (b || c))
-or_three true b c = refl
-or_three false b c = refl
-
 drop_named : (g : Gap) (other id : ℕ) (rest : Bool) → g.last ≡ Some id → ((g.dropped || is_named g.last other) || rest) ≡ (g.dropped || ((other == id) || rest))
-drop_named g other id rest is = or_three g.dropped (is_named g.last other) rest ∙ ap (λ (o : Option ℕ). g.dropped || (is_named o other || rest)) is
+drop_named g other id rest is = or_assoc g.dropped (is_named g.last other) rest ∙ ap (λ (o : Option ℕ). g.dropped || (is_named o other || rest)) is
 
 last_by : (g : Gap) (deed : Deed) (told : List Deed) (id : ℕ) (dropped : Bool) → Last (gap_after g deed) told id dropped → Last g (deed ∷ told) id dropped
 last_by g deed told id dropped (inl s) = inl (split_on deed told s)
 last_by g (deeds.Starts other) told id dropped (inr all) =
-    inl (record { before = []; since = told; told_is = ap (λ (x : ℕ). deeds.Starts x ∷ told) (some_same other id all.0); last = all.1.0; drops = all.1.1 })
+    inl (record { before = []; since = told; told_is = ap (λ (x : ℕ). deeds.Starts x ∷ told) (some_id other id all.0); last = all.1.0; drops = all.1.1 })
 last_by g (deeds.Opens other) told id dropped (inr all) = none_some id all.0
 last_by g (deeds.Refuses other) told id dropped (inr all) = none_some id all.0
 last_by g (deeds.Settles other) told id dropped (inr all) = none_some id all.0
@@ -106,7 +95,7 @@ last_by g (deeds.Returns other) told id dropped (inr all) = inr all
 last_by g (deeds.Loses other) told id dropped (inr all) = inr all
 
 last_of : (g : Gap) (told : List Deed) (id : ℕ) → (gaps_after g told).last ≡ Some id → Last g told id (gaps_after g told).dropped
-last_of g [] id is = inr (is, (refl, or_false g.dropped))
+last_of g [] id is = inr (is, (refl, or-false g.dropped))
 last_of g (deed ∷ told) id is = last_by g deed told id (gaps_after (gap_after g deed) told).dropped (last_of (gap_after g deed) told id is)
 
 pub split_of : (told : List Deed) (id : ℕ) → (gaps_after none_yet told).last ≡ Some id → Split id (gaps_after none_yet told).dropped told
@@ -464,9 +453,6 @@ owned_undriven owned_end = owned_end
 owned_undriven (owned_on {act = act} {told = told} plain more) = owned_told act (undriven told) plain (owned_undriven more)
 owned_undriven (owned_drops more) = owned_drops (owned_undriven more)
 
-same_number : (n : ℕ) → (n == n) ≡ true
-same_number n = eq-eqb n n refl
-
 stays_act : (z : ℕ) (act : Act) (o : Option ℕ) (g : Gap) → is_start act ≡ false → is_settle act ≡ false → is_dropping act ≡ false → Stays z o g → Stays z (open_act o act) (gaps_after g (below_of act))
 stays_act z (acts.Deed (deeds.Starts id)) o g start settle drops s = absurd (false≢true (sym start))
 stays_act z (acts.Deed (deeds.Settles id)) o g start settle drops s = absurd (false≢true (sym settle))
@@ -480,22 +466,14 @@ stays_act z _ o g start settle drops s = s
 
 stays_drop : (z id : ℕ) (g : Gap) → Stays z (Some id) g → Stays z None (gap_after g (deeds.Drops id))
 stays_drop z id g (stays_held is gap) =
-    let same : id ≡ z = some_same id z is in
+    let same : id ≡ z = some_id id z is in
     stays_dropped refl (ap (λ (x : Gap). gap_after x (deeds.Drops id)) gap ∙ ap (λ (b : Bool). record { last = Some z; dropped = b }) (ap (λ (n : ℕ). n == z) same ∙ same_number z))
 stays_drop z id g (stays_dropped is gap) = none_some id (sym is)
-
-or_one : (a b : Bool) → (a || b) ≡ false → a ≡ false
-or_one true b is = is
-or_one false b is = refl
-
-or_two : (a b : Bool) → (a || b) ≡ false → b ≡ false
-or_two true b is = absurd (false≢true (sym is))
-or_two false b is = is
 
 pub stays_all : (z : ℕ) (told : List Act) (o : Option ℕ) (g : Gap) → Owned o told → list_any is_start told ≡ false → list_any is_settle told ≡ false → Stays z o g → Stays z (open_all o told) (gaps_after g (below_deeds told))
 stays_all z [] o g owned_end start settle s = s
 stays_all z (act ∷ told) o g (owned_on plain more) start settle s =
     subst (λ (x : Gap). Stays z (open_all (open_act o act) told) x) (sym (gaps_append g (below_of act) (below_deeds told)))
-    (stays_all z told (open_act o act) (gaps_after g (below_of act)) more (or_two (is_start act) (list_any is_start told) start) (or_two (is_settle act) (list_any is_settle told) settle)
-    (stays_act z act o g (or_one (is_start act) (list_any is_start told) start) (or_one (is_settle act) (list_any is_settle told) settle) plain s))
+    (stays_all z told (open_act o act) (gaps_after g (below_of act)) more (or_parts (is_start act) (list_any is_start told) start).1 (or_parts (is_settle act) (list_any is_settle told) settle).1
+    (stays_act z act o g (or_parts (is_start act) (list_any is_start told) start).0 (or_parts (is_settle act) (list_any is_settle told) settle).0 plain s))
 stays_all z (_ ∷ told) _ g (owned_drops {id = id} more) start settle s = stays_all z told None (gap_after g (deeds.Drops id)) more start settle (stays_drop z id g s)

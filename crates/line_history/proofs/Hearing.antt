@@ -1,6 +1,7 @@
 -- What a machine tells of its entry as its sides hear messages and as their connections are made and end.
 use Rattle.std.proofs.Common.{Bool, List, None, Option, Some, [], ap, eq-eqb, false, refl, subst, sym, true, ℕ, ◌&&◌, ◌++◌, ◌||◌, ◌∙◌, ◌∷◌, ◌≡◌}
 use Rattle.std.specs.Prelude.{not}
+use Rattle.std.proofs.lemmas.Bool.{or_parts}
 use Rattle.line_base.specs.declared.states.Severity.TheVariants.{Fatal}
 use Rattle.line_base.specs.declared.states.Side.{Side}
 use Rattle.line_base.specs.declared.states.Side.TheVariants.{Entry, Exit}
@@ -86,10 +87,6 @@ is_stand _ = false
 abbrev pub stands_in : Actions → Bool
 stands_in actions = is_stand actions.first || (is_stand actions.second || is_stand actions.third)
 
-either_none : (a b : Bool) → (a || b) ≡ false → (a ≡ false) × (b ≡ false)
-either_none false b is = (refl, is)
-either_none true b is = absurd (let h : true ≡ false = is in cc)
-
 -- a session changes first
 pub works_session : {P : ℕ → Type 0} {h : Hearing} (side : Side) (s : SessionEnd) (body : Body) (d : Done) → Works P h (with_session side s body) d → Works P h body d
 works_session Entry s body d k = record { tells = record { orderly = k.tells.orderly; knows = k.tells.knows; less = k.tells.less }; inner = k.inner }
@@ -119,8 +116,8 @@ maybe_works desk side (Some action) body quiet k = action_works desk side action
 pub actions_work : {P : ℕ → Type 0} {h : Hearing} (desk : Desk) (side : Side) (actions : Actions) (body : Body) → stands_in actions ≡ false → Knows h body.intake → Works P h body (actions_did desk side actions body)
 actions_work desk side actions body quiet k =
     let one = maybe_did desk side actions.first body in
-    let first = either_none (is_stand actions.first) (is_stand actions.second || is_stand actions.third) quiet in
-    let later = either_none (is_stand actions.second) (is_stand actions.third) first.1 in
+    let first = or_parts (is_stand actions.first) (is_stand actions.second || is_stand actions.third) quiet in
+    let later = or_parts (is_stand actions.second) (is_stand actions.third) first.1 in
     works_both body one (λ (b : Body). and_then (maybe_did desk side actions.second b) (maybe_did desk side actions.third)) (maybe_works desk side actions.first body first.0 k)
     (λ k2. works_both one.body (maybe_did desk side actions.second one.body) (maybe_did desk side actions.third) (maybe_works desk side actions.second one.body later.0 k2)
     (λ k3. maybe_works desk side actions.third (maybe_did desk side actions.second one.body).body later.1 k3))

@@ -1,6 +1,8 @@
 -- In which steps a board is said to have left: as the machine reads its events, where its outlet holds a board that is across
 -- or inside; and never where it holds none.
-use Rattle.std.proofs.Common.{Bool, List, None, Option, Some, [], ap, false, refl, subst, sym, true, ◌++◌, ◌||◌, ◌∙◌, ◌∷◌, ◌≡◌}
+use Rattle.std.proofs.Common.{Bool, List, None, Option, Some, [], ap, false, refl, subst, sym, true, ◌++◌, ◌∙◌, ◌∷◌, ◌≡◌}
+use Rattle.std.proofs.lemmas.Bool.{or_left, or_right, or_from}
+use Rattle.machine_custody.proofs.BehindReading.{intake_apart}
 use Rattle.line_base.specs.declared.states.SensorEvent.{SensorEvent}
 use Rattle.line_base.specs.declared.states.SensorEvent.TheVariants as event
 use Rattle.line_base.specs.declared.states.Side.{Side}
@@ -53,18 +55,6 @@ leaves_by q stuck_gone far held = elim far [ ]
 
 -- ---- reading them
 
-entry_outlet : (desk : Desk) (body : Machine) (found : Option InRow) → (intake_row_did desk body found).body.outlet ≡ body.outlet
-entry_outlet desk body None = refl
-entry_outlet desk body (Some row) = refl
-
-or_first : (a b : Bool) → a ≡ true → (a || b) ≡ true
-or_first true b is = refl
-or_first false b is = absurd (let no_way : false ≡ true = is in cc)
-
-or_second : (a b : Bool) → b ≡ true → (a || b) ≡ true
-or_second true b is = refl
-or_second false b is = is
-
 left_said : (desk : Desk) (body : Machine) (r : Record) (c : Bool) → body.outlet.phase ≡ out.Moving r c → tells_leaving (reads desk (record { side = Exit; event = event.Left }) body).acts ≡ true
 left_said desk body r true is = rw is refl
 left_said desk body r false is = rw is refl
@@ -76,11 +66,11 @@ begun_moves desk body r false is = rw is refl
 -- the first act, or the later ones
 said_now : (desk : Desk) (sensed : Sensed) (others : List Sensed) (body : Machine) → tells_leaving (reads desk sensed body).acts ≡ true → tells_leaving (all_read desk (sensed ∷ others) body).acts ≡ true
 said_now desk sensed others body is =
-    leaving_append (reads desk sensed body).acts (all_read desk others (reads desk sensed body).body).acts ∙ or_first (tells_leaving (reads desk sensed body).acts) (tells_leaving (all_read desk others (reads desk sensed body).body).acts) is
+    leaving_append (reads desk sensed body).acts (all_read desk others (reads desk sensed body).body).acts ∙ or_left (tells_leaving (reads desk sensed body).acts) (tells_leaving (all_read desk others (reads desk sensed body).body).acts) is
 
 said_later : (desk : Desk) (sensed : Sensed) (others : List Sensed) (body : Machine) → tells_leaving (all_read desk others (reads desk sensed body).body).acts ≡ true → tells_leaving (all_read desk (sensed ∷ others) body).acts ≡ true
 said_later desk sensed others body is =
-    leaving_append (reads desk sensed body).acts (all_read desk others (reads desk sensed body).body).acts ∙ or_second (tells_leaving (reads desk sensed body).acts) (tells_leaving (all_read desk others (reads desk sensed body).body).acts) is
+    leaving_append (reads desk sensed body).acts (all_read desk others (reads desk sensed body).body).acts ∙ or_right (tells_leaving (reads desk sensed body).acts) (tells_leaving (all_read desk others (reads desk sensed body).body).acts) is
 
 abbrev Leaves : Desk → List Sensed → Type 0
 Leaves desk unread = (body : Machine) (o : Out) (es : List SensorEvent) → body.outlet.phase ≡ o → events_at Exit unread ≡ es → LeavesBy o es → tells_leaving (all_read desk unread body).acts ≡ true
@@ -99,7 +89,7 @@ exit_leaves desk seen others body _ _ later phase same (by_begun {r = r} {c = c}
 one_leaves : (desk : Desk) (side : Side) (seen : SensorEvent) (others : List Sensed) → Leaves desk others → Leaves desk (record { side = side; event = seen } ∷ others)
 one_leaves desk Entry seen others later body o es phase same by =
     let sensed : Sensed = record { side = Entry; event = seen } in
-    said_later desk sensed others body (later (reads desk sensed body).body o es (ap (λ (s : OutState). s.phase) (entry_outlet desk body (intake_row body.intake (in_input.Sensed seen))) ∙ phase) same by)
+    said_later desk sensed others body (later (reads desk sensed body).body o es (ap (λ (s : OutState). s.phase) (intake_apart desk body (intake_row body.intake (in_input.Sensed seen))) ∙ phase) same by)
 one_leaves desk Exit seen others later body o es phase same by = exit_leaves desk seen others body o es later phase same by
 
 none_by : {o : Out} {es : List SensorEvent} {X : Type 0} → [] ≡ es → LeavesBy o es → X
@@ -148,13 +138,9 @@ exit_none desk body seen (Some row) is none =
     let both = none_row (out_row_is body.outlet (out_input.Sensed seen) row is) none in
     (inner_stays (outlet_row_did desk body (Some row)).acts (out_inner desk body.kept row (ap leaves_not both.1)), both.0)
 
-either_not : (a b : Bool) → a ≡ false → b ≡ false → (a || b) ≡ false
-either_not false b one two = two
-either_not true b one two = one
-
 one_none : (desk : Desk) (side : Side) (seen : SensorEvent) (body : Machine) → held_out body.outlet.phase ≡ None
     → (tells_leaving (reads desk (record { side = side; event = seen }) body).acts ≡ false) × (held_out (reads desk (record { side = side; event = seen }) body).body.outlet.phase ≡ None)
-one_none desk Entry seen body none = (entry_stays desk body (intake_row body.intake (in_input.Sensed seen)), ap (λ (s : OutState). held_out s.phase) (entry_outlet desk body (intake_row body.intake (in_input.Sensed seen))) ∙ none)
+one_none desk Entry seen body none = (entry_stays desk body (intake_row body.intake (in_input.Sensed seen)), ap (λ (s : OutState). held_out s.phase) (intake_apart desk body (intake_row body.intake (in_input.Sensed seen))) ∙ none)
 one_none desk Exit seen body none = exit_none desk body seen (outlet_row body.outlet (out_input.Sensed seen)) refl none
 
 pub none_leave : (desk : Desk) (unread : List Sensed) (body : Machine) → held_out body.outlet.phase ≡ None → tells_leaving (all_read desk unread body).acts ≡ false
@@ -162,4 +148,4 @@ none_leave desk [] body none = refl
 none_leave desk (sensed ∷ others) body none =
     let both = one_none desk sensed.side sensed.event body none in
     leaving_append (reads desk sensed body).acts (all_read desk others (reads desk sensed body).body).acts
-    ∙ either_not (tells_leaving (reads desk sensed body).acts) (tells_leaving (all_read desk others (reads desk sensed body).body).acts) both.0 (none_leave desk others (reads desk sensed body).body both.1)
+    ∙ or_from (tells_leaving (reads desk sensed body).acts) (tells_leaving (all_read desk others (reads desk sensed body).body).acts) both.0 (none_leave desk others (reads desk sensed body).body both.1)

@@ -1,8 +1,9 @@
 -- Along a run: what the intake of a gap holds alone was let go there last, is kept above still, or is gone; and so what settles
 -- was let go last.
-use Rattle.std.proofs.Common.{Bool, List, None, Option, Some, [], ap, arith, eq-eqb, false, inl, inr, refl, suc, subst, sym, take, true, zero, ℕ, ◌&&◌, ◌++◌, ◌+◌, ◌==◌, ◌||◌, ◌∙◌, ◌∷◌, ◌≡◌, ◌≢◌, ◌≤◌, ◌⊎◌}
+use Rattle.std.proofs.Common.{Bool, List, None, Option, Some, [], ap, arith, eq-eqb, false, inl, inr, refl, suc, subst, sym, take, true, zero, ℕ, ◌++◌, ◌+◌, ◌==◌, ◌||◌, ◌∙◌, ◌∷◌, ◌≡◌, ◌≢◌, ◌≤◌, ◌⊎◌}
 use Rattle.std.specs.Prelude.{cond}
 use Rattle.std.specs.List.{AllByRecursion, list_any}
+use mathlib.Core.Bool.{and-false}
 use Rattle.line_base.specs.declared.states.Side.TheVariants.{Exit}
 use Rattle.board_record.specs.declared.sensed.Sensed.{Sensed}
 use Rattle.board_record.specs.declared.record.Record.{Record}
@@ -54,10 +55,6 @@ use Rattle.line_history.proofs.SettledRun.{IsInAt, Told, acts_append, line_told,
 use Rattle.line_history.proofs.Stepping.{IsJustStarted, StepDoes, is_leaving as leaves_now, leaving_append, tells_leaving}
 use Rattle.line_history.proofs.View.{Kind, Stays, Stepped, Turn, done_act, done_by, has_stepped, is_still, line_kind, line_turn, told_of_act, undriven, unwilled}
 use Rattle.line_history.proofs.Where.{IsBeyond, WhereAlone, alone_beyond, alone_gone, alone_kept, is_across, is_inside_there, kept_above, not_above, unread_leaves, where_alone, where_started}
-
-and_false : (b : Bool) → (b && false) ≡ false
-and_false true = refl
-and_false false = refl
 
 -- ---- what is told of leaving
 
@@ -198,15 +195,15 @@ knowing : (i : InState) (phase : In) → i.phase ≡ phase → (h : Hearing) × 
 knowing i inn.Idle is = (none_heard, record { named = λ r held. absurd (let no_way : ◌≡◌ {A = Option Record} None (Some r) = sym (ap held_in is) ∙ held in cc); recalled = rw is (record { ended = refl; linked = refl; waiting = refl }) })
 knowing i (inn.Taking q own heard) is = (
   record { named = Some q.id; since = record { ended = true; closed = false; described = false } },
-  record { named = λ r held. ap id_of (sym (ap held_in is) ∙ held); recalled = rw is (record { ended = and_false heard; linked = refl; waiting = refl }) },
+  record { named = λ r held. ap id_of (sym (ap held_in is) ∙ held); recalled = rw is (record { ended = and-false heard; linked = refl; waiting = refl }) },
 )
 knowing i (inn.Stopped q own heard) is = (
   record { named = Some q.id; since = record { ended = true; closed = false; described = false } },
-  record { named = λ r held. ap id_of (sym (ap held_in is) ∙ held); recalled = rw is (record { ended = and_false (has_heard_left (inn.Stopped q own heard)); linked = refl; waiting = refl }) },
+  record { named = λ r held. ap id_of (sym (ap held_in is) ∙ held); recalled = rw is (record { ended = and-false (has_heard_left (inn.Stopped q own heard)); linked = refl; waiting = refl }) },
 )
 knowing i (inn.Waiting q own heard) is = (
   record { named = Some q.id; since = record { ended = true; closed = true; described = false } },
-  record { named = λ r held. ap id_of (sym (ap held_in is) ∙ held); recalled = rw is (record { ended = and_false heard; linked = refl; waiting = refl }) },
+  record { named = λ r held. ap id_of (sym (ap held_in is) ∙ held); recalled = rw is (record { ended = and-false heard; linked = refl; waiting = refl }) },
 )
 
 step_leaving : (t : Trace) (j : ℕ) (before after : LineState) (told : List Happening) → Stands t before → (s : Stepped j t before after told) → list_any (is_leaving (j + 1)) told ≡ tells_leaving (all_read s.desk (unread_by (j + 1) before.world) (node_at before (j + 1)).lane.body).acts

@@ -2,11 +2,11 @@
 -- them goes on through the acts of a machine.
 use Rattle.std.proofs.Common.{Bool, List, None, Option, Some, [], ap, append-nil, false, inl, inr, refl, subst, sym, true, ℕ, ◌&&◌, ◌++◌, ◌-◌, ◌∙◌, ◌∷◌, ◌≡◌, ◌≢◌, ◌⊎◌}
 use Rattle.std.specs.Prelude.{cond, not}
-use Rattle.std.proofs.lemmas.Bool.{and_parts, false≢true}
+use Rattle.std.proofs.lemmas.Bool.{and_parts, false≢true, not-true}
+use Rattle.one_standing.proofs.BlameLinks.{first_frame}
 use Rattle.line_base.specs.declared.states.Role.TheVariants.{Downstream, Upstream}
 use Rattle.line_base.specs.declared.states.Side.{Side}
 use Rattle.line_base.specs.declared.states.Side.TheVariants.{Entry, Exit}
-use Rattle.hermes_stream.specs.Frames.{IsOneFrame}
 use Rattle.hermes_horizontal.specs.Canonical.{canonical}
 use Rattle.hermes_horizontal.specs.declared.message.Horizontal.{Horizontal}
 use Rattle.hermes_horizontal.specs.declared.message.Horizontal.TheVariants as bodies
@@ -135,9 +135,6 @@ up_any (up_whole said fit (inr is) flows) = up_whole said fit (inr is) flows
 up_any (up_spoiled spoiled) = up_spoiled spoiled
 up_any (up_over off none) = up_over off none
 
-one_sayable : {message : Message} {messages : List Message} → AreSayable (message ∷ messages) → IsOneFrame (canonical message)
-one_sayable (more_sayable one others) = one.one
-
 still_any : {Any : Type 0} {ids : List ℕ} (said : List Message) (message : Message) → Any ⊎ (is_asking message.body ≡ false) → Any ⊎ (starts_of (bodies_of said) ≡ ids) → Any ⊎ (starts_of (bodies_of (said ++ message ∷ [])) ≡ ids)
 still_any said message (inl any) was = inl any
 still_any said message (inr asks) (inl any) = inl any
@@ -145,7 +142,7 @@ still_any said message (inr asks) (inr is) = inr (starts_more said message asks 
 
 up_more : {Any : Type 0} {ids : List ℕ} {stands : Bool} {waiting bytes : List ℕ} → SaysAlone → (message : Message) → IsFit message → Any ⊎ (is_asking message.body ≡ false) → stands ≡ true → Up Any ids stands waiting bytes → Up Any ids stands waiting (bytes ++ canonical message)
 up_more {waiting = waiting} {bytes = bytes} alone message fit asks on (up_whole said good starts flows) =
-    up_whole (said ++ message ∷ []) (both_fit good (more_fit fit none_fit)) (still_any said message asks starts) (sends_a_message waiting bytes said message (one_sayable (alone.sayable (message ∷ []) (more_fit fit none_fit))) flows)
+    up_whole (said ++ message ∷ []) (both_fit good (more_fit fit none_fit)) (still_any said message asks starts) (sends_a_message waiting bytes said message (first_frame (alone.sayable (message ∷ []) (more_fit fit none_fit))) flows)
 up_more {waiting = waiting} {bytes = bytes} alone message fit asks on (up_spoiled spoiled) = up_spoiled (nul_stays waiting bytes (canonical message) spoiled)
 up_more alone message fit asks on (up_over off none) = absurd (false≢true (sym off ∙ on))
 
@@ -216,13 +213,9 @@ abbrev pub are_silent : List Act → Bool
 are_silent [] = true
 are_silent (act ∷ told) = is_silent act && are_silent told
 
-not_asking : (test : Bool) → not test ≡ true → test ≡ false
-not_asking true is = absurd (false≢true is)
-not_asking false is = refl
-
 silent_entry : {Any : Type 0} (message : Message) → Any ⊎ (is_silent (acts.Sends Entry message) ≡ true) → Any ⊎ (is_asking message.body ≡ false)
 silent_entry message (inl any) = inl any
-silent_entry message (inr silent) = inr (not_asking (is_asking message.body) silent)
+silent_entry message (inr silent) = inr (not-true (is_asking message.body) silent)
 
 sent_up : {Any : Type 0} {ids : List ℕ} {waiting : List ℕ} → SaysAlone → (k : ℕ) (test : Bool) (machine : ℕ) (side : Side) (message : Message) (world : WorldParts) → IsFit message → (k ≡ machine - 1 → Any ⊎ (is_silent (acts.Sends side message) ≡ true))
     → ((link : ℕ) → IsWholeLink (link_at link world)) → UpOn Any ids waiting (link_at k world) → UpOn Any ids waiting (link_at k (sent_by test machine side message world).world)

@@ -1,7 +1,10 @@
 -- Along a run: what each outlet holds was offered before its opening, and so what settles is as it was offered.
 use Rattle.std.proofs.Common.{Bool, List, None, Option, Some, [], ap, arith, eq-eqb, eqb-true, false, refl, suc, subst, sym, take, true, zero, ℕ, ◌&&◌, ◌++◌, ◌+◌, ◌==◌, ◌||◌, ◌∙◌, ◌∷◌, ◌≡◌, ◌≤◌}
-use Rattle.std.specs.Prelude.{if◌then◌else◌, nat_eq}
+use Rattle.std.specs.Prelude.{if◌then◌else◌}
 use Rattle.std.specs.List.{list_any}
+use Rattle.custody.proofs.AnnounceEntry.{same_board}
+use Rattle.one_standing.proofs.HandSteps.{own_gone}
+use mathlib.Core.Bool.{or-false}
 use Rattle.board_record.specs.declared.record.Record.{Record}
 use Rattle.line_script.specs.declared.line.ScriptLine.{ScriptLine}
 use Rattle.handover_out.specs.State.{board_of_phase as held_out}
@@ -70,15 +73,11 @@ undriven_offers [] o = refl
 undriven_offers (act ∷ told) o =
     offers_append (told_of_act act) (undriven told) o ∙ (undriven_offers told (offers_acts (told_of_act act) o) ∙ ap (λ (x : Offering). offers_acts told x) (undriven_act act o))
 
-or_none : (a : Bool) → a ≡ (a || false)
-or_none true = refl
-or_none false = refl
-
 hand_act : (act : Act) → are_hand (told_of_act act) ≡ is_hand act
 hand_act (acts.Drive side on) = refl
 hand_act (acts.Signals signal on) = refl
 hand_act (acts.Tells message) = refl
-hand_act act = sym (or_none (is_hand act))
+hand_act act = or-false (is_hand act)
 
 hand_happening : (m : ℕ) (h : Happening) → is_hand_at m h ≡ are_hand (done_act m h)
 hand_happening m (happenings.Done machine act) = by (machine == m) where
@@ -106,7 +105,7 @@ undriven_settles (act ∷ told) ids =
     settles_append (told_of_act act) (undriven told) ids ∙ (undriven_settles told (settles_acts (told_of_act act) ids) ∙ ap (λ (x : List ℕ). settles_acts told x) (settle_one act ids))
 
 -- a board that was told to settle is among those that did
-still_act : {id : ℕ} (act : Act) (ids : List ℕ) → IsAmong id ids → IsAmong id (settles_act act ids)
+pub still_act : {id : ℕ} (act : Act) (ids : List ℕ) → IsAmong id ids → IsAmong id (settles_act act ids)
 still_act (acts.Deed (deeds.Settles other)) ids is = among_later is
 still_act (acts.Deed (deeds.Opens other)) ids is = is
 still_act (acts.Deed (deeds.Refuses other)) ids is = is
@@ -175,17 +174,6 @@ takes_told {x = x} machine (happenings.Done other act ∷ told) has = by (other 
   by false same has more = later_by (happenings.Done other act) (more has)
 takes_told machine (h ∷ told) has = later_by h (takes_told machine told has)
 
-or_true : (a b : Bool) → b ≡ true → (a || b) ≡ true
-or_true true b is = refl
-or_true false b is = is
-
-both_true : (a b : Bool) → a ≡ true → b ≡ true → (a && b) ≡ true
-both_true true b one two = two
-both_true false b one two = one
-
-grown_own : (m x : ℕ) (gone : ℕ → ℕ → Bool) → grown m x gone m x ≡ true
-grown_own m x gone = or_true (gone m x) (nat_eq m m && nat_eq x x) (both_true (nat_eq m m) (nat_eq x x) (eq-eqb m m refl) (eq-eqb x x refl))
-
 kept_there : (t : Trace) (s : LineState) (j x : ℕ) → Stands t s → Kept x (node_at s (j + 1)).lane.body.kept → LiesAt (stand_of s) (between_of t s) x (at_machine (j + 1))
 kept_there t s j x st kept =
     let own : Owns (between_of t s j) (stand_of s (j + 1)) (between_of t s (j + 1)) = st.keeps.machines.at j in
@@ -202,7 +190,7 @@ lost_not : {X : Type 0} (t t2 : Trace) (before after : LineState) (told : List H
 lost_not t t2 before after told j x st st2 goes was is now =
     let grows : Trace = record t { gone = grown (j + 1) x t.gone } in
     let parted : Parted grows after = taken_by t grows before after told (j + 1) x is.act st goes (kept_there t before j x st was) (λ k y. refl) is.takes is.told_is in
-    let none : counted x (boards_of after) ≡ 0 = gone_count grows after (j + 1) x parted (grown_own (j + 1) x t.gone) in
+    let none : counted x (boards_of after) ≡ 0 = gone_count grows after (j + 1) x parted (own_gone (j + 1) x t.gone) in
     let some : 1 ≤ counted x (boards_of after) = lies_on_floor t2 after x (at_machine (j + 1)) st2.ids.whole (kept_there t2 after j x st2 now) in
     absurd (omega (arith, none, some))
 
@@ -273,9 +261,6 @@ line_gone gap last off o before told false is h so b found = so b found
 
 -- ---- what settles is kept
 
-same_some : {a b : Record} → ◌≡◌ {A = Option Record} (Some a) (Some b) → a ≡ b
-same_some is = cc
-
 acted_kept : (j id : ℕ) (line : ScriptLine) (before after : LineState) (told : List Happening) (o : Offering) (board : Record) → IsAsOf (node_at before (j + 1)).lane.body o → held_in (node_at before (j + 1)).lane.body.intake.phase ≡ Some board
     → IsAmong id (settles_acts (done_by (j + 1) told) []) → tells_hand (j + 1) told ≡ false → Course j line before after told → IsLast board (node_at after (j + 1)).lane.body.kept
 acted_kept j id line before after told o board h taken among none (rests same nothing) = elim (subst (λ (x : List Act). IsAmong id (settles_acts x [])) nothing among) [ ]
@@ -284,7 +269,7 @@ acted_kept j id line before after told o board h taken among none (has_acted a) 
     let hands : are_hand d.acts ≡ false = sym (undriven_hand d.acts) ∙ (ap are_hand (sym a.acts) ∙ (sym (hand_told (j + 1) told) ∙ none)) in
     let found : IsAmong id (settles_acts d.acts []) = subst (λ (x : List ℕ). IsAmong id x) (ap (λ (x : List Act). settles_acts x []) a.acts ∙ undriven_settles d.acts []) among in
     let settles : StepSettles id (node_at before (j + 1)).lane.body d = step_settles a.desk (unread_by (j + 1) before.world) a.event (node_at before (j + 1)).lane.body o id h hands found in
-    let same : settles.board ≡ board = same_some (sym settles.held ∙ taken) in
+    let same : settles.board ≡ board = same_board (sym settles.held ∙ taken) in
     subst (λ (b : Body). IsLast board b.kept) (sym a.body) (subst (λ (r : Record). IsLast r d.body.kept) same settles.kept)
 
 line_arrives : (gap number id : ℕ) (line : ScriptLine) (last off : Option Record) (o : ℕ → Offering) (before : LineState) (point : Point) (earlier later : List Happening) → AllOffered before o → LineSteps number line before point.after point.told → GoneIsOffered last off → IsWhatLeft gap id last before → point.told ≡ earlier ++ settles_at gap id ∷ later

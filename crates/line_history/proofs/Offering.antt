@@ -1,6 +1,7 @@
 -- A machine's step: what its outlet holds is what it offered before the opening, and what settles in it is kept behind all
 -- others.
 use Rattle.std.proofs.Common.{Bool, List, None, Option, Some, [], ap, false, refl, subst, sym, true, ℕ, ◌++◌, ◌||◌, ◌∙◌, ◌∷◌, ◌≡◌}
+use Rattle.std.proofs.lemmas.Bool.{or_from}
 use Rattle.line_base.specs.declared.states.Side.{Side}
 use Rattle.line_base.specs.declared.states.Side.TheVariants.{Entry, Exit}
 use Rattle.board_record.specs.declared.record.Record.{Record}
@@ -65,7 +66,7 @@ abbrev pub are_hand : List Act → Bool
 are_hand [] = false
 are_hand (act ∷ told) = is_hand act || are_hand told
 
-or_join : (a b c : Bool) → (a || (b || c)) ≡ ((a || b) || c)
+pub or_join : (a b c : Bool) → (a || (b || c)) ≡ ((a || b) || c)
 or_join true b c = refl
 or_join false b c = refl
 
@@ -73,12 +74,8 @@ pub hand_append : (a b : List Act) → are_hand (a ++ b) ≡ (are_hand a || are_
 hand_append [] b = refl
 hand_append (act ∷ a) b = ap (λ (x : Bool). is_hand act || x) (hand_append a b) ∙ or_join (is_hand act) (are_hand a) (are_hand b)
 
-neither : (a b : Bool) → a ≡ false → b ≡ false → (a || b) ≡ false
-neither false b one two = two
-neither true b one two = one
-
 pub no_hands : (a b : List Act) → are_hand a ≡ false → are_hand b ≡ false → are_hand (a ++ b) ≡ false
-no_hands a b one two = hand_append a b ∙ neither (are_hand a) (are_hand b) one two
+no_hands a b one two = hand_append a b ∙ or_from (are_hand a) (are_hand b) one two
 
 -- acts that say nothing of it
 pub record Quiet (told : List Act) : Type 0 where

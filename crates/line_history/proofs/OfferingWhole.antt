@@ -1,7 +1,8 @@
 -- What is done by hand, the announcements, and the whole step.
-use Rattle.std.proofs.Common.{Bool, List, None, Option, Some, [], ap, eqb-true, false, inl, inr, refl, subst, sym, true, ℕ, ◌&&◌, ◌++◌, ◌==◌, ◌||◌, ◌∙◌, ◌∷◌, ◌≡◌, ◌⊎◌}
-use Rattle.std.specs.Prelude.{if◌then◌else◌, is_some, not, slice_get}
-use Rattle.std.proofs.lemmas.Bool.{false≢true}
+use Rattle.std.proofs.Common.{Bool, List, None, Option, Some, [], ap, eqb-true, false, inl, inr, refl, subst, sym, true, ℕ, ◌++◌, ◌==◌, ◌∙◌, ◌∷◌, ◌≡◌, ◌⊎◌}
+use Rattle.std.specs.Prelude.{if◌then◌else◌, is_some, slice_get}
+use Rattle.std.proofs.lemmas.Bool.{false≢true, or_parts}
+use Rattle.node_core.proofs.Sound.{room_by_test}
 use Rattle.line_base.specs.declared.states.Side.{Side}
 use Rattle.line_base.specs.declared.states.Side.TheVariants.{Entry, Exit}
 use Rattle.line_base.specs.declared.states.SensorEvent.{SensorEvent}
@@ -87,7 +88,7 @@ offer_plain : (desk : Desk) (kept : List Record) (id : ℕ) {s : OutState} {row 
 offer_plain desk [] id offers_row = (λ ids. refl, refl)
 offer_plain desk (b ∷ bs) id offers_row = (λ ids. refl, refl)
 
-offer_back : {id : ℕ} {s : OutState} {row : OutRow} → IsOutletRow s (out_input.Offer id) row → row.act.back ≡ None
+pub offer_back : {id : ℕ} {s : OutState} {row : OutRow} → IsOutletRow s (out_input.Offer id) row → row.act.back ≡ None
 offer_back offers_row = refl
 
 offer_found : (desk : Desk) (body : Body) (front : Record) (found : Option OutRow) → slice_get body.kept 0 ≡ Some front → outlet_row body.outlet (out_input.Offer front.id) ≡ found → Announced body (outlet_row_did desk body found)
@@ -163,18 +164,11 @@ front_kept x (b ∷ bs) is = let same : b.id ≡ x = sym (eqb-true x b.id is) in
 revoked_by : (desk : Desk) (body : Body) (x : ℕ) (o : Offering) → body.outlet.phase ≡ out.Idle → body.outlet.offered ≡ Some x → IsAsOf (outlet_row_did desk body (outlet_row body.outlet out_input.Revoke)).body o
 revoked_by desk body x o phase offered = rw (phase, offered) says_idle
 
-unrevoked : (idle some willing front : Bool) → (idle && some && (not willing || not front)) ≡ false → idle ≡ true → some ≡ true → front ≡ true
-unrevoked true true true true is a b = refl
-unrevoked true true true false is a b = absurd (let no : true ≡ false = is in cc)
-unrevoked true true false front is a b = absurd (let no : true ≡ false = is in cc)
-unrevoked false some willing front is a b = absurd (false≢true a)
-unrevoked true false willing front is a b = absurd (false≢true b)
-
 lost_by : (desk : Desk) (body : Body) (x : ℕ) (o : Offering) (test : Bool) → revokes_now body ≡ test → body.outlet.phase ≡ out.Idle → body.outlet.offered ≡ Some x → IsAsOf (revoke_by desk test body).body (offers_acts (revoke_by desk test body).acts o) ⊎ Kept x body.kept
 lost_by desk body x o true is phase offered = inl (revoked_by desk body x _ phase offered)
 lost_by desk body x o false is phase offered =
     inr (front_kept x body.kept (ap (λ (f : Option ℕ). is_front f (slice_get body.kept 0)) (sym offered)
-    ∙ unrevoked (is_idle_phase body.outlet.phase) (is_some body.outlet.offered) body.exit.willing (is_front body.outlet.offered (slice_get body.kept 0)) is (ap (λ (p : Out). is_idle_phase p) phase) (ap (λ (f : Option ℕ). is_some f) offered)))
+    ∙ room_by_test (is_idle_phase body.outlet.phase) (is_some body.outlet.offered) body.exit.willing (is_front body.outlet.offered (slice_get body.kept 0)) is (ap (λ (p : Out). is_idle_phase p) phase) (ap (λ (f : Option ℕ). is_some f) offered)))
 
 lost_announces : (desk : Desk) (body : Body) (x : ℕ) (o : Offering) → body.outlet.phase ≡ out.Idle → body.outlet.offered ≡ Some x → IsAsOf (announces desk body).body (offers_acts (announces desk body).acts o) ⊎ Kept x (announces desk body).body.kept
 lost_announces desk body x o phase offered =
@@ -420,22 +414,14 @@ settled_is id (not_yet less) is = elim is [ ]
 settled_is _ (is_settled {r = r} was none h) among_first = (r, refl, was, behind_last h)
 settled_is id (is_settled {r = r} was none h) (among_later more) = elim more [ ]
 
-or_one : (a b : Bool) → (a || b) ≡ false → a ≡ false
-or_one false b is = refl
-or_one true b is = is
-
-or_two : (a b : Bool) → (a || b) ≡ false → b ≡ false
-or_two false b is = is
-or_two true b is = absurd (let no : true ≡ false = is in cc)
-
 pub step_settles : (desk : Desk) (unread : List Seen) (event : Event) (body : Body) (o : Offering) (id : ℕ) → AsOffered body.outlet.phase body.outlet.offered body.outlet.touched body.kept o → are_hand (plain_step desk unread event body).acts ≡ false
     → IsAmong id (settles_acts (plain_step desk unread event body).acts []) → StepSettles id body (plain_step desk unread event body)
 step_settles desk unread event body o id h none among =
     let read : Done = all_read desk unread body in
     let met : Done = event_did desk event read.body in
     let last : Done = announces desk met.body in
-    let later : are_hand (met.acts ++ last.acts) ≡ false = or_two (are_hand read.acts) (are_hand (met.acts ++ last.acts)) (sym (hand_append read.acts (met.acts ++ last.acts)) ∙ none) in
-    let by_event : are_hand met.acts ≡ false = or_one (are_hand met.acts) (are_hand last.acts) (sym (hand_append met.acts last.acts) ∙ later) in
+    let later : are_hand (met.acts ++ last.acts) ≡ false = (or_parts (are_hand read.acts) (are_hand (met.acts ++ last.acts)) (sym (hand_append read.acts (met.acts ++ last.acts)) ∙ none)).1 in
+    let by_event : are_hand met.acts ≡ false = (or_parts (are_hand met.acts) (are_hand last.acts) (sym (hand_append met.acts last.acts) ∙ later)).0 in
     let first : Option Record = held_in body.intake.phase in
     let start : Holds first [] o body = record { offers = h; settles = not_yet (λ r is. is) } in
     let both = (walks_both body read (event_did desk event) (all_read_walks desk unread body) (quiet_event desk event read.body by_event)).each first [] o start in

@@ -1,9 +1,12 @@
 -- WHAT OPENS WAS STARTED LAST: what flows up on a link carries at most one start, which is the last that was told and is not
 -- answered yet; and its board is held below, unless it was dropped since.
-use Rattle.std.proofs.Common.{Bool, List, None, Option, Some, [], ap, append-nil, arith, eq-eqb, false, inl, inr, length, refl, suc, subst, sym, take, true, zero, ℕ, ◌++◌, ◌+◌, ◌||◌, ◌∙◌, ◌∷◌, ◌≡◌, ◌≤◌, ◌⊎◌}
+use Rattle.std.proofs.Common.{Bool, List, None, Option, Some, [], ap, append-nil, arith, eq-eqb, false, inl, inr, length, refl, suc, subst, sym, take, true, zero, ℕ, ◌++◌, ◌+◌, ◌∙◌, ◌∷◌, ◌≡◌, ◌≤◌, ◌⊎◌}
 use Rattle.std.specs.Prelude.{drop}
 use Rattle.std.specs.List.{AllByRecursion, list_any}
-use Rattle.std.proofs.lemmas.Bool.{false≢true}
+use Rattle.std.proofs.lemmas.Bool.{false≢true, or_parts, or_from}
+use Rattle.node_core.proofs.Opened.{is_off}
+use Rattle.line_step.proofs.Counted.{steps-lines}
+use Rattle.line_history.proofs.Said.{some_id}
 use Rattle.line_base.specs.declared.states.Seen.TheVariants as seen
 use Rattle.line_base.specs.declared.states.Side.TheVariants.{Exit}
 use Rattle.board_record.specs.declared.record.Record.{Record}
@@ -55,8 +58,7 @@ use Rattle.one_standing.specs.Waits.{AreWaiting}
 use Rattle.one_standing.proofs.Carrying.{SaysAlone}
 use Rattle.one_standing.proofs.LedgerWalk.{step_did}
 use Rattle.one_standing.proofs.LineForms.{ConnectsBear}
-use Rattle.one_standing.proofs.LineRun.{AreStood, Stood, lines_after, none_stood, run_stood}
-use Rattle.one_standing.proofs.MirroringCall.{closed_state}
+use Rattle.one_standing.proofs.LineRun.{AreStood, Stood, none_stood, run_stood}
 use Rattle.line_history.specs.LetGo.{taken_below}
 use Rattle.line_history.specs.Opened.{IsHeldBelow, IsStartedFor, OpensWhatStarted, WhatOpensStarted, gap_deeds, opens_at}
 use Rattle.line_history.specs.Settled.{is_start}
@@ -66,7 +68,7 @@ use Rattle.line_history.proofs.Halves.{IsRecalled, Knows}
 use Rattle.line_history.proofs.LinkUp.{Up, UpOn, none_said_spoiled, same_said, starts_of, up_over, up_spoiled, up_whole}
 use Rattle.line_history.proofs.SettledRun.{entry_is, stepped_does}
 use Rattle.line_history.proofs.Orders.{Orders, exit_words, orders_end, step_orders}
-use Rattle.line_history.proofs.Started.{any_new, entry_open, open_all, taking_at, turn_open}
+use Rattle.line_history.proofs.Started.{any_new, entry_open, open_all, taking_at, turn_open, none_some}
 use Rattle.line_history.proofs.Stills.{step_still, still_event, unnamed_settles, unsaid_settles}
 use Rattle.line_history.proofs.UpForms.{Base, Starting, UpNext, Ups, base, line_next, offers_all, orders_undriven, ups_none, ups_whole}
 use Rattle.line_history.proofs.View.{Stepped, Turn, done_append, done_by, has_stepped, is_still, line_turn, told_of_act, undriven}
@@ -125,7 +127,7 @@ waits_ups k t s g _ st asks (ups_whole said fit are flows) = by (is_open Exit (n
   where
     by : (test : Bool) → is_open Exit (node_at s k).lane.body ≡ test → Waits (starts_of (t.up k)) g (taking_at s (k + 1))
     by true on = waits_as (ap starts_of (sym are)) (asks said fit flows on)
-    by false off = waits_none (unlinked (st.keeps.neighbours.at k).pair.talk (closed_state (node_at s k).lane.body.exit.session.state off))
+    by false off = waits_none (unlinked (st.keeps.neighbours.at k).pair.talk (is_off (node_at s k).lane.body.exit.session.state off))
 
 last_in : (z : ℕ) (taking : Option ℕ) (g : Gap) → Stays z taking g → g.last ≡ Some z
 last_in z taking g (stays_held is gap) = ap (λ (x : Gap). x.last) gap
@@ -137,19 +139,16 @@ pending {g = g} {taking = taking} (waits_one z is stays) = pend_one z is (last_i
 
 -- ---- an opening
 
-some_same : (a b : ℕ) → ◌≡◌ {A = Option ℕ} (Some a) (Some b) → a ≡ b
-some_same a b is = cc
-
 held_by : (s : LineState) (k id : ℕ) (found : Option Record) → taken_below s k ≡ found → taking_at s (k + 1) ≡ Some id → IsHeldBelow s k id
 held_by s k id None is taking = let no_way : ◌≡◌ {A = Option ℕ} None (Some id) = sym (ap id_of is) ∙ taking in cc
-held_by s k id (Some board) is taking = record { board = board; taken = is; named = some_same board.id id (sym (ap id_of is) ∙ taking) }
+held_by s k id (Some board) is taking = record { board = board; taken = is; named = some_id board.id id (sym (ap id_of is) ∙ taking) }
 
 -- what was told of the gap before, read off
 started_for : (s : LineState) (k id : ℕ) (told : List Deed) (ids : List ℕ) → Waits ids (gaps_after none_yet told) (taking_at s (k + 1)) → (ids ≡ [] → ⊥) → (gaps_after none_yet told).last ≡ Some id → IsStartedFor s k id told
 started_for s k id told ids (waits_none is) some last = absurd (some is)
 started_for s k id told ids (waits_one z is (stays_held taking gap)) some last =
     let sp : Split id (gaps_after none_yet told).dropped told = split_of told id last in
-    let same : z ≡ id = some_same z id (sym (ap (λ (x : Gap). x.last) gap) ∙ last) in
+    let same : z ≡ id = some_id z id (sym (ap (λ (x : Gap). x.last) gap) ∙ last) in
     record { before = sp.before; since = sp.since; told_is = sp.told_is; last = sp.last; held = inl (held_by s k id (taken_below s k) refl (taking ∙ ap (λ (x : ℕ). Some x) same)) }
 started_for s k id told ids (waits_one z is (stays_dropped taking gap)) some last =
     let sp : Split id (gaps_after none_yet told).dropped told = split_of told id last in
@@ -232,18 +231,6 @@ taking_done : (t : Trace) (k : ℕ) (s after : LineState) (told : List Happening
 taking_done t k s after told turn =
     sym (entry_open (taking_at s (k + 1)) (done_by (k + 1) told)) ∙ ap (λ (l : List Act). open_all (taking_at s (k + 1)) l) (sym (entry_is (k + 1) told)) ∙ turn_open t k s after told turn
 
-or_one : (a b : Bool) → (a || b) ≡ false → a ≡ false
-or_one true b is = is
-or_one false b is = refl
-
-or_two : (a b : Bool) → (a || b) ≡ false → b ≡ false
-or_two true b is = absurd (false≢true (sym is))
-or_two false b is = is
-
-either_not : (a b : Bool) → a ≡ false → b ≡ false → (a || b) ≡ false
-either_not true b one two = one
-either_not false b one two = two
-
 -- ---- a start was told in the line
 
 record Ordered (told : List Act) : Type 0 where
@@ -261,9 +248,6 @@ taking_held : (after : LineState) (k : ℕ) (r : Record) → ((node_at after (k 
 taking_held after k r (inl is) = ap (λ (i : In). id_of (held_in i)) is
 taking_held after k r (inr is) = ap (λ (i : In). id_of (held_in i)) is
 
-none_some : {X : Type 0} (id : ℕ) → ◌≡◌ {A = Option ℕ} None (Some id) → X
-none_some id is = cc
-
 quiet_gap : (k : ℕ) (t : Trace) (s after : LineState) (told : List Happening) → UpNext k t s after told → list_any is_start (done_by (k + 1) told) ≡ true → gap_deeds k told ≡ below_deeds (done_by (k + 1) told)
 quiet_gap k t s after told n any = by n.who
   where
@@ -276,7 +260,7 @@ started_line : (k : ℕ) (t2 : Trace) (s after : LineState) (told : List Happeni
 started_line k t2 s after told g ids up down same gap st taking (flies_none none) = waits_none (sym same ∙ none)
 started_line k t2 s after told g ids up down same gap st taking (flies_held r one phase stale) =
     let holds : taking_at after (k + 1) ≡ Some r.id = taking_held after k r phase in
-    let id_is : st.id ≡ r.id = some_same st.id r.id (sym st.open_is ∙ taking ∙ holds) in
+    let id_is : st.id ≡ r.id = some_id st.id r.id (sym st.open_is ∙ taking ∙ holds) in
     waits_one r.id (sym same ∙ one) (stays_held holds (ap (λ (l : List Deed). gaps_after g l) gap ∙ st.gap_is ∙ ap (λ (x : ℕ). record { last = Some x; dropped = false }) id_is))
 started_line k t2 s after told g ids up down same gap st taking (flies_alone x one idle) =
     none_some st.id (sym (ap (λ (i : In). id_of (held_in i)) idle) ∙ sym taking ∙ st.open_is)
@@ -285,19 +269,19 @@ started_line k t2 s after told g ids up down same gap st taking (flies_alone x o
 
 settle_told : (act : Act) (rest : List Act) → is_settle act ≡ false → list_any is_settle rest ≡ false → list_any is_settle (told_of_act act ++ rest) ≡ false
 settle_told (acts.Drive side on) rest one more = more
-settle_told act rest one more = either_not (is_settle act) (list_any is_settle rest) one more
+settle_told act rest one more = or_from (is_settle act) (list_any is_settle rest) one more
 
 settle_undriven : (told : List Act) → list_any is_settle told ≡ false → list_any is_settle (undriven told) ≡ false
 settle_undriven [] none = refl
-settle_undriven (act ∷ told) none = settle_told act (undriven told) (or_one (is_settle act) (list_any is_settle told) none) (settle_undriven told (or_two (is_settle act) (list_any is_settle told) none))
+settle_undriven (act ∷ told) none = settle_told act (undriven told) (or_parts (is_settle act) (list_any is_settle told) none).0 (settle_undriven told (or_parts (is_settle act) (list_any is_settle told) none).1)
 
 start_told : (act : Act) (rest : List Act) → list_any is_start (told_of_act act ++ rest) ≡ false → (is_start act ≡ false) × (list_any is_start rest ≡ false)
 start_told (acts.Drive side on) rest none = (refl, none)
-start_told act rest none = (or_one (is_start act) (list_any is_start rest) none, or_two (is_start act) (list_any is_start rest) none)
+start_told act rest none = ((or_parts (is_start act) (list_any is_start rest) none).0, (or_parts (is_start act) (list_any is_start rest) none).1)
 
 start_undriven : (told : List Act) → list_any is_start (undriven told) ≡ false → list_any is_start told ≡ false
 start_undriven [] none = refl
-start_undriven (act ∷ told) none = let both = start_told act (undriven told) none in either_not (is_start act) (list_any is_start told) both.0 (start_undriven told both.1)
+start_undriven (act ∷ told) none = let both = start_told act (undriven told) none in or_from (is_start act) (list_any is_start told) both.0 (start_undriven told both.1)
 
 fresh_knows : (i : In) (state : InState) (r : Record) → state.phase ≡ i → (i ≡ inn.Taking r seen.NotStarted false) ⊎ (i ≡ inn.Stopped r seen.NotStarted None) → Knows (record { named = Some r.id; since = just_started }) state
 fresh_knows i state r is (inl phase) =
@@ -413,7 +397,7 @@ run_opened alone k past s (line ∷ asked) [] (suc n) fit few was run all asks =
 run_opened alone k past s (line ∷ asked) (point ∷ points) (suc n) fit few was run all asks =
     let g : Gap = gaps_after none_yet (gap_deeds k past) in
     let here : s.lines + 1 ≤ 1000000 = omega (arith, few) in
-    let left : point.after.lines + length asked ≤ 1000000 = omega (arith, few, lines_after (s.lines + 1) line s point.after point.told run.0) in
+    let left : point.after.lines + length asked ≤ 1000000 = omega (arith, few, steps-lines (s.lines + 1) line s point.after point.told run.0) in
     let next : UpNext k was.trace s point.after point.told = line_next alone k (s.lines + 1) line was.trace s point.after point.told here fit.0 was.stands was.waits run.0 in
     let turn : Turn k was.trace s point.after point.told = line_turn alone was.trace (s.lines + 1) line s point.after point.told was.stands run.0 k in
     let w : Waits (starts_of next.ups) g (taking_at s (k + 1)) = waits_ups k was.trace s g next.ups was.stands asks next.is in

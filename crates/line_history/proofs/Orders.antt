@@ -2,7 +2,8 @@
 -- sends a start just behind telling it.
 use Rattle.std.proofs.Common.{Bool, List, None, Option, Some, [], ap, append-nil, false, refl, subst, sym, true, ℕ, ◌&&◌, ◌++◌, ◌∙◌, ◌∷◌, ◌≡◌}
 use Rattle.std.specs.Prelude.{is_some, not, slice_get}
-use Rattle.std.proofs.lemmas.Bool.{and_parts, false≢true}
+use Rattle.std.proofs.lemmas.Bool.{and_parts, false≢true, and_from}
+use Rattle.node_core.proofs.Opened.{breach_closes}
 use Rattle.line_base.specs.declared.states.Quality.TheVariants as qualities
 use Rattle.line_base.specs.declared.states.SensorEvent.{SensorEvent}
 use Rattle.line_base.specs.declared.states.Side.{Side}
@@ -62,7 +63,6 @@ use Rattle.node_core.specs.declared.word.Word.TheVariants.{Says, Wrong}
 use Rattle.node_core.proofs.Offers.{Offers, OffersOf, offers_front, offers_none, to_offers}
 use Rattle.node_core.proofs.Sound.{read_offers, word_offers}
 use Rattle.machine_custody.proofs.HearingAll.{deaf}
-use Rattle.link_messages.proofs.SayingWords.{closed_behind}
 
 -- ---- acts in their order, of a machine that hears these words at its exit
 
@@ -91,13 +91,9 @@ pub data Orders : Bool → List Word → List Act → Type 0 where
   orders_refuses : {starting : Bool} {words : List Word} {message : Message} {id : ℕ} {told : List Act} → message.body ≡ bodies.StartTransport id → Orders starting words told → Orders starting (Says message ∷ words) (acts.Hears Exit message ∷ acts.Deed (deeds.Refuses id) ∷ told)
   orders_starts : {words : List Word} {message : Message} {id : ℕ} (on : Option Bool) → Orders true words (acts.Deed (deeds.Starts id) ∷ acts.Sends Entry message ∷ drives Entry on)
 
-and_both : (a b : Bool) → a ≡ true → b ≡ true → (a && b) ≡ true
-and_both true b one two = two
-and_both false b one two = one
-
 pub plain_append : (a b : List Act) → are_plain a ≡ true → are_plain b ≡ true → are_plain (a ++ b) ≡ true
 plain_append [] b one two = two
-plain_append (act ∷ a) b one two = let both = and_parts (is_plain act) (are_plain a) one in and_both (is_plain act) (are_plain (a ++ b)) both.0 (plain_append a b both.1 two)
+plain_append (act ∷ a) b one two = let both = and_parts (is_plain act) (are_plain a) one in and_from (is_plain act) (are_plain (a ++ b)) both.0 (plain_append a b both.1 two)
 
 pub plain_then : {starting : Bool} {words : List Word} (a b : List Act) → are_plain a ≡ true → Orders starting words b → Orders starting words (a ++ b)
 plain_then [] b plain later = later
@@ -278,7 +274,7 @@ data OneAny (message : Message) : Option Done → Type 0 where
   one_some : {d : Done} → One message (behind (acts.Hears Exit message ∷ []) d) → OneAny message (Some d)
 
 one_of_breach : (desk : Desk) (message : Message) (text : List ℕ) (body : Body) → One message (breaches desk Exit text body)
-one_of_breach desk message text body = one_breach (breaches_plain desk Exit text body) (closed_behind desk Exit text body)
+one_of_breach desk message text body = one_breach (breaches_plain desk Exit text body) (breach_closes desk Exit text body)
 
 outlet_took_one : (desk : Desk) (message : Message) (body : Body) (input : OutInput) (found : Option OutRow) → outlet_row body.outlet input ≡ found → IsNoStart input → OneAny message (outlet_took desk body found)
 outlet_took_one desk message body input None is own = one_none
@@ -401,7 +397,7 @@ words_order desk (Says message ∷ words) body front =
 words_order desk (Wrong text ∷ words) body front =
     let d = breaches desk Exit text body in
     if_orders (is_open Exit body) (and_then d (all_heard desk Exit words)) body
-    (plain_then d.acts (all_heard desk Exit words d.body).acts (breaches_plain desk Exit text body) (subst (λ (l : List Act). Orders false (Wrong text ∷ words) l) (sym (closed_rest desk words d.body (closed_behind desk Exit text body))) orders_end))
+    (plain_then d.acts (all_heard desk Exit words d.body).acts (breaches_plain desk Exit text body) (subst (λ (l : List Act). Orders false (Wrong text ∷ words) l) (sym (closed_rest desk words d.body (breach_closes desk Exit text body))) orders_end))
 
 -- ---- the announcements
 
@@ -453,7 +449,7 @@ exit_words (Words Exit words) = words
 exit_words _ = []
 
 kept_plain : (test : Bool) (after body : Body) (act : Act) → is_plain act ≡ true → are_plain (if_kept test after act body).acts ≡ true
-kept_plain true after body act plain = and_both (is_plain act) true plain refl
+kept_plain true after body act plain = and_from (is_plain act) true plain refl
 kept_plain false after body act plain = refl
 
 faults_plain : (desk : Desk) (side : Side) (body : Body) → are_plain (faults desk side body).acts ≡ true

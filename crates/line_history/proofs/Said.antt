@@ -1,8 +1,9 @@
 -- What was heard since the last start, read off the fold: the end of the transport while its connection stood, or a
 -- description after that.
-use Rattle.std.proofs.Common.{Bool, List, None, Option, Some, [], ap, false, inl, inr, refl, subst, sym, true, ℕ, ◌++◌, ◌==◌, ◌||◌, ◌∙◌, ◌∷◌, ◌≡◌, ◌⊎◌}
+use Rattle.std.proofs.Common.{Bool, List, None, Option, Some, [], ap, false, inl, inr, refl, subst, sym, true, ℕ, ◌++◌, ◌==◌, ◌∙◌, ◌∷◌, ◌≡◌, ◌⊎◌}
 use Rattle.std.specs.Prelude.{not}
 use Rattle.std.specs.List.{list_any}
+use Rattle.std.proofs.lemmas.Bool.{or_parts, or_left, or_right}
 use Rattle.line_base.specs.declared.states.Side.TheVariants.{Entry, Exit}
 use Rattle.line_base.specs.declared.states.Transfer.TheVariants as said
 use Rattle.hermes_horizontal.specs.declared.message.Horizontal.{Horizontal}
@@ -75,11 +76,6 @@ split h (act ∷ told) = by (split (heard_act h act) told) where
   by (inl s) = inl (split_on h act told s)
   by (inr none) = split_here h act told (is_start act) refl none
 
--- acts without a start leave the board of the last one
-either_none : (a b : Bool) → (a || b) ≡ false → (a ≡ false) × (b ≡ false)
-either_none false b is = (refl, is)
-either_none true b is = absurd (let no_way : true ≡ false = is in cc)
-
 same_named : (h : Hearing) (act : Act) → is_start act ≡ false → (heard_act h act).named ≡ h.named
 same_named h (acts.Deed (deeds.Starts id)) is = absurd (let no_way : true ≡ false = is in cc)
 same_named h (acts.Hears Entry message) is = refl
@@ -92,7 +88,7 @@ same_named h _ is = refl
 
 named_still : (h : Hearing) (told : List Act) → list_any is_start told ≡ false → (heard_all h told).named ≡ h.named
 named_still h [] none = refl
-named_still h (act ∷ told) none = let both = either_none (is_start act) (list_any is_start told) none in named_still (heard_act h act) told both.1 ∙ same_named h act both.0
+named_still h (act ∷ told) none = let both = or_parts (is_start act) (list_any is_start told) none in named_still (heard_act h act) told both.1 ∙ same_named h act both.0
 
 -- ---- what was heard since
 
@@ -101,20 +97,12 @@ abbrev said_from : Bool → ℕ → List Act → Bool
 said_from true id told = list_any hears_description told
 said_from false id told = is_said id told
 
-or_first : (a b : Bool) → a ≡ true → (a || b) ≡ true
-or_first true b is = refl
-or_first false b is = absurd (let no_way : false ≡ true = is in cc)
-
-or_second : (a b : Bool) → b ≡ true → (a || b) ≡ true
-or_second true b is = refl
-or_second false b is = is
-
 later_said : (closed : Bool) (id : ℕ) (act : Act) (told : List Act) → ends_connection act ≡ false → said_from closed id told ≡ true → said_from closed id (act ∷ told) ≡ true
-later_said true id act told on is = or_second (hears_description act) (list_any hears_description told) is
-later_said false id act told on is = rw on (or_second (hears_end id act) (is_said id told) is)
+later_said true id act told on is = or_right (hears_description act) (list_any hears_description told) is
+later_said false id act told on is = rw on (or_right (hears_end id act) (is_said id told) is)
 
 ended_said : (closed : Bool) (id : ℕ) (act : Act) (told : List Act) → ends_connection act ≡ true → list_any hears_description told ≡ true → said_from closed id (act ∷ told) ≡ true
-ended_said true id act told off is = or_second (hears_description act) (list_any hears_description told) is
+ended_said true id act told off is = or_right (hears_description act) (list_any hears_description told) is
 ended_said false id act told off is = rw off is
 
 -- one act: what it says is said of the acts, or was said before
@@ -125,7 +113,7 @@ end_now : (id other : ℕ) (named : Option ℕ) (e c d : Bool) (message : Messag
     → IsSaidSince (ended_since test (record { ended = e; closed = c; described = d })) → IsSaidSince (record { ended = e; closed = c; described = d }) ⊎ ((told : List Act) → said_from c id (acts.Hears Entry message ∷ told) ≡ true)
 end_now id other named e true d message true is says same (by_end ended) = inl (by_end ended)
 end_now id other named e true d message true is says same (by_description described) = inl (by_description described)
-end_now id other named e false d message true is says same since = inr (λ told. rw says (or_first (other == id) (is_said id told) same))
+end_now id other named e false d message true is says same since = inr (λ told. rw says (or_left (other == id) (is_said id told) same))
 end_now id other named e c d message false is says same since = inl since
 
 described_now : (id : ℕ) (e c d : Bool) (message : Message) (service : Service) → message.body ≡ bodies.ServiceDescription service
@@ -201,7 +189,7 @@ act_later id h (acts.Deed (deeds.Drops other)) not = λ told is. later_said h.si
 since_said : (id : ℕ) (told : List Act) (h : Hearing) → h.named ≡ Some id → list_any is_start told ≡ false → IsSaidSince (heard_all h told).since → IsSaidSince h.since ⊎ (said_from h.since.closed id told ≡ true)
 since_said id [] h named none since = inl since
 since_said id (act ∷ told) h named none since =
-    let both = either_none (is_start act) (list_any is_start told) none in
+    let both = or_parts (is_start act) (list_any is_start told) none in
     by both.0 (since_said id told (heard_act h act) (same_named h act both.0 ∙ named) both.1 since) where
       now_by : IsSaidSince h.since ⊎ ((told : List Act) → said_from h.since.closed id (act ∷ told) ≡ true) → IsSaidSince h.since ⊎ (said_from h.since.closed id (act ∷ told) ≡ true)
       now_by (inl was) = inl was
@@ -221,7 +209,7 @@ said_or : {b : Bool} → IsSaidSince just_started ⊎ (b ≡ true) → b ≡ tru
 said_or (inl since) = just_said since
 said_or (inr is) = is
 
-some_id : (a b : ℕ) → ◌≡◌ {A = Option ℕ} (Some a) (Some b) → a ≡ b
+pub some_id : (a b : ℕ) → ◌≡◌ {A = Option ℕ} (Some a) (Some b) → a ≡ b
 some_id a b is = cc
 
 pub is_said_of : (told : List Act) (id : ℕ) → SaidThen (heard_all none_heard told) id → IsSaid id told

@@ -2,6 +2,8 @@
 use Rattle.std.proofs.Common.{Bool, List, None, Option, Some, [], ap, arith, false, inl, inr, refl, suc, sym, take, true, zero, ℕ, ◌++◌, ◌+◌, ◌∙◌, ◌∷◌, ◌≡◌, ◌⊎◌}
 use Rattle.std.specs.Prelude.{cond}
 use Rattle.std.specs.List.{list_any}
+use Rattle.std.proofs.lemmas.Bool.{and_parts}
+use Rattle.line_history.proofs.Said.{some_id}
 use Rattle.line_script.specs.declared.line.ScriptLine.{ScriptLine}
 use Rattle.node_core.specs.Done.{Done}
 use Rattle.node_core.specs.Event.{Accepted, Connect, Event, Fault, Forecast, Insert, Level, Mark, Nothing, Notice, Query, Remove, Replace, Second, Shutdown, Supervised, Tick, Will, Words}
@@ -18,7 +20,7 @@ use Rattle.line_step.specs.State.{LineState, no_line}
 use Rattle.line_step.specs.Steps.{unread_by}
 use Rattle.one_standing.specs.Carried.{Trace}
 use Rattle.one_standing.proofs.Carrying.{SaysAlone}
-use Rattle.one_standing.proofs.LedgerWalk.{Announces, Did, Hand, IsNewFor, Walk, are_silent, did, hand_inserts, hand_removes, hand_replaces, hand_walks, is_silent, says_last, says_more, says_start, step_did, walk_drops, walk_end, walk_leaves, walk_loses, walk_on, walk_opens, walk_returns, walk_settles, and_one, and_two}
+use Rattle.one_standing.proofs.LedgerWalk.{Announces, Did, Hand, IsNewFor, Walk, are_silent, did, hand_inserts, hand_removes, hand_replaces, hand_walks, is_silent, says_last, says_more, says_start, step_did, walk_drops, walk_end, walk_leaves, walk_loses, walk_on, walk_opens, walk_returns, walk_settles}
 use Rattle.one_standing.proofs.LineForms.{ConnectsBear}
 use Rattle.one_standing.proofs.LineRun.{AreStood, Stood, none_stood, run_stood}
 use Rattle.line_history.specs.Settled.{entry_acts, is_at_entry, is_start, starts}
@@ -60,7 +62,7 @@ silent_open o _ is = refl
 pub silent_all : (o : Option ℕ) (told : List Act) → are_silent told ≡ true → open_all o told ≡ o
 silent_all o [] is = refl
 silent_all o (act ∷ told) is =
-    ap (λ (x : Option ℕ). open_all x told) (silent_open o act (and_one (is_silent act) (are_silent told) is)) ∙ silent_all o told (and_two (is_silent act) (are_silent told) is)
+    ap (λ (x : Option ℕ). open_all x told) (silent_open o act (and_parts (is_silent act) (are_silent told) is).0) ∙ silent_all o told (and_parts (is_silent act) (are_silent told) is).1
 
 -- what a machine takes is open, act by act
 pub walk_open : {own end : Own} {told : List Act} → Walk own told end → open_all own.taking told ≡ end.taking
@@ -156,16 +158,13 @@ started_on act told id s = record { before = act ∷ s.before; since = s.since; 
 abbrev Open : Option ℕ → List Act → ℕ → Type 0
 Open o told id = IsStartedLast id told ⊎ ((o ≡ Some id) × ((list_any is_start told ≡ false) × (list_any is_over told ≡ false)))
 
-none_some : {X : Type 0} (id : ℕ) → ◌≡◌ {A = Option ℕ} None (Some id) → X
+pub none_some : {X : Type 0} (id : ℕ) → ◌≡◌ {A = Option ℕ} None (Some id) → X
 none_some id is = cc
-
-some_same : (a b : ℕ) → ◌≡◌ {A = Option ℕ} (Some a) (Some b) → a ≡ b
-some_same a b is = cc
 
 open_by : (o : Option ℕ) (act : Act) (told : List Act) (id : ℕ) → Open (open_act o act) told id → Open o (act ∷ told) id
 open_by o act told id (inl s) = inl (started_on act told id s)
 open_by o (acts.Deed (deeds.Starts other)) told id (inr both) =
-    inl (record { before = []; since = told; told_is = ap (λ (x : ℕ). starts x ∷ told) (some_same other id both.0); last = both.1.0; open_still = both.1.1 })
+    inl (record { before = []; since = told; told_is = ap (λ (x : ℕ). starts x ∷ told) (some_id other id both.0); last = both.1.0; open_still = both.1.1 })
 open_by o (acts.Deed (deeds.Settles other)) told id (inr both) = none_some id both.0
 open_by o (acts.Deed (deeds.Drops other)) told id (inr both) = none_some id both.0
 open_by o (acts.Deed (deeds.Opens other)) told id (inr both) = inr both

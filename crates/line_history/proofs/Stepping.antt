@@ -3,6 +3,7 @@ use Rattle.std.proofs.Common.{Bool, List, None, Option, Some, [], ap, false, inl
 use Rattle.std.specs.Prelude.{slice_get}
 use Rattle.std.specs.List.{list_any}
 use Rattle.std.proofs.lemmas.List.Folds.{list_any-append}
+use Rattle.std.proofs.lemmas.Bool.{or_from, and_parts}
 use Rattle.line_base.specs.declared.states.Quality.TheVariants as qualities
 use Rattle.line_base.specs.declared.states.Seen.TheVariants as seen
 use Rattle.line_base.specs.declared.states.Side.TheVariants.{Entry, Exit}
@@ -51,7 +52,6 @@ use Rattle.line_history.proofs.Folds.{Hearing, Orderly, are_inner, ends, goes_on
 use Rattle.line_history.proofs.Halves.{Knows, Tells, Works, outlet_works, silent_works, tells_aside, works_aside, works_behind, works_both, works_still}
 use Rattle.line_history.proofs.Hearing.{notices_work, session_works}
 use Rattle.line_history.proofs.Telling.{Makes, all_read_tell, makes_then, words_work}
-use Rattle.one_standing.proofs.LedgerWalk.{and_one, and_two}
 
 -- ---- no board is said to have left
 
@@ -73,13 +73,9 @@ one_inner (acts.Deed (deeds.Settles id)) is = refl
 one_inner (acts.Deed (deeds.Drops id)) is = refl
 one_inner _ is = refl
 
-either_not : (a b : Bool) → a ≡ false → b ≡ false → (a || b) ≡ false
-either_not false b one two = two
-either_not true b one two = one
-
 pub inner_stays : (told : List Act) → are_inner told ≡ true → tells_leaving told ≡ false
 inner_stays [] is = refl
-inner_stays (act ∷ told) is = either_not (is_leaving act) (tells_leaving told) (one_inner act (and_one (is_inner act) (are_inner told) is)) (inner_stays told (and_two (is_inner act) (are_inner told) is))
+inner_stays (act ∷ told) is = or_from (is_leaving act) (tells_leaving told) (one_inner act (and_parts (is_inner act) (are_inner told) is).0) (inner_stays told (and_parts (is_inner act) (are_inner told) is).1)
 
 pub leaving_append : (a b : List Act) → tells_leaving (a ++ b) ≡ (tells_leaving a || tells_leaving b)
 leaving_append a b = list_any-append is_leaving a b
@@ -94,7 +90,7 @@ met_work : {P : ℕ → Type 0} {h : Hearing} {body : Machine} {d : Done} → Wo
 met_work {d = d} w = record { tells = w.tells; stays = inner_stays d.acts w.inner }
 
 hand_meets : {P : ℕ → Type 0} {h : Hearing} (test : Bool) (body : Machine) (kept : List Record) (act : Act) → Tells P h body (done (with_kept kept body) (act ∷ [])) → is_leaving act ≡ false → Knows h body.intake → Meets P h body (if_kept test (with_kept kept body) act body)
-hand_meets true body kept act t not k = record { tells = t; stays = either_not (is_leaving act) false not refl }
+hand_meets true body kept act t not k = record { tells = t; stays = or_from (is_leaving act) false not refl }
 hand_meets false body kept act t not k = met_work (works_still body k)
 
 -- a level of a bridge's segment is set, and the front board may be marked
@@ -228,7 +224,7 @@ ready_works desk false body k = works_still body k
 announced_both : {P : ℕ → Type 0} {h : Hearing} (body : Machine) (first : Done) (next : Machine → Done) → Works P h body first → (Knows (heard_all h first.acts) first.body.intake → Announced P (heard_all h first.acts) first.body (next first.body)) → Announced P h body (and_then first next)
 announced_both body first next a later =
     let b = later a.tells.knows in
-    record { does = does_both body first next a.tells (λ k. (later k).does); stays = leaving_append first.acts (next first.body).acts ∙ either_not (tells_leaving first.acts) (tells_leaving (next first.body).acts) (inner_stays first.acts a.inner) b.stays }
+    record { does = does_both body first next a.tells (λ k. (later k).does); stays = leaving_append first.acts (next first.body).acts ∙ or_from (tells_leaving first.acts) (tells_leaving (next first.body).acts) (inner_stays first.acts a.inner) b.stays }
 
 announces_does : {P : ℕ → Type 0} {h : Hearing} (desk : Desk) (body : Machine) → Knows h body.intake → Announced P h body (announces desk body)
 announces_does desk body k =
@@ -270,7 +266,7 @@ pub record StepDoes (P : ℕ → Type 0) (h : Hearing) (desk : Desk) (unread : L
 
 or_neither : (a b c : Bool) → b ≡ false → c ≡ false → (a || (b || c)) ≡ a
 or_neither true b c one two = refl
-or_neither false b c one two = either_not b c one two
+or_neither false b c one two = or_from b c one two
 
 pub step_does : {P : ℕ → Type 0} {h : Hearing} {afar : Afar} {above : List Record} {ga gb : Ghost} (desk : Desk) (unread : List Sensed) (event : Event) (body : Machine) (c : Scene) → AreTheirs event c → OffersFront body → Good afar above unread ga gb body c → Knows h body.intake → Makes P body c
     → StepDoes P h desk unread event body

@@ -1,7 +1,9 @@
 -- A step in which nothing is heard of an end settles no board that was not said to have left before.
-use Rattle.std.proofs.Common.{Bool, List, None, Option, Some, [], ap, false, refl, subst, sym, true, ℕ, ◌&&◌, ◌++◌, ◌||◌, ◌∙◌, ◌∷◌, ◌≡◌}
+use Rattle.std.proofs.Common.{Bool, List, None, [], ap, false, refl, subst, sym, true, ℕ, ◌&&◌, ◌++◌, ◌∙◌, ◌∷◌, ◌≡◌}
 use Rattle.std.specs.List.{list_any}
-use Rattle.std.proofs.lemmas.Bool.{false≢true}
+use Rattle.std.proofs.lemmas.Bool.{false≢true, and_from, or_from, or_parts, and_parts}
+use Rattle.node_core.proofs.Opened.{breach_closes}
+use Rattle.line_history.proofs.Started.{none_some}
 use Rattle.line_base.specs.declared.states.Side.TheVariants.{Entry, Exit}
 use Rattle.board_record.specs.declared.sensed.Sensed.{Sensed}
 use Rattle.hermes_horizontal.specs.declared.message.Horizontal.{Horizontal}
@@ -32,7 +34,6 @@ use Rattle.machine_custody.specs.Flight.{AreOldest}
 use Rattle.machine_custody.specs.Scene.{Scene}
 use Rattle.machine_custody.proofs.HearingAll.{deaf}
 use Rattle.machine_custody.proofs.Quiet.{AllActs, acts_more, acts_none}
-use Rattle.link_messages.proofs.SayingWords.{closed_behind}
 use Rattle.one_standing.proofs.CarryingSides.{heard_in}
 use Rattle.one_standing.proofs.Counting.{IsOne, hears_one, one_breach, one_heard, step_hears_none}
 use Rattle.one_standing.proofs.CountingQuiet.{IsDeaf, announces_deaf, breaches_deaf, read_deaf, tells_unheard}
@@ -41,7 +42,6 @@ use Rattle.line_history.specs.Settled.{is_start}
 use Rattle.line_history.proofs.Folds.{Hearing, Orderly, ends, goes_on, heard_act, settles_not, settles_so, since_message}
 use Rattle.line_history.proofs.Gaps.{is_settle}
 use Rattle.line_history.proofs.Stepping.{AreTheirs}
-use Rattle.one_standing.proofs.LedgerWalk.{and_one, and_two}
 
 -- ---- acts in which neither the end of a transport nor a description is heard at the entry
 
@@ -58,13 +58,9 @@ abbrev pub are_still : List Act → Bool
 are_still [] = true
 are_still (act ∷ told) = is_still act && are_still told
 
-and_both : (a b : Bool) → a ≡ true → b ≡ true → (a && b) ≡ true
-and_both true b one two = two
-and_both false b one two = one
-
 still_append : (a b : List Act) → are_still a ≡ true → are_still b ≡ true → are_still (a ++ b) ≡ true
 still_append [] b one two = two
-still_append (act ∷ a) b one two = and_both (is_still act) (are_still (a ++ b)) (and_one (is_still act) (are_still a) one) (still_append a b (and_two (is_still act) (are_still a) one) two)
+still_append (act ∷ a) b one two = and_from (is_still act) (are_still (a ++ b)) (and_parts (is_still act) (are_still a) one).0 (still_append a b (and_parts (is_still act) (are_still a) one).1 two)
 
 deaf_one : (act : Act) → IsDeaf act → is_still act ≡ true
 deaf_one (acts.Hears side message) is = absurd is
@@ -72,7 +68,7 @@ deaf_one _ is = refl
 
 deaf_still : {told : List Act} → AllActs IsDeaf told → are_still told ≡ true
 deaf_still acts_none = refl
-deaf_still (acts_more {act = act} {others = others} one more) = and_both (is_still act) (are_still others) (deaf_one act one) (deaf_still more)
+deaf_still (acts_more {act = act} {others = others} one more) = and_from (is_still act) (are_still others) (deaf_one act one) (deaf_still more)
 
 none_still : (told : List Act) → heard_in Entry told ≡ 0 → are_still told ≡ true
 none_still [] none = refl
@@ -88,7 +84,7 @@ AreStillWords (Says message ∷ words) = (is_quiet message.body ≡ true) × Are
 AreStillWords (Wrong text ∷ words) = Unit {0}
 
 one_still : (desk : Desk) (message : Message) (d : Done) → IsOne Entry message d → is_quiet message.body ≡ true → are_still d.acts ≡ true
-one_still desk message d (one_heard others are quiet) is = ap are_still are ∙ and_both (is_quiet message.body) (are_still others) is (deaf_still quiet)
+one_still desk message d (one_heard others are quiet) is = ap are_still are ∙ and_from (is_quiet message.body) (are_still others) is (deaf_still quiet)
 one_still desk message d (one_breach quiet off) is = deaf_still quiet
 
 closed_still : (desk : Desk) (words : List Word) (body : Body) → is_open Entry body ≡ false → are_still (all_heard desk Entry words body).acts ≡ true
@@ -107,7 +103,7 @@ words_still desk (Says message ∷ words) body all =
 words_still desk (Wrong text ∷ words) body all =
     let d : Done = breaches desk Entry text body in
     if_still (is_open Entry body) (and_then d (all_heard desk Entry words)) body
-    (still_append d.acts (all_heard desk Entry words d.body).acts (deaf_still (breaches_deaf desk Entry text body)) (closed_still desk words d.body (closed_behind desk Entry text body)))
+    (still_append d.acts (all_heard desk Entry words d.body).acts (deaf_still (breaches_deaf desk Entry text body)) (closed_still desk words d.body (breach_closes desk Entry text body)))
 
 abbrev pub StillEvent : Event → Type 0
 StillEvent (Words Entry words) = AreStillWords words
@@ -171,10 +167,6 @@ not_settle (acts.Deed (deeds.Starts id)) is = refl
 not_settle (acts.Deed (deeds.Drops id)) is = refl
 not_settle _ is = refl
 
-either_not : (a b : Bool) → a ≡ false → b ≡ false → (a || b) ≡ false
-either_not true b one two = one
-either_not false b one two = two
-
 never_said : {X : Type 0} (h : Hearing) → IsUnsaid h → IsSaid h.since → X
 never_said h u (by_end ended) = absurd (false≢true (sym u.0 ∙ ended))
 never_said h u (by_description described) = absurd (false≢true (sym u.1 ∙ described))
@@ -182,7 +174,7 @@ never_said h u (by_description described) = absurd (false≢true (sym u.1 ∙ de
 pub unsaid_settles : {P : ℕ → Type 0} {h : Hearing} {told : List Act} → Orderly P h told → are_still told ≡ true → IsUnsaid h → list_any is_settle told ≡ false
 unsaid_settles ends still u = refl
 unsaid_settles {h = h} (goes_on {act = act} {told = told} plain more) still u =
-    either_not (is_settle act) (list_any is_settle told) (not_settle act plain) (unsaid_settles more (and_two (is_still act) (are_still told) still) (unsaid_act h act (and_one (is_still act) (are_still told) still) u))
+    or_from (is_settle act) (list_any is_settle told) (not_settle act plain) (unsaid_settles more (and_parts (is_still act) (are_still told) still).1 (unsaid_act h act (and_parts (is_still act) (are_still told) still).0 u))
 unsaid_settles {h = h} (settles_so named said is more) still u = never_said h u said
 
 -- ---- nor where nothing was started
@@ -194,20 +186,9 @@ unnamed_act h (acts.Closes Entry) start none = none
 unnamed_act h (acts.Notices Entry) start none = none
 unnamed_act h _ start none = none
 
-or_one : (a b : Bool) → (a || b) ≡ false → a ≡ false
-or_one true b is = is
-or_one false b is = refl
-
-or_two : (a b : Bool) → (a || b) ≡ false → b ≡ false
-or_two true b is = absurd (false≢true (sym is))
-or_two false b is = is
-
-none_some : {X : Type 0} (id : ℕ) → ◌≡◌ {A = Option ℕ} None (Some id) → X
-none_some id is = cc
-
 pub unnamed_settles : {P : ℕ → Type 0} {h : Hearing} {told : List Act} → Orderly P h told → list_any is_start told ≡ false → h.named ≡ None → list_any is_settle told ≡ false
 unnamed_settles ends start none = refl
 unnamed_settles {h = h} (goes_on {act = act} {told = told} plain more) start none =
-    either_not (is_settle act) (list_any is_settle told) (not_settle act plain)
-    (unnamed_settles more (or_two (is_start act) (list_any is_start told) start) (unnamed_act h act (or_one (is_start act) (list_any is_start told) start) none))
+    or_from (is_settle act) (list_any is_settle told) (not_settle act plain)
+    (unnamed_settles more (or_parts (is_start act) (list_any is_start told) start).1 (unnamed_act h act (or_parts (is_start act) (list_any is_start told) start).0 none))
 unnamed_settles (settles_so {id = id} named said is more) start none = none_some id (sym none ∙ named)

@@ -1,7 +1,9 @@
 -- A step of a machine that stands in the relation of its links: what settles in it was said, and is what the intake held
 -- before the step.
-use Rattle.std.proofs.Common.{Bool, List, None, Option, Some, [], ap, append-nil, false, refl, subst, sym, true, ℕ, ◌++◌, ◌∙◌, ◌∷◌, ◌≡◌}
+use Rattle.std.proofs.Common.{Bool, List, None, Option, Some, [], ap, false, refl, subst, sym, true, ℕ, ◌++◌, ◌∙◌, ◌∷◌, ◌≡◌}
 use Rattle.std.specs.Prelude.{is_some, map}
+use Rattle.std.proofs.lemmas.Bool.{and_parts}
+use Rattle.machine_custody.proofs.Reading.{read_at}
 use Rattle.line_base.specs.declared.states.Role.TheVariants.{Downstream, Upstream}
 use Rattle.line_base.specs.declared.states.SensorEvent.{SensorEvent}
 use Rattle.line_base.specs.declared.states.Side.{Side}
@@ -51,23 +53,18 @@ use Rattle.custody.specs.Events.{EntryStep, gone_by}
 use Rattle.custody.specs.LookBack.{Settles, Since, since_after}
 use Rattle.custody.specs.Pair.{Body, Ghost, LinkState, Pair, board_of, part}
 use Rattle.custody.specs.Place.{Inside, Place, is_inside, is_upstream}
-use Rattle.custody.proofs.EntryEvents.{hears_finished, hears_upstream, reads_entry, skips_entry}
-use Rattle.custody.proofs.ExitEvents.{reads_exit, skips_exit}
+use Rattle.custody.proofs.EntryEvents.{hears_finished, hears_upstream, reads_entry}
 use Rattle.machine_custody.specs.Flight.{AreOldest, oldest_says, oldest_wrong, unheard}
-use Rattle.machine_custody.specs.Good.{Afar, GoesBy, Good, Lies, lies_first}
-use Rattle.machine_custody.specs.Scene.{Scene, all_met, link_above, link_below, met}
-use Rattle.machine_custody.proofs.BehindReading.{read_lists}
+use Rattle.machine_custody.specs.Good.{Afar, Good, Lies, lies_first}
+use Rattle.machine_custody.specs.Scene.{Scene, all_met, link_above, met}
+use Rattle.machine_custody.proofs.BehindReading.{saw_lists}
 use Rattle.machine_custody.proofs.Far.{all_outlet}
-use Rattle.machine_custody.proofs.HearingAll.{deaf}
-use Rattle.machine_custody.proofs.HearingEntry.{entry_hears}
-use Rattle.machine_custody.proofs.HearingExit.{exit_hears}
+use Rattle.machine_custody.proofs.HearingAll.{deaf, hears_one, one_then}
 use Rattle.machine_custody.proofs.Keeping.{lies_behind}
-use Rattle.machine_custody.proofs.Listening.{Then, breach_shuts, closed, entry_hears_then, exit_hears_then, still}
-use Rattle.machine_custody.proofs.Rows.{at_entry_good, at_exit_good, unheard_above, unheard_below}
+use Rattle.machine_custody.proofs.Listening.{Then, breach_shuts, closed, still}
 use Rattle.line_history.proofs.Folds.{Hearing, are_inner, ends, goes_on, heard_act, is_inner, since_message}
 use Rattle.line_history.proofs.Halves.{Knows, Sure, Tells, Works, intake_tells, keeps_held, out_aside, recalls, tells_aside, tells_behind, tells_both, tells_still, works_both, works_still}
 use Rattle.line_history.proofs.Hearing.{breaches_work, finished_since, described_taken, entry_taken, exit_taken, works_session}
-use Rattle.one_standing.proofs.LedgerWalk.{and_one, and_two}
 
 -- ---- what a board that settles is
 
@@ -115,13 +112,6 @@ makes_then body c d makes t same q held free lies =
 
 -- ---- the sensor events
 
-read_good : {afar : Afar} {above : List Record} {rest : List Sensed} {ga gb : Ghost} {body : Machine} {c : Scene} (desk : Desk) (side : Side) (event : SensorEvent)
-    → Good afar above (record { side = side; event = event } ∷ rest) ga gb body c → Good afar above rest ga gb (saw desk side event body).body (all_met (saw desk side event body).acts c)
-read_good {rest = rest} {ga = ga} {gb = gb} {body = body} {c = c} desk Entry event g =
-    at_entry_good desk (in_input.Sensed event) tt g (reads_entry ga (link_above rest body c) event rest g.above_pair) (skips_entry gb (link_below rest body c) event rest g.below_pair)
-read_good {rest = rest} {ga = ga} {gb = gb} {body = body} {c = c} desk Exit event g =
-    at_exit_good desk (out_input.Sensed event) tt tt g (reads_exit gb (link_below rest body c) event rest g.below_pair) (skips_exit ga (link_above rest body c) event rest g.above_pair)
-
 outlet_tells : {P : ℕ → Type 0} {h : Hearing} (desk : Desk) (body : Machine) (found : Option OutRow) → Knows h body.intake → Tells P h body (outlet_row_did desk body found)
 outlet_tells desk body None k = tells_still body k
 outlet_tells desk body (Some row) k = tells_aside body (outlet_row_did desk body (Some row)) k refl (out_aside desk body.kept row)
@@ -134,10 +124,6 @@ saw_tells {P = P} {h = h} {afar = afar} {above = above} {rest = rest} {ga = ga} 
     (λ row is. sure_step P h body c (in_input.Sensed event) (link_above (entry_sees event ∷ rest) body c) row g k makes step refl refl is) (λ none. k)).tells
 saw_tells {body = body} desk Exit event g k makes = outlet_tells desk body (outlet_row body.outlet (out_input.Sensed event)) k
 
-saw_lists : (desk : Desk) (side : Side) (event : SensorEvent) (body : Machine) (c : Scene) → (all_met (saw desk side event body).acts c).boards ≡ c.boards
-saw_lists desk side event body c =
-    ap (λ (told : List Act). (all_met told c).boards) (sym (append-nil (saw desk side event body).acts)) ∙ read_lists desk (record { side = side; event = event } ∷ []) body c
-
 -- all events in order
 pub all_read_tell : {P : ℕ → Type 0} {afar : Afar} {above : List Record} {ga gb : Ghost} (desk : Desk) (unread : List Sensed) {h : Hearing} (body : Machine) (c : Scene) → Good afar above unread ga gb body c → Knows h body.intake → Makes P body c
     → Tells P h body (all_read desk unread body)
@@ -147,7 +133,7 @@ all_read_tell {P = P} desk (sensed ∷ others) {h = h} body c g k makes =
     let one : Tells P h body first = saw_tells desk sensed.side sensed.event g k makes in
     let behind_reading : Tells P h body (reads desk sensed body) = tells_behind body (acts.Reads sensed.side sensed.event ∷ []) first (goes_on refl ends) one in
     tells_both body (reads desk sensed body) (all_read desk others) behind_reading
-    (λ k2. all_read_tell desk others first.body (all_met first.acts c) (read_good desk sensed.side sensed.event g) k2 (makes_then body c first makes one (saw_lists desk sensed.side sensed.event body c)))
+    (λ k2. all_read_tell desk others first.body (all_met first.acts c) (read_at desk sensed.side sensed.event g) k2 (makes_then body c first makes one (saw_lists desk sensed.side sensed.event body c)))
 
 -- ---- the messages
 
@@ -206,21 +192,6 @@ hears_works : {P : ℕ → Type 0} {h : Hearing} {afar : Afar} {above : List Rec
 hears_works desk Entry message rest body c is g k makes = entry_found_works desk message rest (session_row body.entry.session (heard message.body (is_some (held body.outlet)))) body c refl is g k makes
 hears_works desk Exit message rest body c is g k makes = exit_found_works desk message (session_row body.exit.session (heard message.body (is_some (held body.outlet)))) body refl g.exit_role k
 
--- the relation behind one message, and what is still to be heard
-hears_go : {afar : Afar} {above : List Record} {ga gb : Ghost} (desk : Desk) (side : Side) (message : Message) (rest : List Horizontal) (body : Machine) (c : Scene) → OffersOf body
-    → unheard side c ≡ message.body ∷ rest → Good afar above [] ga gb body c → GoesBy afar above [] ga gb c (hears desk side message body)
-hears_go {afar = afar} {above = above} {ga = ga} {gb = gb} desk Entry message rest body c offers is g =
-    let same : unheard_above (message.body ∷ rest) c ≡ c = ap (λ (ms : List Horizontal). unheard_above ms c) (sym is) in
-    subst (λ (z : Scene). GoesBy afar above [] ga gb z (hears desk Entry message body)) same (entry_hears body c desk message rest (subst (λ (z : Scene). Good afar above [] ga gb body z) (sym same) g))
-hears_go {afar = afar} {above = above} {ga = ga} {gb = gb} desk Exit message rest body c offers is g =
-    let same : unheard_below (message.body ∷ rest) c ≡ c = ap (λ (ms : List Horizontal). unheard_below ms c) (sym is) in
-    subst (λ (z : Scene). GoesBy afar above [] ga gb z (hears desk Exit message body)) same (exit_hears body c desk message rest offers (subst (λ (z : Scene). Good afar above [] ga gb body z) (sym same) g))
-
-hears_then : {afar : Afar} {above : List Record} {ga gb : Ghost} (desk : Desk) (side : Side) (message : Message) (rest : List Horizontal) (body : Machine) (c : Scene)
-    → unheard side c ≡ message.body ∷ rest → Good afar above [] ga gb body c → Then side rest (hears desk side message body) c
-hears_then desk Entry message rest body c is g = entry_hears_then desk message rest body c g.entry_role is
-hears_then desk Exit message rest body c is g = exit_hears_then desk message rest body c g.exit_role is
-
 -- acts that leave the list
 met_list : (act : Act) (c : Scene) → is_inner act ≡ true → (met act c).boards ≡ c.boards
 met_list (acts.Inserts id) c is = absurd (let no_way : false ≡ true = is in cc)
@@ -240,7 +211,7 @@ met_list _ c is = refl
 
 met_lists : (told : List Act) (c : Scene) → are_inner told ≡ true → (all_met told c).boards ≡ c.boards
 met_lists [] c is = refl
-met_lists (act ∷ told) c is = met_lists told (met act c) (and_two (is_inner act) (are_inner told) is) ∙ met_list act c (and_one (is_inner act) (are_inner told) is)
+met_lists (act ∷ told) c is = met_lists told (met act c) (and_parts (is_inner act) (are_inner told) is).1 ∙ met_list act c (and_parts (is_inner act) (are_inner told) is).0
 
 -- nobody hears the others
 deaf_works : {P : ℕ → Type 0} {h : Hearing} (desk : Desk) (side : Side) (words : List Word) (body : Machine) → is_open side body ≡ false → Knows h body.intake → Works P h body (all_heard desk side words body)
@@ -262,8 +233,8 @@ words_work {P = P} desk side (Says message ∷ others) _ {h = h} body c (oldest_
     let d : Done = hears desk side message body in
     let one : Works P h body d = hears_works desk side message rest body c is g k makes in
     if_works (is_open side body) (and_then d (all_heard desk side others)) body k
-    (works_both body d (all_heard desk side others) one (λ k2. behind_one desk side others rest d c (hears_then desk side message rest body c is g) k2
-    (λ still_is. words_work desk side others rest d.body (all_met d.acts c) oldest still_is ((hears_keeps 0 desk side message body).offers offers) (hears_go desk side message rest body c offers is g).good k2
+    (works_both body d (all_heard desk side others) one (λ k2. behind_one desk side others rest d c (one_then desk side message rest body c is g) k2
+    (λ still_is. words_work desk side others rest d.body (all_met d.acts c) oldest still_is ((hears_keeps 0 desk side message body).offers offers) (hears_one desk side message rest body c offers is g).good k2
     (makes_then body c d makes one.tells (met_lists d.acts c one.inner)))))
 words_work desk side (Wrong text ∷ others) messages body c oldest_wrong is offers g k makes =
     let d : Done = breaches desk side text body in

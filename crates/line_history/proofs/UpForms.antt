@@ -1,8 +1,10 @@
 -- A LINE, as the link behind a machine sees it: what the machine above it hears and tells, and which starts flow up behind it.
-use Rattle.std.proofs.Common.{Bool, Err, List, None, Ok, Option, Result, Some, [], ap, append-nil, arith, false, inl, inr, length, refl, subst, suc, sym, true, zero, ℕ, ◌&&◌, ◌++◌, ◌+◌, ◌-◌, ◌||◌, ◌∙◌, ◌∷◌, ◌≡◌, ◌≢◌, ◌≤◌, ◌⊎◌}
+use Rattle.std.proofs.Common.{Bool, Err, List, None, Ok, Option, Result, Some, [], ap, append-nil, arith, false, inl, inr, length, refl, subst, sym, true, ℕ, ◌&&◌, ◌++◌, ◌+◌, ◌-◌, ◌||◌, ◌∙◌, ◌∷◌, ◌≡◌, ◌≢◌, ◌≤◌, ◌⊎◌}
 use Rattle.std.specs.Prelude.{drop}
 use Rattle.std.specs.List.{list_any}
-use Rattle.std.proofs.lemmas.Bool.{false≢true, ltb-true}
+use Rattle.std.proofs.lemmas.Bool.{false≢true, ltb-true, or_right, and_from}
+use Rattle.one_standing.proofs.RestLine.{node_there}
+use Rattle.one_standing.proofs.BlameFlows.{others_same, own_behind, flow_fit}
 use Rattle.line_base.specs.declared.states.Role.TheVariants.{Downstream, Upstream}
 use Rattle.line_base.specs.declared.states.Side.{Side}
 use Rattle.line_base.specs.declared.states.Side.TheVariants.{Entry, Exit}
@@ -33,7 +35,7 @@ use Rattle.node_core.specs.Halves.{OffersFront}
 use Rattle.node_core.specs.Node.{NodeState, desk_of}
 use Rattle.node_core.specs.Sides.{is_open}
 use Rattle.node_core.specs.Signals.{signalled}
-use Rattle.node_core.specs.Step.{exit_after, plain_step}
+use Rattle.node_core.specs.Step.{plain_step}
 use Rattle.node_core.specs.Supervising.{watch_of, with_tells}
 use Rattle.node_core.specs.Words.{AreWords}
 use Rattle.node_core.specs.declared.act.Act.{Act}
@@ -69,18 +71,16 @@ use Rattle.one_standing.specs.Stands.{Stands}
 use Rattle.one_standing.specs.Waits.{AreWaiting}
 use Rattle.one_standing.proofs.Behind.{fit_machine}
 use Rattle.one_standing.proofs.BlameJoins.{same_exit, whole_connecting}
-use Rattle.one_standing.proofs.BlameLines.{more_same, met_quiet}
-use Rattle.one_standing.proofs.BlameSteps.{NewBytes, acts_fit, heard_good, is_bytes, new_bytes, others_stay, quiet_fit}
+use Rattle.one_standing.proofs.BlameLines.{more_same, met_quiet, still_exit}
+use Rattle.one_standing.proofs.BlameSteps.{NewBytes, heard_good, is_bytes, new_bytes, others_stay, quiet_fit}
 use Rattle.one_standing.proofs.Carrying.{SaysAlone}
 use Rattle.one_standing.proofs.Counting.{is_wrong_first}
 use Rattle.one_standing.proofs.LedgerLine.{same_nodes}
 use Rattle.one_standing.proofs.LineForms.{numbered}
-use Rattle.one_standing.proofs.Mirroring.{node_there}
 use Rattle.one_standing.proofs.MirroringCall.{dry_up}
 use Rattle.one_standing.proofs.MirroringEnds.{before_one}
-use Rattle.one_standing.proofs.MirroringFlow.{CanFlow, arrival, can_flow, empty_of, link_there, no_words}
+use Rattle.one_standing.proofs.MirroringFlow.{CanFlow, arrival, can_flow, empty_of, link_there, no_words, bodies_drop}
 use Rattle.one_standing.proofs.MirroringPlain.{is_plain_input}
-use Rattle.one_standing.proofs.Plain.{node_next}
 use Rattle.one_standing.proofs.RestMore.{no_link_at}
 use Rattle.one_standing.proofs.SpoilingLine.{spoil_needs}
 use Rattle.one_standing.proofs.WholeLinks.{CanSpoil, can_spoil, steps as whole_steps, whole_arrival, whole_links}
@@ -111,17 +111,9 @@ plain_silent (acts.Sends Entry message) plain = plain
 plain_silent (acts.Sends Exit message) plain = refl
 plain_silent _ plain = refl
 
-or_true : (a b : Bool) → b ≡ true → (a || b) ≡ true
-or_true true b is = refl
-or_true false b is = is
-
-first_true : (a b : Bool) → a ≡ true → (a || b) ≡ true
-first_true true b is = refl
-first_true false b is = absurd (false≢true is)
-
 pub any_later : (a b : List Act) → list_any is_start b ≡ true → list_any is_start (a ++ b) ≡ true
 any_later [] b is = is
-any_later (act ∷ a) b is = or_true (is_start act) (list_any is_start (a ++ b)) (any_later a b is)
+any_later (act ∷ a) b is = or_right (is_start act) (list_any is_start (a ++ b)) (any_later a b is)
 
 pub any_first : (a b : List Act) → list_any is_start a ≡ true → list_any is_start (a ++ b) ≡ true
 any_first [] b is = absurd (false≢true is)
@@ -131,10 +123,6 @@ any_first (act ∷ a) b is = by (is_start act) is (any_first a b)
     by true is later = refl
     by false is later = later is
 
-and_true : (a b : Bool) → a ≡ true → b ≡ true → (a && b) ≡ true
-and_true true b one two = two
-and_true false b one two = one
-
 -- it tells a start, or sends none
 silent_or : {words : List Word} {told : List Act} → Orders true words told → (list_any is_start (undriven told) ≡ true) ⊎ (are_silent told ≡ true)
 silent_or orders_end = inr refl
@@ -142,7 +130,7 @@ silent_or (orders_on {act = act} {told = told} plain more) = by (silent_or more)
   where
     by : (list_any is_start (undriven told) ≡ true) ⊎ (are_silent told ≡ true) → (list_any is_start (undriven (act ∷ told)) ≡ true) ⊎ (are_silent (act ∷ told) ≡ true)
     by (inl any) = inl (any_later (told_of_act act) (undriven told) any)
-    by (inr silent) = inr (and_true (is_silent act) (are_silent told) (plain_silent act plain) silent)
+    by (inr silent) = inr (and_from (is_silent act) (are_silent told) (plain_silent act plain) silent)
 silent_or (orders_hears more) = silent_or more
 silent_or (orders_opens is more) = silent_or more
 silent_or (orders_refuses is more) = silent_or more
@@ -168,7 +156,7 @@ own_done number m input start after told steps =
     ap (done_by m) steps.told_is ∙ own_acts (is_second input) m steps.acts (read_by m start.world) ∙ ap undriven steps.steps.told
     ∙ undriven_signals steps.steps.made steps.node.bridge steps.next.lane.body
 
-other_done : (k number m : ℕ) (input : Input) (start after : LineState) (told : List Happening) → MachineSteps number m input start after told → k ≢ m → done_by k told ≡ []
+pub other_done : (k number m : ℕ) (input : Input) (start after : LineState) (told : List Happening) → MachineSteps number m input start after told → k ≢ m → done_by k told ≡ []
 other_done k number m input start after told steps apart = ap (done_by k) steps.told_is ∙ other_acts (is_second input) k m steps.acts (read_by m start.world) apart
 
 -- what it did but for what the supervisor is told
@@ -301,11 +289,7 @@ quiet_next k t before next told st orders up =
     let b : Base k t before = base k t before st in
     record { ups = b.ups; is = b.is; heard = []; oldest = oldest_none; orders = orders; who = inr refl; ids = starts_of b.ups; left = inr refl; up = λ on. up }
 
-exit_still : (input : Input) (bytes : List ℕ) → is_plain_input input ≡ true → exit_after input bytes ≡ bytes
-exit_still inputs.Accepted bytes plain = absurd (false≢true plain)
-exit_still _ bytes plain = refl
-
-not_bytes : (input : Input) → is_plain_input input ≡ true → is_bytes input ≡ false
+pub not_bytes : (input : Input) → is_plain_input input ≡ true → is_bytes input ≡ false
 not_bytes (inputs.Bytes side piece) plain = absurd (false≢true plain)
 not_bytes _ plain = refl
 
@@ -318,7 +302,7 @@ plain_next alone k number m input t before next told plain fits few st steps =
     let none : is_bytes input ≡ false = not_bytes input plain in
     let new : NewBytes m input before next = new_bytes number m input before next told none steps in
     quiet_next k t before next told st (no_orders k number m input before next told (offers_all t before st m) (not_up input none) steps)
-    (subst (λ (w : List ℕ). UpOn (Starting k told) (starts_of (base k t before st).ups) w (link_at k next.world)) (sym (same_exit m input before next (λ bytes. exit_still input bytes plain) new k))
+    (subst (λ (w : List ℕ). UpOn (Starting k told) (starts_of (base k t before st).ups) w (link_at k next.world)) (sym (same_exit m input before next (λ bytes. still_exit input bytes plain) new k))
     (step_up alone k number m input before next told steps (quiet_fit number m input before next told none fits few (st.fit m) steps) (silent_at k number m input before next told (offers_all t before st m) steps) st.links (up_any (base k t before st).up)))
 
 -- what it becomes
@@ -346,14 +330,14 @@ unless_next (Err reason) k t before next told Does st does then = becomes_next k
 -- ---- bytes arrive
 
 -- the words of a piece are fit
-carries_fit : {stands : Bool} {stream : Stream} {messages : List Horizontal} → SaysAlone → (words : List Word) (old piece new : List ℕ) (still : Bool) (later : Stream) → coming stream ≡ piece ++ coming later → is_empty (coming stream) ≡ false
+pub carries_fit : {stands : Bool} {stream : Stream} {messages : List Horizontal} → SaysAlone → (words : List Word) (old piece new : List ℕ) (still : Bool) (later : Stream) → coming stream ≡ piece ++ coming later → is_empty (coming stream) ≡ false
     → AreWords old piece new still words → Carries stands old stream messages → AreFitWords words
 carries_fit alone words old piece new still later is some are (carries_whole said good flows) =
     alone.fit_words old piece (coming later) new still words said (alone.sayable said good) good (subst (λ (bytes : List ℕ). FlowsAs old bytes (texts_of said)) is flows) are
 carries_fit alone words old piece new still later is some are (carries_spoiled spoiled) = alone.fit_wrong old piece (coming later) new still words (subst (λ (bytes : List ℕ). Spoiled old bytes) is spoiled) are
 carries_fit {stream = stream} alone words old piece new still later is some are (carries_over off nothing) = absurd (false≢true (sym some ∙ empty_of (coming stream) nothing))
 
-flow_fits : SaysAlone → (t : Trace) (number j : ℕ) (side : Side) (count : Option ℕ) (before after : LineState) (told : List Happening) → CanFlow (j + 1) side before → Stands t before
+pub flow_fits : SaysAlone → (t : Trace) (number j : ℕ) (side : Side) (count : Option ℕ) (before after : LineState) (told : List Happening) → CanFlow (j + 1) side before → Stands t before
     → (flows : Flows number (j + 1) side count before after told) → AreFitWords flows.steps.steps.lane.words
 flow_fits alone t number j Entry count before after told can st flows =
     let steps = flows.steps in
@@ -376,12 +360,6 @@ flow_fits alone t number j Exit count before after told can st flows =
     let waits : Carries (link_at (j + 1) before.world).stands steps.node.lane.exit_bytes s (t.up (j + 1)) = subst (λ (m : NodeState). Carries (link_at (j + 1) before.world).stands m.lane.exit_bytes s (t.up (j + 1))) node_is (st.carried (j + 1) there).up in
     carries_fit alone steps.steps.lane.words steps.node.lane.exit_bytes flows.piece.now steps.next.lane.exit_bytes (is_open Exit steps.next.lane.body) (with_arrival (flowing count s) s)
     (arrival (flowing count s) s flows.piece.now flows.bytes) can.comes steps.steps.lane.brings.0 waits
-
--- what is left behind the words that are heard
-bodies_drop : (n : ℕ) (said : List Message) → bodies (drop n said) ≡ drop n (bodies said)
-bodies_drop zero said = refl
-bodies_drop (suc n) [] = refl
-bodies_drop (suc n) (message ∷ said) = bodies_drop n said
 
 -- what is heard of what flows up, and what is left
 record Hears (messages : List Horizontal) (words : List Word) (stands still : Bool) (old bytes new later : List ℕ) : Type 0 where
@@ -412,23 +390,12 @@ set_own {Any} {ids} {waiting} link parts world up = by (link_set link parts worl
     by (written now) = subst (λ (l : LinkParts). UpOn Any ids waiting l) (sym now) up
     by (nowhere now then) = subst (λ (l : LinkParts). UpOn Any ids waiting l) (sym now) (up_over refl refl)
 
-flow_acts_fit : (number m : ℕ) (side : Side) (count : Option ℕ) (before after : LineState) (told : List Happening) → number ≤ 1000000 → IsFitMachine before m → (flows : Flows number m side count before after told) → AreFitWords flows.steps.steps.lane.words → AreFitActs flows.steps.acts
-flow_acts_fit number m side count before after told few fit flows words =
-    acts_fit number m (inputs.Bytes side flows.piece) (arrived m side count before) after told few (fit_machine before (arrived m side count before) m (same_nodes before (arrived m side count before) refl m) fit) flows.steps words
-
-flow_others : (number m : ℕ) (side : Side) (count : Option ℕ) (before after : LineState) (told : List Happening) (flows : Flows number m side count before after told) → (k : ℕ) → k ≢ m → node_at after k ≡ node_at before k
-flow_others number m side count before after told flows k apart =
-    others_stay number m (inputs.Bytes side flows.piece) (arrived m side count before) after told flows.steps k apart ∙ same_nodes before (arrived m side count before) refl k
-
-flow_own : (number m : ℕ) (side : Side) (count : Option ℕ) (before after : LineState) (told : List Happening) (flows : Flows number m side count before after told) → node_at after m ≡ flows.steps.next
-flow_own number m side count before after told flows = node_next number m (inputs.Bytes side flows.piece) (arrived m side count before) after told flows.steps
-
 -- to an entry
 entry_next : SaysAlone → (k number j : ℕ) (count : Option ℕ) (t : Trace) (before next : LineState) (told : List Happening) → CanFlow (j + 1) Entry before → number ≤ 1000000 → Stands t before → Flows number (j + 1) Entry count before next told → UpNext k t before next told
 entry_next alone k number j count t before next told can few st flows =
     quiet_next k t before next told st (no_orders k number m (inputs.Bytes Entry flows.piece) start next told (offers_same before start refl (offers_all t before st) m) refl flows.steps)
     (subst (λ (w : List ℕ). UpOn (Starting k told) (starts_of (base k t before st).ups) w (link_at k next.world)) (sym (bytes (same_or_not k m)))
-    (step_up alone k number m (inputs.Bytes Entry flows.piece) start next told flows.steps (flow_acts_fit number m Entry count before next told few (st.fit m) flows (flow_fits alone t number j Entry count before next told can st flows))
+    (step_up alone k number m (inputs.Bytes Entry flows.piece) start next told flows.steps (flow_fit number m Entry count before next told few (st.fit m) flows (flow_fits alone t number j Entry count before next told can st flows))
     (silent_at k number m (inputs.Bytes Entry flows.piece) start next told (offers_same before start refl (offers_all t before st) m) flows.steps) (whole_links (m - 1) parts before.world st.links (whole_arrival Downstream count (link_at (m - 1) before.world) (st.links (m - 1))))
     (at_set k (m - 1) parts before.world (λ is. subst (λ (n : ℕ). UpOn (Starting k told) (starts_of (base k t before st).ups) (node_at before k).lane.exit_bytes (link_at n before.world)) is (up_any (base k t before st).up)) (up_any (base k t before st).up))))
   where
@@ -443,9 +410,9 @@ entry_next alone k number j count t before next told can few st flows =
 
     bytes : (k ≡ m) ⊎ (k ≢ m) → (node_at next k).lane.exit_bytes ≡ (node_at before k).lane.exit_bytes
     bytes (inl is) =
-        ap (λ (n : ℕ). (node_at next n).lane.exit_bytes) is ∙ ap (λ (x : NodeState). x.lane.exit_bytes) (flow_own number m Entry count before next told flows) ∙ flows.steps.steps.lane.brings.1
+        ap (λ (n : ℕ). (node_at next n).lane.exit_bytes) is ∙ ap (λ (x : NodeState). x.lane.exit_bytes) (own_behind number m Entry count before next told flows) ∙ flows.steps.steps.lane.brings.1
         ∙ sym (ap (λ (x : NodeState). x.lane.exit_bytes) (node_there m before flows.steps.node flows.steps.there)) ∙ sym (ap (λ (n : ℕ). (node_at before n).lane.exit_bytes) is)
-    bytes (inr apart) = ap (λ (x : NodeState). x.lane.exit_bytes) (flow_others number m Entry count before next told flows k apart)
+    bytes (inr apart) = ap (λ (x : NodeState). x.lane.exit_bytes) (others_same number m Entry count before next told flows k apart)
 
 -- to the exit of another machine
 exit_other : SaysAlone → (k number j : ℕ) (count : Option ℕ) (t : Trace) (before next : LineState) (told : List Happening) → k ≢ j + 1 → CanFlow (j + 1) Exit before → number ≤ 1000000 → Stands t before → Flows number (j + 1) Exit count before next told → UpNext k t before next told
@@ -454,8 +421,8 @@ exit_other alone k number j count t before next told apart can few st flows =
     let start : LineState = arrived m Exit count before in
     let parts : LinkParts = after_flow Upstream count (link_at m before.world) in
     quiet_next k t before next told st (subst (λ (l : List Act). Orders true [] l) (sym (other_done k number m (inputs.Bytes Exit flows.piece) start next told flows.steps apart)) orders_end)
-    (subst (λ (w : List ℕ). UpOn (Starting k told) (starts_of (base k t before st).ups) w (link_at k next.world)) (sym (ap (λ (x : NodeState). x.lane.exit_bytes) (flow_others number m Exit count before next told flows k apart)))
-    (step_up alone k number m (inputs.Bytes Exit flows.piece) start next told flows.steps (flow_acts_fit number m Exit count before next told few (st.fit m) flows (flow_fits alone t number j Exit count before next told can st flows))
+    (subst (λ (w : List ℕ). UpOn (Starting k told) (starts_of (base k t before st).ups) w (link_at k next.world)) (sym (ap (λ (x : NodeState). x.lane.exit_bytes) (others_same number m Exit count before next told flows k apart)))
+    (step_up alone k number m (inputs.Bytes Exit flows.piece) start next told flows.steps (flow_fit number m Exit count before next told few (st.fit m) flows (flow_fits alone t number j Exit count before next told can st flows))
     (silent_at k number m (inputs.Bytes Exit flows.piece) start next told (offers_same before start refl (offers_all t before st) m) flows.steps) (whole_links m parts before.world st.links (whole_arrival Upstream count (link_at m before.world) (st.links m)))
     (at_set k m parts before.world (λ is. absurd (apart is)) (up_any (base k t before st).up))))
 
@@ -476,9 +443,9 @@ exit_own alone number j count t before next told can few st flows = record {
   who = inl (other_done (m + 1) number m (inputs.Bytes Exit flows.piece) start next told flows.steps (next_apart j));
   ids = starts_of (drop (length words) h.ups);
   left = inr refl;
-  up = λ on. (let now : is_open Exit flows.steps.next.lane.body ≡ true = sym (ap (λ (n : NodeState). is_open Exit n.lane.body) (flow_own number m Exit count before next told flows)) ∙ on in
-      subst (λ (w : List ℕ). UpOn (Starting m told) (starts_of (drop (length words) h.ups)) w (link_at m next.world)) (sym (ap (λ (x : NodeState). x.lane.exit_bytes) (flow_own number m Exit count before next told flows)))
-      (step_up alone m number m (inputs.Bytes Exit flows.piece) start next told flows.steps (flow_acts_fit number m Exit count before next told few (st.fit m) flows (flow_fits alone t number j Exit count before next told can st flows))
+  up = λ on. (let now : is_open Exit flows.steps.next.lane.body ≡ true = sym (ap (λ (n : NodeState). is_open Exit n.lane.body) (own_behind number m Exit count before next told flows)) ∙ on in
+      subst (λ (w : List ℕ). UpOn (Starting m told) (starts_of (drop (length words) h.ups)) w (link_at m next.world)) (sym (ap (λ (x : NodeState). x.lane.exit_bytes) (own_behind number m Exit count before next told flows)))
+      (step_up alone m number m (inputs.Bytes Exit flows.piece) start next told flows.steps (flow_fit number m Exit count before next told few (st.fit m) flows (flow_fits alone t number j Exit count before next told can st flows))
       (λ is. absurd (below_apart j is)) (whole_links m parts before.world st.links (whole_arrival Upstream count (link_at m before.world) (st.links m)))
       (set_own m parts before.world (up_any (h.up now (heard_good number m Exit flows.piece start next told flows.steps now))))));
 } where
@@ -642,7 +609,7 @@ join_own : SaysAlone → (number m : ℕ) (found : Option ℕ) (t : Trace) (befo
 join_own alone number m None t before between next earlier later told above few st one two is = join_first alone number m t before between next earlier later told above few st (record { quiet = refl; fits = tt; first = one; second = two; told_is = is; all = offers_all t before st; then = above_then number m t before between earlier st one })
 join_own alone number m (Some other) t before between next earlier later told above few st one two is = join_second alone number m other t before between next earlier later told above few st (record { quiet = refl; fits = tt; first = one; second = two; told_is = is; all = offers_all t before st; then = above_then number m t before between earlier st one })
 
-met_fits : (on : Connected) → IsFitInput (met on)
+pub met_fits : (on : Connected) → IsFitInput (met on)
 met_fits connections.Accepted = tt
 met_fits connections.Second = tt
 

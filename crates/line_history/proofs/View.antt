@@ -1,10 +1,15 @@
 -- A LINE, as each machine sees it: the machine is as it was and tells nothing, or it made one step from what it was before
 -- the line, of which the report tells all acts but the switching of drives.
-use Rattle.std.proofs.Common.{Bool, Err, List, None, Ok, Option, Result, Some, [], ap, append-nil, append_assoc, arith, eq-eqb, false, inl, inr, length, ne_eqb, refl, suc, subst, sym, take-append-drop, true, zero, ℕ, ◌&&◌, ◌++◌, ◌+◌, ◌-◌, ◌==◌, ◌∙◌, ◌∷◌, ◌≡◌, ◌≢◌, ◌≤◌, ◌⊎◌}
-use Rattle.std.specs.Prelude.{drop, if◌then◌else◌, slice_index_or, take}
+use Rattle.std.proofs.Common.{Bool, Err, List, None, Ok, Option, Result, Some, [], ap, append-nil, append_assoc, arith, false, inl, inr, length, ne_eqb, refl, suc, subst, sym, true, zero, ℕ, ◌&&◌, ◌++◌, ◌+◌, ◌-◌, ◌==◌, ◌∙◌, ◌∷◌, ◌≡◌, ◌≢◌, ◌≤◌, ◌⊎◌}
+use Rattle.std.specs.Prelude.{if◌then◌else◌, slice_index_or, take}
 use Rattle.std.specs.List.{AllByRecursion, flat_map}
-use Rattle.std.proofs.lemmas.Bool.{ltb-true}
+use Rattle.std.proofs.lemmas.Bool.{ltb-true, and_from}
 use Rattle.std.proofs.lemmas.Bool.Decides.{eqb_tells}
+use Rattle.one_standing.proofs.RestLine.{node_there}
+use Rattle.line_step.proofs.OnFloor.{made-join}
+use Rattle.one_standing.proofs.HandSteps.{all_first, all_second}
+use Rattle.one_standing.proofs.MirroringEnds.{before_one}
+use Rattle.custody.proofs.Rows.{same as same_number}
 use Rattle.line_base.specs.declared.states.Side.{Side}
 use Rattle.line_base.specs.declared.states.Side.TheVariants.{Entry, Exit}
 use Rattle.board_record.specs.declared.record.Record.{Record}
@@ -20,7 +25,6 @@ use Rattle.line_link.specs.declared.link.Connected.{Connected}
 use Rattle.line_link.specs.declared.link.Connected.TheVariants as connections
 use Rattle.line_link.specs.declared.link.Sent.{Sent}
 use Rattle.line_link.specs.declared.link.Sent.TheVariants as sent
-use Rattle.line_link.proofs.Coming.{coming_of_arrival}
 use Rattle.smema_bridge.specs.Levels.{BridgeLevels}
 use Rattle.line_script.specs.declared.line.ScriptLine.{ScriptLine}
 use Rattle.line_script.specs.declared.line.ScriptLine.TheVariants as lines
@@ -55,7 +59,7 @@ use Rattle.standings.specs.Told.{told_of}
 use Rattle.standings.specs.declared.told.Told.{Told as Standing}
 use Rattle.standings.specs.declared.told.Told.TheVariants as tolds
 use Rattle.line_step.specs.Acts.{act_did, acts_did, cut_told, is_answer, is_exit, sent_by}
-use Rattle.line_step.specs.FloorIds.{made_by, made_in}
+use Rattle.line_step.specs.FloorIds.{made_by}
 use Rattle.line_step.specs.Lines.{Becomes, Connects, Flows, LineDoes, LineSteps, Moves, Unless, arrived, connecting, cut_in, lied, met, move_told, moved, spoil_told, spoiled, unseen, unvouched_told}
 use Rattle.line_step.specs.Numbered.{Stand, no_node, node_at, stand_at}
 use Rattle.line_step.specs.Reasons.{May, has_link, is_empty, may_add, may_connect, may_cut, may_do, may_flow, may_lie, may_spoil, may_unseen}
@@ -73,8 +77,7 @@ use Rattle.one_standing.specs.Carried.{Carries, Trace, carries_over, carries_spo
 use Rattle.one_standing.specs.Mirrors.{scene_at}
 use Rattle.one_standing.specs.Stands.{Stands}
 use Rattle.one_standing.proofs.Carrying.{SaysAlone}
-use Rattle.one_standing.proofs.Mirroring.{node_there}
-use Rattle.one_standing.proofs.MirroringFlow.{CanFlow, can_flow, link_there}
+use Rattle.one_standing.proofs.MirroringFlow.{CanFlow, can_flow, link_there, arrival}
 use Rattle.line_history.proofs.Floor.{acts_lies, acts_lists, make_not, makes_not, none_unread, read_lies, read_lists}
 use Rattle.line_history.proofs.Stepping.{AreTheirs}
 
@@ -108,9 +111,6 @@ undriven [] = []
 undriven (act ∷ told) = told_of_act act ++ undriven told
 
 -- ---- the acts of a step
-
-same_number : (k : ℕ) → (k == k) ≡ true
-same_number k = eq-eqb k k refl
 
 own_first : (k : ℕ) (act : Act) (rest : List Happening) → done_by k rest ≡ [] → done_by k (happenings.Done k act ∷ rest) ≡ told_of_act act
 own_first k act rest none = rw (same_number k, none) (append-nil (told_of_act act))
@@ -259,15 +259,6 @@ oldest_of {messages = messages} alone words old piece new still later is some ar
     (alone.wrong old piece (coming later) new still words messages all are).oldest
 oldest_of {stream = stream} alone words old piece new still later is some are (carries_over off nothing) = absurd (let no_way : true ≡ false = sym (ap is_empty nothing) ∙ some in cc)
 
-arrives_whole : (n : ℕ) (stream : Stream) (piece : List ℕ) → piece ≡ take n (coming stream) → coming stream ≡ piece ++ coming (with_arrival n stream)
-arrives_whole n stream piece is = sym (take-append-drop n (coming stream)) ∙ ap (λ (front : List ℕ). front ++ drop n (coming stream)) (sym is) ∙ ap (λ (back : List ℕ). piece ++ back) (sym (coming_of_arrival n stream))
-
-before_one : (j : ℕ) → j + 1 - 1 ≡ j
-before_one j = omega arith
-
-same_some : {a b : NodeState} → ◌≡◌ {A = Option NodeState} (Some a) (Some b) → a ≡ b
-same_some is = cc
-
 pub flow_oldest : SaysAlone → (t : Trace) (number j : ℕ) (side : Side) (count : Option ℕ) (before after : LineState) (told : List Happening) → CanFlow (j + 1) side before → Stands t before
     → (flows : Flows number (j + 1) side count before after told) → AreOldest flows.steps.steps.lane.words (unheard side (scene_at t before j))
 flow_oldest alone t number j Entry count before after told can st flows =
@@ -281,7 +272,7 @@ flow_oldest alone t number j Entry count before after told can st flows =
     let some : is_empty (coming s) ≡ false = ap (λ (k : ℕ). is_empty (coming (link_at k before.world).flows.to_downstream)) (sym (before_one j)) ∙ can.comes in
     let piece_is : flows.piece.now ≡ take n (coming s) = flows.bytes ∙ ap (λ (k : ℕ). take (flowing count (link_at k before.world).flows.to_downstream) (coming (link_at k before.world).flows.to_downstream)) (before_one j) in
     let waits : Carries (link_at j before.world).stands steps.node.lane.entry_bytes s (t.down j) = subst (λ (m : NodeState). Carries (link_at j before.world).stands m.lane.entry_bytes s (t.down j)) node_is (st.carried j there).down in
-    oldest_of alone steps.steps.lane.words steps.node.lane.entry_bytes flows.piece.now steps.next.lane.entry_bytes (is_open Entry steps.next.lane.body) (with_arrival n s) (arrives_whole n s flows.piece.now piece_is) some steps.steps.lane.brings.0 waits
+    oldest_of alone steps.steps.lane.words steps.node.lane.entry_bytes flows.piece.now steps.next.lane.entry_bytes (is_open Entry steps.next.lane.body) (with_arrival n s) (arrival n s flows.piece.now piece_is) some steps.steps.lane.brings.0 waits
 flow_oldest alone t number j Exit count before after told can st flows =
     let steps = flows.steps in
     let s : Stream = (link_at (j + 1) before.world).flows.to_upstream in
@@ -291,7 +282,7 @@ flow_oldest alone t number j Exit count before after told can st flows =
     let there : has_link (j + 1) before ≡ true = link_there (j + 1) (length before.machines) counted within in
     let node_is : node_at before (j + 1) ≡ steps.node = node_there (j + 1) before steps.node steps.there in
     let waits : Carries (link_at (j + 1) before.world).stands steps.node.lane.exit_bytes s (t.up (j + 1)) = subst (λ (m : NodeState). Carries (link_at (j + 1) before.world).stands m.lane.exit_bytes s (t.up (j + 1))) node_is (st.carried (j + 1) there).up in
-    oldest_of alone steps.steps.lane.words steps.node.lane.exit_bytes flows.piece.now steps.next.lane.exit_bytes (is_open Exit steps.next.lane.body) (with_arrival n s) (arrives_whole n s flows.piece.now flows.bytes) can.comes steps.steps.lane.brings.0 waits
+    oldest_of alone steps.steps.lane.words steps.node.lane.exit_bytes flows.piece.now steps.next.lane.exit_bytes (is_open Exit steps.next.lane.body) (with_arrival n s) (arrival n s flows.piece.now flows.bytes) can.comes steps.steps.lane.brings.0 waits
 
 -- an input that is no bytes brings no words
 abbrev pub IsNoBytes : Input → Type 0
@@ -568,21 +559,9 @@ pub record Stays (before after : LineState) (told : List Happening) : Type 0 whe
   pub lies : (gap : ℕ) → (gap_at after.world.floor gap).lies ≡ (gap_at before.world.floor gap).lies
   pub lists : (x machine : ℕ) → AllByRecursion (λ (id : ℕ). id ≢ x) (made_by told) → Lies x (machine_at after.world.floor machine).boards → Lies x (machine_at before.world.floor machine).boards
 
-made_append : (a b : List Happening) → made_by (a ++ b) ≡ made_by a ++ made_by b
-made_append [] b = refl
-made_append (h ∷ a) b = ap (λ (x : List ℕ). made_in h ++ x) (made_append a b) ∙ sym (append_assoc (made_in h) (made_by a) (made_by b))
-
-all_first : (P : ℕ → Type 0) (xs ys : List ℕ) → AllByRecursion P (xs ++ ys) → AllByRecursion P xs
-all_first P [] ys all = tt
-all_first P (x ∷ xs) ys all = (all.0, all_first P xs ys all.1)
-
-all_second : (P : ℕ → Type 0) (xs ys : List ℕ) → AllByRecursion P (xs ++ ys) → AllByRecursion P ys
-all_second P [] ys all = all
-all_second P (x ∷ xs) ys all = all_second P xs ys all.1
-
 made_both : (x : ℕ) (a b : List Happening) → AllByRecursion (λ (id : ℕ). id ≢ x) (made_by (a ++ b)) → AllByRecursion (λ (id : ℕ). id ≢ x) (made_by a) × AllByRecursion (λ (id : ℕ). id ≢ x) (made_by b)
 made_both x a b all =
-    let joined : AllByRecursion (λ (id : ℕ). id ≢ x) (made_by a ++ made_by b) = subst (λ (ids : List ℕ). AllByRecursion (λ (id : ℕ). id ≢ x) ids) (made_append a b) all in
+    let joined : AllByRecursion (λ (id : ℕ). id ≢ x) (made_by a ++ made_by b) = subst (λ (ids : List ℕ). AllByRecursion (λ (id : ℕ). id ≢ x) ids) (made-join a b) all in
     (all_first (λ (id : ℕ). id ≢ x) (made_by a) (made_by b) joined, all_second (λ (id : ℕ). id ≢ x) (made_by a) (made_by b) joined)
 
 act_makes : (x : ℕ) (second : Bool) (machine : ℕ) (act : Act) (world : WorldParts) → AllByRecursion (λ (id : ℕ). id ≢ x) (made_by (act_did second machine act world).told) → makes_not x act ≡ true
@@ -590,16 +569,12 @@ act_makes x second machine (acts.Inserts id) world all = rw (ne_eqb id x all.0) 
 act_makes x second machine (acts.Replaces old new) world all = rw (ne_eqb new x all.0) refl
 act_makes x second machine _ world all = refl
 
-and_both : (a b : Bool) → a ≡ true → b ≡ true → (a && b) ≡ true
-and_both true b one two = two
-and_both false b one two = one
-
 acts_make : (x : ℕ) (second : Bool) (machine : ℕ) (told : List Act) (world : WorldParts) → AllByRecursion (λ (id : ℕ). id ≢ x) (made_by (acts_did second machine told world).told) → make_not x told ≡ true
 acts_make x second machine [] world all = refl
 acts_make x second machine (act ∷ told) world all =
     let one = act_did second machine act world in
     let both = made_both x one.told (acts_did second machine told one.world).told all in
-    and_both (makes_not x act) (make_not x told) (act_makes x second machine act world both.0) (acts_make x second machine told one.world both.1)
+    and_from (makes_not x act) (make_not x told) (act_makes x second machine act world both.0) (acts_make x second machine told one.world both.1)
 
 step_stays : (number machine : ℕ) (input : Input) (before after : LineState) (told : List Happening) → MachineSteps number machine input before after told → Stays before after told
 step_stays number machine input before after told steps =

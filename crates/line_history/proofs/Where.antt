@@ -46,7 +46,7 @@ pub data WhereAlone (s : LineState) (gap : ℕ) (r : Record) : Type 0 where
 
 -- ---- the board of a half is that of the handover
 
-none_some : {X : Type 0} (r : Record) → ◌≡◌ {A = Option Record} None (Some r) → X
+pub none_some : {X : Type 0} (r : Record) → ◌≡◌ {A = Option Record} None (Some r) → X
 none_some r is = cc
 
 entry_board : {i : In} {es : List SensorEvent} {drive : Bool} {p : Place} {b : Record} (r : Record) → EntryFloor i es drive p b → held_in i ≡ Some r → b ≡ r
@@ -82,7 +82,7 @@ exit_in_gap (left_unread far) none = elim far [ ]
 exit_in_gap stuck_begun none = cc
 
 -- a transport that has just started, and whose machine has read all events, is of a board upstream
-starts_upstream : {i : In} {drive : Bool} {p : Place} {b : Record} → EntryFloor i [] drive p b → IsJustStarted i → is_upstream p ≡ true
+pub starts_upstream : {i : In} {drive : Bool} {p : Place} {b : Record} → EntryFloor i [] drive p b → IsJustStarted i → is_upstream p ≡ true
 starts_upstream (in_free full across) started = absurd started
 starts_upstream (in_taking sees_fresh) started = refl
 starts_upstream (in_taking sees_home) started = refl
@@ -95,7 +95,7 @@ starts_upstream in_waiting_on started = absurd started
 
 -- ---- where it is
 
-left_there : {lies : Gap} {b : Record} → GapAt lies Across b → lies ≡ gaps.Left (record { id = Some b.id })
+pub left_there : {lies : Gap} {b : Record} → GapAt lies Across b → lies ≡ gaps.Left (record { id = Some b.id })
 left_there gap_left = refl
 
 or_kept : {s : LineState} {gap : ℕ} {r : Record} {gone : ℕ → Bool} → ((x : ℕ) → gone x ≡ true → counted x (boards_of s) ≡ 0) → Kept r.id (node_at s gap).lane.body.kept ⊎ (gone r.id ≡ true) → WhereAlone s gap r
@@ -136,9 +136,6 @@ where_started t s gap r st taken none started unread =
 
 -- ---- a board that the outlet holds, and that lies beyond, has left by what is unread
 
-free_not_left : {X : Type 0} {b : Board} → gaps.Free ≡ gaps.Left b → X
-free_not_left is = cc
-
 begun_not_left : {X : Type 0} {a b : Board} → gaps.Begun a ≡ gaps.Left b → X
 begun_not_left is = cc
 
@@ -177,7 +174,7 @@ not_begun : (t : Trace) (s : LineState) (gap x : ℕ) {X : Type 0} (b : Board) �
 not_begun t s gap x b st (is_across left) begun lies = begun_not_left (sym begun ∙ left)
 not_begun t s gap x b st (is_inside_there inside) begun lies = gap_list_apart (st.keeps.apart.one_place x (in_gap gap) (at_machine (gap + 1)) (lies_in lies) (lies_at inside))
 
-begun_is : {lies : Gap} {b : Record} → GapAt lies InGap b → lies ≡ gaps.Begun (record { id = Some b.id })
+pub begun_is : {lies : Gap} {b : Record} → GapAt lies InGap b → lies ≡ gaps.Begun (record { id = Some b.id })
 begun_is gap_begun = refl
 
 unread_by_place : (t : Trace) (s : LineState) (j : ℕ) (q : Record) (p : Place) → Stands t s → (t.ghost (j + 1)).place ≡ p → held_above s (j + 1) ≡ Some q → IsBeyond s (j + 1) q.id → LeavesBy (node_at s (j + 1)).lane.body.outlet.phase (events_at Exit (machine_at s.world.floor (j + 1)).unread)

@@ -4,12 +4,12 @@ use Rattle.std.proofs.lemmas.List.{append_assoc, append-nil, drop-append-le, dro
 use Rattle.line_link.specs.Texts.{bytes_of}
 use Rattle.line_link.specs.Flow.{Stream, coming, is_begun, nul_put, reached, with_arrival, with_nul, with_text}
 
-bytes_of-append : (front back : List (List ℕ)) → bytes_of (front ++ back) ≡ bytes_of front ++ bytes_of back
+pub bytes_of-append : (front back : List (List ℕ)) → bytes_of (front ++ back) ≡ bytes_of front ++ bytes_of back
 bytes_of-append [] back = refl
 bytes_of-append (text ∷ front) back = ap (λ (l : List ℕ). text ++ l) (bytes_of-append front back) ∙ sym (append_assoc text (bytes_of front) (bytes_of back))
 
 -- of a begun list of texts no more has arrived than it has
-begun_within : (texts : List (List ℕ)) (arrived : ℕ) → is_begun texts arrived ≡ true → arrived ≤ length (bytes_of texts)
+pub begun_within : (texts : List (List ℕ)) (arrived : ℕ) → is_begun texts arrived ≡ true → arrived ≤ length (bytes_of texts)
 begun_within [] arrived begun = omega (arith, eqb-true arrived 0 begun)
 begun_within (text ∷ texts) arrived begun = omega (arith, length-append text (bytes_of texts), ltb-true arrived (length text) begun)
 

@@ -1,7 +1,8 @@
 -- Texts that stand in a block of bytes: what adding, taking and putting in does to them.
-use Rattle.std.proofs.Common.{◌≡◌, refl, sym, ◌∙◌, ap, subst, arith, zero, suc, ℕ, ◌+◌, ◌-◌, ◌<◌, ◌≤◌, Bool, true, false, ◌&&◌, List, [], ◌∷◌, ◌++◌, drop, get_or, insert, length, nat_lt, set, take, lt-ltb, ltb-true}
+use Rattle.std.proofs.Common.{◌≡◌, refl, sym, ◌∙◌, ap, subst, arith, zero, suc, ℕ, ◌+◌, ◌-◌, ◌<◌, ◌≤◌, true, List, [], ◌∷◌, ◌++◌, drop, get_or, insert, length, nat_lt, set, take, lt-ltb, ltb-true}
 use Rattle.std.proofs.lemmas.List.{append-nil, drop-append-le, drop-drop, drop-take, length-append, length-drop, length-take-le, nil_from_length, take-append-drop, take-append-le, take_all}
 use Rattle.std.specs.List.{list_all}
+use Rattle.std.proofs.lemmas.Bool.{and_parts, and_from}
 use Rattle.line_link.specs.Texts.{bytes_of, is_filled, with_byte_at, with_byte_in_first}
 use Rattle.line_link.specs.Parts.{IsCutUp, parts, total}
 
@@ -24,25 +25,13 @@ parts-append (count ∷ lengths) bytes text whole =
     ∙ ap (λ (l : List ℕ). take count bytes ∷ parts (lengths ++ length text ∷ []) l) (drop-append-le count bytes text within)
     ∙ ap (λ (l : List (List ℕ)). take count bytes ∷ l) (parts-append lengths (drop count bytes) text rest)
 
-and_first : (a b : Bool) → (a && b) ≡ true → a ≡ true
-and_first true b h = refl
-and_first false b h = h
-
-and_second : (a b : Bool) → (a && b) ≡ true → b ≡ true
-and_second true b h = h
-and_second false b h = absurd (cc)
-
-both : (a b : Bool) → a ≡ true → b ≡ true → (a && b) ≡ true
-both true b first second = second
-both false b first second = first
-
 total-append : (lengths : List ℕ) (count : ℕ) → total (lengths ++ count ∷ []) ≡ total lengths + count
 total-append [] count = omega arith
 total-append (first ∷ lengths) count = omega (arith, total-append lengths count)
 
 filled-append : (lengths : List ℕ) (count : ℕ) → 0 < count → list_all (nat_lt 0) lengths ≡ true → list_all (nat_lt 0) (lengths ++ count ∷ []) ≡ true
 filled-append [] count some filled = rw (lt-ltb 0 count some) refl
-filled-append (first ∷ lengths) count some filled = both (nat_lt 0 first) (list_all (nat_lt 0) (lengths ++ count ∷ [])) (and_first (nat_lt 0 first) (list_all (nat_lt 0) lengths) filled) (filled-append lengths count some (and_second (nat_lt 0 first) (list_all (nat_lt 0) lengths) filled))
+filled-append (first ∷ lengths) count some filled = and_from (nat_lt 0 first) (list_all (nat_lt 0) (lengths ++ count ∷ [])) (and_parts (nat_lt 0 first) (list_all (nat_lt 0) lengths) filled).0 (filled-append lengths count some (and_parts (nat_lt 0 first) (list_all (nat_lt 0) lengths) filled).1)
 
 -- what is cut up, with a text more
 pub cut-append : (start : ℕ) (lengths bytes text : List ℕ) → 0 < length text → IsCutUp start lengths bytes → IsCutUp start (lengths ++ length text ∷ []) (bytes ++ text)
@@ -75,9 +64,9 @@ filled_parts : (lengths bytes : List ℕ) → total lengths ≡ length bytes →
 filled_parts [] bytes whole filled = refl
 filled_parts (count ∷ lengths) bytes whole filled =
     let rest : total lengths ≡ length (drop count bytes) = omega (arith, length-drop count bytes) in
-    both (is_filled (take count bytes)) (list_all is_filled (parts lengths (drop count bytes)))
-    (filled_part count bytes (and_first (nat_lt 0 count) (list_all (nat_lt 0) lengths) filled) (omega arith))
-    (filled_parts lengths (drop count bytes) rest (and_second (nat_lt 0 count) (list_all (nat_lt 0) lengths) filled))
+    and_from (is_filled (take count bytes)) (list_all is_filled (parts lengths (drop count bytes)))
+    (filled_part count bytes (and_parts (nat_lt 0 count) (list_all (nat_lt 0) lengths) filled).0 (omega arith))
+    (filled_parts lengths (drop count bytes) rest (and_parts (nat_lt 0 count) (list_all (nat_lt 0) lengths) filled).1)
 
 -- no text is empty
 pub filled_texts : (start : ℕ) (lengths bytes : List ℕ) → IsCutUp start lengths bytes → list_all is_filled (parts lengths (drop start bytes)) ≡ true

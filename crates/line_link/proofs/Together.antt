@@ -7,7 +7,7 @@ use Rattle.line_link.specs.Flow.{Stream, Streams, coming, reached, stream_to, wi
 use Rattle.line_link.specs.Link.{IsLinkTogether, LinkParts, is_dry_without, most_in_flight}
 use Rattle.line_link.proofs.Coming.{coming_of_arrival}
 
-still_dry : (number : Option ℕ) (count : ℕ) (texts : List (List ℕ)) → is_dry_without number texts ≡ true → is_dry_without number (reached count texts).texts ≡ true
+pub still_dry : (number : Option ℕ) (count : ℕ) (texts : List (List ℕ)) → is_dry_without number texts ≡ true → is_dry_without number (reached count texts).texts ≡ true
 still_dry None count [] dry = refl
 still_dry None count (text ∷ texts) dry = absurd (cc)
 still_dry (Some number) count texts dry = refl

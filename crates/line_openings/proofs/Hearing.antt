@@ -27,7 +27,7 @@ use Rattle.session_core.specs.declared.state.SessionState.TheVariants.{NotConnec
 use Rattle.session_core.specs.Input.{heard}
 use Rattle.session_core.specs.Row.{SessionRow, actions_at, session_row, taken_row, traffic_row}
 use Rattle.session_core.specs.Table.{IsSessionRow, stands_upstream, is_unsettled, stands_downstream, answers, is_answered, is_alive, is_notified, passes_over, passes_ready, passes_unready, passes_start, passes_stop, passes_query, passes_available, passes_revoked, passes_finished, passes_forecast, passes_info}
-use Rattle.session_core.proofs.Rows.{row_is as session_row_is}
+use Rattle.session_core.proofs.Rows.{row_is as session_row_is, not_left}
 use Rattle.handover_out.specs.declared.input.OutInput.TheVariants as out_input
 use Rattle.handover_out.specs.declared.act.OutAct.{OutAct}
 use Rattle.handover_out.specs.declared.phase.Phase.{Phase}
@@ -205,10 +205,6 @@ row_no : (test : Bool) (after : OutState) (act : OutAct) → row_if test after a
 row_no true after act is = cc
 row_no false after act is = refl
 
-and_true : (ready : Bool) → (ready && true) ≡ false → ready ≡ false
-and_true true is = is
-and_true false is = refl
-
 none_front : (offered : Option ℕ) (id : ℕ) → is_id offered id ≡ true → Offers Idle offered [] → ⊥
 none_front None id is front = false≢true is
 none_front (Some mine) id is front = elim front [ ]
@@ -225,7 +221,7 @@ start_none opening (Stuck board linked stopped) s id kept opens parts front h is
 start_none opening (Ended mine) s id kept opens parts front h is = h
 start_none true Idle s id [] opens parts front h is = absurd (none_front s.offered id (parts refl).1 front)
 start_none true Idle s id (b ∷ bs) opens parts front h is = absurd (false≢true (sym (row_no (would_open s id) _ _ is) ∙ opens))
-start_none false Idle s id kept opens parts front h is = and_true s.ready (ap (λ (b : Bool). s.ready && not b) (sym opens) ∙ row_no (s.ready && not (would_open s id)) _ _ is)
+start_none false Idle s id kept opens parts front h is = not_left s.ready (ap (λ (b : Bool). s.ready && not b) (sym opens) ∙ row_no (s.ready && not (would_open s id)) _ _ is)
 
 start_took_tells : (desk : Desk) (message : Message) (id : ℕ) (opening : Bool) (body : Body) (found : Option OutRow) → message.body ≡ bodies.StartTransport id → OffersOf body → Linked body → would_open body.outlet id ≡ opening
     → outlet_row body.outlet (out_input.Start id (opening_board opening body.kept)) ≡ found → TellsAny body Exit message (outlet_took desk (record body { kept = behind_opening opening body.kept }) found)

@@ -2,7 +2,7 @@
 -- by then, and by a refusal where they are not.
 use Rattle.std.proofs.Common.{◌≡◌, ◌∙◌, ◌++◌, ◌==◌, ◌&&◌, ℕ, Bool, true, false, List, [], ◌∷◌, Option, Some, None, refl, not, sym, subst, if◌then◌else◌}
 use Rattle.std.specs.Prelude.{get_or}
-use Rattle.std.proofs.lemmas.Bool.{and_parts}
+use Rattle.std.proofs.lemmas.Bool.{and_parts, and_from}
 use Rattle.line_base.specs.declared.states.Side.TheVariants.{Exit}
 use Rattle.hermes_horizontal.specs.declared.message.Message.{Message}
 use Rattle.hermes_horizontal.specs.declared.message.Horizontal.{Horizontal}
@@ -54,13 +54,9 @@ pub plain_orderly : (o : Option ℕ) (r : Bool) (told : List Act) → are_plain 
 plain_orderly o r [] plain = ends
 plain_orderly o r (act ∷ told) plain = let both = and_parts (is_plain act) (are_plain told) plain in goes_on both.0 (plain_orderly (offered_act o act) (ready_act r act) told both.1)
 
-and_both : (a b : Bool) → a ≡ true → b ≡ true → (a && b) ≡ true
-and_both true b one two = two
-and_both false b one two = one
-
 pub plain_append : (a b : List Act) → are_plain a ≡ true → are_plain b ≡ true → are_plain (a ++ b) ≡ true
 plain_append [] b one two = two
-plain_append (x ∷ xs) b one two = let both = and_parts (is_plain x) (are_plain xs) one in and_both (is_plain x) (are_plain (xs ++ b)) both.0 (plain_append xs b both.1 two)
+plain_append (x ∷ xs) b one two = let both = and_parts (is_plain x) (are_plain xs) one in and_from (is_plain x) (are_plain (xs ++ b)) both.0 (plain_append xs b both.1 two)
 
 -- ---- what the supervisor is told says nothing of the exit
 

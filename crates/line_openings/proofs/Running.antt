@@ -5,7 +5,6 @@ use Rattle.std.specs.List.{flat_map}
 use Rattle.line_base.specs.declared.states.Side.{Side}
 use Rattle.board_record.specs.declared.record.Record.{Record}
 use Rattle.board_record.specs.Maker.{Maker, next_id}
-use Rattle.board_record.specs.declared.maker.IdsUsedUp.{IdsUsedUp}
 use Rattle.smema_bridge.specs.Levels.{BridgeLevels}
 use Rattle.line_script.specs.declared.line.ScriptLine.{ScriptLine}
 use Rattle.line_script.specs.declared.line.ScriptLine.TheVariants as lines
@@ -23,7 +22,7 @@ use Rattle.node_core.specs.declared.input.Input.TheVariants as inputs
 use Rattle.node_core.specs.declared.input.No.{No}
 use Rattle.node_core.specs.declared.lane.Body.{Body}
 use Rattle.node_core.specs.declared.word.Word.{Word}
-use Rattle.node_core.specs.Event.{Replace, event_of, with_new}
+use Rattle.node_core.specs.Event.{Replace, event_of}
 use Rattle.node_core.specs.May.{may_of, may_do as own_do}
 use Rattle.node_core.specs.Node.{NodeState, desk_of, new_node}
 use Rattle.node_core.specs.Own.{own_of}
@@ -31,7 +30,7 @@ use Rattle.node_core.specs.Signals.{signalled}
 use Rattle.node_core.specs.Sound.{IsSound}
 use Rattle.node_core.specs.Step.{machine_step}
 use Rattle.node_core.proofs.Sound.{HasPlaceFor, step_sound}
-use Rattle.node_core.proofs.Lasting.{first_sound, may_fits}
+use Rattle.node_core.proofs.Lasting.{first_sound, may_fits, other_fits}
 use Rattle.node_core.proofs.Signalling.{signals_all}
 use Rattle.standings.specs.Told.{told_of}
 use Rattle.standings.specs.declared.told.Told.{Told as Standing}
@@ -159,13 +158,9 @@ abbrev IsNoInsert : Input → Type 0
 IsNoInsert (inputs.Insert barcode) = ⊥
 IsNoInsert _ = Unit {0}
 
-replace_fits : (most : ℕ) (found : Result ℕ IdsUsedUp) (old : ℕ) (body : Body) → HasPlaceFor most (with_new found (Replace old)) body
-replace_fits most (Ok id) old body = tt
-replace_fits most (Err why) old body = tt
-
 plain_fits : (most : ℕ) (maker : Maker) (input : Input) (words : List Word) (body : Body) → IsNoInsert input → HasPlaceFor most (event_of maker input words) body
 plain_fits most maker (inputs.Insert barcode) words body none = absurd none
-plain_fits most maker (inputs.Replace id) words body none = replace_fits most (next_id maker) id body
+plain_fits most maker (inputs.Replace id) words body none = other_fits most (next_id maker) id body
 plain_fits most maker _ words body none = tt
 
 plain_goes : (number k machine : ℕ) (input : Input) (o : Option ℕ) (r : Bool) (before after : LineState) (told : List Happening) → IsNoInsert input → MachineSteps number machine input before after told → Holds o r (machine_in k before) → Goes k o r after told

@@ -1,16 +1,13 @@
 -- A text word is a text.
-use Rattle.std.proofs.Common.{◌≡◌, ◌&&◌, ℕ, Bool, true, false, List, [], ◌∷◌, refl, ap, ◌∙◌, sym, arith}
+use Rattle.std.proofs.Common.{◌≡◌, ℕ, true, List, [], ◌∷◌, refl, ap, ◌∙◌, sym, arith}
 use Rattle.std.proofs.lemmas.Bool.Decides.{nat_tests}
 use Rattle.std.proofs.lemmas.Str.{chars-encodes, encode_ascii}
 use Rattle.std.specs.List.{list_all}
 use Rattle.std.specs.Str.{chars}
+use Rattle.std.proofs.lemmas.Bool.{and_parts}
 use Rattle.line_base.specs.Text.{is_allowed_char, IsAllowed}
 use Rattle.line_script.specs.Words.{is_text_byte}
 use lib.Utf8.{scalar, scalars, encodes, encode}
-
-and_parts : (x y : Bool) → (x && y) ≡ true → (x ≡ true) × (y ≡ true)
-and_parts true y both = (refl, both)
-and_parts false y both = cc
 
 -- printable ASCII and the tab are characters of one byte, and allowed
 pub record IsPlainByte (b : ℕ) : Type 0 where

@@ -20,7 +20,7 @@ choose_false false a b is = refl
 not_below : (a b : ℕ) → b < a → nat_lt a b ≡ false
 not_below a b h = grind (arith, nat_tests)
 
-not_itself : (a : ℕ) → nat_lt a a ≡ false
+pub not_itself : (a : ℕ) → nat_lt a a ≡ false
 not_itself a = grind (arith, nat_tests)
 
 pub with_below : (a c : ℕ) (s : List ℕ) → a < c → with_id a (c ∷ s) ≡ a ∷ c ∷ s

@@ -317,7 +317,7 @@ more_node_at is_bridge capacity used s (suc place) apart =
     let places : place ≢ length s.machines = omega arith in
     more_node s.machines (new_node (profile_of is_bridge (length s.machines + 1) capacity used)) place places
 
-more_gaps : (machines : List AtMachine) (gaps : List AtGap) (gap : ℕ) → at_number (gaps_before machines gaps) gap free_gap ≡ at_number gaps gap free_gap
+pub more_gaps : (machines : List AtMachine) (gaps : List AtGap) (gap : ℕ) → at_number (gaps_before machines gaps) gap free_gap ≡ at_number gaps gap free_gap
 more_gaps [] gaps gap = refl
 more_gaps (m ∷ machines) gaps gap = number_more gaps gap free_gap
 

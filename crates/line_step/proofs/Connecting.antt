@@ -30,7 +30,7 @@ pub record CanConnect (machine : ℕ) (s : LineState) : Type 0 where
   pub behind : 1 < machine
   pub closed : is_open Entry node.lane.body ≡ false
 
-neighbour_of : (test : Bool) (reason : Reason) (rest : May) → no_if (not test) reason rest ≡ may_do → (test ≡ true) × (rest ≡ may_do)
+pub neighbour_of : (test : Bool) (reason : Reason) (rest : May) → no_if (not test) reason rest ≡ may_do → (test ≡ true) × (rest ≡ may_do)
 neighbour_of true reason rest is = (refl, is)
 neighbour_of false reason rest is = absurd (cc)
 
@@ -57,7 +57,7 @@ link_before machine s together can =
 
 -- ---- the free end
 
-none_of : (number : Option ℕ) → is_some number ≡ false → number ≡ None
+pub none_of : (number : Option ℕ) → is_some number ≡ false → number ≡ None
 none_of None is = refl
 none_of (Some n) is = absurd (cc)
 

@@ -1,6 +1,7 @@
 -- How many machines, links and places on the floor there are, and how many lines were done: what stays as it is.
 use Rattle.std.proofs.Common.{◌≡◌, ◌∙◌, ℕ, ◌-◌, Bool, true, false, List, [], ◌∷◌, Result, Ok, Err, length, refl, ap, length-set}
 use Rattle.std.specs.Prelude.{cond, nat_lt, slice_set}
+use Rattle.line_world.proofs.Keeping.{as_many_at_gap}
 use Rattle.line_base.specs.declared.states.Side.{Side}
 use Rattle.hermes_horizontal.specs.Canonical.{canonical}
 use Rattle.hermes_horizontal.specs.declared.message.Message.{Message}
@@ -43,25 +44,18 @@ link_same_world link parts world = record { links = links_stay link parts world;
 
 -- ---- the floor
 
-machine_places : (test : Bool) (plan : FloorPlan) (place : ℕ) (now : AtMachine) → length (cond test (record plan { machines = slice_set plan.machines place now }) plan).machines ≡ length plan.machines
+pub machine_places : (test : Bool) (plan : FloorPlan) (place : ℕ) (now : AtMachine) → length (cond test (record plan { machines = slice_set plan.machines place now }) plan).machines ≡ length plan.machines
 machine_places true plan place now = simp length-set
 machine_places false plan place now = refl
 
 pub machine_keeps_places : (plan : FloorPlan) (machine : ℕ) (now : AtMachine) → length (floor_machine plan machine now).machines ≡ length plan.machines
 machine_keeps_places plan machine now = machine_places (nat_lt 0 machine) plan (machine - 1) now
 
-gap_places : (test : Bool) (plan : FloorPlan) (place : ℕ) (now : AtGap) → length (cond test (record plan { gaps = slice_set plan.gaps place now }) plan).machines ≡ length plan.machines
-gap_places true plan place now = refl
-gap_places false plan place now = refl
-
-pub gap_keeps_places : (plan : FloorPlan) (gap : ℕ) (now : AtGap) → length (with_gap plan gap now).machines ≡ length plan.machines
-gap_keeps_places plan gap now = gap_places (nat_lt 0 gap) plan (gap - 1) now
-
 pub place_same_world : (machine : ℕ) (now : AtMachine) (world : WorldParts) → SameWorld world (with_floor (floor_machine world.floor machine now) world)
 place_same_world machine now world = record { links = refl; floor = machine_keeps_places world.floor machine now; gaps = gaps_counted_beside world.floor machine now }
 
 gap_same_world : (gap : ℕ) (now : AtGap) (world : WorldParts) → SameWorld world (with_floor (with_gap world.floor gap now) world)
-gap_same_world gap now world = record { links = refl; floor = gap_keeps_places world.floor gap now; gaps = gaps_counted world.floor gap now }
+gap_same_world gap now world = record { links = refl; floor = as_many_at_gap world.floor gap now; gaps = gaps_counted world.floor gap now }
 
 -- ---- acts
 

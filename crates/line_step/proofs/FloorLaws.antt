@@ -5,6 +5,7 @@ use Rattle.std.specs.List.{AllByRecursion, flat_map}
 use Rattle.std.proofs.lemmas.Bool.{leb-false}
 use Rattle.std.proofs.lemmas.List.{length-set}
 use Rattle.std.proofs.lemmas.Option.{slice_get_within}
+use Rattle.line_step.proofs.Numbers.{floor_stays}
 use Rattle.line_base.specs.declared.states.Side.{Side}
 use Rattle.line_base.specs.declared.states.Side.TheVariants.{Entry, Exit}
 use Rattle.board_record.specs.declared.record.Record.{Record}
@@ -79,7 +80,7 @@ use Rattle.line_step.specs.FloorIds.{AllChange, ChangesBoards, IdsStay, IsFresh,
 use Rattle.line_step.proofs.Hands.{AreQuiet, announces-quiet, both_shut-quiet, both_tick-quiet, faults-quiet, heard-quiet, marks-quiet, notices-quiet, opens-quiet, quiet-join, read-quiet, second-quiet, signals-quiet, levels-quiet, forecasts-quiet, hands_with_tells, supervises-quiet, tells_behind-quiet}
 use Rattle.line_step.proofs.WithTells.{tells_append}
 use Rattle.line_step.proofs.Makers.{AreNumbered, IsOld, numbered-at, numbered-last, numbered-set, old-apart, old-last, old-new, old-set}
-use Rattle.line_step.proofs.OnFloor.{Handles, IsPlain, IsStill, LiesThere, SameBoards, acts-still, all-join, as_many_gaps, changes-changes, cut-still, handled-join, handles, lays-gains, lies-there_by, link-floor, made-join, quiet-acts, read-list, same-list, still-join, still-none, takes_off-loses, board-gains, front-loses}
+use Rattle.line_step.proofs.OnFloor.{Handles, IsPlain, IsStill, LiesThere, SameBoards, acts-still, all-join, as_many_gaps, changes-changes, cut-still, handled-join, handles, lays-gains, lies-there_by, made-join, quiet-acts, read-list, same-list, still-join, still-none, takes_off-loses, board-gains, front-loses}
 
 -- ---- lists
 
@@ -800,12 +801,12 @@ given-goes may number machine input s after told handless h does =
     unless-goes may s after told (MachineSteps number machine input s after told) h (handless-goes number machine input s after told handless h) does
 
 -- a board that may be taken out, or replaced, is here
-here-behind : (own : Result (Unit {0}) No) (here : Bool) (next : May) (done : Unit {0}) → behind_own own (no_if (not here) reasons.NotHere next) ≡ Ok done → here ≡ true
+pub here-behind : (own : Result (Unit {0}) No) (here : Bool) (next : May) (done : Unit {0}) → behind_own own (no_if (not here) reasons.NotHere next) ≡ Ok done → here ≡ true
 here-behind (Err why) here next done is = cc
 here-behind (Ok _) true next done is = refl
 here-behind (Ok _) false next done is = cc
 
-here-if : (there : Option NodeState) (own : NodeState → Result (Unit {0}) No) (here : Bool) (next : NodeState → May) (done : Unit {0}) → if_there there (λ node. behind_own (own node) (no_if (not here) reasons.NotHere (next node))) ≡ Ok done → here ≡ true
+pub here-if : (there : Option NodeState) (own : NodeState → Result (Unit {0}) No) (here : Bool) (next : NodeState → May) (done : Unit {0}) → if_there there (λ node. behind_own (own node) (no_if (not here) reasons.NotHere (next node))) ≡ Ok done → here ≡ true
 here-if None own here next done is = cc
 here-if (Some node) own here next done is = here-behind (own node) here (next node) done is
 
@@ -831,7 +832,7 @@ met-handless connections.Second = tt
 
 connects-goes : (number machine : ℕ) (s after : LineState) (told : List Happening) → Holds s → Connects number machine s after told → Goes s after told
 connects-goes number machine s after told h steps =
-    let begin = stays-goes s (connecting machine s) [] h refl (link-floor (machine - 1) (after_connect (link_at (machine - 1) s.world)) s.world) still-none in
+    let begin = stays-goes s (connecting machine s) [] h refl (floor_stays (machine - 1) (after_connect (link_at (machine - 1) s.world)) s.world) still-none in
     let first = handless-goes number machine inputs.Connect (connecting machine s) steps.between steps.earlier tt begin.holds steps.first in
     let on = connected_of (link_at (machine - 1) s.world).upstream in
     let second = handless-goes number (machine - 1) (met on) steps.between after steps.later (met-handless on) first.holds steps.second in
@@ -840,7 +841,7 @@ connects-goes number machine s after told h steps =
 
 flows-goes : (number machine : ℕ) (side : Side) (count : Option ℕ) (s after : LineState) (told : List Happening) → Holds s → Flows number machine side count s after told → Goes s after told
 flows-goes number machine side count s after told h flows =
-    let begin = stays-goes s (arrived machine side count s) [] h refl (link-floor (link_of machine side) _ s.world) still-none in
+    let begin = stays-goes s (arrived machine side count s) [] h refl (floor_stays (link_of machine side) _ s.world) still-none in
     goes-both s (arrived machine side count s) after [] told begin (handless-goes number machine (inputs.Bytes side flows.piece) (arrived machine side count s) after told tt begin.holds flows.steps)
 
 unvouched-still : (unvouched : Option ℕ) → IsStill (unvouched_told unvouched)
@@ -990,14 +991,14 @@ does-goes number (lines.Flow machine side count) s after told h does = unless-go
 does-goes number (lines.Notice machine side) s after told h does = given-goes _ number machine (inputs.Notice side) s after told tt h does
 does-goes number (lines.Cut gap) s after told h does =
     let what = happenings.Cut gap ∷ [] in
-    let floor = link-floor gap (cut (link_at gap s.world)) s.world in
+    let floor = floor_stays gap (cut (link_at gap s.world)) s.world in
     unless-goes (may_cut gap s) s after told (Becomes (cut_in gap s) what after told) h (becomes-goes s (cut_in gap s) after what told (stays-goes s (cut_in gap s) what h refl floor (one-still (happenings.Cut gap) (λ boards. refl) refl refl))) does
 does-goes number (lines.Spoil machine side) s after told h does =
     let link = link_of machine side in
     let on = spoil_sent (end_of side) (link_at link s.world) in
     let what = spoil_told machine side s in
     let still = still-join (happenings.Spoils machine side ∷ []) (cut_told link on) (one-still (happenings.Spoils machine side) (λ boards. refl) refl refl) (cut-still link on) in
-    let floor = link-floor link (after_spoil (end_of side) (link_at link s.world)) s.world in
+    let floor = floor_stays link (after_spoil (end_of side) (link_at link s.world)) s.world in
     unless-goes (may_spoil machine side s) s after told (Becomes (spoiled machine side s) what after told) h (becomes-goes s (spoiled machine side s) after what told (stays-goes s (spoiled machine side s) what h refl floor still)) does
 does-goes number (lines.Shutdown machine) s after told h does = given-goes _ number machine inputs.Shutdown s after told tt h does
 does-goes number (lines.Tick machine) s after told h does = given-goes _ number machine inputs.Tick s after told tt h does

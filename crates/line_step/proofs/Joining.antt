@@ -58,7 +58,7 @@ step_joins_other number machine input before after told steps other apart opened
 
 -- ---- a connection is made
 
-made_down : (upstream : Option ℕ) (number : ℕ) (link : LinkParts) → is_some (connected upstream number link).downstream ≡ true
+pub made_down : (upstream : Option ℕ) (number : ℕ) (link : LinkParts) → is_some (connected upstream number link).downstream ≡ true
 made_down None number link = refl
 made_down (Some other) number link = refl
 

@@ -231,11 +231,11 @@ more_gaps (m ∷ machines) gaps whole = omega (arith, whole, length-append gaps 
 more_whole : (floor : FloorPlan) → IsWhole floor → IsWhole (one_machine_more floor)
 more_whole floor whole = more_gaps floor.machines floor.gaps whole
 
-not_full : (test : Bool) (reason : Reason) → no_if test reason may_do ≡ may_do → test ≡ false
+pub not_full : (test : Bool) (reason : Reason) → no_if test reason may_do ≡ may_do → test ≡ false
 not_full true reason is = absurd (cc)
 not_full false reason is = refl
 
-more_together : (is_bridge : Bool) (capacity used : ℕ) (s : LineState) → may_add s ≡ may_do → IsLineTogether s → IsLineTogether (one_more is_bridge capacity used s)
+pub more_together : (is_bridge : Bool) (capacity used : ℕ) (s : LineState) → may_add s ≡ may_do → IsLineTogether s → IsLineTogether (one_more is_bridge capacity used s)
 more_together is_bridge capacity used s may together =
     let room = not_full (nat_le most_machines (length s.machines)) reasons.LineFull may in
     let machines = length-append s.machines (new_node (profile_of is_bridge (length s.machines + 1) capacity used) ∷ []) in

@@ -4,6 +4,7 @@ use Rattle.std.specs.Prelude.{cond, nat_lt, slice_get, slice_index_or, slice_set
 use Rattle.std.proofs.lemmas.Bool.{eqb-false}
 use Rattle.std.proofs.lemmas.List.{get_or-set_same, get_or-set_other, get_or_past}
 use Rattle.std.proofs.lemmas.Option.{slice_get-get_or, slice_get_past, slice_get_within}
+use Rattle.line_world.proofs.Keeping.{counted_test}
 use Rattle.line_link.specs.Link.{LinkParts, no_link}
 use Rattle.node_core.specs.Node.{NodeState}
 use Rattle.line_step.specs.World.{WorldParts, link_at, with_link}
@@ -28,9 +29,6 @@ beyond_by n count false is = inl (grind (arith, is))
 
 pub beyond_or_not : (n count : ℕ) → (n ≤ count) ⊎ (count < n)
 beyond_or_not n count = beyond_by n count (nat_lt count n) refl
-
-counted_test : (n : ℕ) → 1 ≤ n → nat_lt 0 n ≡ true
-counted_test n counted = grind (arith, counted)
 
 -- ---- lists whose elements are numbered from 1
 

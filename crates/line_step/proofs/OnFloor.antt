@@ -3,11 +3,12 @@ use Rattle.std.proofs.Common.{◌≡◌, ◌-◌, ◌<◌, ◌≤◌, ◌++◌, 
 use Rattle.std.specs.Prelude.{is_some, nat_lt, slice_index_or, slice_set, if◌then◌else◌, drop, slice_get}
 use Rattle.std.proofs.lemmas.List.{get_or_default, get_or-set_same, length-set}
 use Rattle.std.proofs.lemmas.List.Quantifiers.{position-Some}
+use Rattle.line_step.proofs.Numbers.{floor_stays}
 use Rattle.line_base.specs.declared.states.Side.{Side}
 use Rattle.board_record.specs.declared.sensed.Sensed.{Sensed}
 use Rattle.hermes_horizontal.specs.declared.message.Message.{Message}
 use Rattle.hermes_horizontal.specs.Canonical.{canonical}
-use Rattle.line_link.specs.Link.{LinkParts, answer_sent, sent_of}
+use Rattle.line_link.specs.Link.{answer_sent, sent_of}
 use Rattle.line_link.specs.declared.link.Sent.{Sent}
 use Rattle.line_link.specs.declared.link.Sent.TheVariants as sent
 use Rattle.line_world.specs.declared.board.Board.{Board}
@@ -23,7 +24,7 @@ use Rattle.node_core.specs.declared.act.Deed.{Deed}
 use Rattle.node_core.specs.declared.act.Deed.TheVariants as deeds
 use Rattle.line_report.specs.declared.happening.Happening.{Happening}
 use Rattle.line_report.specs.declared.happening.Happening.TheVariants as happenings
-use Rattle.line_step.specs.World.{WorldParts, end_of, link_at, link_of, with_link}
+use Rattle.line_step.specs.World.{WorldParts, end_of, link_at, link_of}
 use Rattle.line_step.specs.Acts.{act_did, acts_did, answers, changes, counted as after_deed, cut_told, drives_on, lays, sent_by, takes_off}
 use Rattle.line_step.specs.FloorIds.{AllChange, ChangesBoards, handled_by, handled_in, made_by, made_in}
 use Rattle.line_step.proofs.Hands.{AreQuiet, IsQuiet}
@@ -44,17 +45,9 @@ same-still old new is =
 pub same-both : (a b c : FloorPlan) → SameBoards a b → SameBoards b c → SameBoards a c
 same-both a b c one two = record { machines = two.machines ∙ one.machines; gaps = two.gaps ∙ one.gaps; boards = two.boards ∙ one.boards }
 
-link-floor_by : (there : Bool) (links : List LinkParts) (world : WorldParts) → (if there then record world { links = links } else world).floor ≡ world.floor
-link-floor_by true links world = refl
-link-floor_by false links world = refl
-
--- what becomes of a link changes no floor
-pub link-floor : (link : ℕ) (parts : LinkParts) (world : WorldParts) → (with_link link parts world).floor ≡ world.floor
-link-floor link parts world = link-floor_by (nat_lt 0 link) (slice_set world.links (link - 1) parts) world
-
-sent-floor : (answers : Bool) (machine : ℕ) (side : Side) (message : Message) (world : WorldParts) → (sent_by answers machine side message world).world.floor ≡ world.floor
-sent-floor true machine side message world = link-floor machine _ world
-sent-floor false machine side message world = link-floor (link_of machine side) _ world
+pub sent-floor : (answers : Bool) (machine : ℕ) (side : Side) (message : Message) (world : WorldParts) → (sent_by answers machine side message world).world.floor ≡ world.floor
+sent-floor true machine side message world = floor_stays machine _ world
+sent-floor false machine side message world = floor_stays (link_of machine side) _ world
 
 counted-floor : (deed : Deed) (world : WorldParts) → (after_deed deed world).floor ≡ world.floor
 counted-floor (deeds.Opens id) world = refl
@@ -90,8 +83,8 @@ quiet-act second machine (acts.Reads side event) world quiet = same-still world.
 quiet-act second machine (acts.Hears side message) world quiet = same-still world.floor world.floor refl
 quiet-act second machine (acts.Breaches side text) world quiet = same-still world.floor world.floor refl
 quiet-act second machine (acts.Sends side message) world quiet = same-still world.floor _ (sent-floor (answers second side message) machine side message world)
-quiet-act second machine (acts.Closes side) world quiet = same-still world.floor _ (link-floor (link_of machine side) _ world)
-quiet-act second machine (acts.Notices side) world quiet = same-still world.floor _ (link-floor (link_of machine side) _ world)
+quiet-act second machine (acts.Closes side) world quiet = same-still world.floor _ (floor_stays (link_of machine side) _ world)
+quiet-act second machine (acts.Notices side) world quiet = same-still world.floor _ (floor_stays (link_of machine side) _ world)
 quiet-act second machine acts.Connects world quiet = same-still world.floor world.floor refl
 quiet-act second machine (acts.Deed deed) world quiet = same-still world.floor _ (counted-floor deed world)
 quiet-act second machine (acts.Drive side on) world quiet = drives-same machine side on world.floor

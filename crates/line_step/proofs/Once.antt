@@ -138,7 +138,7 @@ closed-at Entry Exit = refl
 closed-at Exit Entry = refl
 closed-at Exit Exit = refl
 
-closed-act : (side : Side) (act : Act) → open_act side false act ≡ false
+pub closed-act : (side : Side) (act : Act) → open_act side false act ≡ false
 closed-act side (acts.Closes at) = closed-at side at
 closed-act side (acts.Notices at) = closed-at side at
 closed-act side (acts.Reads at event) = refl
@@ -157,7 +157,7 @@ closed-act side (acts.Tells message) = refl
 closed-act side (acts.Answered query order) = refl
 closed-act side (acts.Signals signal on) = refl
 
-closed-stays : (side : Side) (told : List Act) → open_after side false told ≡ false
+pub closed-stays : (side : Side) (told : List Act) → open_after side false told ≡ false
 closed-stays side [] = refl
 closed-stays side (act ∷ others) = rw (closed-act side act) (closed-stays side others)
 

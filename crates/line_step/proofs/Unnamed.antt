@@ -3,10 +3,10 @@
 use Rattle.std.proofs.Common.{◌≡◌, ◌∙◌, ◌++◌, ◌==◌, ◌||◌, ℕ, Bool, true, false, List, [], ◌∷◌, Option, Some, None, refl, sym, ap, eqb-true}
 use Rattle.std.specs.Prelude.{is_some, slice_get}
 use Rattle.std.specs.List.{flat_map}
-use Rattle.std.proofs.lemmas.Bool.{false≢true}
+use Rattle.std.proofs.lemmas.Bool.{or_parts}
 use Rattle.std.proofs.lemmas.Grind.{flat_map-append}
 use Rattle.std.proofs.lemmas.List.{map-append}
-use Rattle.std.proofs.lemmas.List.Folds.{list_any-append}
+use Rattle.standings.proofs.Ids.{has_id-append}
 use Rattle.line_base.specs.declared.states.Side.{Side}
 use Rattle.line_base.specs.declared.states.Side.TheVariants.{Entry, Exit}
 use Rattle.line_base.specs.declared.states.SensorEvent.{SensorEvent}
@@ -113,19 +113,12 @@ pub record Spares (id : ℕ) (body : Body) (d : Done) : Type 0 where
 
 -- ---- tests
 
-pub neither : (a b : Bool) → (a || b) ≡ false → (a ≡ false) × (b ≡ false)
-neither true b is = absurd (false≢true (sym is))
-neither false b is = (refl, is)
-
 pub or_false : (a b : Bool) → b ≡ false → (a || b) ≡ a
 or_false true b is = refl
 or_false false b is = is
 
-has-append : (id : ℕ) (xs ys : List ℕ) → has_id id (xs ++ ys) ≡ (has_id id xs || has_id id ys)
-has-append id xs ys = list_any-append (λ (other : ℕ). other == id) xs ys
-
 pub apart_ids : (id : ℕ) (first last : List ℕ) → has_id id (first ++ last) ≡ false → (has_id id first ≡ false) × (has_id id last ≡ false)
-apart_ids id first last none = neither (has_id id first) (has_id id last) (sym (has-append id first last) ∙ none)
+apart_ids id first last none = or_parts (has_id id first) (has_id id last) (sym (has_id-append id first last) ∙ none)
 
 pub apart_is : {A : Type 0} (id : ℕ) (ids_of_one : A → List ℕ) (first last : List A) → has_id id (flat_map ids_of_one (first ++ last)) ≡ false → (has_id id (flat_map ids_of_one first) ≡ false) × (has_id id (flat_map ids_of_one last) ≡ false)
 apart_is id ids_of_one first last none = apart_ids id (flat_map ids_of_one first) (flat_map ids_of_one last) (ap (has_id id) (sym (flat_map-append ids_of_one first last)) ∙ none)
@@ -135,14 +128,14 @@ apart id first last none = apart_is id ids_of_act first last none
 
 -- the first id that acts name is another
 another : (other id : ℕ) (ids : List ℕ) → has_id id (other ∷ ids) ≡ false → (other == id) ≡ false
-another other id ids none = (neither (other == id) (has_id id ids) none).0
+another other id ids none = (or_parts (other == id) (has_id id ids) none).0
 
 -- an id more in front, and one at the back
 in_front : (other id : ℕ) (ids : List ℕ) → (other == id) ≡ false → has_id id (other ∷ ids) ≡ has_id id ids
 in_front other id ids is = ap (λ (b : Bool). b || has_id id ids) is
 
 at_back : (other id : ℕ) (ids : List ℕ) → (other == id) ≡ false → has_id id (ids ++ other ∷ []) ≡ has_id id ids
-at_back other id ids is = has-append id ids (other ∷ []) ∙ or_false (has_id id ids) (has_id id (other ∷ [])) (in_front other id [] is)
+at_back other id ids is = has_id-append id ids (other ∷ []) ∙ or_false (has_id id ids) (has_id id (other ∷ [])) (in_front other id [] is)
 
 -- ---- a micro event, and what is composed of them
 
@@ -421,7 +414,7 @@ replaces_spares : (id : ℕ) (desk : Desk) (old new : ℕ) (body : Body) → Spa
 replaces_spares id desk old new body =
     let board = plain_record new desk.name None in
     where_kept id (is_kept old body.kept) body _ (acts.Replaces old new) (by_hand id body (with_instead old board body.kept) (acts.Replaces old new)
-    (λ none. let two = neither (old == id) (has_id id (new ∷ [])) none in has-instead id old board body.kept two.0 (another new id [] two.1)))
+    (λ none. let two = or_parts (old == id) (has_id id (new ∷ [])) none in has-instead id old board body.kept two.0 (another new id [] two.1)))
 
 marks_spares : (id other : ℕ) (quality : Quality) (body : Body) → Spares id body (marks other quality body)
 marks_spares id other quality body = where_kept id (is_kept other body.kept) body _ (acts.Marks other quality) (by_hand id body (with_mark other quality body.kept) (acts.Marks other quality) (λ _. has-mark id other quality body.kept))

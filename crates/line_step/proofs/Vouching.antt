@@ -2,6 +2,9 @@
 use Rattle.std.proofs.Common.{◌≡◌, ◌+◌, ◌||◌, ◌++◌, ℕ, Bool, true, false, List, [], ◌∷◌, Option, Some, None, Result, Ok, Err, length, refl, ap, ◌∙◌}
 use Rattle.std.specs.Prelude.{◌==◌, if◌then◌else◌, is_some}
 use Rattle.std.specs.List.{flat_map}
+use Rattle.std.proofs.lemmas.Bool.{or_parts}
+use Rattle.supervisory_core.proofs.Rows.{or_false}
+use mathlib.Core.Bool.{or_assoc}
 use Rattle.line_base.specs.declared.states.Side.{Side}
 use Rattle.board_record.specs.declared.record.Record.{Record}
 use Rattle.board_record.specs.declared.sensed.Sensed.{Sensed}
@@ -39,14 +42,10 @@ use Rattle.line_step.specs.Lies.{has_lie, is_lie, tells_lie}
 
 -- ---- what is told without a lie
 
-or-false : (x y : Bool) → (x || y) ≡ false → (x ≡ false) × (y ≡ false)
-or-false true y is = cc
-or-false false y is = (refl, is)
-
 pub lie-join : (a b : List Happening) → tells_lie a ≡ false → tells_lie b ≡ false → tells_lie (a ++ b) ≡ false
 lie-join [] b one two = two
 lie-join (x ∷ xs) b one two =
-    let parts = or-false (is_lie x) (tells_lie xs) one in
+    let parts = or_parts (is_lie x) (tells_lie xs) one in
     rw parts.0 (lie-join xs b parts.1 two)
 
 cut-honest : (link : ℕ) (on : Sent) → tells_lie (cut_told link on) ≡ false
@@ -124,12 +123,8 @@ standings-honest before next =
 abbrev pub Remembers : LineState → LineState → List Happening → Type 0
 Remembers before after told = is_some after.unvouched ≡ (is_some before.unvouched || tells_lie told)
 
-or-none : (x : Bool) → x ≡ (x || false)
-or-none true = refl
-or-none false = refl
-
 honest : (before after : LineState) (told : List Happening) → after.unvouched ≡ before.unvouched → tells_lie told ≡ false → Remembers before after told
-honest before after told same none = ap is_some same ∙ rw none (or-none (is_some before.unvouched))
+honest before after told same none = ap is_some same ∙ rw none (or_false (is_some before.unvouched))
 
 becomes : (before next after : LineState) (what told : List Happening) → Remembers before next what → Becomes next what after told → Remembers before after told
 becomes before next after what told is becomes_so = rw (becomes_so.after_is, becomes_so.told_is) is
@@ -158,8 +153,8 @@ flow number which side count before after told flows =
     honest before after told one.0 one.1
 
 move-still : (gap : ℕ) (step : Move) (before : LineState) (answer : Result FloorPlan MoveNo) → Remembers before (moved answer before) (move_told gap step answer)
-move-still gap step before (Ok floor) = or-none (is_some before.unvouched)
-move-still gap step before (Err why) = or-none (is_some before.unvouched)
+move-still gap step before (Ok floor) = or_false (is_some before.unvouched)
+move-still gap step before (Err why) = or_false (is_some before.unvouched)
 
 move : (gap : ℕ) (step : Move) (before after : LineState) (told : List Happening) → Moves gap step before after told → Remembers before after told
 move gap step before after told does =
@@ -236,18 +231,14 @@ steps-remember number line before after told steps =
 
 -- ---- over a run
 
-or-assoc : (x y z : Bool) → ((x || y) || z) ≡ (x || (y || z))
-or-assoc true y z = refl
-or-assoc false y z = refl
-
 run-remembers : (s : LineState) (asked : List ScriptLine) (points : List Point) → IsRun s asked points → is_some (state_behind s points).unvouched ≡ (is_some s.unvouched || has_lie points)
-run-remembers s [] [] run = or-none (is_some s.unvouched)
+run-remembers s [] [] run = or_false (is_some s.unvouched)
 run-remembers s [] (point ∷ points) run = absurd run
 run-remembers s (line ∷ asked) [] run = absurd run
 run-remembers s (line ∷ asked) (point ∷ points) run =
     run-remembers point.after asked points run.1
     ∙ ap (λ t. t || has_lie points) (steps-remember (s.lines + 1) line s point.after point.told run.0)
-    ∙ or-assoc (is_some s.unvouched) (tells_lie point.told) (has_lie points)
+    ∙ or_assoc (is_some s.unvouched) (tells_lie point.told) (has_lie points)
 
 -- A LINE IS UNVOUCHED exactly where one of the lines of its script told what was not so, or let a board come or go unseen
 pub lies_remembered : (asked : List ScriptLine) (points : List Point) → IsRun no_line asked points → is_some (state_behind no_line points).unvouched ≡ has_lie points

@@ -218,7 +218,7 @@ machines_kept gap step old new h =
 
 -- drives, readings and lies change no board of the line
 
-drive_lies : (gap : AtGap) (side : Side) (on : Bool) → (with_drive gap side on).lies ≡ gap.lies
+pub drive_lies : (gap : AtGap) (side : Side) (on : Bool) → (with_drive gap side on).lies ≡ gap.lies
 drive_lies gap sides.Exit on = refl
 drive_lies gap sides.Entry on = refl
 

@@ -1,6 +1,7 @@
 -- The words that a side hears of fit messages are fit, and the first word behind a NUL.
 use Rattle.std.proofs.Common.{Bool, List, None, Option, Some, [], ap, append_assoc, arith, codes, drop, length, option_map, refl, subst, suc, sym, zero, ℕ, ◌++◌, ◌<◌, ◌^◌, ◌∙◌, ◌∷◌, ◌≡◌, ◌≤◌, length-append}
 use Rattle.std.specs.List.{AllByRecursion}
+use Rattle.custody.proofs.Texts.{no_first, texts_behind, first_text}
 use Rattle.line_base.specs.Text.{IsText}
 use Rattle.line_base.specs.declared.states.Side.{Side}
 use Rattle.line_base.specs.declared.states.Side.TheVariants.{Entry, Exit}
@@ -32,7 +33,7 @@ use Rattle.custody.specs.Bytes.{Flows, HasNul, Spoiled, texts_of}
 use Rattle.link_messages.specs.Fit.{AreFit, AreFitActs, AreFitWords, IsFit, IsFitAct, IsFitHeard, IsTextIf, more_fit, more_heard, more_said, none_fit, none_heard, none_said, sent_on, wrong_heard}
 use Rattle.link_messages.specs.Heard.{AreSayable, more_sayable, none_sayable}
 use Rattle.link_messages.proofs.Fronts.{IsFront, front_of}
-use Rattle.link_messages.proofs.Hearing.{OneMeaning, means_it, no_rest, no_texts, text_is, texts_are}
+use Rattle.link_messages.proofs.Hearing.{OneMeaning, means_it, no_rest}
 use Rattle.link_messages.proofs.Spoiling.{NulSpellsNone, first_has_nul, none_is}
 
 -- ---- a fit message is heard as one
@@ -95,11 +96,11 @@ pub words_are_fit : OneMeaning → (frames : List (List ℕ)) (rest : Option (Li
     → AreFirst frames rest words → texts_of messages ≡ frames ++ later → rest ≡ Some left → AreSayable messages → AreFit messages → AreFitWords words
 words_are_fit one _ rest _ messages later left first_none are is sayable fit = none_heard
 words_are_fit one _ _ _ messages later left first_too_long are is sayable fit = absurd (no_rest is)
-words_are_fit one (frame ∷ frames) rest (word ∷ words) [] later left (first_more means more) are is none_sayable fit = absurd (no_texts (sym are))
+words_are_fit one (frame ∷ frames) rest (word ∷ words) [] later left (first_more means more) are is none_sayable fit = absurd (no_first (sym are))
 words_are_fit one (frame ∷ frames) rest (word ∷ words) (message ∷ messages) later left (first_more means more) are is (more_sayable it others) (more_fit good fit) =
     let e : frame ∷ (frames ++ later) ≡ canonical message ∷ texts_of messages = sym are in
-    subst (λ (w : Word). AreFitWords (w ∷ words)) (means_it one frame word message (text_is e) it means)
-    (more_heard (fit_is_heard message good) (words_are_fit one frames rest words messages later left more (sym (texts_are e)) is others fit))
+    subst (λ (w : Word). AreFitWords (w ∷ words)) (means_it one frame word message (first_text e) it means)
+    (more_heard (fit_is_heard message good) (words_are_fit one frames rest words messages later left more (sym (texts_behind e)) is others fit))
 
 pub fit_words_of_whole : OneMeaning → (old piece coming new : List ℕ) (still : Bool) (words : List Word) (messages : List Message)
     → AreSayable messages → AreFit messages → Flows old (piece ++ coming) (texts_of messages) → AreWords old piece new still words → AreFitWords words
@@ -128,7 +129,7 @@ wrong_is_text refused_at once frame text nul short wrong =
 -- the first frame has at most the bytes of one
 first_short : (x frame : List ℕ) (frames : List (List ℕ)) (answer : Answer) → answer_of x ≡ answer → (frames_of x).messages ≡ frame ∷ frames → length frame ≤ 65536
 first_short x frame frames (Frame f) is are =
-    let same : f ≡ frame = text_is (sym (ap (λ (z : Frames). z.messages) (frames_of-frame x f is)) ∙ are) in
+    let same : f ≡ frame = first_text (sym (ap (λ (z : Frames). z.messages) (frames_of-frame x f is)) ∙ are) in
     subst (λ (g : List ℕ). length g ≤ 65536) same (gives_frame x f is).short
 first_short x frame frames NeedMore is are = absurd (none_is (sym (ap (λ (z : Frames). z.messages) (frames_of-need_more x is)) ∙ are))
 first_short x frame frames TooLong is are = absurd (none_is (sym (ap (λ (z : Frames). z.messages) (frames_of-too_long x is)) ∙ are))

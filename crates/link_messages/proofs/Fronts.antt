@@ -1,5 +1,6 @@
 -- The frames of a front of a stream are the first of its frames.
-use Rattle.std.proofs.Common.{List, None, Option, Some, [], ap, refl, sym, ℕ, ◌++◌, ◌∙◌, ◌∷◌, ◌≡◌}
+use Rattle.std.proofs.Common.{List, None, Some, [], ap, refl, sym, ℕ, ◌++◌, ◌∙◌, ◌∷◌, ◌≡◌}
+use Rattle.custody.proofs.Texts.{first_text, texts_behind, no_first, rebuilt}
 use Rattle.hermes_stream.specs.Frames.{Answer, Frame, Frames, NeedMore, TooLong, answer_of, behind, frames_of, left_of}
 use Rattle.hermes_stream.proofs.Streams.{frames_of-frame, frames_of-frame_append, frames_of-need_more, frames_of-need_more_append, frames_of-too_long_append}
 
@@ -13,18 +14,6 @@ pub record IsFront (texts : List (List ℕ)) (x y : List ℕ) : Type 0 where
 
 no_end : {left : List ℕ} → None ≡ Some left → ⊥
 no_end e = cc
-
-first_is : {f t : List ℕ} {fs ts : List (List ℕ)} → f ∷ fs ≡ t ∷ ts → f ≡ t
-first_is e = cc
-
-others_are : {f t : List ℕ} {fs ts : List (List ℕ)} → f ∷ fs ≡ t ∷ ts → fs ≡ ts
-others_are e = cc
-
-is_none : {f : List ℕ} {fs : List (List ℕ)} → f ∷ fs ≡ [] → ⊥
-is_none e = cc
-
-built : {ts : List (List ℕ)} {k : Option (List ℕ)} (z : Frames) → z.messages ≡ ts → z.rest ≡ k → z ≡ record { messages = ts; rest = k }
-built z m r = λ i. record { messages = m i; rest = r i }
 
 front_more : (t f : List ℕ) (ts : List (List ℕ)) (x y : List ℕ) → answer_of x ≡ Frame f → f ≡ t → IsFront ts (left_of x) y → IsFront (t ∷ ts) x y
 front_more t f ts x y answer same front = record {
@@ -48,11 +37,11 @@ front_at texts x y NeedMore is e more = record {
 front_at texts x y (Frame f) is e more =
     let whole : behind (f ∷ []) (frames_of (left_of x ++ y)) ≡ record { messages = texts; rest = Some [] } = sym (frames_of-frame_append x y f is) ∙ e in
     more f (frames_of (left_of x ++ y)).messages is (sym (ap (λ (z : Frames). z.messages) whole))
-    (built (frames_of (left_of x ++ y)) refl (ap (λ (z : Frames). z.rest) whole))
+    (rebuilt (frames_of (left_of x ++ y)) refl (ap (λ (z : Frames). z.rest) whole))
 
 pub front_of : (texts : List (List ℕ)) (x y : List ℕ) → frames_of (x ++ y) ≡ record { messages = texts; rest = Some [] } → IsFront texts x y
-front_of [] x y e = front_at [] x y (answer_of x) refl e (λ f ts is texts_are flows. absurd (is_none (sym texts_are)))
+front_of [] x y e = front_at [] x y (answer_of x) refl e (λ f ts is texts_are flows. absurd (no_first (sym texts_are)))
 front_of (t ∷ ts) x y e =
     front_at (t ∷ ts) x y (answer_of x) refl e (λ f others is texts_are flows.
-    front_more t f ts x y is (sym (first_is texts_are))
-    (front_of ts (left_of x) y (flows ∙ ap (λ (ms : List (List ℕ)). record { messages = ms; rest = Some [] }) (sym (others_are texts_are)))))
+    front_more t f ts x y is (sym (first_text texts_are))
+    (front_of ts (left_of x) y (flows ∙ ap (λ (ms : List (List ℕ)). record { messages = ms; rest = Some [] }) (sym (texts_behind texts_are)))))

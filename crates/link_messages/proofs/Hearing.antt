@@ -1,29 +1,20 @@
 -- The words of a piece are the oldest of the messages that flow.
-use Rattle.std.proofs.Common.{Bool, List, None, Option, Some, [], ap, drop, false, length, append_assoc, refl, suc, subst, sym, true, zero, ℕ, ◌++◌, ◌∙◌, ◌∷◌, ◌≡◌}
-use Rattle.hermes_stream.specs.Frames.{Frames, frames_of}
+use Rattle.std.proofs.Common.{Bool, List, None, Option, Some, [], ap, drop, length, append_assoc, suc, subst, sym, zero, ℕ, ◌++◌, ◌∙◌, ◌∷◌, ◌≡◌}
+use Rattle.custody.proofs.Texts.{first_text, texts_behind, no_first}
+use Rattle.hermes_stream.specs.Frames.{frames_of}
 use Rattle.hermes_horizontal.specs.Canonical.{canonical}
-use Rattle.hermes_horizontal.specs.declared.message.Horizontal.{Horizontal}
 use Rattle.hermes_horizontal.specs.declared.message.Message.{Message}
 use Rattle.node_core.specs.Words.{AreAll, AreFirst, AreWords, Means, all_more, all_none, first_more, first_none, first_too_long}
 use Rattle.node_core.specs.declared.word.Word.{Word}
-use Rattle.node_core.specs.declared.word.Word.TheVariants.{Says, Wrong}
+use Rattle.node_core.specs.declared.word.Word.TheVariants.{Says}
 use Rattle.custody.specs.Bytes.{Flows, texts_of}
-use Rattle.machine_custody.specs.Flight.{AreOldest, oldest_none, oldest_says, oldest_wrong}
+use Rattle.machine_custody.specs.Flight.{AreOldest, oldest_none, oldest_says}
 use Rattle.link_messages.specs.Heard.{AreSayable, Heard, IsSayable, bodies, more_sayable, none_sayable}
 use Rattle.link_messages.proofs.Fronts.{IsFront, front_of}
 
 -- a frame means one thing at most
 abbrev pub OneMeaning : Type 0
 OneMeaning = (frame : List ℕ) (a b : Word) → Means frame a → Means frame b → a ≡ b
-
-pub text_is : {f t : List ℕ} {fs ts : List (List ℕ)} → f ∷ fs ≡ t ∷ ts → f ≡ t
-text_is e = cc
-
-pub texts_are : {f t : List ℕ} {fs ts : List (List ℕ)} → f ∷ fs ≡ t ∷ ts → fs ≡ ts
-texts_are e = cc
-
-pub no_texts : {f : List ℕ} {fs : List (List ℕ)} → f ∷ fs ≡ [] → ⊥
-no_texts e = cc
 
 pub no_rest : {left : List ℕ} → None ≡ Some left → ⊥
 no_rest e = cc
@@ -36,18 +27,18 @@ pub first_are_oldest : OneMeaning → (frames : List (List ℕ)) (rest : Option 
     → AreFirst frames rest words → texts_of messages ≡ frames ++ later → rest ≡ Some left → AreSayable messages → AreOldest words (bodies messages)
 first_are_oldest one _ rest _ messages later left first_none are is sayable = oldest_none
 first_are_oldest one _ _ _ messages later left first_too_long are is sayable = absurd (no_rest is)
-first_are_oldest one (frame ∷ frames) rest (word ∷ words) [] later left (first_more means more) are is none_sayable = absurd (no_texts (sym are))
+first_are_oldest one (frame ∷ frames) rest (word ∷ words) [] later left (first_more means more) are is none_sayable = absurd (no_first (sym are))
 first_are_oldest one (frame ∷ frames) rest (word ∷ words) (message ∷ messages) later left (first_more means more) are is (more_sayable it others) =
     let e : frame ∷ (frames ++ later) ≡ canonical message ∷ texts_of messages = sym are in
-    subst (λ (w : Word). AreOldest (w ∷ words) (bodies (message ∷ messages))) (means_it one frame word message (text_is e) it means)
-    (oldest_says (first_are_oldest one frames rest words messages later left more (sym (texts_are e)) is others))
+    subst (λ (w : Word). AreOldest (w ∷ words) (bodies (message ∷ messages))) (means_it one frame word message (first_text e) it means)
+    (oldest_says (first_are_oldest one frames rest words messages later left more (sym (texts_behind e)) is others))
 
 -- where all frames were heard, so many messages were
 pub all_leave : (frames : List (List ℕ)) (rest : Option (List ℕ)) (words : List Word) (messages : List Message) (later : List (List ℕ)) (new : List ℕ)
     → AreAll frames rest words new → texts_of messages ≡ frames ++ later → texts_of (drop (length words) messages) ≡ later
 all_leave _ _ _ messages later new all_none are = are
-all_leave (frame ∷ frames) rest (word ∷ words) [] later new (all_more means more) are = absurd (no_texts (sym are))
-all_leave (frame ∷ frames) rest (word ∷ words) (message ∷ messages) later new (all_more means more) are = all_leave frames rest words messages later new more (texts_are are)
+all_leave (frame ∷ frames) rest (word ∷ words) [] later new (all_more means more) are = absurd (no_first (sym are))
+all_leave (frame ∷ frames) rest (word ∷ words) (message ∷ messages) later new (all_more means more) are = all_leave frames rest words messages later new more (texts_behind are)
 
 -- and what is left waits
 pub all_wait : (frames : List (List ℕ)) (rest : Option (List ℕ)) (words : List Word) (new left : List ℕ) → AreAll frames rest words new → rest ≡ Some left → left ≡ new

@@ -1,7 +1,8 @@
 -- A side that hears fit words says what is fit.
-use Rattle.std.proofs.Common.{Bool, List, None, Option, Some, [], false, refl, sym, true, ℕ, ◌∙◌, ◌∷◌, ◌≡◌}
+use Rattle.std.proofs.Common.{Bool, List, None, Option, Some, [], false, refl, sym, true, ◌∙◌, ◌∷◌, ◌≡◌}
 use Rattle.std.specs.Prelude.{is_some}
 use Rattle.std.proofs.lemmas.Bool.{false≢true}
+use Rattle.node_core.proofs.Opened.{breach_closes}
 use Rattle.line_base.specs.declared.states.Side.{Side}
 use Rattle.line_base.specs.declared.states.Side.TheVariants.{Entry, Exit}
 use Rattle.hermes_horizontal.specs.Parts.{kind_of}
@@ -9,21 +10,19 @@ use Rattle.hermes_horizontal.specs.declared.message.Horizontal.{Horizontal}
 use Rattle.hermes_horizontal.specs.declared.message.Horizontal.TheVariants as bodies
 use Rattle.hermes_horizontal.specs.declared.message.Message.{Message}
 use Rattle.session_core.specs.Breach.{unexpected}
-use Rattle.session_core.specs.End.{at_rest}
 use Rattle.session_core.specs.Input.{heard}
 use Rattle.session_core.specs.Row.{SessionRow, session_row}
 use Rattle.session_core.specs.declared.actions.Action.{Action}
 use Rattle.session_core.specs.declared.actions.Action.TheVariants.{Close, Pass, Ping, Pong, SendService, Stand, Tell}
 use Rattle.session_core.specs.declared.actions.Actions.{Actions}
 use Rattle.handover_out.specs.State.{held, would_open}
-use Rattle.handover_out.specs.Row.{OutRow, outlet_row}
+use Rattle.handover_out.specs.Row.{outlet_row}
 use Rattle.handover_out.specs.declared.input.OutInput.TheVariants as out_input
-use Rattle.handover_in.specs.Row.{InRow, intake_row}
+use Rattle.handover_in.specs.Row.{intake_row}
 use Rattle.handover_in.specs.declared.input.InInput.TheVariants as in_input
 use Rattle.node_core.specs.Connect.{if_open}
 use Rattle.node_core.specs.Desk.{Desk}
 use Rattle.node_core.specs.Done.{Done, and_then, behind}
-use Rattle.node_core.specs.Halves.{intake_row_did, outlet_row_did}
 use Rattle.node_core.specs.Hears.{entry_took, entry_word, exit_took, exit_word, hears, passed, rowed, side_took, taken}
 use Rattle.node_core.specs.Information.{answer_to}
 use Rattle.node_core.specs.Session.{actions_did, breaches}
@@ -109,19 +108,6 @@ hears_fit desk side message body given d b = rowed_fits desk side message (is_so
 
 -- ---- words
 
--- behind a breach its side has no connection
-half_closed_still : (desk : Desk) (body : Body) (found : Option InRow) → is_open Entry (intake_row_did desk body found).body ≡ is_open Entry body
-half_closed_still desk body None = refl
-half_closed_still desk body (Some r) = refl
-
-half_shut_still : (desk : Desk) (body : Body) (found : Option OutRow) → is_open Exit (outlet_row_did desk body found).body ≡ is_open Exit body
-half_shut_still desk body None = refl
-half_shut_still desk body (Some r) = refl
-
-pub closed_behind : (desk : Desk) (side : Side) (text : List ℕ) (body : Body) → is_open side (breaches desk side text body).body ≡ false
-closed_behind desk Entry text body = half_closed_still desk (with_session Entry (at_rest body.entry.session.role) body) (intake_row body.intake in_input.Closed)
-closed_behind desk Exit text body = half_shut_still desk (with_session Exit (at_rest body.exit.session.role) body) (outlet_row body.outlet out_input.Closed)
-
 pub if_fits : (test : Bool) (did : Done) (body : Body) → IsFitBody body → Fits did → Fits (if_open test did body)
 if_fits true did body b f = f
 if_fits false did body b f = fits_still body b
@@ -145,4 +131,4 @@ words_fit desk side (Wrong text ∷ ws) body (wrong_heard is) d b =
     let first : Fits (breaches desk side text body) = breaches_fit desk side text body is d b in
     if_fits (is_open side body) (and_then (breaches desk side text body) (all_heard desk side ws)) body b
     (fits_both (breaches desk side text body) (all_heard desk side ws) first
-    (silent_behind desk side (is_open side (breaches desk side text body).body) ws (breaches desk side text body).body refl (closed_behind desk side text body) first.body))
+    (silent_behind desk side (is_open side (breaches desk side text body).body) ws (breaches desk side text body).body refl (breach_closes desk side text body) first.body))

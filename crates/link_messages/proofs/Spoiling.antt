@@ -1,14 +1,15 @@
 -- The next frame behind a NUL is refused: so the words of a piece begin with a wrong one, or there is none yet.
-use Rattle.std.proofs.Common.{Bool, List, None, Option, Some, [], ap, length, refl, subst, sym, true, ℕ, ◌++◌, ◌∙◌, ◌∷◌, ◌≡◌}
-use Rattle.hermes_stream.specs.Frames.{Answer, Frame, Frames, NeedMore, TooLong, answer_of, frames_of, left_of}
-use Rattle.hermes_stream.specs.Cutter.{GivesFrame}
+use Rattle.std.proofs.Common.{Bool, List, Option, Some, [], ap, length, refl, subst, sym, ℕ, ◌++◌, ◌∙◌, ◌∷◌, ◌≡◌}
+use Rattle.link_messages.proofs.Hearing.{no_rest}
+use Rattle.custody.proofs.Texts.{first_text}
+use Rattle.hermes_stream.specs.Frames.{Answer, Frame, Frames, NeedMore, TooLong, answer_of, frames_of}
 use Rattle.hermes_stream.proofs.Streams.{frames_of-frame, frames_of-need_more, frames_of-too_long}
 use Rattle.hermes_stream.proofs.Runs.{gives_frame, wants_more}
 use Rattle.hermes_horizontal.specs.Spelling.{IsRefused, IsRefusedBy, Spells}
 use Rattle.hermes_horizontal.specs.declared.fault.Fault.{Fault}
 use Rattle.hermes_horizontal.specs.declared.message.Horizontal.{Horizontal}
 use Rattle.hermes_horizontal.specs.declared.message.Message.{Message}
-use Rattle.node_core.specs.Words.{AreAll, AreFirst, AreWords, Means, all_more, all_none, first_more, first_none, first_too_long}
+use Rattle.node_core.specs.Words.{AreAll, AreFirst, AreWords, all_more, all_none, first_more, first_none, first_too_long}
 use Rattle.node_core.specs.declared.word.Word.{Word}
 use Rattle.node_core.specs.declared.word.Word.TheVariants.{Says, Wrong}
 use Rattle.custody.specs.Bytes.{HasNul, Spoiled}
@@ -26,14 +27,8 @@ nul_spells_none zero once frame message nul spells =
     let refused : IsRefusedBy frame (length nul.front) = subst (λ (f : List ℕ). IsRefusedBy f (length nul.front)) (sym nul.is) (zero nul.front nul.rest) in
     once frame refused.at refused.why message refused.refused spells
 
-first_is : {f t : List ℕ} {fs ts : List (List ℕ)} → f ∷ fs ≡ t ∷ ts → f ≡ t
-first_is e = cc
-
 pub none_is : {f : List ℕ} {fs : List (List ℕ)} → [] ≡ f ∷ fs → ⊥
 none_is e = cc
-
-some_is : {left : List ℕ} → None ≡ Some left → ⊥
-some_is e = cc
 
 left_is : {a b : List ℕ} → Some a ≡ Some b → a ≡ b
 left_is e = cc
@@ -41,7 +36,7 @@ left_is e = cc
 -- the first frame of these bytes has the NUL in it
 pub first_has_nul : (x coming frame : List ℕ) (frames : List (List ℕ)) (answer : Answer) → answer_of x ≡ answer → (frames_of x).messages ≡ frame ∷ frames → Spoiled x coming → HasNul frame
 first_has_nul x coming frame frames (Frame f) is are s =
-    let same : f ≡ frame = first_is (sym (ap (λ (z : Frames). z.messages) (frames_of-frame x f is)) ∙ are) in
+    let same : f ≡ frame = first_text (sym (ap (λ (z : Frames). z.messages) (frames_of-frame x f is)) ∙ are) in
     subst (λ (g : List ℕ). HasNul g) same (nul_is_cut x coming f (gives_frame x f is) s)
 first_has_nul x coming frame frames NeedMore is are s = absurd (none_is (sym (ap (λ (z : Frames). z.messages) (frames_of-need_more x is)) ∙ are))
 first_has_nul x coming frame frames TooLong is are s = absurd (none_is (sym (ap (λ (z : Frames). z.messages) (frames_of-too_long x is)) ∙ are))
@@ -57,7 +52,7 @@ stays_at : (x coming new : List ℕ) (answer : Answer) → answer_of x ≡ answe
 stays_at x coming new (Frame f) is none rest s = absurd (none_is (sym none ∙ ap (λ (z : Frames). z.messages) (frames_of-frame x f is)))
 stays_at x coming new NeedMore is none rest s =
     subst (λ (w : List ℕ). Spoiled w coming) (left_is (sym (ap (λ (z : Frames). z.rest) (frames_of-need_more x is)) ∙ rest)) (nul_waits x coming (wants_more x is) s)
-stays_at x coming new TooLong is none rest s = absurd (some_is (sym (ap (λ (z : Frames). z.rest) (frames_of-too_long x is)) ∙ rest))
+stays_at x coming new TooLong is none rest s = absurd (no_rest (sym (ap (λ (z : Frames). z.rest) (frames_of-too_long x is)) ∙ rest))
 
 no_frames : {frames : List (List ℕ)} {rest : Option (List ℕ)} {words : List Word} {new : List ℕ} → AreAll frames rest words new → words ≡ [] → (frames ≡ []) × (rest ≡ Some new)
 no_frames all_none is = (refl, refl)

@@ -1,5 +1,6 @@
 -- The five announcements, by a machine that has read all events.
-use Rattle.std.proofs.Common.{Bool, List, None, Option, Some, [], false, is_none, is_some, not, refl, slice_get, subst, sym, true, ℕ, ◌&&◌, ◌∷◌, ◌≡◌}
+use Rattle.std.proofs.Common.{Bool, List, None, Option, Some, [], false, is_none, is_some, refl, slice_get, subst, sym, true, ℕ, ◌∷◌, ◌≡◌}
+use Rattle.std.proofs.lemmas.Bool.{and_parts, not-true}
 use Rattle.board_record.specs.declared.record.Record.{Record}
 use Rattle.session_core.specs.End.{is_standing_state}
 use Rattle.session_core.specs.declared.state.SessionState.{SessionState}
@@ -33,14 +34,6 @@ use Rattle.machine_custody.proofs.Told.{in_messages, in_met, in_scene, in_words,
 
 -- ---- what the tests say
 
-pub left_of_both : (a b : Bool) → (a && b) ≡ true → a ≡ true
-left_of_both true b e = refl
-left_of_both false b e = e
-
-pub right_of_both : (a b : Bool) → (a && b) ≡ true → b ≡ true
-right_of_both true b e = e
-right_of_both false b e = cc
-
 is_idle : (o : Out) → is_idle_phase o ≡ true → o ≡ out.Idle
 is_idle out.Idle e = refl
 is_idle (out.Moving r b) e = cc
@@ -51,10 +44,6 @@ is_standing : (s : SessionState) → is_standing_state s ≡ true → s ≡ Stan
 is_standing NotConnected e = cc
 is_standing Handshake e = cc
 is_standing Standing e = refl
-
-is_false : (b : Bool) → not b ≡ true → b ≡ false
-is_false true e = cc
-is_false false e = refl
 
 is_nothing : (x : Option ℕ) → is_none x ≡ true → x ≡ None
 is_nothing None e = refl
@@ -100,8 +89,8 @@ revoke_when : {afar : Afar} {above : List Record} {ga gb : Ghost} {body : Machin
     → Good afar above [] ga gb body c → GoesBy afar above [] ga gb c (revoke_by desk test body)
 revoke_when desk false e g = goes_not g
 revoke_when {body = body} desk true e g =
-    let idle = left_of_both _ _ (left_of_both _ _ e) in
-    let some = right_of_both _ _ (left_of_both _ _ e) in
+    let idle = (and_parts _ _ (and_parts _ _ e).0).0 in
+    let some = (and_parts _ _ (and_parts _ _ e).0).1 in
     revoked desk body.outlet.offered refl (is_idle body.outlet.phase idle) some g
 
 pub revoke_goes : {afar : Afar} {above : List Record} {ga gb : Ghost} {body : Machine} {c : Scene} (desk : Desk)
@@ -114,8 +103,8 @@ unready_when : {afar : Afar} {above : List Record} {ga gb : Ghost} {body : Machi
     → Good afar above [] ga gb body c → GoesBy afar above [] ga gb c (unready_by desk test body)
 unready_when desk false e g = goes_not g
 unready_when {ga = ga} {body = body} {c = c} desk true e g =
-    let free = left_of_both _ _ (left_of_both _ _ e) in
-    let is_ready = right_of_both _ _ (left_of_both _ _ e) in
+    let free = (and_parts _ _ (and_parts _ _ e).0).0 in
+    let is_ready = (and_parts _ _ (and_parts _ _ e).0).1 in
     at_entry_goes desk in_input.Unready tt g (says_unready ga (link_above [] body c) g.above_pair (is_free_phase body body.intake.phase refl free) is_ready) g.below_pair
 
 pub unready_goes : {afar : Afar} {above : List Record} {ga gb : Ghost} {body : Machine} {c : Scene} (desk : Desk)
@@ -126,11 +115,11 @@ ready_when : {afar : Afar} {above : List Record} {ga gb : Ghost} {body : Machine
     → Good afar above [] ga gb body c → GoesBy afar above [] ga gb c (ready_by desk test body)
 ready_when desk false e g = goes_not g
 ready_when {ga = ga} {body = body} {c = c} desk true e g =
-    let three = left_of_both _ _ (left_of_both _ _ e) in
-    let two = left_of_both _ _ three in
-    let stands = is_standing body.entry.session.state (left_of_both _ _ two) in
-    let free = right_of_both _ _ two in
-    let unsaid = is_false body.intake.ready (right_of_both _ _ three) in
+    let three = (and_parts _ _ (and_parts _ _ e).0).0 in
+    let two = (and_parts _ _ three).0 in
+    let stands = is_standing body.entry.session.state (and_parts _ _ two).0 in
+    let free = (and_parts _ _ two).1 in
+    let unsaid = not-true body.intake.ready (and_parts _ _ three).1 in
     at_entry_goes desk in_input.Ready tt g (says_ready ga (link_above [] body c) g.above_pair stands (is_free_phase body body.intake.phase refl free) unsaid) g.below_pair
 
 pub ready_goes : {afar : Afar} {above : List Record} {ga gb : Ghost} {body : Machine} {c : Scene} (desk : Desk)
@@ -178,11 +167,11 @@ offer_when : {afar : Afar} {above : List Record} {ga gb : Ghost} {body : Machine
     → Good afar above [] ga gb body c → GoesBy afar above [] ga gb c (offer_by desk test (slice_get body.kept 0) body)
 offer_when {body = body} desk false e g = offers_not desk (slice_get body.kept 0) g
 offer_when {body = body} desk true e g =
-    let three = left_of_both _ _ e in
-    let two = left_of_both _ _ three in
-    let stands = is_standing body.exit.session.state (left_of_both _ _ two) in
-    let idle = is_idle body.outlet.phase (right_of_both _ _ two) in
-    let none = is_nothing body.outlet.offered (right_of_both _ _ three) in
+    let three = (and_parts _ _ e).0 in
+    let two = (and_parts _ _ three).0 in
+    let stands = is_standing body.exit.session.state (and_parts _ _ two).0 in
+    let idle = is_idle body.outlet.phase (and_parts _ _ two).1 in
+    let none = is_nothing body.outlet.offered (and_parts _ _ three).1 in
     offered body desk body.kept stands idle none g
 
 pub offer_goes : {afar : Afar} {above : List Record} {ga gb : Ghost} {body : Machine} {c : Scene} (desk : Desk)
@@ -231,10 +220,10 @@ start_when : {afar : Afar} {above : List Record} {ga gb : Ghost} {body : Machine
     → Good afar above [] ga gb body c → GoesBy afar above [] ga gb c (start_by desk test body)
 start_when desk false e g = goes_not g
 start_when {body = body} desk true e g =
-    let three = left_of_both _ _ e in
-    let two = left_of_both _ _ three in
-    let free = right_of_both _ _ two in
-    started desk body.intake.offer refl (is_free_phase body body.intake.phase refl free) (right_of_both _ _ e) (right_of_both _ _ three) g
+    let three = (and_parts _ _ e).0 in
+    let two = (and_parts _ _ three).0 in
+    let free = (and_parts _ _ two).1 in
+    started desk body.intake.offer refl (is_free_phase body body.intake.phase refl free) (and_parts _ _ e).1 (and_parts _ _ three).1 g
 
 pub start_goes : {afar : Afar} {above : List Record} {ga gb : Ghost} {body : Machine} {c : Scene} (desk : Desk)
     → Good afar above [] ga gb body c → GoesBy afar above [] ga gb c (start desk body)

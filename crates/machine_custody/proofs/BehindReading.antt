@@ -102,7 +102,7 @@ intake_lists : (desk : Desk) (body : Machine) (row : Option InRow) (c : Scene) �
 intake_lists desk body None c = refl
 intake_lists desk body (Some row) c = in_lists desk row.act.deed row.act.send row.act.drive row.act.keep row.act.taken c
 
-saw_lists : (desk : Desk) (at : Side) (event : SensorEvent) (body : Machine) (c : Scene) → (all_met (saw desk at event body).acts c).boards ≡ c.boards
+pub saw_lists : (desk : Desk) (at : Side) (event : SensorEvent) (body : Machine) (c : Scene) → (all_met (saw desk at event body).acts c).boards ≡ c.boards
 saw_lists desk Entry event body c = intake_lists desk body (intake_row body.intake (in_input.Sensed event)) c
 saw_lists desk Exit event body c = outlet_lists desk body (outlet_row body.outlet (out_input.Sensed event)) c
 
@@ -119,7 +119,7 @@ idle_took : (desk : Desk) (body : Machine) (event : SensorEvent) (row : Option I
 idle_took desk body event None found is = is
 idle_took desk body event (Some row) found is = idle_row body.intake event row (in_row_is body.intake (in_input.Sensed event) row found) is
 
-outlet_apart : (desk : Desk) (body : Machine) (row : Option OutRow) → (outlet_row_did desk body row).body.intake ≡ body.intake
+pub outlet_apart : (desk : Desk) (body : Machine) (row : Option OutRow) → (outlet_row_did desk body row).body.intake ≡ body.intake
 outlet_apart desk body None = refl
 outlet_apart desk body (Some row) = refl
 
@@ -168,7 +168,7 @@ untouched_took : (desk : Desk) (body : Machine) (event : SensorEvent) (id : ℕ)
 untouched_took desk body event id None found plain is = plain is
 untouched_took desk body event id (Some row) found plain is = untouched_row body.outlet event row id (row_is body.outlet (out_input.Sensed event) row found) plain is
 
-intake_apart : (desk : Desk) (body : Machine) (row : Option InRow) → (intake_row_did desk body row).body.outlet ≡ body.outlet
+pub intake_apart : (desk : Desk) (body : Machine) (row : Option InRow) → (intake_row_did desk body row).body.outlet ≡ body.outlet
 intake_apart desk body None = refl
 intake_apart desk body (Some row) = refl
 

@@ -1,5 +1,6 @@
 -- A link is connected: what the step of the machine below does in the real scene, where the link stands already.
 use Rattle.std.proofs.Common.{Bool, List, None, Option, Some, [], ap, false, refl, slice_get, subst, sym, true, ◌++◌, ◌∙◌, ◌∷◌, ◌≡◌}
+use Rattle.std.proofs.lemmas.Bool.{and_parts}
 use Rattle.line_base.specs.declared.states.Role.TheVariants.{Downstream}
 use Rattle.line_base.specs.declared.states.Side.TheVariants.{Entry}
 use Rattle.board_record.specs.declared.record.Record.{Record}
@@ -30,7 +31,6 @@ use Rattle.machine_custody.specs.Scene.{Scene, all_met, said}
 use Rattle.machine_custody.specs.Good.{Afar, Good}
 use Rattle.machine_custody.specs.ByHand.{body_read, scene_read}
 use Rattle.machine_custody.specs.Joined.{described_by, with_link}
-use Rattle.machine_custody.proofs.Announcing.{left_of_both, right_of_both}
 use Rattle.machine_custody.proofs.Connecting.{calling, connect_did, entry_unready, read_apart, read_entry, vanishes}
 use Rattle.machine_custody.proofs.Goes.{met_append, step_met}
 use Rattle.machine_custody.proofs.Quiet.{AllActs, IsQuiet, acts_more, acts_none, all_append, outlet_all, outlet_says, quiet_all, quiet_is_plain}
@@ -82,18 +82,18 @@ not_ready : {body : Machine} → Shakes body → body.intake.ready ≡ true → 
 not_ready s e = let never : false ≡ true = rw s.unsaid at e in cc
 
 unready_unsaid : (desk : Desk) (test : Bool) (body : Machine) → unreadies_now desk body ≡ test → Shakes body → Unsaid (unready_by desk test body)
-unready_unsaid desk true body e s = absurd (not_ready s (right_of_both _ _ (left_of_both _ _ e)))
+unready_unsaid desk true body e s = absurd (not_ready s (and_parts _ _ (and_parts _ _ e).0).1)
 unready_unsaid desk false body e s = unsaid_not s
 
 not_standing : {body : Machine} → Shakes body → is_standing_state body.entry.session.state ≡ true → ⊥
 not_standing s e = let never : false ≡ true = rw s.state at e in cc
 
 ready_unsaid : (desk : Desk) (test : Bool) (body : Machine) → readies_now desk body ≡ test → Shakes body → Unsaid (ready_by desk test body)
-ready_unsaid desk true body e s = absurd (not_standing s (left_of_both _ _ (left_of_both _ _ (left_of_both _ _ (left_of_both _ _ e)))))
+ready_unsaid desk true body e s = absurd (not_standing s (and_parts _ _ (and_parts _ _ (and_parts _ _ (and_parts _ _ e).0).0).0).0)
 ready_unsaid desk false body e s = unsaid_not s
 
 start_unsaid : (desk : Desk) (test : Bool) (body : Machine) → starts_now body ≡ test → Shakes body → Unsaid (start_by desk test body)
-start_unsaid desk true body e s = absurd (not_standing s (left_of_both _ _ (left_of_both _ _ (left_of_both _ _ e))))
+start_unsaid desk true body e s = absurd (not_standing s (and_parts _ _ (and_parts _ _ (and_parts _ _ e).0).0).0)
 start_unsaid desk false body e s = unsaid_not s
 
 announces_unsaid : (desk : Desk) (body : Machine) → Shakes body → Unsaid (announces desk body)

@@ -48,7 +48,7 @@ use Rattle.machine_custody.specs.Scene.{Scene, link_above}
 use Rattle.machine_custody.specs.Good.{Afar, Goes, GoesBy, Good}
 use Rattle.machine_custody.specs.ByHand.{body_read, scene_read}
 use Rattle.machine_custody.specs.Joined.{with_link}
-use Rattle.machine_custody.proofs.BehindReading.{read_idle}
+use Rattle.machine_custody.proofs.BehindReading.{read_idle, outlet_apart}
 use Rattle.machine_custody.proofs.Quiet.{quiet_all, read_keeps, read_quiet}
 use Rattle.machine_custody.proofs.Reading.{all_read_good}
 use Rattle.machine_custody.proofs.Step.{step_by}
@@ -98,15 +98,10 @@ saw_entry desk Exit event body = out_entry desk body (outlet_row body.outlet (ou
 pub read_entry : (desk : Desk) (unread : List Sensed) (body : Machine) → (body_read desk unread body).entry ≡ body.entry
 read_entry desk unread body = read_keeps (λ b. b.entry ≡ body.entry) desk (λ at event b is. saw_entry desk at event b ∙ is) unread body refl
 
--- where the entry has nothing unread the intake stays as it is
-still_intake : (desk : Desk) (body : Machine) (row : Option OutRow) → (outlet_row_did desk body row).body.intake ≡ body.intake
-still_intake desk body None = refl
-still_intake desk body (Some row) = refl
-
 one_read : (desk : Desk) (at : Side) (event : SensorEvent) (others : List Sensed) (body : Machine) → before_event Entry at event (events_at Entry others) ≡ []
     → ((b : Machine) → events_at Entry others ≡ [] → (body_read desk others b).intake ≡ b.intake) → (body_read desk others (saw desk at event body).body).intake ≡ body.intake
 one_read desk Entry event others body none later = cc
-one_read desk Exit event others body none later = later (saw desk Exit event body).body none ∙ still_intake desk body (outlet_row body.outlet (out_input.Sensed event))
+one_read desk Exit event others body none later = later (saw desk Exit event body).body none ∙ outlet_apart desk body (outlet_row body.outlet (out_input.Sensed event))
 
 none_read : (desk : Desk) (unread : List Sensed) (body : Machine) → events_at Entry unread ≡ [] → (body_read desk unread body).intake ≡ body.intake
 none_read desk [] body none = refl

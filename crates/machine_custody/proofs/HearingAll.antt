@@ -41,12 +41,12 @@ entry_hears_one : {afar : Afar} {above : List Record} {ga gb : Ghost} (desk : De
 entry_hears_one {afar = afar} {above = above} {ga = ga} {gb = gb} desk message rest body c is g =
     subst (λ z. GoesBy afar above [] ga gb z (hears desk Entry message body)) is (entry_hears body c desk message rest (subst (λ z. Good afar above [] ga gb body z) (sym is) g))
 
-hears_one : {afar : Afar} {above : List Record} {ga gb : Ghost} (desk : Desk) (side : Side) (message : Message) (rest : List Horizontal) (body : Machine) (c : Scene) → OffersOf body
+pub hears_one : {afar : Afar} {above : List Record} {ga gb : Ghost} (desk : Desk) (side : Side) (message : Message) (rest : List Horizontal) (body : Machine) (c : Scene) → OffersOf body
     → unheard side c ≡ message.body ∷ rest → Good afar above [] ga gb body c → GoesBy afar above [] ga gb c (hears desk side message body)
 hears_one desk Entry message rest body c offers is g = entry_hears_one desk message rest body c (ap (λ ms. unheard_above ms c) (sym is)) g
 hears_one desk Exit message rest body c offers is g = exit_hears_one desk message rest body c offers (ap (λ ms. unheard_below ms c) (sym is)) g
 
-one_then : {afar : Afar} {above : List Record} {ga gb : Ghost} (desk : Desk) (side : Side) (message : Message) (rest : List Horizontal) (body : Machine) (c : Scene)
+pub one_then : {afar : Afar} {above : List Record} {ga gb : Ghost} (desk : Desk) (side : Side) (message : Message) (rest : List Horizontal) (body : Machine) (c : Scene)
     → unheard side c ≡ message.body ∷ rest → Good afar above [] ga gb body c → Then side rest (hears desk side message body) c
 one_then desk Entry message rest body c is g = entry_hears_then desk message rest body c g.entry_role is
 one_then desk Exit message rest body c is g = exit_hears_then desk message rest body c g.exit_role is

@@ -1,5 +1,6 @@
 -- What the halves of a handover hold, by the place of its board: it goes on by each row of theirs, and by hand.
 use Rattle.std.proofs.Common.{Bool, List, None, Option, Some, [], ap, false, inl, inr, map, refl, subst, sym, true, unwrap_or, ℕ, ◌++◌, ◌∙◌, ◌∷◌, ◌≡◌, ◌⊎◌}
+use Rattle.custody.proofs.AnnounceEntry.{offered as is_offered}
 use Rattle.line_base.specs.declared.states.Seen.TheVariants as seen
 use Rattle.board_record.specs.declared.record.Record.{Record}
 use Rattle.session_core.specs.declared.state.SessionState.{SessionState}
@@ -21,7 +22,7 @@ use Rattle.handover_in.specs.declared.phase.Phase.{Phase as In}
 use Rattle.handover_in.specs.declared.phase.Phase.TheVariants as inn
 use Rattle.handover_in.proofs.Rows.{row_is as in_row_is}
 use Rattle.custody.specs.Apart.{exit_idle}
-use Rattle.custody.specs.Contents.{Kept, Named, OfferIs, kept_first, kept_later, named_front, named_gone, named_kept, offer_is}
+use Rattle.custody.specs.Contents.{Kept, Named, OfferIs, kept_first, kept_later, named_front, named_gone, named_kept}
 use Rattle.custody.specs.Events.{gone_by}
 use Rattle.custody.specs.Floor.{EntryFloor, ExitFloor, at_start, in_free, in_stopped, in_taken_in, in_taking, in_waiting, in_waiting_on, on_across, on_begun, sees_fresh, sees_home}
 use Rattle.custody.specs.Hands.{PutFor, TakenOut, out_here, out_later, put_here, put_later}
@@ -245,9 +246,6 @@ says_upstream in_waiting_on fresh = absurd fresh
 
 takes_offered : (s : InState) (row : InRow) (q : Record) → IsIntakeRow s in_input.Start row → held_in row.after.phase ≡ Some q → s.offer ≡ Some q
 takes_offered _ _ q starts_transport e = e
-
-is_offered : {Q : Record → Type 0} {q : Record} → OfferIs Q (Some q) → Q q
-is_offered (offer_is n) = n
 
 kept_or_gone : {gone : ℕ → Bool} {b : Bool} {kept : List Record} {t : Option ℕ} {r : Record} → Named (gone_by gone) b kept t r → Kept r.id kept ⊎ (gone r.id ≡ true)
 kept_or_gone named_front = inl kept_first

@@ -20,7 +20,7 @@ use Rattle.machine_custody.specs.Good.{Afar, GoesBy, Good}
 use Rattle.machine_custody.proofs.Goes.{met_append}
 use Rattle.machine_custody.proofs.Rows.{at_entry_goes, at_entry_good, at_exit_goes, at_exit_good}
 
-read_at : {afar : Afar} {above : List Record} {rest : List Sensed} {ga gb : Ghost} {body : Machine} {c : Scene} (desk : Desk) (side : Side) (event : SensorEvent)
+pub read_at : {afar : Afar} {above : List Record} {rest : List Sensed} {ga gb : Ghost} {body : Machine} {c : Scene} (desk : Desk) (side : Side) (event : SensorEvent)
     → Good afar above (record { side = side; event = event } ∷ rest) ga gb body c → Good afar above rest ga gb (saw desk side event body).body (all_met (saw desk side event body).acts c)
 read_at {rest = rest} {ga = ga} {gb = gb} {body = body} {c = c} desk Entry event g =
     at_entry_good desk (in_input.Sensed event) tt g (reads_entry ga (link_above rest body c) event rest g.above_pair) (skips_entry gb (link_below rest body c) event rest g.below_pair)

@@ -103,7 +103,7 @@ keeps_session most Exit s body d same k = record { offers = k.offers; parts = re
 
 -- ---- the halves
 
-fewer_out : (kept others a b more most : ℕ) → kept + a ≤ others + b → others + b + more ≤ most → kept + a + more ≤ most
+pub fewer_out : (kept others a b more most : ℕ) → kept + a ≤ others + b → others + b + more ≤ most → kept + a + more ≤ most
 fewer_out kept others a b more most fewer fits = omega (arith, fewer, fits)
 
 outlet_keeps : (most : ℕ) (desk : Desk) (body : Body) (input : OutInput) (found : Option OutRow) → IsPlain input → outlet_row body.outlet input ≡ found → Keeps most body (outlet_row_did desk body found)

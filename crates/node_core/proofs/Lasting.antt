@@ -1,7 +1,6 @@
 -- What holds of a machine between its steps lasts.
 use Rattle.std.proofs.Common.{◌≡◌, ◌∙◌, ◌<◌, ◌++◌, ℕ, ℤ, pos, Bool, true, false, List, Option, Some, None, Result, Ok, Err, refl, sym, ap, subst, arith, not}
-use Rattle.std.specs.Prelude.{◌==◌, ◌||◌, ◌≢◌, length, nat_lt}
-use Rattle.std.proofs.lemmas.Bool.Decides.{nat_tests}
+use Rattle.std.specs.Prelude.{◌==◌, ◌||◌, ◌≢◌, length}
 use Rattle.board_record.specs.Maker.{Maker, next_id}
 use Rattle.board_record.specs.declared.maker.IdsUsedUp.{IdsUsedUp}
 use Rattle.board_record.specs.declared.sensed.Sensed.{Sensed}
@@ -34,7 +33,7 @@ use Rattle.node_core.specs.May.{no_if, may_do, may_of, is_used_up}
 use Rattle.node_core.specs.Own.{own_of, own_after}
 use Rattle.node_core.specs.Sound.{IsSound}
 use Rattle.node_core.proofs.Keeping.{SameWills, own_append}
-use Rattle.node_core.proofs.Sound.{HasPlaceFor, IsWilless, all_read_keeps, announces_keeps, event_wills, fails_wills, step_sound, step_owns}
+use Rattle.node_core.proofs.Sound.{HasPlaceFor, IsWilless, all_read_keeps, announces_keeps, event_wills, fails_wills, step_sound, step_owns, below_from}
 use Rattle.node_core.proofs.Breaking.{breaks_off}
 use Rattle.node_core.proofs.Signalling.{signals_silent, told_signals}
 
@@ -56,14 +55,11 @@ passes true true up why other last is = refl
 passes true false up why other last is = cc
 passes false place up why other last is = cc
 
-below_from : (n most : ℕ) → nat_lt n most ≡ true → n < most
-below_from n most is = grind (arith, nat_tests)
-
 new_fits : (most : ℕ) (found : Result ℕ IdsUsedUp) (barcode : Option (List ℕ)) (body : Body) → used body < most → HasPlaceFor most (with_new found (λ id. Insert id barcode)) body
 new_fits most (Ok id) barcode body fits = fits
 new_fits most (Err why) barcode body fits = tt
 
-other_fits : (most : ℕ) (found : Result ℕ IdsUsedUp) (old : ℕ) (body : Body) → HasPlaceFor most (with_new found (Replace old)) body
+pub other_fits : (most : ℕ) (found : Result ℕ IdsUsedUp) (old : ℕ) (body : Body) → HasPlaceFor most (with_new found (Replace old)) body
 other_fits most (Ok id) old body = tt
 other_fits most (Err why) old body = tt
 

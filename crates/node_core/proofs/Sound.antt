@@ -1,7 +1,7 @@
 -- A machine is sound after each step, and what it owns follows from its acts.
 use Rattle.std.proofs.Common.{◌≡◌, ◌∙◌, ◌+◌, ◌≤◌, ◌<◌, ◌++◌, ◌==◌, ◌&&◌, ◌||◌, ℕ, Bool, true, false, List, [], ◌∷◌, Option, Some, None, length, refl, sym, ap, subst, arith, not, eqb-true, length-append}
 use Rattle.std.specs.Prelude.{IfSome, is_some, nat_lt, slice_get}
-use Rattle.std.proofs.lemmas.Bool.{false≢true, and_parts}
+use Rattle.std.proofs.lemmas.Bool.{false≢true, and_parts, not-false}
 use Rattle.std.proofs.lemmas.Bool.Decides.{nat_tests}
 use Rattle.line_base.specs.declared.states.Side.{Side}
 use Rattle.line_base.specs.declared.states.Side.TheVariants.{Entry, Exit}
@@ -55,7 +55,7 @@ use Rattle.node_core.specs.Sound.{IsSound}
 use Rattle.node_core.proofs.Offers.{Offers, offers_none, offers_front, OffersOf, to_offers, from_offers, front_offers, settled_offers, nothing_offered}
 use Rattle.node_core.proofs.HalfRows.{offer_offers, offer_places, offer_owns, in_places, in_row_places, in_row_owns}
 use Rattle.node_core.proofs.Telling.{beside}
-use Rattle.node_core.proofs.Keeping.{Keeps, SameParts, SameWills, keeps_still, keeps_told, keeps_behind, keeps_both, own_append, at_outlet_keeps, at_intake_keeps, ended_keeps, session_keeps, heard_keeps, word_keeps, if_keeps}
+use Rattle.node_core.proofs.Keeping.{Keeps, SameParts, SameWills, keeps_still, keeps_told, keeps_behind, keeps_both, own_append, at_outlet_keeps, at_intake_keeps, ended_keeps, session_keeps, heard_keeps, word_keeps, if_keeps, fewer_out}
 
 -- ---- what the loop over a piece needs
 
@@ -197,7 +197,7 @@ marks_keeps most id quality body =
     let fewer : length (with_mark id quality body.kept) ≤ length body.kept = omega (arith, sym (length_ids (with_mark id quality body.kept)) ∙ ap length (ids_marked id quality body.kept), length_ids body.kept) in
     where_kept most (is_kept id body.kept) body _ (acts.Marks id quality) (by_hand most body (with_mark id quality body.kept) (acts.Marks id quality) fewer (ap (λ (ids : List ℕ). record (own_of body) { kept = ids }) (sym (ids_marked id quality body.kept))))
 
-ids_behind : (kept : List Record) (board : Record) → ids_of kept ++ board.id ∷ [] ≡ ids_of (kept ++ board ∷ [])
+pub ids_behind : (kept : List Record) (board : Record) → ids_of kept ++ board.id ∷ [] ≡ ids_of (kept ++ board ∷ [])
 ids_behind [] board = refl
 ids_behind (b ∷ bs) board = ap (λ (ids : List ℕ). b.id ∷ ids) (ids_behind bs board)
 
@@ -324,10 +324,6 @@ revoked_did : (desk : Desk) (body : Body) (found : Option OutRow) → is_idle_ph
 revoked_did desk body None idle some is = absurd (has_revoke_row body.outlet.phase body.outlet idle some is)
 revoked_did desk body (Some r) idle some is = nothing_offered _ _ _ (revoked_none (row_is body.outlet out_input.Revoke r is))
 
-not_false : (test : Bool) → not test ≡ false → test ≡ true
-not_false true is = refl
-not_false false is = absurd (false≢true (sym is))
-
 unrevoked : (phase : Phase) (offered : Option ℕ) (kept : List Record) (willing : Bool) → IfSome offered (λ id. is_idle_phase phase ≡ true)
     → (is_idle_phase phase && is_some offered && (not willing || not (is_front offered (slice_get kept 0)))) ≡ false → Offers phase offered kept
 unrevoked phase None kept willing idle test = offers_none
@@ -336,7 +332,7 @@ unrevoked (Stuck _ _ _) (Some id) kept willing idle test = absurd (false≢true 
 unrevoked (Ended _) (Some id) kept willing idle test = absurd (false≢true idle)
 unrevoked Idle (Some id) kept false idle test = absurd (false≢true (sym test))
 unrevoked Idle (Some id) [] true idle test = absurd (false≢true (sym test))
-unrevoked Idle (Some id) (b ∷ bs) true idle test = let same : id ≡ b.id = eqb-true id b.id (not_false (id == b.id) test) in subst (λ (i : ℕ). Offers Idle (Some i) (b ∷ bs)) (sym same) offers_front
+unrevoked Idle (Some id) (b ∷ bs) true idle test = let same : id ≡ b.id = eqb-true id b.id (not-false (id == b.id) test) in subst (λ (i : ℕ). Offers Idle (Some i) (b ∷ bs)) (sym same) offers_front
 
 revoke_offers : (desk : Desk) (test : Bool) (body : Body) → IsOfferIdle body → revokes_now body ≡ test → OffersOf (revoke_by desk test body).body
 revoke_offers desk true body idle is =
@@ -358,9 +354,6 @@ ready_keeps : (most : ℕ) (desk : Desk) (test : Bool) (body : Body) → Keeps m
 ready_keeps most desk true body = at_intake_keeps most desk in_input.Ready body tt
 ready_keeps most desk false body = keeps_still most body
 
-fewer_places : (kept others a b more most : ℕ) → kept + a ≤ others + b → others + b + more ≤ most → kept + a + more ≤ most
-fewer_places kept others a b more most fewer fits = omega (arith, fewer, fits)
-
 offer_did_keeps : (most : ℕ) (desk : Desk) (body : Body) (front : Record) (found : Option OutRow) → slice_get body.kept 0 ≡ Some front → outlet_row body.outlet (out_input.Offer front.id) ≡ found → Keeps most body (outlet_row_did desk body found)
 offer_did_keeps most desk body front None first is = keeps_still most body
 offer_did_keeps most desk body front (Some r) first is =
@@ -369,7 +362,7 @@ offer_did_keeps most desk body front (Some r) first is =
       offers = λ h. offer_offers body.kept shape (front_offers body.kept front first);
       parts = record { entry = refl; exit = refl };
       wills = record { entry = refl; exit = refl };
-      places = λ fits. fewer_places _ _ _ _ (place_for (in_held body.intake)) most (offer_places body.kept shape) fits;
+      places = λ fits. fewer_out _ _ _ _ (place_for (in_held body.intake)) most (offer_places body.kept shape) fits;
       owns = offer_owns desk body.intake body.kept shape;
     }
 
@@ -386,10 +379,10 @@ unready_after : {s : InState} {r : InRow} → IsIntakeRow s in_input.Unready r �
 unready_after gets_unready = refl
 
 -- an intake that isn't ready needs none
-below_from : (n most : ℕ) → nat_lt n most ≡ true → n < most
+pub below_from : (n most : ℕ) → nat_lt n most ≡ true → n < most
 below_from n most is = grind (arith, nat_tests)
 
-room_by_test : (free ready willing place : Bool) → (free && ready && (not willing || not place)) ≡ false → free ≡ true → ready ≡ true → place ≡ true
+pub room_by_test : (free ready willing place : Bool) → (free && ready && (not willing || not place)) ≡ false → free ≡ true → ready ≡ true → place ≡ true
 room_by_test true true true true test _ _ = refl
 room_by_test true true true false test _ _ = absurd (false≢true (sym test))
 room_by_test true true false place test _ _ = absurd (false≢true (sym test))

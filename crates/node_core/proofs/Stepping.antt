@@ -28,13 +28,13 @@ use Rattle.node_core.specs.Step.{plain_step, entry_after, exit_after, Brings, St
 
 -- ---- the announcements leave the connections as they are
 
-intake_open : (desk : Desk) (at : Side) (body : Body) (found : Option InRow) → is_open at (intake_row_did desk body found).body ≡ is_open at body
+pub intake_open : (desk : Desk) (at : Side) (body : Body) (found : Option InRow) → is_open at (intake_row_did desk body found).body ≡ is_open at body
 intake_open desk Entry body None = refl
 intake_open desk Exit body None = refl
 intake_open desk Entry body (Some r) = refl
 intake_open desk Exit body (Some r) = refl
 
-outlet_open : (desk : Desk) (at : Side) (body : Body) (found : Option OutRow) → is_open at (outlet_row_did desk body found).body ≡ is_open at body
+pub outlet_open : (desk : Desk) (at : Side) (body : Body) (found : Option OutRow) → is_open at (outlet_row_did desk body found).body ≡ is_open at body
 outlet_open desk Entry body None = refl
 outlet_open desk Exit body None = refl
 outlet_open desk Entry body (Some r) = refl

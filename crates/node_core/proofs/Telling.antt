@@ -1,7 +1,7 @@
 -- What the supervisor is told: what doesn't look at it is of the acts of a step what it is without it.
 use Rattle.std.proofs.Common.{◌≡◌, ◌∙◌, ◌++◌, Bool, true, false, List, [], ◌∷◌, Option, refl, sym, ap, append_assoc, append-nil, not, if◌then◌else◌}
 use Rattle.std.specs.List.{list_all}
-use Rattle.std.proofs.lemmas.Bool.{and_parts}
+use Rattle.std.proofs.lemmas.Bool.{and_parts, not-true}
 use Rattle.line_base.specs.declared.states.Seen.{Seen}
 use Rattle.line_base.specs.declared.states.Side.TheVariants.{Entry}
 use Rattle.hermes_vertical.specs.declared.message.VerticalMessage.{VerticalMessage}
@@ -150,10 +150,6 @@ stays_off watch (acts.Deed (deeds.Drops id)) is off = off
 stays_off watch (acts.Sets (settings.Supervise on)) is off = cc
 stays_off watch _ is off = off
 
-off_by : (test : Bool) → not test ≡ true → test ≡ false
-off_by true is = cc
-off_by false is = refl
-
 -- tells nothing
 pub unwatched_tells : (desk : Desk) (watch : Watch) (made : List Act) → watch.supervised ≡ false
     → list_all stays_unwatched made ≡ true → with_tells desk watch made ≡ made
@@ -168,4 +164,4 @@ pub quiet_tells : (desk : Desk) (watch : Watch) (made : List Act) → watch.supe
     → is_unwatched desk.supervised made ≡ true → with_tells desk watch made ≡ made
 quiet_tells desk watch made same is =
     let parts = and_parts (not desk.supervised) (list_all stays_unwatched made) is in
-    unwatched_tells desk watch made (same ∙ off_by desk.supervised parts.0) parts.1
+    unwatched_tells desk watch made (same ∙ not-true desk.supervised parts.0) parts.1

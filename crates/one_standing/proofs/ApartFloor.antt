@@ -2,6 +2,7 @@
 use Rattle.std.proofs.Common.{Bool, List, Option, None, Some, [], ap, arith, eq-eqb, eqb-true, false, filter, length, length-append, refl, subst, suc, sym, true, zero, ℕ, ◌+◌, ◌++◌, ◌-◌, ◌∙◌, ◌∷◌, ◌≡◌, ◌≢◌, ◌≤◌, ◌⊎◌, inl, inr}
 use Rattle.std.specs.Prelude.{cond, nat_lt, slice_index_or}
 use Rattle.std.proofs.lemmas.List.Elements.{filter-append}
+use Rattle.line_world.proofs.Keeping.{counted_test}
 use Rattle.line_world.specs.declared.board.Board.{Board}
 use Rattle.line_world.specs.declared.gap.Gap.{Gap}
 use Rattle.line_world.specs.declared.gap.Gap.TheVariants as gaps
@@ -42,11 +43,6 @@ counted_by false x board boards is rest some = lies_later (rest (rw is at some))
 pub counted_lies : (x : ℕ) (boards : List Board) → 1 ≤ counted x boards → Lies x boards
 counted_lies x [] some = absurd (omega (arith, some))
 counted_lies x (board ∷ boards) some = counted_by (has_id x board) x board boards refl (counted_lies x boards) some
-
-own_first : (own : Option ℕ) (x : ℕ) (boards : List Board) → own ≡ Some x → Lies x (record { id = own } ∷ boards)
-own_first own x boards is =
-    let P : Option ℕ → Type 0 = λ o. Lies x (record { id = o } ∷ boards) in
-    subst P (sym is) lies_first
 
 pub own_counted : (x : ℕ) (board : Board) (boards : List Board) → board.id ≡ Some x → counted x (board ∷ boards) ≡ 1 + counted x boards
 own_counted x board boards is =
@@ -131,11 +127,8 @@ boards_at plan (in_gap k) = boards_in (gap_at plan k).lies
 few_gaps : (plan : FloorPlan) → IsWhole plan → length plan.gaps ≤ length plan.machines
 few_gaps plan whole = omega (arith, whole)
 
-some_number : (n : ℕ) → 1 ≤ n → nat_lt 0 n ≡ true
-some_number n some = grind (arith, some)
-
 at_there : {X : Type 0} (xs : List X) (n : ℕ) (none : X) → 1 ≤ n → cond (nat_lt 0 n) (slice_index_or xs (n - 1) none) none ≡ slice_index_or xs (n - 1) none
-at_there xs n none some = rw (some_number n some) refl
+at_there xs n none some = rw (counted_test n some) refl
 
 machine_list : (plan : FloorPlan) (m : ℕ) → 1 ≤ m → (machine_at plan m).boards ≡ machine_boards plan.machines (m - 1)
 machine_list plan m some = ap (λ (a : AtMachine). a.boards) (at_there plan.machines m empty_machine some)
@@ -208,7 +201,7 @@ pub lies_in_gap : {x : ℕ} {lies : Gap} → LiesIn x lies → Lies x (boards_in
 lies_in_gap lies_begun = lies_first
 lies_in_gap lies_left = lies_first
 
-no_later : {x : ℕ} → Lies x [] → ⊥
+pub no_later : {x : ℕ} → Lies x [] → ⊥
 no_later lies = elim lies [ ]
 
 begun_lies : {x : ℕ} {board : Board} → Lies x (board ∷ []) → LiesIn x (gaps.Begun board)

@@ -1,6 +1,6 @@
 -- What a hand takes from the floor is told, and lay there; and a step without one leaves every board where it is.
-use Rattle.std.proofs.Common.{Bool, List, None, Option, Ok, Err, Result, Some, [], ap, arith, false, length, length-set, refl, slice_set, subst, suc, sym, true, zero, ℕ, ◌++◌, ◌-◌, ◌∙◌, ◌∷◌, ◌≡◌, ◌≤◌, append_assoc}
-use Rattle.std.specs.Prelude.{not, slice_get}
+use Rattle.std.proofs.Common.{Bool, List, None, Option, Ok, Result, Some, [], ap, arith, length, length-set, refl, slice_set, subst, suc, sym, true, zero, ℕ, ◌++◌, ◌-◌, ◌∙◌, ◌∷◌, ◌≡◌, ◌≤◌, append_assoc}
+use Rattle.std.specs.Prelude.{slice_get}
 use Rattle.std.specs.List.{AllByRecursion}
 use Rattle.board_record.specs.Maker.{Maker, next_id}
 use Rattle.board_record.specs.Record.{plain_record}
@@ -16,7 +16,6 @@ use Rattle.node_core.specs.declared.act.Act.{Act}
 use Rattle.node_core.specs.declared.act.Act.TheVariants as acts
 use Rattle.node_core.specs.declared.input.Input.{Input}
 use Rattle.node_core.specs.declared.input.Input.TheVariants as inputs
-use Rattle.node_core.specs.declared.input.No.{No}
 use Rattle.node_core.specs.declared.lane.Body.{Body}
 use Rattle.node_core.specs.declared.word.Word.{Word}
 use Rattle.node_core.specs.Announces.{announces}
@@ -28,14 +27,13 @@ use Rattle.node_core.specs.Node.{NodeState, desk_of}
 use Rattle.node_core.specs.Reads.{all_read}
 use Rattle.line_report.specs.declared.happening.Happening.{Happening}
 use Rattle.line_report.specs.declared.happening.Happening.TheVariants as happenings
-use Rattle.line_report.specs.declared.happening.Reason.TheVariants as reasons
 use Rattle.line_step.specs.Acts.{act_did, acts_did}
 use Rattle.line_step.specs.FloorIds.{boards_of}
-use Rattle.line_step.specs.Reasons.{May, behind_own, if_there, is_here, may_do, may_remove, may_replace, no_if}
+use Rattle.line_step.specs.Reasons.{behind_own, is_here, may_do, may_remove, may_replace}
 use Rattle.line_step.specs.State.{LineState, machine_in, with_machine, with_world}
 use Rattle.line_step.specs.Steps.{MachineSteps, is_second, moment_of, read_by, unread_by}
 use Rattle.line_step.specs.World.{WorldParts}
-use Rattle.line_step.proofs.FloorLaws.{Holds}
+use Rattle.line_step.proofs.FloorLaws.{Holds, here-if}
 use Rattle.line_step.proofs.Hands.{AreQuiet, announces-quiet, both_shut-quiet, both_tick-quiet, faults-quiet, heard-quiet, marks-quiet, notices-quiet, opens-quiet, quiet-join, read-quiet, second-quiet, signals-quiet, levels-quiet, forecasts-quiet, hands_with_tells, supervises-quiet}
 use Rattle.line_step.proofs.WithTells.{tells_append}
 use Rattle.node_core.specs.Step.{plain_step}
@@ -66,20 +64,11 @@ here_lies t s m x here =
     let boards = (machine_at s.world.floor m).boards in
     lies_at (counted_lies x boards (there_counted x boards (lies-there_by (place_of x boards) x boards refl here)))
 
-here_behind : (own : Result (Unit {0}) No) (here : Bool) (next : May) (done : Unit {0}) → behind_own own (no_if (not here) reasons.NotHere next) ≡ Ok done → here ≡ true
-here_behind (Err why) here next done is = cc
-here_behind (Ok _) true next done is = refl
-here_behind (Ok _) false next done is = cc
-
-here_if : (there : Option NodeState) (own : NodeState → Result (Unit {0}) No) (here : Bool) (next : NodeState → May) (done : Unit {0}) → if_there there (λ node. behind_own (own node) (no_if (not here) reasons.NotHere (next node))) ≡ Ok done → here ≡ true
-here_if None own here next done is = cc
-here_if (Some node) own here next done is = here_behind (own node) here (next node) done is
-
 pub remove_here : (m x : ℕ) (s : LineState) (done : Unit {0}) → may_remove m x s ≡ Ok done → is_here m x s.world ≡ true
-remove_here m x s done may = here_if (machine_in m s) (λ node. may_of node (inputs.Remove x)) (is_here m x s.world) (λ node. may_do) done may
+remove_here m x s done may = here-if (machine_in m s) (λ node. may_of node (inputs.Remove x)) (is_here m x s.world) (λ node. may_do) done may
 
 pub replace_here : (m x : ℕ) (s : LineState) (done : Unit {0}) → may_replace m x s ≡ Ok done → is_here m x s.world ≡ true
-replace_here m x s done may = here_if (machine_in m s) (λ node. may_of node (inputs.Remove x)) (is_here m x s.world) (λ node. behind_own (may_of node (inputs.Replace x)) may_do) done may
+replace_here m x s done may = here-if (machine_in m s) (λ node. may_of node (inputs.Remove x)) (is_here m x s.world) (λ node. behind_own (may_of node (inputs.Replace x)) may_do) done may
 
 -- ---- what is done by hand is told
 

@@ -48,7 +48,7 @@ does_goes number line s next done h does =
 abbrev IsNot : ℕ → List ℕ → Type 0
 IsNot x ids = AllByRecursion (λ (id : ℕ). x ≢ id) ids
 
-same_count : (x : ℕ) (old new : List Board) → new ≡ old → counted x new ≤ counted x old
+pub same_count : (x : ℕ) (old new : List Board) → new ≡ old → counted x new ≤ counted x old
 same_count x old new same = rw same (omega arith)
 
 gained_count : (x id : ℕ) (old new : List Board) → LosesBoard new old (record { id = Some id }) → x ≢ id → counted x new ≤ counted x old
@@ -58,7 +58,7 @@ gained_count x id old new gain apart =
     rw (gain.before, gain.after) (omega (arith, more))
 
 -- a board without an id has none of the ids
-bare_count : (x : ℕ) (old new : List Board) → LosesBoard new old (record { id = None }) → counted x new ≤ counted x old
+pub bare_count : (x : ℕ) (old new : List Board) → LosesBoard new old (record { id = None }) → counted x new ≤ counted x old
 bare_count x old new gain =
     let more = lost_with x gain.front gain.back (record { id = None }) false refl in
     rw (gain.before, gain.after) (omega (arith, more))

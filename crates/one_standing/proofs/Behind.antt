@@ -56,7 +56,7 @@ stepped t j a b gone d = record {
 next_apart : (j : ℕ) → j + 1 ≢ j
 next_apart j = omega arith
 
-before_apart : (j : ℕ) → j ≢ j + 1
+pub before_apart : (j : ℕ) → j ≢ j + 1
 before_apart j = omega arith
 
 pub put_first : {A : Type 0} (j : ℕ) (a b : A) (f : ℕ → A) → put j a (put (j + 1) b f) j ≡ a
@@ -85,10 +85,10 @@ pub record AreReal (j : ℕ) (after : LineState) (d : Scene) : Type 0 where
   pub stands_below : (link_at (j + 1) after.world).stands ≡ d.below.stands
   pub gap_below : gap_at after.world.floor (j + 1) ≡ d.below.gap
 
-me_by : {body body2 : Machine} {place place2 : AtMachine} → body2 ≡ body → place2 ≡ place → ◌≡◌ {A = Stand} (record { body = body2; place = place2 }) (record { body = body; place = place })
+pub me_by : {body body2 : Machine} {place place2 : AtMachine} → body2 ≡ body → place2 ≡ place → ◌≡◌ {A = Stand} (record { body = body2; place = place2 }) (record { body = body; place = place })
 me_by bodies places = rw (bodies, places) refl
 
-between_by : {g g2 : Ghost} {on on2 : Bool} {gap gap2 : AtGap} {up up2 down down2 : List Horizontal} {gone gone2 : ℕ → Bool} → g2 ≡ g → on2 ≡ on → gap2 ≡ gap → up2 ≡ up → down2 ≡ down → gone2 ≡ gone
+pub between_by : {g g2 : Ghost} {on on2 : Bool} {gap gap2 : AtGap} {up up2 down down2 : List Horizontal} {gone gone2 : ℕ → Bool} → g2 ≡ g → on2 ≡ on → gap2 ≡ gap → up2 ≡ up → down2 ≡ down → gone2 ≡ gone
     → ◌≡◌ {A = Between} (record { ghost = g2; stands = on2; gap = gap2; up = up2; down = down2; gone = gone2 }) (record { ghost = g; stands = on; gap = gap; up = up; down = down; gone = gone })
 between_by ghosts ons gaps ups downs gones = rw (ghosts, ons, gaps, ups, downs, gones) refl
 

@@ -1,6 +1,7 @@
 -- A step in which bytes arrive.
 use Rattle.std.proofs.Common.{Bool, List, Option, Some, ap, arith, false, inl, inr, length, ltb-true, refl, subst, sym, true, ℕ, ◌++◌, ◌+◌, ◌-◌, ◌∙◌, ◌≡◌, ◌≢◌, ◌≤◌, ◌⊎◌}
 use Rattle.std.proofs.lemmas.Bool.{false≢true}
+use Rattle.one_standing.proofs.RestLine.{node_there}
 use Rattle.line_base.specs.declared.states.Role.TheVariants.{Downstream, Upstream}
 use Rattle.line_base.specs.declared.states.Side.{Side}
 use Rattle.line_base.specs.declared.states.Side.TheVariants.{Entry, Exit}
@@ -40,7 +41,6 @@ use Rattle.one_standing.proofs.BlameWords.{AreSpoken, carries_oldest, clear_wait
 use Rattle.one_standing.proofs.Carrying.{SaysAlone}
 use Rattle.one_standing.proofs.HandSteps.{good_node, offers_node}
 use Rattle.one_standing.proofs.LedgerLine.{same_nodes}
-use Rattle.one_standing.proofs.Mirroring.{node_there}
 use Rattle.one_standing.proofs.MirroringEnds.{before_one}
 use Rattle.one_standing.proofs.MirroringFlow.{CanFlow, arrival, link_there}
 use Rattle.one_standing.proofs.Plain.{node_next}
@@ -163,14 +163,14 @@ entry_mild {Taint} alone t number j count before after told can holds all flows 
 there_behind : (number m : ℕ) (side : Side) (count : Option ℕ) (before after : LineState) (told : List Happening) (flows : Flows number m side count before after told) → machine_in m after ≡ Some flows.steps.next
 there_behind number m side count before after told flows = ap (machine_in m) flows.steps.after_is ∙ machine_set_own m (arrived m side count before) flows.steps.node flows.steps.next flows.steps.there
 
-others_same : (number m : ℕ) (side : Side) (count : Option ℕ) (before after : LineState) (told : List Happening) (flows : Flows number m side count before after told) → (k : ℕ) → k ≢ m → node_at after k ≡ node_at before k
+pub others_same : (number m : ℕ) (side : Side) (count : Option ℕ) (before after : LineState) (told : List Happening) (flows : Flows number m side count before after told) → (k : ℕ) → k ≢ m → node_at after k ≡ node_at before k
 others_same number m side count before after told flows k apart =
     others_stay number m (inputs.Bytes side flows.piece) (arrived m side count before) after told flows.steps k apart ∙ same_nodes before (arrived m side count before) refl k
 
-own_behind : (number m : ℕ) (side : Side) (count : Option ℕ) (before after : LineState) (told : List Happening) (flows : Flows number m side count before after told) → node_at after m ≡ flows.steps.next
+pub own_behind : (number m : ℕ) (side : Side) (count : Option ℕ) (before after : LineState) (told : List Happening) (flows : Flows number m side count before after told) → node_at after m ≡ flows.steps.next
 own_behind number m side count before after told flows = node_next number m (inputs.Bytes side flows.piece) (arrived m side count before) after told flows.steps
 
-flow_fit : (number m : ℕ) (side : Side) (count : Option ℕ) (before after : LineState) (told : List Happening) → number ≤ 1000000 → IsFitMachine before m → (flows : Flows number m side count before after told) → AreFitWords flows.steps.steps.lane.words → AreFitActs flows.steps.acts
+pub flow_fit : (number m : ℕ) (side : Side) (count : Option ℕ) (before after : LineState) (told : List Happening) → number ≤ 1000000 → IsFitMachine before m → (flows : Flows number m side count before after told) → AreFitWords flows.steps.steps.lane.words → AreFitActs flows.steps.acts
 flow_fit number m side count before after told few fit flows words =
     acts_fit number m (inputs.Bytes side flows.piece) (arrived m side count before) after told few (fit_machine before (arrived m side count before) m (same_nodes before (arrived m side count before) refl m) fit) flows.steps words
 

@@ -4,6 +4,7 @@ use Rattle.std.proofs.Common.{Err, List, None, Ok, Option, Result, Some, [], ap,
 use Rattle.std.specs.Prelude.{slice_index_or}
 use Rattle.std.proofs.lemmas.Bool.{false≢true}
 use Rattle.std.specs.List.{AllByRecursion}
+use Rattle.line_step.proofs.Counted.{steps-lines}
 use Rattle.line_base.specs.declared.states.Role.TheVariants.{Downstream, Upstream}
 use Rattle.line_base.specs.declared.states.Side.{Side}
 use Rattle.line_base.specs.declared.states.Side.TheVariants.{Entry, Exit}
@@ -64,9 +65,9 @@ use Rattle.one_standing.proofs.Carrying.{SaysAlone}
 use Rattle.one_standing.proofs.FactsBlame.{Leave, at_none}
 use Rattle.one_standing.proofs.LedgerLine.{last_node, no_last, same_nodes}
 use Rattle.one_standing.proofs.LineForms.{ConnectsBear, numbered as by_number, own_first, there_may}
-use Rattle.one_standing.proofs.LineRun.{AreStood, Stood, lines_after, none_stood, run_stood}
+use Rattle.one_standing.proofs.LineRun.{AreStood, Stood, none_stood, run_stood}
 use Rattle.one_standing.proofs.MirroringFlow.{can_flow}
-use Rattle.one_standing.proofs.MirroringPlain.{is_plain_input}
+use Rattle.one_standing.proofs.MirroringPlain.{is_plain_input, no_second}
 use Rattle.one_standing.proofs.SpoilingLine.{spoil_needs}
 use Rattle.one_standing.proofs.WholeLinks.{CanSpoil, can_spoil, does_whole_links}
 
@@ -117,15 +118,11 @@ record Given (Taint : ℕ → Side → Type 0) (number : ℕ) (t : Trace) (befor
   together : IsLineTogether next
   all : AreClearIn Taint before
 
-not_second : (input : Input) → is_plain_input input ≡ true → is_second input ≡ false
-not_second inputs.Second plain = absurd (false≢true plain)
-not_second _ plain = refl
-
 still_entry : (input : Input) (bytes : List ℕ) → is_plain_input input ≡ true → entry_after input bytes ≡ bytes
 still_entry inputs.Connect bytes plain = absurd (false≢true plain)
 still_entry _ bytes plain = refl
 
-still_exit : (input : Input) (bytes : List ℕ) → is_plain_input input ≡ true → exit_after input bytes ≡ bytes
+pub still_exit : (input : Input) (bytes : List ℕ) → is_plain_input input ≡ true → exit_after input bytes ≡ bytes
 still_exit inputs.Accepted bytes plain = absurd (false≢true plain)
 still_exit _ bytes plain = refl
 
@@ -146,7 +143,7 @@ plain_clear {Taint} number m input t before next told plain none fits free g ste
     are_clear_by next.world (same_exit m input before next (λ bytes. still_exit input bytes plain) new) (λ k. same_entry m input before next (λ bytes. still_entry input bytes plain) new (k + 1))
     (are_clear_ready (ready_of next) next.world (both_ready number m input before next told steps (not_called Exit input plain) (not_called Entry input plain))
     (step_clear g.alone may number m input before next told steps (quiet_fit number m input before next told none fits g.few (g.holds.fit m) steps) (quiet_mild may number m input before next told none (free steps.node steps.there) steps)
-    (frees_there m before steps.node steps.there) (λ second. absurd (false≢true (sym (not_second input plain) ∙ second))) g.holds.links (freed t before g.alone g.holds g.all)))
+    (frees_there m before steps.node steps.there) (λ second. absurd (false≢true (sym (no_second input plain) ∙ second))) g.holds.links (freed t before g.alone g.holds g.all)))
 
 standing_first : (standing : Bool) (why : No) (next : Result (Unit {0}) No) → no_if (not standing) why next ≡ may_own → standing ≡ true
 standing_first true why next is = refl
@@ -404,7 +401,7 @@ blame_run alone past s [] (point ∷ points) (suc n) fit few was run all clear =
 blame_run alone past s (line ∷ asked) [] (suc n) fit few was run all clear = elim run [ ]
 blame_run alone past s (line ∷ asked) (point ∷ points) (suc n) fit few was run all clear =
     let here : s.lines + 1 ≤ 1000000 = omega (arith, few) in
-    let left : point.after.lines + length asked ≤ 1000000 = omega (arith, few, lines_after (s.lines + 1) line s point.after point.told run.0) in (
+    let left : point.after.lines + length asked ≤ 1000000 = omega (arith, few, steps-lines (s.lines + 1) line s point.after point.told run.0) in (
       line_blame past (s.lines + 1) line was.trace s point.after point.told alone was.stands clear run.0,
       blame_run alone (past ++ point.told) point.after asked points n fit.1 left all.0 run.1 all.1 (line_clear past (s.lines + 1) line s point.after point.told alone here fit.0 was clear run.0),
     )

@@ -1,7 +1,7 @@
 -- What flows to each side of a line: the texts of messages that the machine at the other end sends, or one that was spoiled.
 use Rattle.std.proofs.Common.{Bool, List, None, Option, Some, [], false, refl, subst, sym, true, ℕ, ◌&&◌, ◌++◌, ◌∙◌, ◌∷◌, ◌≡◌, ◌≢◌, ◌⊎◌, inl, inr}
 use Rattle.std.specs.Prelude.{cond}
-use Rattle.std.proofs.lemmas.Bool.{false≢true}
+use Rattle.std.proofs.lemmas.Bool.{false≢true, and_parts}
 use Rattle.line_base.specs.declared.states.Role.{Role}
 use Rattle.line_base.specs.declared.states.Role.TheVariants.{Downstream, Upstream}
 use Rattle.line_base.specs.declared.states.Side.{Side}
@@ -68,7 +68,7 @@ pub data Clear (Taint : Type 0) (side : Side) (ready free stands : Bool) (waitin
   clear_spoiled : Taint → Spoiled waiting bytes → Clear Taint side ready free stands waiting bytes
   clear_over : stands ≡ false → bytes ≡ [] → Clear Taint side ready free stands waiting bytes
 
-first_frame : {message : Message} {messages : List Message} → AreSayable (message ∷ messages) → IsOneFrame (canonical message)
+pub first_frame : {message : Message} {messages : List Message} → AreSayable (message ∷ messages) → IsOneFrame (canonical message)
 first_frame (more_sayable one others) = one.one
 
 from_more : (side : Side) (ready : Bool) (said : List Message) (message : Message) → AreFrom side ready said → is_from side (ready_behind side ready (bodies said)) message.body ≡ true → AreFrom side ready (said ++ message ∷ [])
@@ -290,14 +290,6 @@ are_clear_ready now world more all = record { at = λ link. record { up = clear_
 
 -- ---- acts
 
-pub and_first : (a b : Bool) → (a && b) ≡ true → a ≡ true
-and_first true b is = refl
-and_first false b is = is
-
-pub and_second : (a b : Bool) → (a && b) ≡ true → b ≡ true
-and_second true b is = is
-and_second false b is = absurd (false≢true is)
-
 abbrev AllWhole : WorldParts → Type 0
 AllWhole world = (link : ℕ) → IsWholeLink (link_at link world)
 
@@ -332,7 +324,7 @@ act_clear : {Taint : ℕ → Side → Type 0} {ready free : ℕ → Side → Boo
     → AllWhole world → AreClear Taint ready free exits entries world → AreClear Taint ready free exits entries (act_did second machine act world).world
 act_clear alone may second machine (acts.Sends side message) world fit from frees empty whole all =
     sent_clear alone may (answers second side message) machine side message world fit from (frees side)
-    (λ is. (answer_from message.body (and_second (is_exit side) (is_answer message.body) (and_second second (is_exit side && is_answer message.body) is)), empty (and_first second (is_exit side && is_answer message.body) is))) whole all
+    (λ is. (answer_from message.body (and_parts (is_exit side) (is_answer message.body) (and_parts second (is_exit side && is_answer message.body) is).1).1, empty (and_parts second (is_exit side && is_answer message.body) is).0)) whole all
 act_clear alone may second machine (acts.Closes side) world fit from frees empty whole all = closed_clear machine side world all
 act_clear alone may second machine (acts.Notices side) world fit from frees empty whole all = closed_clear machine side world all
 act_clear alone may second machine (acts.Deed deed) world fit from frees empty whole all = counted_clear deed world all
@@ -342,5 +334,5 @@ pub acts_clear : {Taint : ℕ → Side → Type 0} {ready free : ℕ → Side �
     → AllWhole world → AreClear Taint ready free exits entries world → AreClear Taint ready free exits entries (acts_did second machine told world).world
 acts_clear alone may second machine [] world none_said from frees empty whole all = all
 acts_clear alone may second machine (act ∷ others) world (more_said fit more) from frees empty whole all =
-    acts_clear alone may second machine others (act_did second machine act world).world more (and_second (is_mild may act) (are_mild may others) from) frees empty
-    (whole_act second machine act world whole) (act_clear alone may second machine act world fit (and_first (is_mild may act) (are_mild may others) from) frees empty whole all)
+    acts_clear alone may second machine others (act_did second machine act world).world more (and_parts (is_mild may act) (are_mild may others) from).1 frees empty
+    (whole_act second machine act world whole) (act_clear alone may second machine act world fit (and_parts (is_mild may act) (are_mild may others) from).0 frees empty whole all)

@@ -1,7 +1,9 @@
 -- A machine's step: what flows to each side of the line goes on being said by the other end, and which breaches are told.
-use Rattle.std.proofs.Common.{Bool, Err, List, None, Ok, Option, Result, Some, [], ap, false, inl, inr, is_some, refl, subst, sym, true, ℕ, ◌+◌, ◌∙◌, ◌≡◌, ◌≢◌, ◌≤◌, ◌⊎◌}
+use Rattle.std.proofs.Common.{Bool, Err, List, None, Ok, Result, Some, [], ap, false, inl, inr, is_some, refl, subst, sym, true, ℕ, ◌+◌, ◌∙◌, ◌≡◌, ◌≢◌, ◌≤◌, ◌⊎◌}
 use Rattle.std.specs.Borrow.{Bor}
 use Rattle.std.proofs.lemmas.Bool.{false≢true}
+use Rattle.one_standing.proofs.RestLine.{node_there}
+use Rattle.line_step.proofs.Connecting.{none_of}
 use Rattle.line_base.specs.declared.states.Side.{Side}
 use Rattle.line_base.specs.declared.states.Side.TheVariants.{Entry, Exit}
 use Rattle.board_record.specs.Maker.{Maker, next_id}
@@ -45,7 +47,7 @@ use Rattle.one_standing.proofs.BlameWords.{AreSpoken, spoken_none, spoken_said, 
 use Rattle.one_standing.proofs.Carrying.{SaysAlone}
 use Rattle.one_standing.proofs.Counting.{is_wrong_first, step_hears_all}
 use Rattle.one_standing.proofs.FactsBlame.{IsNoWords, Leave, are_mild, at_none, at_one, heard_step_mild, quiet_step_mild, silent_step_mild, wrong_step_mild}
-use Rattle.one_standing.proofs.Mirroring.{fit_desk, node_there}
+use Rattle.one_standing.proofs.Mirroring.{fit_desk}
 use Rattle.one_standing.proofs.MirroringCall.{dry_down, dry_up}
 use Rattle.one_standing.proofs.Plain.{node_next}
 use Rattle.one_standing.proofs.WholeLinks.{numbered}
@@ -266,10 +268,6 @@ heard_good number m side piece start after told steps on =
 
 -- ---- a side without a connection
 
-not_some : (number : Option ℕ) → is_some number ≡ false → number ≡ None
-not_some None is = refl
-not_some (Some n) is = absurd (false≢true (sym is))
-
 not_true : (test : Bool) → (test ≡ true → true ≡ false) → test ≡ false
 not_true false then = refl
 not_true true then = then refl
@@ -289,5 +287,5 @@ is_shut m side s node together whole there shut =
     let off : is_some (number_of (end_of side) link) ≡ false = together.joined m side node there ∙ shut in
     record {
       off = not_true link.stands (λ on. sym (numbered (end_of side) link (whole (link_of m side)) on) ∙ off);
-      none = shut_dry side link (whole (link_of m side)) (not_some (number_of (end_of side) link) off);
+      none = shut_dry side link (whole (link_of m side)) (none_of (number_of (end_of side) link) off);
     }

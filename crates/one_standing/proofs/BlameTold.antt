@@ -1,6 +1,7 @@
 -- Which breaches are in what is told: those of a machine's acts, and no others.
 use Rattle.std.proofs.Common.{Bool, List, None, Option, Some, [], false, true, ℕ, ◌++◌, ◌+◌, ◌==◌, ◌∷◌, ◌≡◌, if◌then◌else◌}
 use Rattle.std.specs.List.{AllByRecursion, flat_map}
+use Rattle.std.proofs.lemmas.Bool.{and_parts}
 use Rattle.line_base.specs.declared.states.Side.{Side}
 use Rattle.board_record.specs.declared.record.Record.{Record}
 use Rattle.hermes_horizontal.specs.Canonical.{canonical}
@@ -22,7 +23,6 @@ use Rattle.line_step.specs.Shown.{ascending, between_shown, ids_marked, kept_sho
 use Rattle.line_step.specs.State.{LineState, marks_in}
 use Rattle.line_step.specs.World.{WorldParts, end_of, link_at, link_of}
 use Rattle.one_standing.specs.Told.{IsTold, told_first, told_later}
-use Rattle.one_standing.proofs.BlameLinks.{and_first, and_second}
 use Rattle.one_standing.proofs.FactsBlame.{Leave, are_mild, is_mild}
 
 -- this holds of the machine and the side of a breach that is told
@@ -64,8 +64,8 @@ act_blame Holds may second machine act world each mild = (tt, tt)
 pub acts_blame : (Holds : ℕ → Side → Type 0) (may : Leave) (second : Bool) (machine : ℕ) (told : List Act) (world : WorldParts) → ((side : Side) → may.blames side ≡ true → Holds machine side) → are_mild may told ≡ true → AllBlames Holds (acts_did second machine told world).told
 acts_blame Holds may second machine [] world each mild = tt
 acts_blame Holds may second machine (act ∷ others) world each mild =
-    both_blame Holds (act_did second machine act world).told (acts_did second machine others (act_did second machine act world).world).told (act_blame Holds may second machine act world each (and_first (is_mild may act) (are_mild may others) mild))
-    (acts_blame Holds may second machine others (act_did second machine act world).world each (and_second (is_mild may act) (are_mild may others) mild))
+    both_blame Holds (act_did second machine act world).told (acts_did second machine others (act_did second machine act world).world).told (act_blame Holds may second machine act world each (and_parts (is_mild may act) (are_mild may others) mild).0)
+    (acts_blame Holds may second machine others (act_did second machine act world).world each (and_parts (is_mild may act) (are_mild may others) mild).1)
 
 -- ---- what is shown, and the standings
 

@@ -1,9 +1,10 @@
 -- The words of a piece, where what flows are the texts of messages that the machine at the other end sends: none is wrong, and
 -- each says such a message.
-use Rattle.std.proofs.Common.{Bool, List, Option, Some, [], ap, append-nil, append_assoc, drop, false, length, refl, suc, subst, sym, true, zero, ℕ, ◌++◌, ◌∙◌, ◌∷◌, ◌≡◌}
+use Rattle.std.proofs.Common.{Bool, List, Option, Some, [], ap, append-nil, append_assoc, drop, false, length, refl, subst, sym, true, ℕ, ◌++◌, ◌∙◌, ◌∷◌, ◌≡◌}
 use Rattle.std.proofs.lemmas.Bool.{false≢true}
+use Rattle.custody.proofs.Texts.{no_first, texts_behind, first_text}
 use Rattle.line_base.specs.declared.states.Side.{Side}
-use Rattle.hermes_stream.specs.Frames.{Frames, IsOneFrame, frames_of}
+use Rattle.hermes_stream.specs.Frames.{Frames, frames_of}
 use Rattle.hermes_horizontal.specs.Canonical.{canonical}
 use Rattle.hermes_horizontal.specs.Spelling.{Spells}
 use Rattle.hermes_horizontal.specs.declared.message.Horizontal.{Horizontal}
@@ -21,9 +22,9 @@ use Rattle.link_messages.specs.Fit.{AreFit, AreFitWords, IsFit, more_fit, none_f
 use Rattle.link_messages.specs.Heard.{AreSayable, Heard, HeardSpoiled, bodies, more_sayable, none_sayable}
 use Rattle.link_messages.proofs.Fitting.{both_fit, fit_behind}
 use Rattle.link_messages.proofs.Fronts.{IsFront, front_of}
-use Rattle.link_messages.proofs.Hearing.{no_rest, no_texts, text_is, texts_are}
+use Rattle.link_messages.proofs.Hearing.{no_rest}
 use Rattle.one_standing.specs.Carried.{Carries, carries_over, carries_spoiled, carries_whole}
-use Rattle.one_standing.proofs.BlameLinks.{Clear, clear_over, clear_spoiled, clear_whole}
+use Rattle.one_standing.proofs.BlameLinks.{Clear, clear_over, clear_spoiled, clear_whole, first_frame}
 use Rattle.one_standing.proofs.Carrying.{SaysAlone}
 use Rattle.one_standing.proofs.Counting.{is_wrong_first}
 use Rattle.one_standing.proofs.BlameReady.{ready_after, ready_words}
@@ -44,11 +45,11 @@ first_said : (frames : List (List ℕ)) (rest : Option (List ℕ)) (heard : List
     → AreFirst frames rest heard → texts_of messages ≡ frames ++ later → rest ≡ Some left → AreSayable messages → AreSaid heard
 first_said _ rest _ messages later left first_none are is sayable = tt
 first_said _ _ _ messages later left first_too_long are is sayable = absurd (no_rest is)
-first_said (frame ∷ frames) rest (word ∷ others) [] later left (first_more means more) are is none_sayable = absurd (no_texts (sym are))
+first_said (frame ∷ frames) rest (word ∷ others) [] later left (first_more means more) are is none_sayable = absurd (no_first (sym are))
 first_said (frame ∷ frames) rest (words.Says heard ∷ others) (message ∷ messages) later left (first_more means more) are is (more_sayable it sayable) =
-    first_said frames rest others messages later left more (texts_are are) is sayable
+    first_said frames rest others messages later left more (texts_behind are) is sayable
 first_said (frame ∷ frames) rest (words.Wrong text ∷ others) (message ∷ messages) later left (first_more means more) are is (more_sayable it sayable) =
-    never_wrong frame text message (sym (text_is are)) it.spells means
+    never_wrong frame text message (sym (first_text are)) it.spells means
 
 -- ---- each says a message that comes to this side
 
@@ -183,9 +184,6 @@ pub same_said : SaysAlone → (old bytes : List ℕ) (sent messages : List Messa
 same_said alone old bytes sent messages fit good one two =
     (alone.oldest old bytes [] [] false (said sent) messages (alone.sayable messages good) (nothing_more old bytes (texts_of messages) two) (all_words old bytes sent (alone.sayable sent fit) one)).oldest
 
-one_frame : {message : Message} {messages : List Message} → AreSayable (message ∷ messages) → IsOneFrame (canonical message)
-one_frame (more_sayable one others) = one.one
-
 no_word : (messages : List Message) (more : Message) → AreOldest (said (messages ++ more ∷ [])) [] → ⊥
 no_word [] more oldest = elim oldest [ ]
 no_word (message ∷ messages) more oldest = elim oldest [ ]
@@ -195,6 +193,6 @@ pub never_spoiled : SaysAlone → (old bytes : List ℕ) (messages : List Messag
 never_spoiled alone old bytes messages more fit one flows spoiled =
     let all : AreFit (messages ++ more ∷ []) = both_fit fit (more_fit one none_fit) in
     let text : List ℕ = canonical more in
-    let next : Flows old (bytes ++ text) (texts_of (messages ++ more ∷ [])) = sends_a_message old bytes messages more (one_frame (alone.sayable (more ∷ []) (more_fit one none_fit))) flows in
+    let next : Flows old (bytes ++ text) (texts_of (messages ++ more ∷ [])) = sends_a_message old bytes messages more (first_frame (alone.sayable (more ∷ []) (more_fit one none_fit))) flows in
     no_word (messages) more (alone.wrong old (bytes ++ text) [] [] false (said (messages ++ more ∷ [])) [] (subst (λ (b : List ℕ). Spoiled old b) (sym (append-nil (bytes ++ text))) (nul_stays old bytes text spoiled))
     (all_words old (bytes ++ text) (messages ++ more ∷ []) (alone.sayable (messages ++ more ∷ []) all) next)).oldest

@@ -32,7 +32,7 @@ first_frame message messages (more_sayable one others) = one.one
 
 -- ---- a text is sent
 
-bodies_append : (messages : List Message) (message : Message) → bodies (messages ++ message ∷ []) ≡ bodies messages ++ message.body ∷ []
+pub bodies_append : (messages : List Message) (message : Message) → bodies (messages ++ message ∷ []) ≡ bodies messages ++ message.body ∷ []
 bodies_append [] message = refl
 bodies_append (first ∷ messages) message = ap (λ bs. first.body ∷ bs) (bodies_append messages message)
 

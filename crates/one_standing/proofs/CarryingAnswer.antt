@@ -2,6 +2,7 @@
 use Rattle.std.proofs.Common.{Bool, List, None, Option, Some, [], ap, false, refl, subst, suc, sym, true, ℕ, ◌++◌, ◌∙◌, ◌∷◌, ◌≡◌, append_assoc}
 use Rattle.std.specs.Prelude.{cond, drop, if◌then◌else◌, is_some}
 use Rattle.std.proofs.lemmas.Bool.{false≢true}
+use Rattle.machine_custody.proofs.Connecting.{vanishes as off_said}
 use Rattle.line_base.specs.declared.states.Role.TheVariants.{Downstream, Upstream}
 use Rattle.line_base.specs.declared.states.Side.{Side}
 use Rattle.line_base.specs.declared.states.Side.TheVariants.{Entry, Exit}
@@ -38,7 +39,6 @@ use Rattle.machine_custody.proofs.Quiet.{AllActs, acts_more, acts_none, all_appe
 use Rattle.node_core.specs.Supervising.{watch_behind, watch_of, with_tells}
 use Rattle.node_core.specs.declared.supervising.Watch.{Watch}
 use Rattle.line_step.proofs.WithTells.{tells_append}
-use Rattle.custody.specs.Words.{sent}
 use Rattle.line_step.specs.Acts.{is_answer as is_told_answer}
 use Rattle.line_step.specs.Near.{Near, near_did, near_sent, nears_did}
 use Rattle.line_step.specs.Opened.{open_act}
@@ -82,9 +82,6 @@ pub record IsLikeOff (has : Side → Bool) (rest : List Act) (new_entry new_exit
 -- a message that is no answer vanishes there
 off_sent : (stands : Bool) (text : List ℕ) (link : LinkParts) → link.stands ≡ stands → stands ≡ false → after_send Upstream text link ≡ link
 off_sent stands text link is off = ap (λ (test : Bool). cond test (within_limit Downstream (texted Downstream text link)) link) (is ∙ off)
-
-off_said : (stands : Bool) (what : Horizontal) (messages : List Horizontal) → stands ≡ false → sent (what ∷ []) stands messages ≡ messages
-off_said stands what messages off = ap (λ (s : Bool). sent (what ∷ []) s messages) off
 
 act_off : {has : Side → Bool} {new_entry new_exit far_above : List ℕ} {near : Near} {c : Scene} → SaysAlone → (act : Act) (rest : List Act) → IsFitAct act
     → IsLikeOff has (act ∷ rest) new_entry new_exit far_above near c → IsLikeOff has rest new_entry new_exit far_above (near_did has false act near) (met act c)

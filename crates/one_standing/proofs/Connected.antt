@@ -1,6 +1,7 @@
 -- A connection is made: a first one or a second one.
 use Rattle.std.proofs.Common.{List, None, Option, Some, ap, arith, false, length, not, refl, subst, sym, true, ℕ, ◌&&◌, ◌+◌, ◌-◌, ◌∙◌, ◌≡◌, ◌<◌, ◌≤◌}
 use Rattle.std.specs.Prelude.{nat_le, nat_lt}
+use Rattle.one_standing.proofs.MirroringEnds.{before_one}
 use Rattle.line_base.specs.declared.states.Side.TheVariants.{Entry}
 use Rattle.line_link.specs.Link.{after_connect, connected_of}
 use Rattle.node_core.specs.May as own
@@ -30,7 +31,7 @@ use Rattle.one_standing.proofs.SecondJoin.{not_joined, second_first, second_seco
 
 -- ---- by the links' numbers
 
-less_two : (n : ℕ) → 1 < n → n - 2 + 1 + 1 ≡ n
+pub less_two : (n : ℕ) → 1 < n → n - 2 + 1 + 1 ≡ n
 less_two n behind = omega (arith, behind)
 
 there_by : (link count : ℕ) → 1 ≤ link → link < count → (nat_le 1 link && nat_lt link count) ≡ true
@@ -51,9 +52,6 @@ may_first : (number j : ℕ) (before between : LineState) (told : List Happening
 may_first number j before between told may steps =
     own_first (own.may_of steps.node inputs.Connect) may_do
     (passed (not (has_neighbour (j + 1 + 1) Entry before)) reasons.NoNeighbour _ (there_may (machine_in (j + 1 + 1) before) steps.node (λ n. no_if (not (has_neighbour (j + 1 + 1) Entry before)) reasons.NoNeighbour (behind_own (own.may_of n inputs.Connect) may_do)) steps.there may))
-
-before_one : (n : ℕ) → n + 1 - 1 ≡ n
-before_one n = omega arith
 
 may_second : (number j : ℕ) (before between : LineState) (told : List Happening) → IsLineTogether before → may_connect (j + 1 + 1) before ≡ may_do → MachineSteps number (j + 1 + 1) inputs.Connect (connecting (j + 1 + 1) before) between told
     → (above : NodeState) → machine_in (j + 1) between ≡ Some above → own.may_of above (met (connected_of (link_at (j + 1) before.world).upstream)) ≡ own.may_do

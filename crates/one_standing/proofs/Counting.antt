@@ -2,6 +2,7 @@
 use Rattle.std.proofs.Common.{Bool, List, None, Option, Result, Ok, Err, Some, [], ap, arith, false, refl, suc, sym, true, ℕ, ◌++◌, ◌+◌, ◌∙◌, ◌∷◌, ◌≡◌}
 use Rattle.std.specs.Prelude.{is_some, length, slice_get}
 use Rattle.std.proofs.lemmas.Bool.{false≢true}
+use Rattle.node_core.proofs.Opened.{breach_closes}
 use Rattle.line_base.specs.declared.states.Side.{Side}
 use Rattle.line_base.specs.declared.states.Side.TheVariants.{Entry, Exit}
 use Rattle.board_record.specs.Maker.{Maker, next_id}
@@ -46,7 +47,6 @@ use Rattle.node_core.specs.declared.word.ExitWord.{ExitWord}
 use Rattle.node_core.specs.declared.word.ExitWord.TheVariants as exits
 use Rattle.node_core.specs.declared.word.Word.{Word}
 use Rattle.node_core.specs.declared.word.Word.TheVariants.{Says, Wrong}
-use Rattle.link_messages.proofs.SayingWords.{closed_behind}
 use Rattle.machine_custody.proofs.HearingAll.{deaf}
 use Rattle.machine_custody.proofs.Quiet.{AllActs, acts_more, acts_none}
 use Rattle.line_step.proofs.Quiet.{announces_leave}
@@ -98,7 +98,7 @@ side_any desk Entry what body = entry_any desk (entry_word what) body
 side_any desk Exit what body = exit_any desk (exit_word what) body
 
 breach_one : (desk : Desk) (side : Side) (message : Message) (text : List ℕ) (body : Body) → IsOne side message (breaches desk side text body)
-breach_one desk side message text body = one_breach (breaches_deaf desk side text body) (closed_behind desk side text body)
+breach_one desk side message text body = one_breach (breaches_deaf desk side text body) (breach_closes desk side text body)
 
 passed_one : (desk : Desk) (side : Side) (message : Message) (body : Body) (found : Option Done) → IsDeafAny found → IsOne side message (passed desk side message body found)
 passed_one desk side message body None any = breach_one desk side message (unexpected (kind_of message.body)) body
@@ -168,7 +168,7 @@ words_count desk side (Says message ∷ others) body on =
 words_count desk side (Wrong text ∷ others) body on =
     let did : Done = breaches desk side text body in
     if_heard desk side (Wrong text ∷ others) (is_open side body) (and_then did (all_heard desk side others)) body refl on
-    (λ now. closed_on desk side others did.body (closed_behind desk side text body) now)
+    (λ now. closed_on desk side others did.body (breach_closes desk side text body) now)
 
 -- the other side hears nothing
 abbrev across : Side → Side

@@ -56,7 +56,7 @@ no_up is = cc
 machine_not_gap : (m k : ℕ) → at_machine m ≡ in_gap k → ⊥
 machine_not_gap m k is = cc
 
-next_machine : (m : ℕ) → at_machine m ≡ at_machine (m + 1) → ⊥
+pub next_machine : (m : ℕ) → at_machine m ≡ at_machine (m + 1) → ⊥
 next_machine m is =
     let same : m ≡ m + 1 = cc in
     omega (arith, same)

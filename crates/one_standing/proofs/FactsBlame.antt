@@ -3,7 +3,7 @@
 -- messages itself.
 use Rattle.std.proofs.Common.{Bool, List, None, Option, Some, [], ap, false, is_some, map, refl, subst, sym, true, ℕ, ℤ, ◌&&◌, ◌++◌, ◌∙◌, ◌∷◌, ◌≡◌}
 use Rattle.std.specs.Prelude.{slice_get}
-use Rattle.std.proofs.lemmas.Bool.{false≢true}
+use Rattle.std.proofs.lemmas.Bool.{false≢true, and_from}
 use Rattle.line_base.specs.declared.states.Code.{Code}
 use Rattle.line_base.specs.declared.states.Role.{Role}
 use Rattle.line_base.specs.declared.states.Severity.{Severity}
@@ -172,10 +172,6 @@ AreBodiesFrom side ready (body ∷ others) = (is_from side ready body ≡ true) 
 abbrev pub AreFrom : Side → Bool → List Message → Type 0
 AreFrom side ready messages = AreBodiesFrom side ready (bodies messages)
 
-both_mild : (a b : Bool) → a ≡ true → b ≡ true → (a && b) ≡ true
-both_mild true b one two = two
-both_mild false b one two = one
-
 mild_append : (may : Leave) (a b : List Act) → are_mild may a ≡ true → are_mild may b ≡ true → are_mild may (a ++ b) ≡ true
 mild_append may [] b one two = two
 mild_append may (act ∷ a) b one two = mild_by (is_mild may act) one (λ later. mild_append may a b later two) where
@@ -280,7 +276,7 @@ if_mild true d body m = m
 if_mild false d body m = record { mild = refl }
 
 kept_mild : {may : Leave} (test : Bool) (body after : Body) (act : Act) → is_mild may act ≡ true → Mild may (if_kept test after act body)
-kept_mild true body after act mild = record { mild = both_mild _ true mild refl }
+kept_mild true body after act mild = record { mild = and_from _ true mild refl }
 kept_mild false body after act mild = record { mild = refl }
 
 -- ---- the announcements
@@ -335,7 +331,7 @@ fails_mild (Some id) body = kept_mild (is_kept id body.kept) body _ (acts.Marks 
 
 forecast_mild : {may : Leave} (desk : Desk) (front : Option Record) (body : Body) → may.frees Exit ≡ true → Mild may (done body (forecasts desk front))
 forecast_mild desk None body free = record { mild = refl }
-forecast_mild desk (Some board) body free = record { mild = both_mild _ true free refl }
+forecast_mild desk (Some board) body free = record { mild = and_from _ true free refl }
 
 supervises_mild : {may : Leave} (desk : Desk) (what : Supervision) (body : Body)
     → Mild may (supervises desk what body)
@@ -362,7 +358,7 @@ event_mild {may} desk (Level line on) body other =
     mild_both (tells_level line on body) (λ (b : Body). fails (failed_front desk.bridge line on b) b) (level_mild line on body)
     (let b = (tells_level line on body).body in fails_mild (failed_front desk.bridge line on b) b)
 event_mild desk Forecast body other = forecast_mild desk (slice_get body.kept 0) body other
-event_mild desk (Query barcode) body other = record { mild = both_mild _ true other refl }
+event_mild desk (Query barcode) body other = record { mild = and_from _ true other refl }
 event_mild desk (Supervised what) body other = supervises_mild desk what body
 event_mild desk (Insert id barcode) body other = record { mild = refl }
 event_mild desk (Remove id) body other = kept_mild (is_kept id body.kept) body _ (acts.Removes id) refl
@@ -573,7 +569,7 @@ exit_mild desk stamp (message.QueryBoardInfo top bottom) rest body c offers g re
     let s : SessionEnd = body.exit.session in
     let m : Message = record { stamp = stamp; body = message.QueryBoardInfo top bottom } in
     hears_by desk Exit m body (record { after = heard_from s; actions = one (Pass (message.QueryBoardInfo top bottom)) }) (traffic_is s (message.QueryBoardInfo top bottom) Upstream (ready_stands s.state on (set from)) g.exit_role refl)
-    (record { mild = both_mild _ true (free from) refl })
+    (record { mild = and_from _ true (free from) refl })
 exit_mild desk stamp (message.SendBoardInfo info) rest body c offers g ready set free on from = absurd (false≢true from)
 exit_mild desk stamp (message.Other name) rest body c offers g ready set free on from = absurd (false≢true from)
 

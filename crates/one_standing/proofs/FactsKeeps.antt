@@ -1,6 +1,7 @@
 -- CONTENTS ARE KEPT: a record that a machine keeps before a line and behind it is the same, unless the line marks it.
 use Rattle.std.proofs.Common.{Err, List, Ok, Option, Result, Some, [], ap, arith, false, inl, inr, length, refl, subst, suc, sym, take, true, zero, ℕ, ◌+◌, ◌-◌, ◌∙◌, ◌∷◌, ◌≡◌, ◌≢◌, ◌≤◌, ◌⊎◌, Bool}
 use Rattle.std.specs.Prelude.{slice_index_or}
+use Rattle.one_standing.proofs.RestLine.{node_there}
 use Rattle.board_record.specs.Maker.{Maker, after_next, next_id}
 use Rattle.board_record.specs.declared.maker.IdsUsedUp.{IdsUsedUp}
 use Rattle.board_record.specs.declared.record.Record.{Record}
@@ -59,7 +60,6 @@ use Rattle.one_standing.proofs.LedgerTurns.{different_first, different_rest}
 use Rattle.one_standing.proofs.MarksOf.{has_kept as has_kept_mark, kept_id}
 use Rattle.one_standing.proofs.MarksPlace.{kept_unheld}
 use Rattle.one_standing.proofs.OneStand.{has_end}
-use Rattle.one_standing.proofs.Mirroring.{node_there}
 use Rattle.smema_bridge.specs.Levels.{BridgeLevels}
 use Rattle.smema_bridge.specs.declared.line.SegmentLine.{SegmentLine}
 use Rattle.line_base.specs.declared.states.Quality.TheVariants as qualities

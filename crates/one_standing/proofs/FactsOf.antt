@@ -1,6 +1,8 @@
 -- THE CUSTODY FACTS of a line that stands in its relation.
 use Rattle.std.proofs.Common.{Bool, List, None, Option, Some, [], ap, arith, eq-eqb, eqb-true, false, inl, inr, map, refl, subst, suc, sym, true, zero, ℕ, ◌++◌, ◌+◌, ◌-◌, ◌||◌, ◌∙◌, ◌∷◌, ◌≡◌, ◌⊎◌}
 use Rattle.std.proofs.lemmas.List.{map-append}
+use Rattle.std.proofs.lemmas.Bool.{or_right}
+use Rattle.one_standing.proofs.Elsewhere.{next_machine}
 use Rattle.line_base.specs.declared.states.SensorEvent.{SensorEvent}
 use Rattle.line_base.specs.declared.states.SensorEvent.TheVariants as event
 use Rattle.board_record.specs.declared.record.Record.{Record}
@@ -93,17 +95,14 @@ lies_left_at : {t : Trace} {s : LineState} (gap : ℕ) {r : Record} {x : ℕ} �
 lies_left_at {s = s} gap st e same at =
     subst (λ (y : ℕ). LiesLeft s gap y) (ghost_is gap st e same) (left_by (st.keeps.neighbours.at gap).pair.gap at)
 
-not_next : (gap : ℕ) → at_machine gap ≡ at_machine (gap + 1) → ⊥
-not_next gap e = let same : gap ≡ gap + 1 = cc in omega (arith, same)
-
 not_spot : {machine gap : ℕ} → in_gap gap ≡ at_machine machine → ⊥
 not_spot e = cc
 
 -- the place of a board that lies in the list of the next machine
 inside_by : {t : Trace} {s : LineState} (gap : ℕ) {r : Record} {x : ℕ} → Stands t s → held_out (node_at s gap).lane.body.outlet.phase ≡ Some r → r.id ≡ x → Lies x (machine_at s.world.floor (gap + 1)).boards
     → (p : Place) → (t.ghost gap).place ≡ p → TellsOf p event.Left
-inside_by gap {x = x} st e same here Fresh at = absurd (not_next gap (st.keeps.apart.one_place x (at_machine gap) (at_machine (gap + 1)) (lies_at (lies_above gap st e same (ap is_upstream at))) (lies_at here)))
-inside_by gap {x = x} st e same here Home at = absurd (not_next gap (st.keeps.apart.one_place x (at_machine gap) (at_machine (gap + 1)) (lies_at (lies_above gap st e same (ap is_upstream at))) (lies_at here)))
+inside_by gap {x = x} st e same here Fresh at = absurd (next_machine gap (st.keeps.apart.one_place x (at_machine gap) (at_machine (gap + 1)) (lies_at (lies_above gap st e same (ap is_upstream at))) (lies_at here)))
+inside_by gap {x = x} st e same here Home at = absurd (next_machine gap (st.keeps.apart.one_place x (at_machine gap) (at_machine (gap + 1)) (lies_at (lies_above gap st e same (ap is_upstream at))) (lies_at here)))
 inside_by gap {x = x} st e same here InGap at = absurd (not_spot (st.keeps.apart.one_place x (in_gap gap) (at_machine (gap + 1)) (lies_in (subst (λ (lies : Gap). LiesIn x lies) (sym (lies_begun_at gap st e same at)) lies_begun)) (lies_at here)))
 inside_by gap st e same here Across at = tells_across
 inside_by gap st e same here Inside at = tells_inside
@@ -140,13 +139,9 @@ taken_of {t} {s} gap id st held none =
 
 -- ---- the order of a list
 
-or_later : (a b : Bool) → b ≡ true → (a || b) ≡ true
-or_later true b is = refl
-or_later false b is = is
-
 lies_found : {x : ℕ} {boards : List Board} → Lies x boards → is_in_list x boards ≡ true
 lies_found (lies_first {x = x}) = rw (eq-eqb x x refl) refl
-lies_found {x = x} (lies_later {b = b} {bs = bs} l) = or_later (has_id x b) (is_in_list x bs) (lies_found l)
+lies_found {x = x} (lies_later {b = b} {bs = bs} l) = or_right (has_id x b) (is_in_list x bs) (lies_found l)
 
 found_first : (x : ℕ) (own : Option ℕ) (bs : List Board) (b : Bool) → has_id x (record { id = own }) ≡ b → (b || is_in_list x bs) ≡ true → (is_in_list x bs ≡ true → Lies x bs) → Lies x (record { id = own } ∷ bs)
 found_first x None bs true is found later = absurd (let h : false ≡ true = is in cc)

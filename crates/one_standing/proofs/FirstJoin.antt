@@ -1,5 +1,6 @@
 -- A first connection: the link below has none above yet.
 use Rattle.std.proofs.Common.{Bool, List, [], ap, arith, false, length, not, Result, refl, subst, sym, true, ℕ, ◌+◌, ◌-◌, ◌∙◌, ◌∷◌, ◌≡◌}
+use Rattle.node_core.proofs.Opened.{is_off}
 use Rattle.line_base.specs.declared.states.Side.TheVariants.{Entry, Exit}
 use Rattle.board_record.specs.declared.record.Record.{Record}
 use Rattle.board_record.specs.declared.sensed.Sensed.{Sensed}
@@ -42,7 +43,7 @@ use Rattle.one_standing.proofs.Ends.{no_gap_at, no_link_at, still_at_below}
 use Rattle.one_standing.proofs.HandSteps.{good_node}
 use Rattle.one_standing.proofs.Joints.{between_on}
 use Rattle.one_standing.proofs.LineJoins.{FirstStep, SecondStep, trace_between}
-use Rattle.one_standing.proofs.MirroringCall.{call_did, closed_state}
+use Rattle.one_standing.proofs.MirroringCall.{call_did}
 use Rattle.one_standing.proofs.MirroringConnects.{MirrorsFirst}
 use Rattle.one_standing.proofs.MirroringMeet.{called_scene, meet_did, meet_scene}
 use Rattle.one_standing.proofs.RestLine.{node_there}
@@ -53,7 +54,7 @@ use Rattle.one_standing.proofs.Traces.{put_other}
 -- ---- what may connect
 
 pub entry_closed : (node : NodeState) → may_of node inputs.Connect ≡ may_do → node.lane.body.entry.session.state ≡ NotConnected
-entry_closed node may = closed_state node.lane.body.entry.session.state (passes_closed (is_open Entry node.lane.body) _ _ may)
+entry_closed node may = is_off node.lane.body.entry.session.state (passes_closed (is_open Entry node.lane.body) _ _ may)
   where
     passes_closed : (open_now : Bool) (why : No) (next : Result (Unit {0}) No) → no_if open_now why next ≡ may_do → open_now ≡ false
     passes_closed false why next is = refl
@@ -68,7 +69,7 @@ intake_may node may = both (is_open Entry node.lane.body) (in_state.may_connect 
     both true two why other is = cc
 
 pub exit_closed : (node : NodeState) → may_of node inputs.Accepted ≡ may_do → node.lane.body.exit.session.state ≡ NotConnected
-exit_closed node may = closed_state node.lane.body.exit.session.state (closed (is_open Exit node.lane.body) _ may)
+exit_closed node may = is_off node.lane.body.exit.session.state (closed (is_open Exit node.lane.body) _ may)
   where
     closed : (open_now : Bool) (why : No) → no_if open_now why may_do ≡ may_do → open_now ≡ false
     closed false why is = refl

@@ -1,7 +1,7 @@
 -- The steps of a machine in the line: those that change no board by hand, and those in which one is put in, taken out, replaced
 -- or marked.
 use Rattle.std.proofs.Common.{Bool, Err, List, None, Ok, Option, Result, Some, [], ap, nat_eq, ne_eqb, eq-eqb, eqb-true, false, inl, inr, not, refl, subst, sym, true, ℕ, ◌&&◌, ◌++◌, ◌+◌, ◌||◌, ◌∙◌, ◌∷◌, ◌≡◌, ◌≢◌, ◌⊎◌}
-use Rattle.std.proofs.lemmas.Bool.{false≢true}
+use Rattle.std.proofs.lemmas.Bool.{false≢true, or_left, or_cases, or_right, and_parts}
 use Rattle.std.specs.Borrow.{Bor}
 use Rattle.std.specs.List.{AllByRecursion}
 use Rattle.line_base.specs.declared.states.Quality.{Quality}
@@ -82,7 +82,7 @@ same_gone : (j : ℕ) (t : Trace) (k y : ℕ) → (k ≡ j + 1) ⊎ (k ≢ j + 1
 same_gone j t k y (inl is) = rw is (ap (λ (f : ℕ → Bool). f y) (put_same (j + 1) (t.gone (j + 1)) t.gone))
 same_gone j t k y (inr apart) = ap (λ (f : ℕ → Bool). f y) (put_other (j + 1) k (t.gone (j + 1)) t.gone apart)
 
-no_more : (b c : Bool) → (b || (false && c)) ≡ b
+pub no_more : (b c : Bool) → (b || (false && c)) ≡ b
 no_more true c = refl
 no_more false c = refl
 
@@ -91,38 +91,22 @@ more_gone j id t k y (inl is) = rw is (ap (λ (f : ℕ → Bool). f y) (put_same
 more_gone j id t k y (inr apart) =
     ap (λ (f : ℕ → Bool). f y) (put_other (j + 1) k (grown (j + 1) id t.gone (j + 1)) t.gone apart) ∙ sym (ap (λ (b : Bool). t.gone k y || (b && nat_eq y id)) (ne_eqb k (j + 1) apart) ∙ no_more (t.gone k y) (nat_eq y id))
 
-or_true : (b c : Bool) → b ≡ true → (b || c) ≡ true
-or_true true c is = refl
-or_true false c is = absurd (false≢true is)
-
-or_cases_of : (b c : Bool) → (b || c) ≡ true → (b ≡ true) ⊎ (c ≡ true)
-or_cases_of true c is = inl refl
-or_cases_of false c is = inr is
-
 pub grows : (m id : ℕ) (gone : ℕ → ℕ → Bool) (k : ℕ) → Grows (gone k) (grown m id gone k)
-grows m id gone k x is = or_true (gone k x) (nat_eq k m && nat_eq x id) is
-
-or_other : (b c : Bool) → c ≡ true → (b || c) ≡ true
-or_other true c is = refl
-or_other false c is = is
+grows m id gone k x is = or_left (gone k x) (nat_eq k m && nat_eq x id) is
 
 pub own_gone : (m id : ℕ) (gone : ℕ → ℕ → Bool) → grown m id gone m id ≡ true
-own_gone m id gone = or_other (gone m id) (nat_eq m m && nat_eq id id) (rw (eq-eqb m m refl, eq-eqb id id refl) refl)
-
-both_second : (b c : Bool) → (b && c) ≡ true → c ≡ true
-both_second true c is = is
-both_second false c is = absurd (false≢true is)
+own_gone m id gone = or_right (gone m id) (nat_eq m m && nat_eq id id) (rw (eq-eqb m m refl, eq-eqb id id refl) refl)
 
 grown_is : (m id : ℕ) (gone : ℕ → ℕ → Bool) (k x : ℕ) → grown m id gone k x ≡ true → (gone k x ≡ true) ⊎ (x ≡ id)
-grown_is m id gone k x is = elim (or_cases_of (gone k x) (nat_eq k m && nat_eq x id) is) [ inl was ↦ inl was | inr own ↦ inr (eqb-true x id (both_second (nat_eq k m) (nat_eq x id) own)) ]
+grown_is m id gone k x is = elim (or_cases (gone k x) (nat_eq k m && nat_eq x id) is) [ inl was ↦ inl was | inr own ↦ inr (eqb-true x id (and_parts (nat_eq k m) (nat_eq x id) own).1) ]
 
 -- ---- a new id
 
-all_first : (P : ℕ → Type 0) (xs ys : List ℕ) → AllByRecursion P (xs ++ ys) → AllByRecursion P xs
+pub all_first : (P : ℕ → Type 0) (xs ys : List ℕ) → AllByRecursion P (xs ++ ys) → AllByRecursion P xs
 all_first P [] ys all = tt
 all_first P (x ∷ xs) ys all = (all.0, all_first P xs ys all.1)
 
-all_second : (P : ℕ → Type 0) (xs ys : List ℕ) → AllByRecursion P (xs ++ ys) → AllByRecursion P ys
+pub all_second : (P : ℕ → Type 0) (xs ys : List ℕ) → AllByRecursion P (xs ++ ys) → AllByRecursion P ys
 all_second P [] ys all = all
 all_second P (x ∷ xs) ys all = all_second P xs ys all.1
 
@@ -315,7 +299,7 @@ passes_second false false why other is = refl
 passes_second false true why other is = cc
 passes_second true two why other is = cc
 
-not_touched : (touched : Option ℕ) (id : ℕ) → is_id touched id ≡ false → touched ≡ Some id → ⊥
+pub not_touched : (touched : Option ℕ) (id : ℕ) → is_id touched id ≡ false → touched ≡ Some id → ⊥
 not_touched None id other is = cc
 not_touched (Some own) id other is = false≢true (sym other ∙ ap (λ (t : Option ℕ). is_id t id) is ∙ eq-eqb id id refl)
 

@@ -1,7 +1,6 @@
 -- The two steps in which a link is connected, along the line.
-use Rattle.std.proofs.Common.{Bool, List, [], ap, arith, refl, subst, sym, ℕ, ◌+◌, ◌∙◌, ◌≡◌, ◌≢◌}
-use Rattle.hermes_horizontal.specs.declared.message.Horizontal.{Horizontal}
-use Rattle.line_world.specs.FloorPlan.{AtMachine, gap_at, machine_at}
+use Rattle.std.proofs.Common.{Bool, [], ap, arith, refl, subst, sym, ℕ, ◌+◌, ◌∙◌, ◌≡◌, ◌≢◌}
+use Rattle.line_world.specs.FloorPlan.{gap_at, machine_at}
 use Rattle.line_world.specs.declared.gap.AtGap.{AtGap}
 use Rattle.node_core.specs.Halves.{OffersFront}
 use Rattle.node_core.specs.declared.lane.Body.{Body as Machine}
@@ -15,7 +14,7 @@ use Rattle.one_standing.specs.Carried.{Trace, between_of, stand_of}
 use Rattle.one_standing.specs.Kept.{Keeps}
 use Rattle.one_standing.specs.Places.{AreApart, LiesAt, LiesIn, Spot, lies_at, lies_in}
 use Rattle.one_standing.specs.Relation.{Between, Stand}
-use Rattle.one_standing.proofs.Behind.{AreReal, put_first, put_second, stepped, stepped_same}
+use Rattle.one_standing.proofs.Behind.{AreReal, put_first, put_second, stepped, stepped_same, me_by, between_by}
 use Rattle.one_standing.proofs.Steps.{SameAbove, SameBelow, Steps, afar_of, step_keeps_in}
 use Rattle.one_standing.proofs.Traces.{between_same, put, put_other, put_same, stand_same}
 
@@ -43,13 +42,6 @@ apart_same gaps gones a = record {
 
 pub apart_on : (link : ℕ) (on : Bool) (t : Trace) (s : LineState) → AreApart (stand_of s) (between_of t s) → AreApart (stand_of s) (between_on link on t s)
 apart_on link on t s a = apart_same {bs = between_of t s} {bs2 = between_on link on t s} (λ k. refl) (λ k. refl) a
-
-me_by : {body body2 : Machine} {place place2 : AtMachine} → body2 ≡ body → place2 ≡ place → ◌≡◌ {A = Stand} (record { body = body2; place = place2 }) (record { body = body; place = place })
-me_by bodies places = rw (bodies, places) refl
-
-between_by : {g g2 : Ghost} {on on2 : Bool} {gap gap2 : AtGap} {up up2 down down2 : List Horizontal} {gone gone2 : ℕ → Bool} → g2 ≡ g → on2 ≡ on → gap2 ≡ gap → up2 ≡ up → down2 ≡ down → gone2 ≡ gone
-    → ◌≡◌ {A = Between} (record { ghost = g2; stands = on2; gap = gap2; up = up2; down = down2; gone = gone2 }) (record { ghost = g; stands = on; gap = gap; up = up; down = down; gone = gone })
-between_by ghosts ons gaps ups downs gones = rw (ghosts, ons, gaps, ups, downs, gones) refl
 
 -- ---- the first step: machine j + 2 calls
 

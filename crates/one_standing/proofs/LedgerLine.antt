@@ -1,6 +1,7 @@
 -- THE LEDGER FOLLOWS EACH LINE of a script.
 use Rattle.std.proofs.Common.{Bool, Err, List, None, Ok, Option, Result, Some, [], ap, append-nil, arith, false, inl, inr, leb-false, length, nat_le, refl, subst, suc, sym, true, zero, ℕ, ◌++◌, ◌+◌, ◌-◌, ◌<◌, ◌∙◌, ◌∷◌, ◌≡◌, ◌≢◌, ◌≤◌, ◌⊎◌}
 use Rattle.std.specs.Prelude.{slice_get, slice_index_or, slice_set}
+use Rattle.one_standing.proofs.RestLine.{node_there}
 use Rattle.line_base.specs.declared.states.Side.{Side}
 use Rattle.board_record.specs.Maker.{Maker, after_next, made_id, next_id}
 use Rattle.board_record.specs.declared.maker.IdsUsedUp.{IdsUsedUp}
@@ -48,7 +49,6 @@ use Rattle.one_standing.proofs.LedgerSteps.{IsMadeNow, all_of, deeds_by, did_goe
 use Rattle.one_standing.proofs.LedgerTold.{acts_deeds, cut_none, deeds_join, shown_none, standings_none}
 use Rattle.one_standing.proofs.LedgerTurns.{Fits, Follows, after_append, entry_at, legal_append}
 use Rattle.one_standing.proofs.LedgerWalk.{Did, IsNewFor, step_did}
-use Rattle.one_standing.proofs.Mirroring.{node_there}
 use Rattle.node_core.specs.Signals.{signalled}
 use Rattle.one_standing.proofs.Signalled.{signals_silent}
 

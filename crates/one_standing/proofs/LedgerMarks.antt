@@ -1,13 +1,14 @@
 -- The marks of a line that stands in its relation, beside a ledger: a machine's ids differ, and each is old.
-use Rattle.std.proofs.Common.{Bool, List, None, Option, Some, [], ap, arith, eq-eqb, false, inl, inr, map, not, refl, subst, suc, sym, true, zero, ℕ, ◌&&◌, ◌++◌, ◌+◌, ◌-◌, ◌==◌, ◌||◌, ◌∙◌, ◌∷◌, ◌≡◌, ◌⊎◌}
+use Rattle.std.proofs.Common.{Bool, List, None, Option, Some, [], ap, arith, eq-eqb, false, inl, inr, map, refl, subst, suc, sym, true, zero, ℕ, ◌++◌, ◌+◌, ◌-◌, ◌==◌, ◌||◌, ◌∙◌, ◌∷◌, ◌≡◌, ◌⊎◌}
 use Rattle.std.proofs.lemmas.Option.{none-some}
 use Rattle.std.proofs.lemmas.List.Folds.{list_any-append}
+use Rattle.std.proofs.lemmas.Bool.{or_right}
 use Rattle.board_record.specs.declared.record.Record.{Record}
 use Rattle.line_world.specs.declared.board.Board.{Board}
 use Rattle.handover_out.specs.State.{board_of_phase as held_out}
 use Rattle.handover_in.specs.State.{board_of_phase as held_in}
 use Rattle.node_core.specs.Own.{id_of, ids_of, one_of, own_of}
-use Rattle.custody.specs.Contents.{Kept, kept_first, kept_later}
+use Rattle.custody.specs.Contents.{Kept}
 use Rattle.custody.specs.Pair.{board_of, part}
 use Rattle.custody.specs.Place.{is_inside, is_upstream}
 use Rattle.machine_custody.specs.Good.{Lies, lies_first, lies_later}
@@ -27,10 +28,10 @@ use Rattle.one_standing.specs.Standing.{AreOnce, once_more, once_none}
 use Rattle.one_standing.specs.Stands.{Stands}
 use Rattle.one_standing.proofs.ApartFloor.{lies_on_floor}
 use Rattle.one_standing.proofs.ApartStep.{floor_old}
-use Rattle.one_standing.proofs.LedgerSteps.{all_of}
-use Rattle.one_standing.proofs.LedgerTurns.{different_first, different_rest, entry_at}
+use Rattle.one_standing.proofs.LedgerSteps.{all_of, both_not}
+use Rattle.one_standing.proofs.LedgerTurns.{different_first, different_rest, entry_at, has_first}
 use Rattle.one_standing.proofs.MarksOf.{HasMark, has_among, has_intake, has_kept, has_outlet, id_held, id_kept, mark_stands, owned_is}
-use Rattle.one_standing.proofs.MarksPlace.{IsAt, Position, is_between, is_gone, is_listed, kept_unheld, part_lies_at}
+use Rattle.one_standing.proofs.MarksPlace.{IsAt, Position, is_between, is_gone, is_listed, kept_unheld, part_lies_at, once_rest, once_behind, map_lies}
 use Rattle.one_standing.proofs.OneStand.{at_link, has_end, same_link}
 
 -- ---- each id with a mark is old
@@ -53,29 +54,18 @@ taken_old {s = s} machine id st is =
 
 -- ---- the ids of a machine differ
 
-both_not : (a b : Bool) → a ≡ false → b ≡ true → (not a && b) ≡ true
-both_not false b one two = two
-both_not true b one two = absurd (let h : true ≡ false = one in cc)
-
 not_in : (x : ℕ) (ids : List ℕ) → (has_id x ids ≡ true → ⊥) → has_id x ids ≡ false
 not_in x ids none = not_by (has_id x ids) refl where
   not_by : (b : Bool) → has_id x ids ≡ b → b ≡ false
   not_by false is = refl
   not_by true is = absurd (none is)
 
-has_first : (x : ℕ) (xs : List ℕ) → has_id x (x ∷ xs) ≡ true
-has_first x xs = rw (eq-eqb x x refl) refl
-
-or_later : (a b : Bool) → b ≡ true → (a || b) ≡ true
-or_later true b is = refl
-or_later false b is = is
-
 different_join : (xs ys : List ℕ) → are_different xs ≡ true → are_different ys ≡ true → ((x : ℕ) → has_id x xs ≡ true → has_id x ys ≡ true → ⊥) → are_different (xs ++ ys) ≡ true
 different_join [] ys one two apart = two
 different_join (x ∷ xs) ys one two apart =
     both_not (has_id x (xs ++ ys)) (are_different (xs ++ ys))
     (list_any-append (λ (other : ℕ). other == x) xs ys ∙ rw (different_first x xs one, not_in x ys (apart x (has_first x xs))) refl)
-    (different_join xs ys (different_rest x xs one) two (λ y there. apart y (or_later (x == y) (has_id y xs) there)))
+    (different_join xs ys (different_rest x xs one) two (λ y there. apart y (or_right (x == y) (has_id y xs) there)))
 
 one_different : (h : Option ℕ) → are_different (one_of h) ≡ true
 one_different None = refl
@@ -91,9 +81,6 @@ held_has x (Some r) is = held_by (r.id == x) is where
 held_is : (x : ℕ) (h : Option Record) → has_id x (one_of (id_of h)) ≡ true → (r : Record) × (h ≡ Some r) × (r.id ≡ x)
 held_is x h is = id_held x h (held_has x h is)
 
-once_rest : {board : Board} {boards : List Board} → AreOnce (board ∷ boards) → AreOnce boards
-once_rest (once_more here more) = more
-
 once_front : (xs ys : List Board) → AreOnce (xs ++ ys) → AreOnce xs
 once_front [] ys once = once_none
 once_front (x ∷ xs) ys (once_more here more) = once_more (λ id is l. here id is (lies_before ys l)) (once_front xs ys more) where
@@ -101,20 +88,12 @@ once_front (x ∷ xs) ys (once_more here more) = once_more (λ id is l. here id 
   lies_before ys lies_first = lies_first
   lies_before ys (lies_later l) = lies_later (lies_before ys l)
 
-once_behind : (xs ys : List Board) → AreOnce (xs ++ ys) → AreOnce ys
-once_behind [] ys once = once
-once_behind (x ∷ xs) ys once = once_behind xs ys (once_rest once)
-
-kept_lies : {x : ℕ} {rs : List Record} → Kept x rs → Lies x (map board_of rs)
-kept_lies kept_first = lies_first
-kept_lies (kept_later k) = lies_later (kept_lies k)
-
 once_first : (id : ℕ) {boards : List Board} → AreOnce (record { id = Some id } ∷ boards) → Lies id boards → ⊥
 once_first id (once_more here more) l = here id refl l
 
 kept_different : (rs : List Record) → AreOnce (map board_of rs) → are_different (ids_of rs) ≡ true
 kept_different [] once = refl
-kept_different (r ∷ rs) once = both_not (has_id r.id (ids_of rs)) (are_different (ids_of rs)) (not_in r.id (ids_of rs) (λ has. once_first r.id once (kept_lies (id_kept r.id rs has)))) (kept_different rs (once_rest once))
+kept_different (r ∷ rs) once = both_not (has_id r.id (ids_of rs)) (are_different (ids_of rs)) (not_in r.id (ids_of rs) (λ has. once_first r.id once (map_lies (id_kept r.id rs has)))) (kept_different rs (once_rest once))
 
 has_either : (x : ℕ) (a b : List ℕ) → has_id x (a ++ b) ≡ true → (has_id x a ≡ true) ⊎ (has_id x b ≡ true)
 has_either x a b has = either_by (has_id x a) (sym (list_any-append (λ (other : ℕ). other == x) a b) ∙ has) where

@@ -1,14 +1,15 @@
 -- The standings follow from the deeds alone: the marks of an id in the ledger give it the standing that the machines' marks
 -- give it.
-use Rattle.std.proofs.Common.{Bool, List, [], eq-eqb, false, refl, subst, sym, true, ℕ, ◌&&◌, ◌==◌, ◌||◌, ◌∙◌, ◌∷◌, ◌≡◌}
+use Rattle.std.proofs.Common.{Bool, List, [], false, refl, subst, sym, true, ℕ, ◌&&◌, ◌==◌, ◌||◌, ◌∙◌, ◌∷◌, ◌≡◌}
 use Rattle.std.specs.List.{list_all, list_any}
+use Rattle.std.proofs.lemmas.Bool.{or_right, and_parts}
+use Rattle.standings.proofs.Entries.{mark_is_itself}
 use Rattle.standings.specs.Ledger.{Ledger, has_entry, mark_of_id}
 use Rattle.standings.specs.Ledger as ledgers
 use Rattle.standings.specs.Marks.{has_mark, is_same_mark}
 use Rattle.standings.specs.Standing.{HasStanding, Place, is_among, is_handed_at, is_kept_by}
 use Rattle.standings.specs.declared.entry.Entry.{Entry}
 use Rattle.standings.specs.declared.mark.Mark.{Mark}
-use Rattle.standings.specs.declared.mark.Mark.TheVariants as marks
 use Rattle.standings.specs.declared.standing.Standing.TheVariants as standings
 use Rattle.line_step.specs.State.{LineState, marks_in}
 use Rattle.one_standing.specs.Replay.{IsLedgerOf, IsStandingTold}
@@ -19,33 +20,16 @@ use Rattle.one_standing.proofs.MarksOf.{Among, Passes, all_pass, among_first, am
 abbrev AreSame : List Mark → List Mark → Type 0
 AreSame some other = (mark : Mark) → has_mark mark some ≡ has_mark mark other
 
-mark_is_itself : (mark : Mark) → is_same_mark mark mark ≡ true
-mark_is_itself (marks.Kept machine) = eq-eqb machine machine refl
-mark_is_itself (marks.Outlet machine) = eq-eqb machine machine refl
-mark_is_itself (marks.Intake machine) = eq-eqb machine machine refl
-
-or_later : (a b : Bool) → b ≡ true → (a || b) ≡ true
-or_later true b is = refl
-or_later false b is = is
-
 among_has : {mark : Mark} {some : List Mark} → Among mark some → has_mark mark some ≡ true
 among_has {mark = mark} among_first = rw (mark_is_itself mark) refl
-among_has {mark = mark} (among_later {other = other} {some = some} there) = or_later (is_same_mark other mark) (has_mark mark some) (among_has there)
+among_has {mark = mark} (among_later {other = other} {some = some} there) = or_right (is_same_mark other mark) (has_mark mark some) (among_has there)
 
 among_same : {mark : Mark} {some other : List Mark} → AreSame some other → Among mark some → Among mark other
 among_same {mark = mark} {other = other} same there = has_among mark other (sym (same mark) ∙ among_has there)
 
-and_first : (a b : Bool) → (a && b) ≡ true → a ≡ true
-and_first true b is = refl
-and_first false b is = is
-
-and_second : (a b : Bool) → (a && b) ≡ true → b ≡ true
-and_second true b is = is
-and_second false b is = absurd (let h : false ≡ true = is in cc)
-
 all_at : {mark : Mark} {some : List Mark} (test : Mark → Bool) → list_all test some ≡ true → Among mark some → test mark ≡ true
-all_at test all (among_first {mark = mark} {some = some}) = and_first (test mark) (list_all test some) all
-all_at test all (among_later {other = other} {some = some} there) = all_at test (and_second (test other) (list_all test some) all) there
+all_at test all (among_first {mark = mark} {some = some}) = (and_parts (test mark) (list_all test some) all).0
+all_at test all (among_later {other = other} {some = some} there) = all_at test (and_parts (test other) (list_all test some) all).1 there
 
 all_same : (test : Mark → Bool) (some other : List Mark) → AreSame some other → list_all test some ≡ true → list_all test other ≡ true
 all_same test some other same all = all_pass test other (λ mark there. all_at test all (among_same (λ m. sym (same m)) there))
@@ -53,7 +37,7 @@ all_same test some other same all = all_pass test other (λ mark there. all_at t
 any_same : (test : Mark → Bool) (some other : List Mark) → AreSame some other → list_any test some ≡ true → list_any test other ≡ true
 any_same test some other same any = let p : Passes test some = passing test some any in any_passes test (among_same same p.there) p.passes
 
-none_among : {mark : Mark} {some : List Mark} → some ≡ [] → Among mark some → ⊥
+pub none_among : {mark : Mark} {some : List Mark} → some ≡ [] → Among mark some → ⊥
 none_among {mark = mark} e there = let none : Among mark [] = subst (λ some. Among mark some) e there in elim none [ ]
 
 same_standing : (some other : List Mark) (standing : Place) → AreSame some other → HasStanding some standing → HasStanding other standing

@@ -1,6 +1,7 @@
 -- The deeds of a machine's step are legal in a ledger that has its marks, and leave it with those behind the step.
 use Rattle.std.proofs.Common.{Bool, List, None, Option, Some, [], ap, append-nil, append_assoc, eq-eqb, eqb-true, false, not, refl, subst, sym, true, ℕ, ◌&&◌, ◌++◌, ◌+◌, ◌-◌, ◌==◌, ◌||◌, ◌∙◌, ◌∷◌, ◌≡◌, ◌≢◌}
-use Rattle.std.proofs.lemmas.List.Folds.{list_any-append}
+use Rattle.std.proofs.lemmas.Bool.{or_parts, and_parts}
+use Rattle.line_step.proofs.Unnamed.{apart_ids}
 use Rattle.node_core.specs.Own.{Own, one_of}
 use Rattle.node_core.specs.declared.act.Act.{Act}
 use Rattle.node_core.specs.declared.supervising.Watch.{Watch}
@@ -18,7 +19,7 @@ use Rattle.standings.specs.declared.mark.Mark.TheVariants.{Intake, Kept}
 use Rattle.standings.proofs.Ids.{marks_are_seen}
 use Rattle.one_standing.specs.Replay.{deeds_at, deeds_at_side}
 use Rattle.one_standing.proofs.LedgerTurns.{Fits, Follows, different_first, different_rest, entry_at, follows_both, follows_none, follows_one, owned, spot, turns_drops, turns_inserts, turns_leaves, turns_opens, turns_removes, turns_replaces, turns_returns, turns_settles, turns_starts}
-use Rattle.one_standing.proofs.LedgerWalk.{Announces, Did, Hand, Walk, are_silent, did, hand_inserts, hand_removes, hand_replaces, hand_walks, is_refusal, is_silent, own_parts, says_last, says_more, says_start, walk_drops, walk_end, walk_leaves, walk_loses, walk_on, walk_opens, walk_returns, walk_settles, and_one, and_two}
+use Rattle.one_standing.proofs.LedgerWalk.{Announces, Did, Hand, Walk, are_silent, did, hand_inserts, hand_removes, hand_replaces, hand_walks, is_refusal, is_silent, own_parts, says_last, says_more, says_start, walk_drops, walk_end, walk_leaves, walk_loses, walk_on, walk_opens, walk_returns, walk_settles}
 
 -- the deeds of a machine's acts
 abbrev pub deeds_by : ℕ → List Act → List Deed
@@ -45,7 +46,7 @@ no_deed machine _ is = refl
 no_deeds : (machine : ℕ) (told others : List Act) → are_silent told ≡ true → deeds_by machine (told ++ others) ≡ deeds_by machine others
 no_deeds machine [] others silent = refl
 no_deeds machine (act ∷ told) others silent =
-    ap (λ (ds : List Deed). ds ++ deeds_by machine (told ++ others)) (no_deed machine act (and_one (is_silent act) (are_silent told) silent)) ∙ no_deeds machine told others (and_two (is_silent act) (are_silent told) silent)
+    ap (λ (ds : List Deed). ds ++ deeds_by machine (told ++ others)) (no_deed machine act (and_parts (is_silent act) (are_silent told) silent).0) ∙ no_deeds machine told others (and_parts (is_silent act) (are_silent told) silent).1
 
 none_silent : (machine : ℕ) (told : List Act) → are_silent told ≡ true → deeds_by machine told ≡ []
 none_silent machine told silent = ap (λ (l : List Act). deeds_by machine l) (sym (append-nil told)) ∙ no_deeds machine told [] silent
@@ -75,14 +76,7 @@ silent_behind machine made more silent =
 abbrev pub all_of : Own → List ℕ
 all_of own = one_of own.held ++ (own.kept ++ one_of own.taking)
 
-either_none : (a b : Bool) → (a || b) ≡ false → (a ≡ false) × (b ≡ false)
-either_none false b is = (refl, is)
-either_none true b is = absurd (let h : true ≡ false = is in cc)
-
-pub none_either : (x : ℕ) (xs ys : List ℕ) → has_id x (xs ++ ys) ≡ false → (has_id x xs ≡ false) × (has_id x ys ≡ false)
-none_either x xs ys none = either_none (has_id x xs) (has_id x ys) (sym (list_any-append (λ (other : ℕ). other == x) xs ys) ∙ none)
-
-both_not : (a b : Bool) → a ≡ false → b ≡ true → (not a && b) ≡ true
+pub both_not : (a b : Bool) → a ≡ false → b ≡ true → (not a && b) ≡ true
 both_not false b one two = two
 both_not true b one two = absurd (let h : true ≡ false = one in cc)
 
@@ -90,14 +84,14 @@ different_behind : (xs ys : List ℕ) → are_different (xs ++ ys) ≡ true → 
 different_behind [] ys is = is
 different_behind (x ∷ xs) ys is = different_behind xs ys (different_rest x (xs ++ ys) is)
 
-different_front : (xs ys : List ℕ) → are_different (xs ++ ys) ≡ true → are_different xs ≡ true
+pub different_front : (xs ys : List ℕ) → are_different (xs ++ ys) ≡ true → are_different xs ≡ true
 different_front [] ys is = refl
-different_front (x ∷ xs) ys is = both_not (has_id x xs) (are_different xs) (none_either x xs ys (different_first x (xs ++ ys) is)).0 (different_front xs ys (different_rest x (xs ++ ys) is))
+different_front (x ∷ xs) ys is = both_not (has_id x xs) (are_different xs) (apart_ids x xs ys (different_first x (xs ++ ys) is)).0 (different_front xs ys (different_rest x (xs ++ ys) is))
 
 apart_by : (x y : ℕ) (ys : List ℕ) (b : Bool) → (y == x) ≡ b → has_id y (ys ++ x ∷ []) ≡ false → b ≡ false
 apart_by x y ys false is none = refl
 apart_by x y ys true is none =
-    let one : (x == y) ≡ false = (either_none (x == y) false (none_either y ys (x ∷ []) none).1).0 in
+    let one : (x == y) ≡ false = (or_parts (x == y) false (apart_ids y ys (x ∷ []) none).1).0 in
     let h : true ≡ false = sym (same_test x y (eqb-true y x is)) ∙ one in
     absurd (cc) where
       same_test : (a b : ℕ) → b ≡ a → (a == b) ≡ true
@@ -166,12 +160,12 @@ walk_goes {Old} {machine} {end = end} {others = others} at (walk_on {act = act} 
     let later = walk_goes at walk different ledger fits in
     subst (λ (ds : List Deed). Goes Old machine end others ledger (ds ++ deeds_by machine more)) (sym (no_deed machine act silent)) later
 walk_goes {Old} {machine} at (walk_opens {id = id} {ids = ids} {taking = taking} {others = more} walk) different ledger fits =
-    let turns = turns_opens id ids taking (none_either id ids (one_of taking) (different_first id (ids ++ one_of taking) different)).0 in
+    let turns = turns_opens id ids taking (apart_ids id ids (one_of taking) (different_first id (ids ++ one_of taking) different)).0 in
     goes_on ledger (deeds.Opens machine id) (deeds_by machine more)
     (follows_one (spot kept id) (spot outlet id) ledger (deeds.Opens machine id) turns refl refl refl (one_named Old id (old_there ledger fits kept id turns.found)) fits)
     (λ l f. walk_goes at walk different l f)
 walk_goes {Old} {machine} at (walk_returns {id = id} {ids = ids} {taking = taking} {others = more} walk) different ledger fits =
-    let turns = turns_returns id ids taking (none_either id ids (one_of taking) (different_first id (ids ++ one_of taking) different)).0 in
+    let turns = turns_returns id ids taking (apart_ids id ids (one_of taking) (different_first id (ids ++ one_of taking) different)).0 in
     goes_on ledger (deeds.Returns machine id) (deeds_by machine more)
     (follows_one (spot outlet id) (spot kept id) ledger (deeds.Returns machine id) turns refl refl refl (one_named Old id (old_there ledger fits outlet id turns.found)) fits)
     (λ l f. walk_goes at walk different l f)

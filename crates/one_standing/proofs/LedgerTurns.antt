@@ -2,6 +2,8 @@
 use Rattle.std.proofs.Common.{Bool, List, None, Option, Some, [], ap, eq-eqb, eqb-true, false, ne_eqb, not, refl, subst, sym, true, ℕ, ◌&&◌, ◌++◌, ◌==◌, ◌||◌, ◌∙◌, ◌∷◌, ◌≡◌, ◌≢◌}
 use Rattle.std.specs.Prelude.{if◌then◌else◌}
 use Rattle.std.proofs.lemmas.List.Folds.{list_any-append}
+use Rattle.std.proofs.lemmas.Bool.{not-true, and_parts}
+use mathlib.Core.Bool.{and-false}
 use Rattle.node_core.specs.Own.{Own, with_id_instead, without_id}
 use Rattle.standings.specs.Deeds.{added, made, taken}
 use Rattle.standings.specs.Ledger.{AreLegal, Ledger, are_different, empty_ledger, has_entry, ids_named, is_entry, is_found, is_missing, is_unseen, ledger_after, ledger_after_all}
@@ -9,7 +11,7 @@ use Rattle.standings.specs.Marks.{Owned, Where, has_at, has_id, intake, is_held,
 use Rattle.standings.specs.declared.deed.Deed.{Deed}
 use Rattle.standings.specs.declared.entry.Entry.{Entry}
 use Rattle.standings.proofs.Entries.{stands_after}
-use Rattle.one_standing.proofs.LedgerWalk.{own_parts, and_one, and_two}
+use Rattle.one_standing.proofs.LedgerWalk.{own_parts}
 
 -- ---- the places of a machine
 
@@ -151,7 +153,7 @@ not_has b is = rw is refl
 same_none : (id x : ℕ) (ids : List ℕ) → has_id id ids ≡ false → (id == x) ≡ true → has_id x ids ≡ false
 same_none id x ids none is = ap (λ (y : ℕ). has_id y ids) (sym (eqb-true id x is)) ∙ none
 
-has_first : (id : ℕ) (ids : List ℕ) → has_id id (id ∷ ids) ≡ true
+pub has_first : (id : ℕ) (ids : List ℕ) → has_id id (id ∷ ids) ≡ true
 has_first id ids = rw (eq-eqb id id refl) refl
 
 -- ---- each deed
@@ -210,15 +212,11 @@ turns_inserts id ids held taking none = record { found = refl; missing = not_has
 
 -- ---- by hand, where no id is kept twice
 
-not_true : (b : Bool) → not b ≡ true → b ≡ false
-not_true false is = refl
-not_true true is = sym is
-
 pub different_first : (id : ℕ) (ids : List ℕ) → are_different (id ∷ ids) ≡ true → has_id id ids ≡ false
-different_first id ids is = not_true (has_id id ids) (and_one (not (has_id id ids)) (are_different ids) is)
+different_first id ids is = not-true (has_id id ids) (and_parts (not (has_id id ids)) (are_different ids) is).0
 
 pub different_rest : (id : ℕ) (ids : List ℕ) → are_different (id ∷ ids) ≡ true → are_different ids ≡ true
-different_rest id ids is = and_two (not (has_id id ids)) (are_different ids) is
+different_rest id ids is = (and_parts (not (has_id id ids)) (are_different ids) is).1
 
 -- two tests of which not both pass
 off_behind : (m h o : Bool) → (m ≡ true → o ≡ false) → (m || (h && not o)) ≡ ((m || h) && not o)
@@ -356,13 +354,9 @@ other_mark intake kept machine number apart = refl
 other_mark intake outlet machine number apart = refl
 other_mark intake intake machine number apart = ne_eqb machine number apart
 
-and_false : (b : Bool) → (b && false) ≡ false
-and_false true = refl
-and_false false = refl
-
 entry_misses : (s : Option Spot) (machine number : ℕ) (place : Where) (x : ℕ) → machine ≢ number → is_entry (entry_of machine s) (entry_at number place x) ≡ false
 entry_misses None machine number place x apart = refl
-entry_misses (Some s) machine number place x apart = ap (λ (b : Bool). (s.id == x) && b) (other_mark s.place place machine number apart) ∙ and_false (s.id == x)
+entry_misses (Some s) machine number place x apart = ap (λ (b : Bool). (s.id == x) && b) (other_mark s.place place machine number apart) ∙ and-false (s.id == x)
 
 untouched : (b : Bool) → ((b && not false) || false) ≡ b
 untouched true = refl

@@ -2,8 +2,8 @@
 -- One lemma for each definition of the machine step, in the order of the definitions.
 use Rattle.std.proofs.Common.{if◌then◌else◌, ◌&&◌, subst, ◌≡◌, ◌∙◌, ◌++◌, ◌==◌, ◌||◌, ℕ, Bool, true, false, List, [], ◌∷◌, Option, Some, None, refl, sym, ap}
 use Rattle.std.specs.Prelude.{is_some, slice_get}
-use Rattle.std.proofs.lemmas.Bool.{false≢true}
-use Rattle.std.proofs.lemmas.List.{map-append}
+use Rattle.std.proofs.lemmas.Bool.{and_parts}
+use Rattle.node_core.proofs.Sound.{ids_behind}
 use Rattle.line_base.specs.declared.states.Side.{Side}
 use Rattle.line_base.specs.declared.states.Side.TheVariants.{Entry, Exit}
 use Rattle.line_base.specs.declared.states.SensorEvent.{SensorEvent}
@@ -127,17 +127,9 @@ pub data Announces : Own → List Act → Own → Type 0 where
 pub data Did (New : ℕ → Type 0) : Own → List Act → Own → Type 0 where
   did : {own one two end : Own} (read met told : List Act) → Walk own read one → Hand New one met two → Announces two told end → Did New own (read ++ (met ++ told)) end
 
-pub and_one : (a b : Bool) → (a && b) ≡ true → a ≡ true
-and_one true b is = refl
-and_one false b is = is
-
-pub and_two : (a b : Bool) → (a && b) ≡ true → b ≡ true
-and_two true b is = is
-and_two false b is = absurd (false≢true is)
-
 pub walk_quiet : (own : Own) (told : List Act) → are_silent told ≡ true → Walk own told own
 walk_quiet own [] silent = walk_end
-walk_quiet own (act ∷ others) silent = walk_on (and_one (is_silent act) (are_silent others) silent) (walk_quiet own others (and_two (is_silent act) (are_silent others) silent))
+walk_quiet own (act ∷ others) silent = walk_on (and_parts (is_silent act) (are_silent others) silent).0 (walk_quiet own others (and_parts (is_silent act) (are_silent others) silent).1)
 
 walk_append : {own one end : Own} {told others : List Act} → Walk own told one → Walk one others end → Walk own (told ++ others) end
 walk_append walk_end next = next
@@ -200,11 +192,8 @@ start_walk desk intake false kept (refuses _) = walk_quiet _ _ refl
 start_walk desk intake true [] (refuses _) = walk_quiet _ _ refl
 start_walk desk intake true (b ∷ bs) (out_opens _) = walk_opens (walk_quiet _ _ refl)
 
-behind_ids : (kept : List Record) (board : Record) → ids_of kept ++ board.id ∷ [] ≡ ids_of (kept ++ board ∷ [])
-behind_ids kept board = sym (map-append (λ (b : Record). b.id) kept (board ∷ []))
-
 settled_walk : {own : Own} {told : List Act} (kept : List Record) (board : Record) (held : Option ℕ) → Walk own told (own_parts (ids_of kept ++ board.id ∷ []) held None) → Walk own told (own_parts (ids_of (kept ++ board ∷ [])) held None)
-settled_walk {own = own} {told = told} kept board held w = subst (λ (ids : List ℕ). Walk own told (own_parts ids held None)) (behind_ids kept board) w
+settled_walk {own = own} {told = told} kept board held w = subst (λ (ids : List ℕ). Walk own told (own_parts ids held None)) (ids_behind kept board) w
 
 in_row_walk : (desk : Desk) (outlet : OutState) {s : InState} {input : InInput} {r : InRow} (kept : List Record) → IsIntakeRow s input r → IsNoStart input
     → Walk (own_by kept outlet s) (in_told desk r.act) (own_by (settled r.act.keep kept) outlet r.after)
@@ -383,14 +372,14 @@ kept_ids id (board ∷ boards) = kept_by (board.id == id) (kept_ids id boards) w
   kept_by true same = refl
   kept_by false same = same
 
-ids_without : (id : ℕ) (kept : List Record) → without_id id (ids_of kept) ≡ ids_of (without id kept)
+pub ids_without : (id : ℕ) (kept : List Record) → without_id id (ids_of kept) ≡ ids_of (without id kept)
 ids_without id [] = refl
 ids_without id (board ∷ boards) = without_by (board.id == id) (ids_without id boards) where
   without_by : (test : Bool) → without_id id (ids_of boards) ≡ ids_of (without id boards) → (if test then ids_of boards else board.id ∷ without_id id (ids_of boards)) ≡ ids_of (if test then boards else board ∷ without id boards)
   without_by true same = refl
   without_by false same = ap (λ (ids : List ℕ). board.id ∷ ids) same
 
-ids_instead : (id : ℕ) (other : Record) (kept : List Record) → with_id_instead id other.id (ids_of kept) ≡ ids_of (with_instead id other kept)
+pub ids_instead : (id : ℕ) (other : Record) (kept : List Record) → with_id_instead id other.id (ids_of kept) ≡ ids_of (with_instead id other kept)
 ids_instead id other [] = refl
 ids_instead id other (board ∷ boards) = instead_by (board.id == id) (ids_instead id other boards) where
   instead_by : (test : Bool) → with_id_instead id other.id (ids_of boards) ≡ ids_of (with_instead id other boards)
@@ -398,7 +387,7 @@ ids_instead id other (board ∷ boards) = instead_by (board.id == id) (ids_inste
   instead_by true same = refl
   instead_by false same = ap (λ (ids : List ℕ). board.id ∷ ids) same
 
-ids_marked : (id : ℕ) (quality : Quality) (kept : List Record) → ids_of kept ≡ ids_of (with_mark id quality kept)
+pub ids_marked : (id : ℕ) (quality : Quality) (kept : List Record) → ids_of kept ≡ ids_of (with_mark id quality kept)
 ids_marked id quality [] = refl
 ids_marked id quality (board ∷ boards) = marked_by (board.id == id) (ids_marked id quality boards) where
   marked_by : (test : Bool) → ids_of boards ≡ ids_of (with_mark id quality boards) → board.id ∷ ids_of boards ≡ ids_of (if test then record board { quality = quality } ∷ boards else board ∷ with_mark id quality boards)
@@ -477,7 +466,7 @@ event_meets desk (Level line on) body new = meets_walk (levels_walk desk line on
 event_meets desk Forecast body new = meets_walk (walks_told body _ (forecasts_silent desk (slice_get body.kept 0)))
 event_meets desk (Query barcode) body new = meets_walk (walks_told body _ refl)
 event_meets desk (Supervised what) body new = meets_walk (walks_told body _ (supervision_silent desk what))
-event_meets desk (Insert id barcode) body new = record { hand = hand_kept (body.kept ++ plain_record id desk.name barcode ∷ []) (id_of (held body.outlet)) (id_of (in_held body.intake)) (behind_ids body.kept (plain_record id desk.name barcode)) (hand_inserts new) }
+event_meets desk (Insert id barcode) body new = record { hand = hand_kept (body.kept ++ plain_record id desk.name barcode ∷ []) (id_of (held body.outlet)) (id_of (in_held body.intake)) (ids_behind body.kept (plain_record id desk.name barcode)) (hand_inserts new) }
 event_meets desk (Remove id) body new = removes_by id body (is_kept id body.kept) refl
 event_meets desk (Replace old new) body fresh = replaces_by desk old new body (is_kept old body.kept) fresh refl
 event_meets desk (Mark id quality) body new = meets_walk (marks_by id quality body (is_kept id body.kept))
@@ -576,7 +565,7 @@ step_did desk unread event body new =
     let two = (event_did desk event one).body in
     did (all_read desk unread body).acts (event_did desk event one).acts (announces desk two).acts (all_read_walks desk unread body).walk (event_meets desk event one new).hand (announces_tells desk two).says
 
-silent_by : (one front both : Bool) → (one && front) ≡ true → (front ≡ true → both ≡ true) → (one && both) ≡ true
+pub silent_by : (one front both : Bool) → (one && front) ≡ true → (front ≡ true → both ≡ true) → (one && both) ≡ true
 silent_by true front both is next = next is
 silent_by false front both is next = cc
 

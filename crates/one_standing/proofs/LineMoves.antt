@@ -1,5 +1,5 @@
 -- A move on the floor, in the line.
-use Rattle.std.proofs.Common.{Bool, Err, List, Ok, Result, ap, arith, false, inl, inr, nat_eq, ne_eqb, refl, subst, sym, true, ℕ, ◌&&◌, ◌+◌, ◌-◌, ◌||◌, ◌∙◌, ◌≡◌, ◌≢◌, ◌≤◌, ◌⊎◌}
+use Rattle.std.proofs.Common.{Bool, Err, List, Ok, Result, ap, arith, inl, inr, nat_eq, ne_eqb, refl, subst, sym, true, ℕ, ◌&&◌, ◌+◌, ◌-◌, ◌||◌, ◌∙◌, ◌≡◌, ◌≢◌, ◌≤◌, ◌⊎◌}
 use Rattle.board_record.specs.declared.record.Record.{Record}
 use Rattle.line_world.specs.FloorPlan.{FloorPlan, IsGap, gap_at, machine_at}
 use Rattle.line_world.specs.Moved.{IsMove, begun_is_taken, left_is_taken}
@@ -23,11 +23,10 @@ use Rattle.line_step.proofs.Changing.{moved_changes}
 use Rattle.line_step.proofs.Numbers.{same_or_not}
 use Rattle.one_standing.specs.Carried.{Trace, between_of, stand_of}
 use Rattle.one_standing.specs.Places.{LiesIn, lies_begun, lies_left}
-use Rattle.one_standing.specs.Relation.{Stand}
 use Rattle.one_standing.specs.Stands.{Stands}
 use Rattle.one_standing.proofs.ApartStep.{Parted, apart_stays, apart_taken, grown}
 use Rattle.one_standing.proofs.Behind.{Bears}
-use Rattle.one_standing.proofs.HandSteps.{Around, Bearing, grows, own_gone}
+use Rattle.one_standing.proofs.HandSteps.{Around, Bearing, grows, own_gone, no_more}
 use Rattle.one_standing.proofs.Moving.{AreTaken, IsMoved, LiftedAt, lifted_at, move_keeps}
 use Rattle.one_standing.proofs.Traces.{SameTrace, gap_changes_of, put, put_other, put_same}
 
@@ -41,9 +40,6 @@ moved_trace t gap spot gone = record t { ghost = put gap (record { place = spot;
 
 moved_same : (t : Trace) (gap k : ℕ) (spot : Place) (gone : ℕ → Bool) → k ≢ gap → SameTrace t (moved_trace t gap spot gone) k
 moved_same t gap k spot gone apart = record { ghost = put_other gap k _ t.ghost apart; up = refl; down = refl; gone = put_other gap k gone t.gone apart }
-
-stand_by : {a b : Stand} → a.body ≡ b.body → a.place ≡ b.place → a ≡ b
-stand_by bodies places = rw (bodies, places) refl
 
 -- what a move makes of the line, by numbers
 is_moved : (i : ℕ) (step : Move) (t : Trace) (s : LineState) (plan : FloorPlan) (spot : Place) (gone : ℕ → Bool) → Stands t s → (done : Done (i + 1) step s.world.floor plan) → floor_move (i + 1) step s.world.floor ≡ Ok plan
@@ -88,10 +84,6 @@ move_by i step t s plan gone st moves grow taken parts =
 same_gone : (gap : ℕ) (t : Trace) (k y : ℕ) → (k ≡ gap) ⊎ (k ≢ gap) → put gap (t.gone gap) t.gone k y ≡ t.gone k y
 same_gone gap t k y (inl is) = rw is (ap (λ (f : ℕ → Bool). f y) (put_same gap (t.gone gap) t.gone))
 same_gone gap t k y (inr apart) = ap (λ (f : ℕ → Bool). f y) (put_other gap k (t.gone gap) t.gone apart)
-
-no_more : (b c : Bool) → (b || (false && c)) ≡ b
-no_more true c = refl
-no_more false c = refl
 
 more_gone : (gap id : ℕ) (t : Trace) (k y : ℕ) → (k ≡ gap) ⊎ (k ≢ gap) → put gap (grown gap id t.gone gap) t.gone k y ≡ grown gap id t.gone k y
 more_gone gap id t k y (inl is) = rw is (ap (λ (f : ℕ → Bool). f y) (put_same gap (grown gap id t.gone gap) t.gone))

@@ -1,7 +1,8 @@
 -- The relation of the line along a run of a script.
-use Rattle.std.proofs.Common.{Bool, List, [], ap, arith, false, length, refl, suc, subst, sym, take, true, zero, ℕ, ◌++◌, ◌+◌, ◌||◌, ◌∙◌, ◌∷◌, ◌≡◌, ◌≤◌}
-use Rattle.std.proofs.lemmas.Bool.{false≢true}
+use Rattle.std.proofs.Common.{List, [], ap, arith, false, length, refl, suc, subst, sym, take, zero, ℕ, ◌++◌, ◌+◌, ◌∙◌, ◌∷◌, ◌≡◌, ◌≤◌}
+use Rattle.std.proofs.lemmas.Bool.{or_parts, or_from}
 use Rattle.std.specs.List.{AllByRecursion}
+use Rattle.line_step.proofs.Counted.{steps-lines}
 use Rattle.line_script.specs.declared.line.ScriptLine.{ScriptLine}
 use Rattle.line_report.specs.declared.happening.Happening.{Happening}
 use Rattle.line_step.specs.Lies.{has_lie, is_lie, tells_lie}
@@ -32,21 +33,9 @@ pub record Stood (s : LineState) : Type 0 where
   pub stands : Stands trace s
   pub waits : AreWaiting s
 
-or_first : (a b : Bool) → (a || b) ≡ false → a ≡ false
-or_first true b is = is
-or_first false b is = refl
-
-or_second : (a b : Bool) → (a || b) ≡ false → b ≡ false
-or_second true b is = absurd (false≢true (sym is))
-or_second false b is = is
-
-both_false : (a b : Bool) → a ≡ false → b ≡ false → (a || b) ≡ false
-both_false true b first second = first
-both_false false b first second = second
-
-honest_front : (a b : List Happening) → tells_lie (a ++ b) ≡ false → tells_lie a ≡ false
+pub honest_front : (a b : List Happening) → tells_lie (a ++ b) ≡ false → tells_lie a ≡ false
 honest_front [] b is = refl
-honest_front (h ∷ a) b is = both_false (is_lie h) (tells_lie a) (or_first (is_lie h) (tells_lie (a ++ b)) is) (honest_front a b (or_second (is_lie h) (tells_lie (a ++ b)) is))
+honest_front (h ∷ a) b is = or_from (is_lie h) (tells_lie a) (or_parts (is_lie h) (tells_lie (a ++ b)) is).0 (honest_front a b (or_parts (is_lie h) (tells_lie (a ++ b)) is).1)
 
 does_stood : SaysAlone → ConnectsBear → (number : ℕ) (line : ScriptLine) (before next : LineState) (done : List Happening) → number ≤ 1000000 → IsFitLine line → tells_lie done ≡ false → Stood before → LineDoes number line before next done → Stood next
 does_stood alone connects number line before next done few fit honest was does =
@@ -78,9 +67,6 @@ line_stood alone connects number line before after told is few fit honest was st
 
 -- ---- along a run
 
-pub lines_after : (number : ℕ) (line : ScriptLine) (before after : LineState) (told : List Happening) → LineSteps number line before after told → after.lines ≡ before.lines + 1
-lines_after number line before after told steps = ap (λ (s : LineState). s.lines) steps.after_is ∙ ap (λ (n : ℕ). n + 1) (lines_stay number line before steps.next steps.done steps.does)
-
 abbrev pub AreStood : List Point → Type 0
 AreStood points = AllByRecursion (λ (point : Point). Stood point.after) points
 
@@ -90,11 +76,11 @@ run_stood alone connects s [] [] (suc n) fit few was run honest = tt
 run_stood alone connects s [] (point ∷ points) (suc n) fit few was run honest = elim run [ ]
 run_stood alone connects s (line ∷ asked) [] (suc n) fit few was run honest = elim run [ ]
 run_stood alone connects s (line ∷ asked) (point ∷ points) (suc n) fit few was run honest =
-    let one : tells_lie point.told ≡ false = or_first (tells_lie point.told) (has_lie (take n points)) honest in
-    let others : has_lie (take n points) ≡ false = or_second (tells_lie point.told) (has_lie (take n points)) honest in
+    let one : tells_lie point.told ≡ false = (or_parts (tells_lie point.told) (has_lie (take n points)) honest).0 in
+    let others : has_lie (take n points) ≡ false = (or_parts (tells_lie point.told) (has_lie (take n points)) honest).1 in
     let here : s.lines + 1 ≤ 1000000 = omega (arith, few) in
     let stood : Stood point.after = line_stood alone connects (s.lines + 1) line s point.after point.told refl here fit.0 one was run.0 in
-    let left : point.after.lines + length asked ≤ 1000000 = omega (arith, few, lines_after (s.lines + 1) line s point.after point.told run.0) in
+    let left : point.after.lines + length asked ≤ 1000000 = omega (arith, few, steps-lines (s.lines + 1) line s point.after point.told run.0) in
     (stood, run_stood alone connects point.after asked points n fit.1 left stood run.1 others)
 
 pub none_stood : Stood no_line

@@ -3,6 +3,7 @@ use Rattle.std.proofs.Common.{Bool, List, None, Option, Some, [], ap, arith, eq-
 use Rattle.std.specs.Prelude.{slice_index_or}
 use Rattle.std.specs.List.{list_all, list_any}
 use Rattle.std.proofs.lemmas.Option.{none-some}
+use Rattle.std.proofs.lemmas.Bool.{or_right}
 use Rattle.board_record.specs.declared.record.Record.{Record}
 use Rattle.handover_out.specs.State.{board_of_phase as held_out}
 use Rattle.handover_in.specs.State.{board_of_phase as held_in}
@@ -28,13 +29,9 @@ pub all_pass : (test : Mark → Bool) (some : List Mark) → ((mark : Mark) → 
 all_pass test [] each = refl
 all_pass test (mark ∷ some) each = rw (each mark among_first) (all_pass test some (λ other there. each other (among_later there)))
 
-or_true : (a b : Bool) → b ≡ true → (a || b) ≡ true
-or_true true b is = refl
-or_true false b is = is
-
 pub any_passes : {mark : Mark} {some : List Mark} (test : Mark → Bool) → Among mark some → test mark ≡ true → list_any test some ≡ true
 any_passes test among_first is = rw is refl
-any_passes test (among_later {other = other} {some = some} there) is = or_true (test other) (list_any test some) (any_passes test there is)
+any_passes test (among_later {other = other} {some = some} there) is = or_right (test other) (list_any test some) (any_passes test there is)
 
 -- one that passes is among them
 pub record Passes (test : Mark → Bool) (some : List Mark) : Type 0 where
@@ -136,7 +133,7 @@ id_kept x (r ∷ rs) has = kept_by x r rs (r.id == x) refl has (id_kept x rs)
 
 pub kept_id : {x : ℕ} {rs : List Record} → Kept x rs → has_id x (ids_of rs) ≡ true
 kept_id (kept_first {r = r} {ks = rs}) = rw (eq-eqb r.id r.id refl) refl
-kept_id {x = x} (kept_later {r = r} {ks = rs} k) = or_true (r.id == x) (has_id x (ids_of rs)) (kept_id k)
+kept_id {x = x} (kept_later {r = r} {ks = rs} k) = or_right (r.id == x) (has_id x (ids_of rs)) (kept_id k)
 
 pub id_held : (x : ℕ) (h : Option Record) → is_held x (id_of h) ≡ true → (r : Record) × (h ≡ Some r) × (r.id ≡ x)
 id_held x None is = absurd (let h : false ≡ true = is in cc)

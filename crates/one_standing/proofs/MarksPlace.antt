@@ -66,14 +66,14 @@ lies_before more (lies_later l) = lies_later (lies_before more l)
 once_first : {board : Board} {boards : List Board} {x : ℕ} → AreOnce (board ∷ boards) → board.id ≡ Some x → Lies x boards → ⊥
 once_first {x = x} (once_more here more) is l = here x is l
 
-once_rest : {board : Board} {boards : List Board} → AreOnce (board ∷ boards) → AreOnce boards
+pub once_rest : {board : Board} {boards : List Board} → AreOnce (board ∷ boards) → AreOnce boards
 once_rest (once_more here more) = more
 
 lists_apart : {x : ℕ} {xs ys : List Board} → AreOnce (xs ++ ys) → Lies x xs → Lies x ys → ⊥
 lists_apart {x = x} {ys = ys} once (lies_first {bs = xs}) l = once_first once refl (lies_behind x xs ys l)
 lists_apart once (lies_later a) l = lists_apart (once_rest once) a l
 
-once_behind : (xs ys : List Board) → AreOnce (xs ++ ys) → AreOnce ys
+pub once_behind : (xs ys : List Board) → AreOnce (xs ++ ys) → AreOnce ys
 once_behind [] ys once = once
 once_behind (first ∷ xs) ys once = once_behind xs ys (once_rest once)
 
@@ -101,7 +101,7 @@ one_part back back xs ys zs once l k = refl
 part_is : {x : ℕ} {h : Option Record} {b : Bool} {r : Record} → h ≡ Some r → r.id ≡ x → b ≡ true → Lies x (part h b)
 part_is {x = x} {r = r} e same up = rw (e, up) (subst (λ (y : ℕ). Lies y (board_of r ∷ [])) same lies_first)
 
-map_lies : {x : ℕ} {rs : List Record} → Kept x rs → Lies x (map board_of rs)
+pub map_lies : {x : ℕ} {rs : List Record} → Kept x rs → Lies x (map board_of rs)
 map_lies kept_first = lies_first
 map_lies (kept_later k) = lies_later (map_lies k)
 

@@ -1,7 +1,7 @@
 -- A STEP OF A MACHINE OF THE LINE is one in its scene, where what comes to its two sides is carried as its acts hear it.
-use Rattle.std.proofs.Common.{le→leb, Bool, List, Option, Some, [], ap, arith, false, length, refl, subst, suc, sym, true, zero, ℕ, ◌+◌, ◌-◌, ◌&&◌, ◌∙◌, ◌≡◌, ◌≢◌, ◌≤◌, ◌++◌}
+use Rattle.std.proofs.Common.{le→leb, Bool, List, Option, Some, [], ap, arith, false, length, refl, subst, sym, true, ℕ, ◌+◌, ◌-◌, ◌&&◌, ◌∙◌, ◌≡◌, ◌≢◌, ◌≤◌, ◌++◌}
 use Rattle.std.specs.Prelude.{nat_le, nat_lt}
-use Rattle.std.proofs.lemmas.Option.{slice_get-get_or, slice_get_within}
+use Rattle.one_standing.proofs.RestLine.{node_there}
 use Rattle.line_base.specs.Moment.{IsMomentMillis}
 use Rattle.line_base.specs.Text.{IsText}
 use Rattle.line_base.specs.declared.states.Side.{Side}
@@ -25,7 +25,7 @@ use Rattle.link_messages.proofs.Eventing.{maker_stays_fit}
 use Rattle.link_messages.proofs.Saying.{step_fits, signals_fit}
 use Rattle.machine_custody.specs.Scene.{Scene, all_met}
 use Rattle.line_step.specs.Near.{HasPlace, Near, has_gap_at, near_at, nears_did}
-use Rattle.line_step.specs.Numbered.{no_node, node_at}
+use Rattle.line_step.specs.Numbered.{node_at}
 use Rattle.line_step.specs.Reasons.{has_link}
 use Rattle.line_step.specs.State.{LineState, machine_in, with_world}
 use Rattle.line_step.specs.Steps.{MachineSteps, is_second, moment_of, read_by, unread_by}
@@ -51,10 +51,6 @@ use Rattle.one_standing.proofs.Signalled.{signals_passed}
 
 pub same_some : {a b : NodeState} → ◌≡◌ {A = Option NodeState} (Some a) (Some b) → a ≡ b
 same_some is = cc
-
-pub node_there : (machine : ℕ) (s : LineState) (node : NodeState) → machine_in machine s ≡ Some node → node_at s machine ≡ node
-node_there zero s node there = absurd (cc)
-node_there (suc place) s node there = same_some (sym (slice_get-get_or s.machines place no_node (slice_get_within s.machines place node there)) ∙ there)
 
 -- ---- its gaps
 

@@ -1,14 +1,14 @@
 -- THE FIRST STEP OF A CONNECTION: a machine connects to the one above it, as a step in its scene.
 use Rattle.std.proofs.Common.{Bool, List, None, Option, Some, [], ap, arith, false, length, refl, subst, sym, true, ℕ, ◌+◌, ◌-◌, ◌∙◌, ◌∷◌, ◌≡◌, ◌≢◌, ◌≤◌}
 use Rattle.std.specs.Prelude.{drop, is_some}
-use Rattle.std.proofs.lemmas.Bool.{false≢true}
+use Rattle.one_standing.proofs.RestLine.{node_there}
+use Rattle.line_step.proofs.Joining.{made_down}
+use Rattle.node_core.proofs.Opened.{is_off}
 use Rattle.line_base.specs.declared.states.Role.TheVariants.{Downstream}
 use Rattle.line_base.specs.declared.states.Side.TheVariants.{Entry, Exit}
 use Rattle.board_record.specs.declared.sensed.Sensed.{Sensed}
 use Rattle.hermes_horizontal.specs.declared.message.Horizontal.{Horizontal}
-use Rattle.session_core.specs.End.{is_connected_state}
-use Rattle.session_core.specs.declared.state.SessionState.{SessionState}
-use Rattle.session_core.specs.declared.state.SessionState.TheVariants.{Handshake, NotConnected, Standing}
+use Rattle.session_core.specs.declared.state.SessionState.TheVariants.{NotConnected}
 use Rattle.line_link.specs.Flow.{Stream, coming}
 use Rattle.line_link.specs.Link.{AreBegun, LinkParts, after_connect, connected, is_dry_without, next_number}
 use Rattle.line_link.specs.Texts.{bytes_of}
@@ -48,7 +48,7 @@ use Rattle.one_standing.specs.Mirrors.{cut_above, cut_below, scene_at}
 use Rattle.one_standing.specs.Stands.{Stands}
 use Rattle.one_standing.proofs.Carrying.{SaysAlone, carries_off}
 use Rattle.one_standing.proofs.CarryingSides.{Joint, drop_none}
-use Rattle.one_standing.proofs.Mirroring.{along_plain, beside, links_of, mirrored, next_there, node_there, same_some}
+use Rattle.one_standing.proofs.Mirroring.{along_plain, beside, links_of, mirrored, next_there, same_some}
 use Rattle.one_standing.proofs.MirroringEnds.{IsAround, around_same, before_one}
 use Rattle.one_standing.proofs.MirroringFlow.{link_there}
 use Rattle.one_standing.proofs.MirroringPlain.{above_quiet, below_quiet, quiet_side}
@@ -96,25 +96,16 @@ dry_up link whole none = coming_none link.flows.to_upstream (dry_of link.upstrea
 pub dry_down : (link : LinkParts) → IsWholeLink link → link.downstream ≡ None → coming link.flows.to_downstream ≡ []
 dry_down link whole none = coming_none link.flows.to_downstream (dry_of link.downstream link.flows.to_downstream.texts none whole.dry_downstream)
 
-connected_flows : (number : Option ℕ) (next : ℕ) (link : LinkParts) → (connected number next link).flows ≡ link.flows
+pub connected_flows : (number : Option ℕ) (next : ℕ) (link : LinkParts) → (connected number next link).flows ≡ link.flows
 connected_flows None next link = refl
 connected_flows (Some other) next link = refl
 
-connected_down : (number : Option ℕ) (next : ℕ) (link : LinkParts) → is_some (connected number next link).downstream ≡ true
-connected_down None next link = refl
-connected_down (Some other) next link = refl
-
 -- ---- the machine's entry is open then
-
-pub closed_state : (state : SessionState) → is_connected_state state ≡ false → state ≡ NotConnected
-closed_state NotConnected is = refl
-closed_state Handshake is = absurd (false≢true (sym is))
-closed_state Standing is = absurd (false≢true (sym is))
 
 called_open : (desk : Desk) (unread : List Sensed) (body : Body) → is_open Entry body ≡ false → body.entry.session.role ≡ Downstream → is_open Entry (machine_step desk unread Connect body).body ≡ true
 called_open desk unread body closed role =
     let one : Body = body_read desk unread body in
-    let state : one.entry.session.state ≡ NotConnected = ap (λ e. e.session.state) (read_entry desk unread body) ∙ closed_state body.entry.session.state closed in
+    let state : one.entry.session.state ≡ NotConnected = ap (λ e. e.session.state) (read_entry desk unread body) ∙ is_off body.entry.session.state closed in
     let down : one.entry.session.role ≡ Downstream = ap (λ e. e.session.role) (read_entry desk unread body) ∙ role in
     (announces_leave Entry desk (event_did desk Connect one).body).same ∙ ap (λ (d : Done). is_open Entry d.body) (connect_did desk one state down)
 
@@ -166,7 +157,7 @@ call_by {far = far} {up = up} alone t number j before between told on may few ho
     let called : is_open Entry (node_at between (j + 1 + 1)).lane.body ≡ true = ap (λ (b : Body). is_open Entry b) m.body ∙ called_open (desk_of node (moment_of number)) (unread_by (j + 1 + 1) before.world) node.lane.body closed role in
     let ends : is_linked (j + 1 + 1) Entry between.world ≡ true =
     ap (λ (s : LineState). is_linked (j + 1 + 1) Entry s.world) steps.after_is ∙ own_end false (j + 1 + 1) steps.acts (read_by (j + 1 + 1) w) Entry
-    ∙ ap (λ (o : Bool). open_after Entry o steps.acts) (ap (λ (k : ℕ). is_some (link_at k w).downstream) (before_one (j + 1)) ∙ ap (λ (l : LinkParts). is_some l.downstream) here ∙ connected_down L.upstream (next_number L.made) L)
+    ∙ ap (λ (o : Bool). open_after Entry o steps.acts) (ap (λ (k : ℕ). is_some (link_at k w).downstream) (before_one (j + 1)) ∙ ap (λ (l : LinkParts). is_some l.downstream) here ∙ made_down L.upstream (next_number L.made) L)
     ∙ sym (steps_open node (unread_by (j + 1 + 1) w) inputs.Connect (moment_of number) next steps.acts Entry steps.steps) ∙ ap (λ (n : NodeState). is_open Entry n.lane.body) (sym next_is) ∙ called in
     record {
       node = node;

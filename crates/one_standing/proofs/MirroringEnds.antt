@@ -33,7 +33,7 @@ home_ends side (home_hears k) = k
 home_ends side (home_closes closes) = absurd (false≢true (sym closes))
 
 -- where there is no link, nothing is asked
-vacuous : {X : Type 0} {has : Bool} → has ≡ false → has ≡ true → X
+pub vacuous : {X : Type 0} {has : Bool} → has ≡ false → has ≡ true → X
 vacuous none there = absurd (false≢true (sym none ∙ there))
 
 pub ends_of : {has stands : Bool} {new far : List ℕ} {link : LinkParts} {gap now : AtGap} {home away : List Horizontal} (side : Side) → Joint side has [] new far link gap stands now home away

@@ -2,8 +2,11 @@
 use Rattle.std.proofs.Common.{Bool, List, Option, Some, [], ap, arith, false, length, refl, subst, suc, sym, true, zero, ltb-true, ℕ, ◌++◌, ◌+◌, ◌-◌, ◌&&◌, ◌∙◌, ◌∷◌, ◌≡◌, ◌≢◌, ◌≤◌, None}
 use Rattle.std.specs.Borrow.{Bor}
 use Rattle.std.specs.Prelude.{drop, nat_le, nat_lt, not, take}
-use Rattle.std.proofs.lemmas.Bool.{false≢true}
+use Rattle.std.proofs.lemmas.Bool.{false≢true, and_from}
 use Rattle.std.proofs.lemmas.List.{take-append-drop}
+use Rattle.one_standing.proofs.RestLine.{node_there}
+use Rattle.line_step.proofs.Keeps.{not_full}
+use Rattle.line_step.proofs.Connecting.{neighbour_of}
 use Rattle.line_base.specs.declared.states.Role.TheVariants.{Downstream, Upstream}
 use Rattle.line_base.specs.declared.states.Side.{Side}
 use Rattle.line_base.specs.declared.states.Side.TheVariants.{Entry, Exit}
@@ -15,7 +18,6 @@ use Rattle.line_link.specs.Link.{LinkParts, after_flow}
 use Rattle.line_link.proofs.Coming.{coming_of_arrival}
 use Rattle.line_link.proofs.Reaching.{begun_by}
 use Rattle.line_report.specs.declared.happening.Happening.{Happening}
-use Rattle.line_report.specs.declared.happening.Reason.{Reason}
 use Rattle.line_report.specs.declared.happening.Reason.TheVariants as reasons
 use Rattle.line_world.specs.FloorPlan.{gap_at}
 use Rattle.node_core.specs.Desk.{Desk}
@@ -52,7 +54,7 @@ use Rattle.one_standing.specs.Stands.{Stands}
 use Rattle.one_standing.proofs.Carrying.{SaysAlone}
 use Rattle.one_standing.proofs.CarryingSides.{Home, Joint, heard_in, home_closes, home_hears}
 use Rattle.one_standing.proofs.Counting.{HearsAll, is_wrong_first, step_hears_all}
-use Rattle.one_standing.proofs.Mirroring.{mirrors_by, node_there, same_some}
+use Rattle.one_standing.proofs.Mirroring.{mirrors_by, same_some}
 use Rattle.one_standing.proofs.MirroringEnds.{before_one}
 use Rattle.one_standing.proofs.MirroringPlain.{above_quiet, below_quiet, joint_when, quiet_side}
 use Rattle.one_standing.proofs.Signalled.{signals_unheard}
@@ -64,7 +66,7 @@ pub record Arrives (side : Side) (told : List Act) (words : List Word) (stands :
   pub oldest : AreOldest words messages
   pub home : Home side told stands new stream messages
 
-bodies_drop : (n : ℕ) (messages : List Message) → bodies (drop n messages) ≡ drop n (bodies messages)
+pub bodies_drop : (n : ℕ) (messages : List Message) → bodies (drop n messages) ≡ drop n (bodies messages)
 bodies_drop zero messages = refl
 bodies_drop (suc n) [] = refl
 bodies_drop (suc n) (message ∷ messages) = bodies_drop n messages
@@ -144,14 +146,6 @@ pub record CanFlow (machine : ℕ) (side : Side) (s : LineState) : Type 0 where
   pub opened : is_open side node.lane.body ≡ true
   pub comes : is_dry_at machine side s.world ≡ false
 
-not_if : (test : Bool) (reason : Reason) (rest : May) → no_if (not test) reason rest ≡ may_do → (test ≡ true) × (rest ≡ may_do)
-not_if true reason rest is = (refl, is)
-not_if false reason rest is = absurd (cc)
-
-if_not : (test : Bool) (reason : Reason) → no_if test reason may_do ≡ may_do → test ≡ false
-if_not true reason is = absurd (cc)
-if_not false reason is = refl
-
 reach_if : (test : Bool) (why : No) (rest : May) → behind_own (own_if (not test) why may_own) rest ≡ may_do → (test ≡ true) × (rest ≡ may_do)
 reach_if true why rest is = (refl, is)
 reach_if false why rest is = absurd (cc)
@@ -160,22 +154,17 @@ can_by : (machine : ℕ) (side : Side) (s : LineState) (found : Option NodeState
     → if_there found (λ (n : NodeState). no_if (not (has_neighbour machine side s)) reasons.NoNeighbour (behind_own (may_reach side n.lane.body) (no_if (is_dry_at machine side s.world) reasons.NothingInFlight may_do))) ≡ may_do → CanFlow machine side s
 can_by machine side s None is may = absurd (cc)
 can_by machine side s (Some n) is may =
-    let one = not_if (has_neighbour machine side s) reasons.NoNeighbour _ may in
+    let one = neighbour_of (has_neighbour machine side s) reasons.NoNeighbour _ may in
     let two = reach_if (is_open side n.lane.body) nos.NotConnected _ one.1 in
-    record { node = n; there = is; beside = one.0; opened = two.0; comes = if_not (is_dry_at machine side s.world) reasons.NothingInFlight two.1 }
+    record { node = n; there = is; beside = one.0; opened = two.0; comes = not_full (is_dry_at machine side s.world) reasons.NothingInFlight two.1 }
 
 pub can_flow : (machine : ℕ) (side : Side) (s : LineState) → may_flow machine side s ≡ may_do → CanFlow machine side s
 can_flow machine side s may = can_by machine side s (machine_in machine s) refl may
 
 -- ---- links that are there
 
-tests_true : (one two : Bool) → one ≡ true → two ≡ true → (one && two) ≡ true
-tests_true true true x y = refl
-tests_true true false x y = absurd (cc)
-tests_true false two x y = absurd (cc)
-
 pub link_there : (link count : ℕ) → 1 ≤ link → link + 1 ≤ count → (nat_le 1 link && nat_lt link count) ≡ true
-link_there link count counted within = tests_true (nat_le 1 link) (nat_lt link count) (grind (arith, counted)) (grind (arith, within))
+link_there link count counted within = and_from (nat_le 1 link) (nat_lt link count) (grind (arith, counted)) (grind (arith, within))
 
 -- THE STEP at the entry
 flows_entry : SaysAlone → (t : Trace) (number j : ℕ) (count : Option ℕ) (before after : LineState) (told : List Happening) → CanFlow (j + 1) Entry before → number ≤ 1000000 → Stands t before → AreWholeLinks before

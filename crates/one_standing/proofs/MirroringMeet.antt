@@ -1,7 +1,7 @@
 -- THE SECOND STEP OF A CONNECTION: the machine above meets it, as a step in its scene.
-use Rattle.std.proofs.Common.{Bool, List, Some, [], ap, arith, length, refl, subst, sym, true, ℕ, ◌+◌, ◌-◌, ◌&&◌, ◌∙◌, ◌≡◌, ◌≢◌, ◌≤◌}
-use Rattle.std.specs.Prelude.{nat_le, nat_lt}
-use Rattle.line_base.specs.Text.{IsText}
+use Rattle.std.proofs.Common.{Bool, List, Some, [], ap, arith, length, refl, subst, sym, true, ℕ, ◌+◌, ◌-◌, ◌∙◌, ◌≡◌, ◌≢◌, ◌≤◌}
+use Rattle.one_standing.proofs.RestLine.{node_there}
+use Rattle.one_standing.proofs.Behind.{fit_machine, same_has}
 use Rattle.line_base.specs.declared.states.Side.TheVariants.{Entry, Exit}
 use Rattle.hermes_horizontal.specs.declared.message.Horizontal.{Horizontal}
 use Rattle.line_link.specs.Link.{AreBegun, LinkParts, after_connect}
@@ -13,7 +13,6 @@ use Rattle.node_core.specs.Node.{NodeState, desk_of}
 use Rattle.node_core.specs.Step.{machine_step}
 use Rattle.node_core.specs.declared.act.Act.{Act}
 use Rattle.node_core.specs.declared.input.Input.TheVariants as inputs
-use Rattle.link_messages.specs.Fit.{IsFitBody, IsFitMaker}
 use Rattle.machine_custody.specs.Joined.{with_link}
 use Rattle.machine_custody.specs.Scene.{Scene, all_met}
 use Rattle.line_step.specs.Lines.{connecting}
@@ -31,7 +30,7 @@ use Rattle.one_standing.specs.Mirrors.{IsReached, cut_above, cut_below, scene_at
 use Rattle.one_standing.specs.Stands.{Stands}
 use Rattle.one_standing.proofs.Carrying.{SaysAlone}
 use Rattle.one_standing.proofs.CarryingSides.{Joint}
-use Rattle.one_standing.proofs.Mirroring.{along_plain, beside, mirrored, next_there, node_there, reached_of}
+use Rattle.one_standing.proofs.Mirroring.{along_plain, beside, mirrored, next_there, reached_of}
 use Rattle.one_standing.proofs.MirroringCall.{MirrorsCall, call_did, call_scene}
 use Rattle.one_standing.proofs.MirroringFlow.{link_there}
 use Rattle.one_standing.proofs.MirroringPlain.{above_quiet, below_quiet, quiet_side}
@@ -60,14 +59,6 @@ abbrev pub called_scene : {number j : ℕ} {t : Trace} {before between : LineSta
 called_scene {number = number} {j = j} {t = t} {before = before} {on = on} {up = up} m = cut_below m.cuts_below (cut_above m.cuts_above (all_met (call_did number j before m.node).acts (call_scene on up t before j)))
 
 -- ---- what the first step leaves as it was
-
-pub fit_at : (s t : LineState) (machine : ℕ) → node_at t machine ≡ node_at s machine → IsFitMachine s machine → IsFitMachine t machine
-fit_at s t machine is fit = record {
-  body = subst (λ (n : NodeState). IsFitBody n.lane.body) (sym is) fit.body;
-  maker = subst (λ (n : NodeState). IsFitMaker n.maker) (sym is) fit.maker;
-  name = subst (λ (n : NodeState). IsText n.name) (sym is) fit.name;
-  lane = subst (λ (n : NodeState). n.number ≤ 999_999_999) (sym is) fit.lane;
-}
 
 pub carried_by : (t : Trace) (s u : LineState) (link : ℕ) → link_at link u.world ≡ link_at link s.world → node_at u link ≡ node_at s link → node_at u (link + 1) ≡ node_at s (link + 1) → Carried t s link → Carried t u link
 carried_by t s u link l m n k = record {
@@ -105,9 +96,6 @@ call_leaves t number j before between told holds steps =
       own = beside number (j + 1) inputs.Connect start between told steps (j + 1) two;
     }
 
-pub still_linked : (j : ℕ) (s u : LineState) → length u.machines ≡ length s.machines → has_link j u ≡ has_link j s
-still_linked j s u same = ap (λ (n : ℕ). nat_le 1 j && nat_lt j n) same
-
 -- ---- THE STEP where the exit above takes the connection
 
 pub accepts : (alone : SaysAlone) (t : Trace) (number j : ℕ) (before between after : LineState) (earlier told : List Happening) → number ≤ 1000000 → Stands t before → AreWholeLinks before
@@ -127,13 +115,13 @@ accepts alone t number j before between after earlier told few holds links first
     let node_is : node_at between (j + 1) ≡ node = node_there (j + 1) between node steps.there in
     let next_is : node_at after (j + 1) ≡ next = next_there number j inputs.Accepted between after told steps in
     let entry : next.lane.entry_bytes ≡ (node_at between (j + 1)).lane.entry_bytes = lane.brings.0 ∙ sym (ap (λ (m : NodeState). m.lane.entry_bytes) node_is) in
-    let carried : has_link j between ≡ true → Carried t between j = λ is. carried_by t before between j leaves.link leaves.above leaves.own (holds.carried j (sym (still_linked j before between leaves.count) ∙ is)) in
+    let carried : has_link j between ≡ true → Carried t between j = λ is. carried_by t before between j leaves.link leaves.above leaves.own (holds.carried j (sym (same_has j before between leaves.count) ∙ is)) in
     let begun : AreBegun (link_at j between.world).flows = subst (λ (l : LinkParts). AreBegun l.flows) (sym leaves.link) (links j).begun in
     let above = above_quiet (has_link j between) steps.acts (link_at j between.world) (gap_at between.world.floor j) refl (λ is. (carried is).up) (λ is. (carried is).down) begun (quiet_side number j inputs.Accepted between after told Entry refl steps) entry in
     let below : Joint Exit (has_link (j + 1) between) steps.acts next.lane.exit_bytes (node_at between (j + 1 + 1)).lane.entry_bytes L (gap_at between.world.floor (j + 1)) d.above.stands (gap_at between.world.floor (j + 1)) d.above.up d.above.down =
     below_quiet (has_link (j + 1) between) steps.acts L (gap_at between.world.floor (j + 1)) (call.around.stands_above there) (λ is. call.around.up_above there) (λ is. call.around.down_above there) (call.around.begun_above there)
     (quiet_side number j inputs.Accepted between after told Exit refl steps) lane.brings.1 in
-    let good : IsFitMachine between (j + 1) = fit_at before between (j + 1) leaves.own (holds.fit (j + 1)) in
+    let good : IsFitMachine between (j + 1) = fit_machine before between (j + 1) leaves.own (holds.fit (j + 1)) in
     let m = mirrored number j inputs.Accepted between between.world after told (λ acts scene. all_met acts scene) (meet_scene d.above.stands d.above.up d.above.down t between j) (signals_passed (meet_scene d.above.stands d.above.up d.above.down t between j)) refl leaves.many leaves.gaps few good steps tt refl (along_plain alone inputs.Accepted steps.acts refl) above below in
     let now = m.reached in
     record {

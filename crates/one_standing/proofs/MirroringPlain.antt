@@ -2,6 +2,7 @@
 use Rattle.std.proofs.Common.{Bool, List, [], ap, false, refl, subst, sym, true, ℕ, ◌+◌, ◌∙◌, ◌≡◌, ◌≤◌}
 use Rattle.std.specs.Prelude.{drop}
 use Rattle.std.proofs.lemmas.Bool.{false≢true}
+use Rattle.one_standing.proofs.RestLine.{node_there}
 use Rattle.line_base.specs.declared.states.Side.{Side}
 use Rattle.line_base.specs.declared.states.Side.TheVariants.{Entry, Exit}
 use Rattle.board_record.specs.Maker.{Maker}
@@ -34,7 +35,7 @@ use Rattle.one_standing.specs.Stands.{Stands}
 use Rattle.one_standing.proofs.Carrying.{SaysAlone}
 use Rattle.one_standing.proofs.CarryingSides.{Home, IsSide, Joint, heard_in, home_hears, joint_as, joint_none}
 use Rattle.one_standing.proofs.Counting.{input_words, is_bytes_to, step_hears_none}
-use Rattle.one_standing.proofs.Mirroring.{mirrors_by, node_there}
+use Rattle.one_standing.proofs.Mirroring.{mirrors_by}
 use Rattle.one_standing.proofs.Signalled.{signals_unheard}
 
 -- ---- the inputs
@@ -47,7 +48,7 @@ is_plain_input inputs.Accepted = false
 is_plain_input inputs.Second = false
 is_plain_input _ = true
 
-no_second : (input : Input) → is_plain_input input ≡ true → is_second input ≡ false
+pub no_second : (input : Input) → is_plain_input input ≡ true → is_second input ≡ false
 no_second inputs.Second plain = absurd (false≢true plain)
 no_second _ plain = refl
 

@@ -1,5 +1,7 @@
 -- THE SECOND STEP OF A SECOND CONNECTION: the exit above has a connection already, and answers.
 use Rattle.std.proofs.Common.{Bool, List, [], ap, arith, false, length, refl, subst, sym, true, ℕ, ◌+◌, ◌∙◌, ◌∷◌, ◌≡◌, ◌≢◌, ◌≤◌, ◌++◌}
+use Rattle.one_standing.proofs.RestLine.{node_there}
+use Rattle.one_standing.proofs.Behind.{same_has, fit_machine}
 use Rattle.line_base.specs.declared.states.Side.TheVariants.{Entry, Exit}
 use Rattle.board_record.specs.declared.sensed.Sensed.{Sensed}
 use Rattle.line_link.specs.Link.{AreBegun, LinkParts}
@@ -31,10 +33,10 @@ use Rattle.one_standing.proofs.Carrying.{SaysAlone}
 use Rattle.one_standing.proofs.CarryingActs.{IsLike}
 use Rattle.one_standing.proofs.CarryingAnswer.{IsLikeOff, second_like, second_acts, second_acts_are}
 use Rattle.one_standing.proofs.CarryingSides.{IsSide, Joint, joint_as}
-use Rattle.one_standing.proofs.Mirroring.{GoAlong, beside, links_of, mirrored, next_there, node_there, reached_of}
+use Rattle.one_standing.proofs.Mirroring.{GoAlong, beside, links_of, mirrored, next_there, reached_of}
 use Rattle.one_standing.proofs.MirroringCall.{MirrorsCall, call_did, call_scene}
 use Rattle.one_standing.proofs.MirroringFlow.{link_there}
-use Rattle.one_standing.proofs.MirroringMeet.{Leaves, MirrorsMeet, call_leaves, called_scene, carried_by, fit_at, meet_did, meet_scene, still_linked}
+use Rattle.one_standing.proofs.MirroringMeet.{Leaves, MirrorsMeet, call_leaves, called_scene, carried_by, meet_did, meet_scene}
 use Rattle.one_standing.proofs.MirroringPlain.{above_quiet, home_quiet, quiet_side}
 use Rattle.one_standing.proofs.Signalled.{signals_passed_second, signals_no_answer}
 use Rattle.node_core.specs.Signals.{signalled}
@@ -77,7 +79,7 @@ answers alone t number j before between after earlier told few holds links first
     let L : LinkParts = link_at (j + 1) between.world in
     let counted : 1 ≤ j + 1 = omega arith in
     let there : has_link (j + 1) before ≡ true = link_there (j + 1) (length before.machines) counted (machine_within (j + 1 + 1) before first.node first.there).1 in
-    let now_there : has_link (j + 1) between ≡ true = still_linked (j + 1) before between leaves.count ∙ there in
+    let now_there : has_link (j + 1) between ≡ true = same_has (j + 1) before between leaves.count ∙ there in
     let apart : j ≢ j + 1 = omega arith in
     let behind : j + 1 + 1 ≢ j + 1 = omega arith in
     let node_is : node_at between (j + 1) ≡ node = node_there (j + 1) between node steps.there in
@@ -85,7 +87,7 @@ answers alone t number j before between after earlier told few holds links first
     let down_is : node_at after (j + 1 + 1) ≡ node_at between (j + 1 + 1) = beside number j inputs.Second between after told steps (j + 1 + 1) behind in
     let entry : next.lane.entry_bytes ≡ (node_at between (j + 1)).lane.entry_bytes = lane.brings.0 ∙ sym (ap (λ (m : NodeState). m.lane.entry_bytes) node_is) in
     let exit : next.lane.exit_bytes ≡ (node_at before (j + 1)).lane.exit_bytes = lane.brings.1 ∙ sym (ap (λ (m : NodeState). m.lane.exit_bytes) node_is) ∙ ap (λ (m : NodeState). m.lane.exit_bytes) leaves.own in
-    let carried : has_link j between ≡ true → Carried t between j = λ is. carried_by t before between j leaves.link leaves.above leaves.own (holds.carried j (sym (still_linked j before between leaves.count) ∙ is)) in
+    let carried : has_link j between ≡ true → Carried t between j = λ is. carried_by t before between j leaves.link leaves.above leaves.own (holds.carried j (sym (same_has j before between leaves.count) ∙ is)) in
     let begun : AreBegun (link_at j between.world).flows = subst (λ (l : LinkParts). AreBegun l.flows) (sym leaves.link) (links j).begun in
     let above = above_quiet (has_link j between) steps.acts (link_at j between.world) (gap_at between.world.floor j) refl (λ is. (carried is).up) (λ is. (carried is).down) begun (quiet_side number j inputs.Second between after told Entry refl steps) entry in
     let goes : Carries d.above.stands [] L.flows.to_downstream d.above.down = subst (λ (bytes : List ℕ). Carries d.above.stands bytes L.flows.to_downstream d.above.down) call.empty (call.around.down_above there) in
@@ -98,7 +100,7 @@ answers alone t number j before between after earlier told few holds links first
       begun_home = (call.around.begun_above there).upstream;
     } in
     let below : Joint Exit (has_link (j + 1) between) steps.acts next.lane.exit_bytes [] L (gap_at between.world.floor (j + 1)) d.above.stands (gap_at between.world.floor (j + 1)) d.above.up d.above.down = joint_as now_there side in
-    let good : IsFitMachine between (j + 1) = fit_at before between (j + 1) leaves.own (holds.fit (j + 1)) in
+    let good : IsFitMachine between (j + 1) = fit_machine before between (j + 1) leaves.own (holds.fit (j + 1)) in
     let c : Scene = meet_scene d.above.stands d.above.up d.above.down t between j in
     let near : Near = near_at (j + 1) (read_by (j + 1) between.world) in
     let off : d.above.stands ≡ false = cut_off call.cuts_above call.cuts_below (all_met (call_did number j before call.node).acts (call_scene false (t.up (j + 1)) t before j)) (all_off (call_did number j before call.node).acts (call_scene false (t.up (j + 1)) t before j) refl) in

@@ -2,6 +2,7 @@
 use Rattle.std.proofs.Common.{Bool, List, None, Option, Some, [], ap, arith, eq-eqb, eqb-true, false, inl, inr, map, refl, subst, suc, sym, true, zero, ℕ, ◌++◌, ◌+◌, ◌-◌, ◌∙◌, ◌∷◌, ◌≡◌, ◌≢◌, ◌⊎◌}
 use Rattle.std.specs.List.{AllByRecursion}
 use Rattle.std.proofs.lemmas.Option.{none-some}
+use Rattle.one_standing.proofs.LedgerStandings.{none_among}
 use Rattle.board_record.specs.declared.record.Record.{Record}
 use Rattle.line_world.specs.Boards.{boards_in}
 use Rattle.line_world.specs.declared.board.Board.{Board}
@@ -83,9 +84,6 @@ kept_by : {t : Trace} {s : LineState} {x machine : ℕ} {other : Mark} → Stand
 kept_by {machine = machine} st one (has_kept {m = m} k) un = eq-eqb m machine (same_link st (has_kept k) one)
 kept_by st one (has_outlet e same) un = absurd (let h : true ≡ false = un in cc)
 kept_by st one (has_intake e same) un = absurd (let h : true ≡ false = un in cc)
-
-none_among : {mark : Mark} {some : List Mark} → some ≡ [] → Among mark some → ⊥
-none_among {mark = mark} e there = let none : Among mark [] = subst (λ some. Among mark some) e there in elim none [ ]
 
 -- without one it stands with a machine
 with_by : {t : Trace} {s : LineState} {x : ℕ} (machine : ℕ) → Stands t s → HasMark (stand_of s) x (marks.Kept machine) → ((mark : Mark) → Among mark (marks_in s x) → is_handover mark ≡ false) → IsWith machine (marks_in s x)

@@ -60,10 +60,6 @@ sound_at number j input before after told steps may sound =
 
 -- ---- the line is as the scene has it behind the step
 
-has_or_not : (has : Bool) → (has ≡ true) ⊎ (has ≡ false)
-has_or_not true = inl refl
-has_or_not false = inr refl
-
 pub either : {A : Type 0} (has : Bool) → (has ≡ true → A) → (has ≡ false → A) → A
 either true here there = here refl
 either false here there = there refl

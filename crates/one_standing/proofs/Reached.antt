@@ -1,8 +1,9 @@
 -- The laws of a line that a run has led to.
-use Rattle.std.proofs.Common.{Bool, List, None, [], ap, arith, false, length, refl, subst, sym, true, ℕ, ◌++◌, ◌+◌, ◌||◌, ◌∙◌, ◌∷◌, ◌≡◌, ◌≤◌}
-use Rattle.std.proofs.lemmas.Bool.{false≢true}
+use Rattle.std.proofs.Common.{Bool, List, None, [], ap, arith, false, length, refl, subst, sym, ℕ, ◌++◌, ◌+◌, ◌∙◌, ◌∷◌, ◌≡◌, ◌≤◌}
+use Rattle.std.proofs.lemmas.Bool.{or_parts, or_from}
 use Rattle.std.specs.Prelude.{Option, is_some}
 use Rattle.std.specs.List.{AllByRecursion}
+use Rattle.line_step.proofs.Counted.{steps-lines}
 use Rattle.line_script.specs.declared.line.ScriptLine.{ScriptLine}
 use Rattle.line_report.specs.declared.happening.Happening.{Happening}
 use Rattle.standings.specs.Ledger.{Ledger, empty_ledger, ledger_after_all}
@@ -27,31 +28,19 @@ use Rattle.one_standing.proofs.LineForms.{ConnectsBear}
 use Rattle.one_standing.proofs.LineRun.{Stood, line_stood, none_stood}
 use Rattle.one_standing.proofs.MarksOf.{first_among, mark_stands}
 use Rattle.one_standing.proofs.OneStand.{one_standing_of}
-use Rattle.one_standing.proofs.Reaching.{behind_more, boards_made, lines_more, made_of, old_of, reached_run}
+use Rattle.one_standing.proofs.Reaching.{behind_more, boards_made, made_of, old_of, reached_run}
 
 -- ---- no lie in the lines so far, nor in the next
-
-or_first : (a b : Bool) → (a || b) ≡ false → a ≡ false
-or_first true b is = is
-or_first false b is = refl
-
-or_second : (a b : Bool) → (a || b) ≡ false → b ≡ false
-or_second true b is = absurd (false≢true (sym is))
-or_second false b is = is
-
-both_false : (a b : Bool) → a ≡ false → b ≡ false → (a || b) ≡ false
-both_false true b first second = first
-both_false false b first second = second
 
 honest_before : (points : List Point) (point : Point) → has_lie (points ++ point ∷ []) ≡ false → has_lie points ≡ false
 honest_before [] point is = refl
 honest_before (first ∷ points) point is =
     let parts : Bool = has_lie (points ++ point ∷ []) in
-    both_false (tells_lie first.told) (has_lie points) (or_first (tells_lie first.told) parts is) (honest_before points point (or_second (tells_lie first.told) parts is))
+    or_from (tells_lie first.told) (has_lie points) (or_parts (tells_lie first.told) parts is).0 (honest_before points point (or_parts (tells_lie first.told) parts is).1)
 
 honest_last : (points : List Point) (point : Point) → has_lie (points ++ point ∷ []) ≡ false → tells_lie point.told ≡ false
-honest_last [] point is = or_first (tells_lie point.told) false is
-honest_last (first ∷ points) point is = honest_last points point (or_second (tells_lie first.told) (has_lie (points ++ point ∷ [])) is)
+honest_last [] point is = (or_parts (tells_lie point.told) false is).0
+honest_last (first ∷ points) point is = honest_last points point (or_parts (tells_lie first.told) (has_lie (points ++ point ∷ [])) is).1
 
 honest_run : (s : LineState) (asked : List ScriptLine) (points : List Point) → IsRun no_line asked points → state_behind no_line points ≡ s → s.unvouched ≡ None → has_lie points ≡ false
 honest_run s asked points run behind none = sym (lies_remembered asked points run) ∙ ap (λ (t : LineState). is_some t.unvouched) behind ∙ ap (λ (o : Option ℕ). is_some o) none
@@ -77,9 +66,9 @@ told_run alone connects s [] [] fit few was run none = was
 told_run alone connects s [] (point ∷ points) fit few was run none = absurd run
 told_run alone connects s (line ∷ asked) [] fit few was run none = absurd run
 told_run alone connects s (line ∷ asked) (point ∷ points) fit few was run none =
-    let now : Told point.after = told_line alone connects line s point.after point.told (omega (arith, few)) fit.0 (or_first (tells_lie point.told) (has_lie points) none) was run.0 in
-    let left : point.after.lines + length asked ≤ 1000000 = omega (arith, few, lines_more (s.lines + 1) line s point.after point.told run.0) in
-    told_run alone connects point.after asked points fit.1 left now run.1 (or_second (tells_lie point.told) (has_lie points) none)
+    let now : Told point.after = told_line alone connects line s point.after point.told (omega (arith, few)) fit.0 (or_parts (tells_lie point.told) (has_lie points) none).0 was run.0 in
+    let left : point.after.lines + length asked ≤ 1000000 = omega (arith, few, steps-lines (s.lines + 1) line s point.after point.told run.0) in
+    told_run alone connects point.after asked points fit.1 left now run.1 (or_parts (tells_lie point.told) (has_lie points) none).1
 
 none_told : Told no_line
 none_told = record { stood = none_stood; ledger = empty_ledger; fits = none_fits }

@@ -1,6 +1,7 @@
 -- A line that a run has led to, and the next line of its script; and which machine made an id.
 use Rattle.std.proofs.Common.{List, Some, [], ap, arith, eq-eqb, inl, inr, length, refl, slice_get, suc, subst, sym, true, zero, ℕ, ◌++◌, ◌+◌, ◌∙◌, ◌∷◌, ◌≡◌, ◌≤◌}
 use Rattle.std.specs.List.{AllByRecursion}
+use Rattle.line_step.proofs.Counted.{steps-lines}
 use Rattle.line_world.specs.FloorPlan.{has_id}
 use Rattle.line_world.specs.declared.board.Board.{Board}
 use Rattle.line_script.specs.declared.line.ScriptLine.{ScriptLine}
@@ -9,7 +10,6 @@ use Rattle.node_core.specs.Node.{NodeState}
 use Rattle.line_step.specs.Lines.{LineSteps}
 use Rattle.line_step.specs.Runs.{IsRun, Point, state_behind}
 use Rattle.line_step.specs.State.{LineState, machine_in, no_line}
-use Rattle.line_step.proofs.Keeps.{lines_stay}
 use Rattle.line_step.proofs.Makers.{IsMadeBy, IsOld}
 use Rattle.one_standing.specs.Reached.{HasMadeId, IsMade, IsReached}
 use Rattle.one_standing.specs.Standing.{IsFitLine}
@@ -37,9 +37,6 @@ pub behind_more : (s : LineState) (points : List Point) (point : Point) → stat
 behind_more s [] point = refl
 behind_more s (first ∷ points) point = behind_more first.after points point
 
-pub lines_more : (number : ℕ) (line : ScriptLine) (before after : LineState) (told : List Happening) → LineSteps number line before after told → after.lines ≡ before.lines + 1
-lines_more number line before after told steps = ap (λ (s : LineState). s.lines) steps.after_is ∙ ap (λ (n : ℕ). n + 1) (lines_stay number line before steps.next steps.done steps.does)
-
 pub reached_run : (line : ScriptLine) (before after : LineState) (told : List Happening) → (was : IsReached before) → LineSteps (before.lines + 1) line before after told → IsRun no_line (was.asked ++ line ∷ []) (was.points ++ record { told = told; after = after } ∷ [])
 reached_run line before after told was steps =
     run_more no_line was.asked was.points line (record { told = told; after = after }) was.run
@@ -48,7 +45,7 @@ reached_run line before after told was steps =
 pub reached_more : (line : ScriptLine) (before after : LineState) (told : List Happening) → IsReached before → IsFitLine line → before.lines + 1 ≤ 1000000 → LineSteps (before.lines + 1) line before after told → IsReached after
 reached_more line before after told was fit few steps =
     let point : Point = record { told = told; after = after } in
-    let counted : after.lines ≡ before.lines + 1 = lines_more (before.lines + 1) line before after told steps in
+    let counted : after.lines ≡ before.lines + 1 = steps-lines (before.lines + 1) line before after told steps in
     let more : length (was.asked ++ line ∷ []) ≡ length was.asked + 1 = length_more was.asked line in
     record {
       asked = was.asked ++ line ∷ [];

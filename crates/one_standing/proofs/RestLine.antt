@@ -98,7 +98,7 @@ rests_by at number m input before after told steps machine (inr apart) plain k =
 no_link_here : (before : LineState) (link other : ℕ) → has_link link before ≡ false → has_link other before ≡ true → link ≡ other → ⊥
 no_link_here before link other none there is = let wrong : false ≡ true = sym none ∙ ap (λ (n : ℕ). has_link n before) is ∙ there in cc
 
-same_place : (link j : ℕ) → link + 1 ≡ j + 1 → link ≡ j
+pub same_place : (link j : ℕ) → link + 1 ≡ j + 1 → link ≡ j
 same_place link j is = omega arith
 
 -- AT REST BEHIND A STEP: a connection is made on a link that is there

@@ -3,12 +3,15 @@
 use Rattle.std.proofs.Common.{Bool, List, [], ap, arith, codes, decimal, false, inl, inr, length, length-append, refl, subst, suc, sym, true, zero, ℕ, ◌&&◌, ◌++◌, ◌+◌, ◌-◌, ◌<◌, ◌^◌, ◌∙◌, ◌∷◌, ◌≡◌, ◌≤◌, ◌⊎◌}
 use Rattle.std.specs.Prelude.{nat_le, nat_lt, slice_index_or}
 use Rattle.std.proofs.lemmas.Bool.Decides.{nat_tests}
+use Rattle.line_step.proofs.Changing.{more_gaps}
+use Rattle.one_standing.proofs.WholeLinks.{more_whole}
+use Rattle.one_standing.proofs.Ends.{no_link_at as loose_link}
 use Rattle.line_base.specs.Text.{IsText}
 use Rattle.line_base.proofs.Printable.{IsText-from_printable, length-decimal, plain-append, plain-decimal}
 use Rattle.line_link.specs.Flow.{coming}
 use Rattle.line_link.specs.Link.{LinkParts, no_link}
 use Rattle.line_script.specs.declared.line.ScriptLine.TheVariants as lines
-use Rattle.line_world.specs.FloorPlan.{AtMachine, IsWhole, empty_machine, free_gap, gap_at, gaps_before, machine_at}
+use Rattle.line_world.specs.FloorPlan.{AtMachine, IsWhole, empty_machine, free_gap, gap_at, machine_at}
 use Rattle.line_world.specs.declared.gap.AtGap.{AtGap}
 use Rattle.node_core.specs.Node.{NodeState, new_node}
 use Rattle.node_core.specs.declared.lane.Lane.{Lane}
@@ -22,14 +25,13 @@ use Rattle.line_step.specs.State.{LineState, machine_text, one_more, profile_of}
 use Rattle.line_step.specs.Together.{IsLineTogether}
 use Rattle.line_step.specs.World.{link_at}
 use Rattle.line_step.proofs.FloorLaws.{Holds, steps-goes}
-use Rattle.line_step.proofs.Keeps.{does_together, more_at}
+use Rattle.line_step.proofs.Keeps.{more_at, more_together}
 use Rattle.line_step.proofs.Makers.{old-last}
-use Rattle.line_step.proofs.Numbers.{at_number, link_beyond, none_or_one, number_more, number_past}
+use Rattle.line_step.proofs.Numbers.{none_or_one, number_more, number_past}
 use Rattle.link_messages.specs.Fit.{IsFitBody, IsFitMaker}
 use Rattle.link_messages.proofs.Eventing.{first_body_fits}
 use Rattle.one_standing.specs.Carried.{Carried, Carries, IsFitMachine, Trace, between_of, carries_over, stand_of}
 use Rattle.one_standing.specs.Kept.{Keeps}
-use Rattle.one_standing.specs.Links.{AreWholeLinks, IsWholeLink}
 use Rattle.one_standing.specs.Relation.{Between, Stand, Neighbours, Owns}
 use Rattle.one_standing.specs.Stands.{IsAtRest, Stands}
 use Rattle.line_script.specs.declared.line.ScriptLine.{ScriptLine}
@@ -58,10 +60,6 @@ lane_at : (is_bridge : Bool) (capacity used : ℕ) (s : LineState) (machine : �
 lane_at is_bridge capacity used s zero = refl
 lane_at is_bridge capacity used s (suc place) = lane_more s.machines (new_node (profile_of is_bridge (length s.machines + 1) capacity used)) place refl
 
-gaps_more : (machines : List AtMachine) (gaps : List AtGap) (gap : ℕ) → at_number (gaps_before machines gaps) gap free_gap ≡ at_number gaps gap free_gap
-gaps_more [] gaps gap = refl
-gaps_more (m ∷ machines) gaps gap = number_more gaps gap free_gap
-
 stand_parts : (a b : Lane) (p q : AtMachine) → lane_aside a ≡ lane_aside b → p ≡ q → ◌≡◌ {A = Stand} (record { body = will_aside a.body; place = p }) (record { body = will_aside b.body; place = q })
 stand_parts a b p q x y = ap (λ (lane : Lane). record { body = lane.body; place = p }) x ∙ ap (λ (place : AtMachine). record { body = will_aside b.body; place = place }) y
 
@@ -77,7 +75,7 @@ between_parts t link a b g h x y = cc
 between_more : (is_bridge : Bool) (capacity used : ℕ) (t : Trace) (s : LineState) (link : ℕ) → between_of t (one_more is_bridge capacity used s) link ≡ between_of t s link
 between_more is_bridge capacity used t s link =
     between_parts t link (link_at link (one_more is_bridge capacity used s).world) (link_at link s.world) (gap_at (one_more is_bridge capacity used s).world.floor link) (gap_at s.world.floor link) (more_at is_bridge capacity used s link)
-    (gaps_more s.world.floor.machines s.world.floor.gaps link)
+    (more_gaps s.world.floor.machines s.world.floor.gaps link)
 
 -- ---- what holds by numbers
 
@@ -136,13 +134,6 @@ keeps_seen ms bs keeps = record {
 
 beyond_links : (link machines links : ℕ) → links ≡ machines - 1 → 1 ≤ link → (nat_le 1 link && nat_lt link machines) ≡ false → links < link
 beyond_links link machines links is counted none = grind (arith, nat_tests)
-
-loose_by : (s : LineState) (link : ℕ) → length s.world.links ≡ length s.machines - 1 → has_link link s ≡ false → (link ≡ 0) ⊎ (1 ≤ link) → link_at link s.world ≡ no_link
-loose_by s link many none (inl zeroth) = rw zeroth refl
-loose_by s link many none (inr counted) = link_beyond link s.world (beyond_links link (length s.machines) (length s.world.links) many counted none)
-
-pub loose_link : (s : LineState) (link : ℕ) → length s.world.links ≡ length s.machines - 1 → has_link link s ≡ false → link_at link s.world ≡ no_link
-loose_link s link many none = loose_by s link many none (none_or_one link)
 
 pub no_link_at : (s : LineState) (link : ℕ) → IsLineTogether s → has_link link s ≡ false → link_at link s.world ≡ no_link
 no_link_at s link together none = loose_link s link together.links none
@@ -232,10 +223,6 @@ adds : (is_bridge : Bool) (capacity used : ℕ) (s : LineState) → may_add s �
 adds true capacity used s may = adds_by true capacity used s (adding_told true (length s.machines + 1) capacity) may
 adds false capacity used s may = adds_by false capacity used s (adding_told false (length s.machines + 1) capacity) may
 
-more_together : (is_bridge : Bool) (capacity used : ℕ) (s : LineState) → may_add s ≡ may_do → IsLineTogether s → IsLineTogether (one_more is_bridge capacity used s)
-more_together is_bridge capacity used s may together =
-    does_together 0 (adding is_bridge capacity used) s (one_more is_bridge capacity used s) (adding_told is_bridge (length s.machines + 1) capacity) together (adds is_bridge capacity used s may)
-
 more_holds : (is_bridge : Bool) (capacity used : ℕ) (s : LineState) → may_add s ≡ may_do → Holds s → Holds (one_more is_bridge capacity used s)
 more_holds is_bridge capacity used s may holds =
     let next : LineState = one_more is_bridge capacity used s in
@@ -296,9 +283,6 @@ more_sound is_bridge capacity used s sound zero = sound zero
 more_sound is_bridge capacity used s sound (suc place) =
     new_fits s.machines (new_node (profile_of is_bridge (length s.machines + 1) capacity used)) place (λ (node : NodeState). IsSound node.capacity node.lane.body) (new_is_sound is_bridge capacity used (length s.machines + 1)) (λ other. sound (suc other))
 
-more_links : (is_bridge : Bool) (capacity used : ℕ) (s : LineState) → AreWholeLinks s → AreWholeLinks (one_more is_bridge capacity used s)
-more_links is_bridge capacity used s whole link = subst (λ (l : LinkParts). IsWholeLink l) (sym (more_at is_bridge capacity used s link)) (whole link)
-
 -- ONE MACHINE MORE, which takes part in the relation as what was beyond the end did
 pub more_stands : (t : Trace) (is_bridge : Bool) (capacity used : ℕ) (s : LineState) → Stands t s → may_add s ≡ may_do → Stands t (one_more is_bridge capacity used s)
 more_stands t is_bridge capacity used s stands may =
@@ -312,7 +296,7 @@ more_stands t is_bridge capacity used s stands may =
       rest = λ link none. same_rest is_bridge capacity used t s link (stands.rest link (no_link_before is_bridge capacity used s link none));
       fit = more_fit is_bridge capacity used s together stands.fit;
       sound = more_sound is_bridge capacity used s stands.sound;
-      links = more_links is_bridge capacity used s stands.links;
+      links = more_whole is_bridge capacity used s stands.links;
       together = together;
       ids = more_holds is_bridge capacity used s may stands.ids;
       olds = λ link id gone. old-last 1 s.machines (new_node (profile_of is_bridge (length s.machines + 1) capacity used)) id (stands.olds link id gone);

@@ -2,6 +2,8 @@
 use Rattle.std.proofs.Common.{Bool, [], ap, arith, false, refl, subst, suc, sym, true, zero, ℕ, ◌+◌, ◌≡◌, ◌≤◌}
 use Rattle.std.specs.Prelude.{cond, nat_lt}
 use Rattle.std.proofs.lemmas.Bool.Decides.{nat_tests}
+use Rattle.one_standing.proofs.WholeLinks.{whole_none}
+use Rattle.one_standing.proofs.ApartFloor.{no_later}
 use Rattle.line_base.specs.Text.{IsText}
 use Rattle.line_link.specs.Link.{LinkParts, no_link}
 use Rattle.line_world.specs.FloorPlan.{AtMachine, empty_machine, free_gap, gap_at, machine_at, no_floor}
@@ -15,7 +17,6 @@ use Rattle.line_step.specs.State.{no_line}
 use Rattle.line_step.specs.World.{link_at, no_world}
 use Rattle.line_step.proofs.Keeps.{none_together}
 use Rattle.link_messages.specs.Fit.{IsFitBody, IsFitMaker}
-use Rattle.machine_custody.specs.Good.{Lies}
 use Rattle.link_messages.proofs.Eventing.{new_body_fits}
 use Rattle.custody.specs.Events.{gone_by}
 use Rattle.custody.specs.Floors.{nobody}
@@ -43,7 +44,7 @@ nothing_at = record { body = new_body; place = empty_machine }
 abbrev nothing_between : Between
 nothing_between = record { ghost = record { place = Fresh; board = nobody }; stands = false; gap = free_gap; up = []; down = []; gone = λ id. false }
 
-node_none : (machine : ℕ) → node_at no_line machine ≡ no_node
+pub node_none : (machine : ℕ) → node_at no_line machine ≡ no_node
 node_none zero = refl
 node_none (suc place) = refl
 
@@ -84,14 +85,11 @@ none_neighbours = record {
 none_owns : Owns nothing_between nothing_at nothing_between
 none_owns = record { boards = record { same = refl }; entry_role = refl; exit_role = refl; offers = tt }
 
-no_list : {x : ℕ} → Lies x [] → ⊥
-no_list lies = elim lies [ ]
-
 no_gap : {x : ℕ} → LiesIn x gaps.Free → ⊥
 no_gap lies = elim lies [ ]
 
 none_lies : (x : ℕ) (p : Spot) → LiesAt (λ machine. nothing_at) (λ link. nothing_between) x p → ⊥
-none_lies x _ (lies_at lies) = no_list lies
+none_lies x _ (lies_at lies) = no_later lies
 none_lies x _ (lies_in lies) = no_gap lies
 
 none_keeps : Keeps (λ machine. nothing_at) (λ link. nothing_between)
@@ -127,9 +125,6 @@ none_fit machine =
 none_sound : (machine : ℕ) → IsSound (node_at no_line machine).capacity (node_at no_line machine).lane.body
 none_sound machine = subst (λ (n : NodeState). IsSound n.capacity n.lane.body) (sym (node_none machine)) (record { offers = tt; entry = refl; exit = refl; places = omega arith })
 
-no_link_is_whole : IsWholeLink no_link
-no_link_is_whole = record { joined = refl; dry_upstream = refl; dry_downstream = refl; begun = record { upstream = refl; downstream = refl } }
-
 no_links : (link : ℕ) → has_link link no_line ≡ false
 no_links link = grind (arith, nat_tests)
 
@@ -141,7 +136,7 @@ none_stands = record {
   rest = λ link none. none_rest link;
   fit = none_fit;
   sound = none_sound;
-  links = λ link. subst (λ (l : LinkParts). IsWholeLink l) (sym (link_none link)) no_link_is_whole;
+  links = λ link. subst (λ (l : LinkParts). IsWholeLink l) (sym (link_none link)) whole_none;
   together = none_together;
   ids = record { own = tt; many = refl; whole = refl; old = tt; differ = record { once = λ id. omega arith } };
   olds = λ link id gone. absurd (cc);

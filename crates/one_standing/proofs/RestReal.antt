@@ -2,6 +2,7 @@
 -- those that aren't, since their sides are at rest.
 use Rattle.std.proofs.Common.{Bool, List, [], ap, false, inl, inr, refl, subst, sym, true, ℕ, ◌&&◌, ◌+◌, ◌-◌, ◌∙◌, ◌≡◌, ◌≢◌, ◌⊎◌}
 use Rattle.std.specs.Prelude.{nat_le, nat_lt}
+use Rattle.one_standing.proofs.Ends.{still_at_above, still_at_below, no_link_at as loose_link}
 use Rattle.line_base.specs.declared.states.Side.TheVariants.{Entry, Exit}
 use Rattle.line_link.specs.Link.{LinkParts, no_link}
 use Rattle.line_world.specs.FloorPlan.{IsWhole, free_gap, gap_at}
@@ -27,21 +28,11 @@ use Rattle.one_standing.specs.Mirrors.{IsReached, scene_at}
 use Rattle.one_standing.specs.Stands.{IsAtRest, Stands}
 use Rattle.one_standing.proofs.Behind.{AreReal, stepped}
 use Rattle.one_standing.proofs.RestLine.{links_stay, own_rests, no_accepted, no_connect, stays_at_rest}
-use Rattle.one_standing.proofs.RestMore.{loose_gap, loose_link, no_gap_at, no_link_at}
+use Rattle.one_standing.proofs.RestMore.{loose_gap, no_gap_at}
 use Rattle.one_standing.proofs.Traces.{put, put_other, put_same}
 use Rattle.one_standing.proofs.RestScene.{IsStillAbove, IsStillBelow, gap_above_rests, gap_below_rests, scene_behind, still_above, still_below}
 
 -- ---- the scene before the step, at a side without a link
-
-pub scene_still_below : (t : Trace) (s : LineState) (j : ℕ) → Stands t s → has_link (j + 1) s ≡ false → IsStillBelow (scene_at t s j)
-scene_still_below t s j k none =
-    let rest : IsAtRest t s (j + 1) = k.rest (j + 1) none in
-    record { stands = ap (λ (l : LinkParts). l.stands) (no_link_at s (j + 1) k.together none); up = rest.up; down = rest.down }
-
-pub scene_still_above : (t : Trace) (s : LineState) (j : ℕ) → Stands t s → has_link j s ≡ false → IsStillAbove (scene_at t s j)
-scene_still_above t s j k none =
-    let rest : IsAtRest t s j = k.rest j none in
-    record { stands = ap (λ (l : LinkParts). l.stands) (no_link_at s j k.together none); up = rest.up; down = rest.down }
 
 -- ---- behind the step there is nothing there either
 
@@ -74,7 +65,7 @@ real_below j t before after ca cb done body b true is k counts reached pair idle
 real_below j t before after ca cb done body b false is k counts reached pair idle =
     let c : Scene = scene_at t before j in
     let was : c.below.gap ≡ free_gap = no_gap_at before (j + 1) k.ids is in
-    let still : IsStillBelow (scene_behind ca cb done c) = still_below ca cb done c (scene_still_below t before j k is) in
+    let still : IsStillBelow (scene_behind ca cb done c) = still_below ca cb done c (still_at_below t before j k is) in
     record {
       stands = ap (λ (l : LinkParts). l.stands) (loose_behind t before after (j + 1) k counts is) ∙ sym still.stands;
       gap = free_behind t before after (j + 1) k counts is ∙ sym was ∙ sym (gap_below_rests ca cb done b [] body c pair (idle is) (ap (λ (g : AtGap). g.exit_drive) was));
@@ -87,7 +78,7 @@ real_above j t before after ca cb done body a true is k counts reached pair idle
 real_above j t before after ca cb done body a false is k counts reached pair idle =
     let c : Scene = scene_at t before j in
     let was : c.above.gap ≡ free_gap = no_gap_at before j k.ids is in
-    let still : IsStillAbove (scene_behind ca cb done c) = still_above ca cb done c (scene_still_above t before j k is) in
+    let still : IsStillAbove (scene_behind ca cb done c) = still_above ca cb done c (still_at_above t before j k is) in
     record {
       stands = ap (λ (l : LinkParts). l.stands) (loose_behind t before after j k counts is) ∙ sym still.stands;
       gap = free_behind t before after j k counts is ∙ sym was ∙ sym (gap_above_rests ca cb done a [] body c pair (idle is) (ap (λ (g : AtGap). g.entry_drive) was));
@@ -147,4 +138,4 @@ pub rest_behind : (number j : ℕ) (input : Input) (t : Trace) (before after : L
     → (link : ℕ) → has_link link after ≡ false → IsAtRest (stepped t j a b gone (scene_behind ca cb done (scene_at t before j))) after link
 rest_behind number j input t before after told ca cb done a b gone k steps connects accepts link none =
     rest_behind_scene number j input t before after told a b gone (scene_behind ca cb done (scene_at t before j)) k steps connects accepts
-    (λ off. still_above ca cb done (scene_at t before j) (scene_still_above t before j k off)) (λ off. still_below ca cb done (scene_at t before j) (scene_still_below t before j k off)) link none
+    (λ off. still_above ca cb done (scene_at t before j) (still_at_above t before j k off)) (λ off. still_below ca cb done (scene_at t before j) (still_at_below t before j k off)) link none

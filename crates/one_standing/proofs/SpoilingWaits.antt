@@ -1,7 +1,9 @@
 -- What waits at an open side comes to no message, after each line of the script.
-use Rattle.std.proofs.Common.{Bool, List, Option, Some, [], ap, append-nil, arith, false, inl, inr, length, refl, subst, suc, sym, true, zero, ℕ, ◌++◌, ◌+◌, ◌-◌, ◌∙◌, ◌∷◌, ◌≡◌, ◌≢◌, ◌⊎◌}
+use Rattle.std.proofs.Common.{Bool, List, Option, Some, [], ap, append-nil, arith, false, inl, inr, length, refl, subst, suc, sym, true, zero, ℕ, ◌++◌, ◌+◌, ◌-◌, ◌∙◌, ◌≡◌, ◌≢◌, ◌⊎◌}
 use Rattle.std.specs.Prelude.{Err, Ok, Result, slice_index_or}
 use Rattle.std.proofs.lemmas.Bool.{false≢true}
+use Rattle.line_step.proofs.Once.{closed-stays}
+use Rattle.one_standing.proofs.LedgerLine.{last_node}
 use Rattle.line_base.specs.declared.states.Side.{Side}
 use Rattle.line_base.specs.declared.states.Side.TheVariants.{Entry, Exit}
 use Rattle.hermes_stream.proofs.Streams.{left_of-need_more, without_blanks-again}
@@ -20,7 +22,6 @@ use Rattle.node_core.specs.Sides.{is_open}
 use Rattle.node_core.specs.Step.{Brings}
 use Rattle.node_core.specs.Words.{AreAll, all_more, all_none}
 use Rattle.node_core.specs.declared.act.Act.{Act}
-use Rattle.node_core.specs.declared.act.Act.TheVariants as acts
 use Rattle.node_core.specs.declared.input.Input.{Input}
 use Rattle.node_core.specs.declared.input.Input.TheVariants as inputs
 use Rattle.node_core.specs.declared.lane.Lane.{Lane}
@@ -28,7 +29,7 @@ use Rattle.node_core.specs.declared.word.Word.{Word}
 use Rattle.line_step.specs.Lines.{Becomes, Connects, Flows, LineDoes, Moves, Unless, arrived, connecting, cut_in, lied, met, moved, spoiled, unseen}
 use Rattle.line_step.specs.Numbered as numbered
 use Rattle.line_step.specs.Numbered.{no_node, node_at}
-use Rattle.line_step.specs.Opened.{open_act, open_after, opened_by}
+use Rattle.line_step.specs.Opened.{open_after, opened_by}
 use Rattle.line_step.specs.Reasons.{May}
 use Rattle.line_step.specs.State.{LineState, machine_in, no_line, one_more, profile_of}
 use Rattle.line_step.specs.Steps.{MachineSteps, moment_of, unread_by}
@@ -73,24 +74,9 @@ all_rest (all_more means others) = all_rest others
 
 -- ---- a step
 
-still_closed : (side : Side) (act : Act) → open_act side false act ≡ false
-still_closed Entry (acts.Closes Entry) = refl
-still_closed Entry (acts.Closes Exit) = refl
-still_closed Exit (acts.Closes Entry) = refl
-still_closed Exit (acts.Closes Exit) = refl
-still_closed Entry (acts.Notices Entry) = refl
-still_closed Entry (acts.Notices Exit) = refl
-still_closed Exit (acts.Notices Entry) = refl
-still_closed Exit (acts.Notices Exit) = refl
-still_closed side act = refl
-
-all_closed : (side : Side) (told : List Act) → open_after side false told ≡ false
-all_closed side [] = refl
-all_closed side (act ∷ told) = ap (λ (o : Bool). open_after side o told) (still_closed side act) ∙ all_closed side told
-
 was_open : (side : Side) (opened : Bool) (told : List Act) → open_after side opened told ≡ true → opened ≡ true
 was_open side true told is = refl
-was_open side false told is = absurd (false≢true (sym (all_closed side told) ∙ is))
+was_open side false told is = absurd (false≢true (sym (closed-stays side told) ∙ is))
 
 lane_waits : (input : Input) (old new : Lane) (words : List Word) → Brings input old new words → ((side : Side) → is_open side new.body ≡ true → opened_by input side (is_open side old.body) ≡ true) → Waits old → Waits new
 lane_waits (inputs.Bytes Entry piece) old new words brings opens waits Entry there = rest_needs (old.entry_bytes ++ piece.now) new.entry_bytes (all_rest (brings.0.all there))
@@ -148,10 +134,6 @@ new_waits : (profile_number : ℕ) (is_bridge : Bool) (capacity used : ℕ) → 
 new_waits number is_bridge capacity used Entry there = needs_none
 new_waits number is_bridge capacity used Exit there = needs_none
 
-got_last : (nodes : List NodeState) (new : NodeState) → slice_index_or (nodes ++ new ∷ []) (length nodes) no_node ≡ new
-got_last [] new = refl
-got_last (n ∷ nodes) new = got_last nodes new
-
 more_waits : (is_bridge : Bool) (capacity used : ℕ) (s : LineState) → AreWaiting s → AreWaiting (one_more is_bridge capacity used s)
 more_waits is_bridge capacity used s waits k = by (same_or_not k (length s.machines + 1))
   where
@@ -162,7 +144,7 @@ more_waits is_bridge capacity used s waits k = by (same_or_not k (length s.machi
     by (inl is) =
         let new : NodeState = new_node (profile_of is_bridge (length s.machines + 1) capacity used) in
         subst (λ (n : ℕ). Waits (node_at (one_more is_bridge capacity used s) n).lane) (sym (is ∙ next))
-        (subst (λ (n : NodeState). Waits n.lane) (sym (got_last s.machines new)) (new_waits (length s.machines + 1) is_bridge capacity used))
+        (subst (λ (n : NodeState). Waits n.lane) (sym (last_node s.machines new)) (new_waits (length s.machines + 1) is_bridge capacity used))
     by (inr apart) = subst (λ (n : NodeState). Waits n.lane) (sym (ap (λ (x : numbered.Stand). x.node) ((more_changes is_bridge capacity used s).machines k apart))) (waits k)
 
 -- ---- a line of the script

@@ -1,14 +1,16 @@
 -- What stands together in each link still does after a line of the script.
-use Rattle.std.proofs.Common.{Bool, List, None, Option, Some, [], ap, arith, eqb-true, false, inl, inr, length, lt-ltb, ltb-true, refl, subst, sym, true, ℕ, ◌&&◌, ◌++◌, ◌+◌, ◌-◌, ◌<◌, ◌∷◌, ◌≡◌, ◌≢◌, ◌⊎◌}
+use Rattle.std.proofs.Common.{Bool, List, None, Option, Some, [], ap, arith, false, inl, inr, length, lt-ltb, ltb-true, refl, subst, sym, true, ℕ, ◌&&◌, ◌+◌, ◌-◌, ◌<◌, ◌∷◌, ◌≡◌, ◌≢◌, ◌⊎◌}
 use Rattle.std.specs.Prelude.{Err, Ok, Result, cond, drop, is_some, not, suc, take, zero}
 use Rattle.std.proofs.lemmas.Bool.{eq-eqb}
 use Rattle.std.proofs.lemmas.List.{length-append, length-take-le}
+use Rattle.line_link.proofs.Together.{still_dry}
+use Rattle.one_standing.proofs.CarryingSides.{begun_text}
 use Rattle.line_base.specs.declared.states.Role.{Role}
 use Rattle.line_base.specs.declared.states.Role.TheVariants.{Downstream, Upstream}
 use Rattle.line_base.specs.declared.states.Side.{Side}
 use Rattle.hermes_horizontal.specs.Canonical.{canonical}
 use Rattle.hermes_horizontal.specs.declared.message.Message.{Message}
-use Rattle.line_link.specs.Flow.{Stream, dry, flowing, is_begun, nul_put, reached, with_arrival, with_nul, with_text}
+use Rattle.line_link.specs.Flow.{Stream, dry, flowing, is_begun, nul_put, with_arrival, with_nul, with_text}
 use Rattle.line_link.specs.Link.{LinkParts, across, after_answer, after_close, after_connect, after_flow, after_send, after_spoil, answer_of, are_joined, connected, connected_of, cut, flow_to, is_dry_without, is_too_much, next_number, no_link, number_of, texted, with_flow_to, within_limit}
 use Rattle.line_link.specs.Texts.{with_byte_at}
 use Rattle.line_link.proofs.Reaching.{begun_by}
@@ -42,14 +44,6 @@ use Rattle.one_standing.specs.Links.{AreWholeLinks, IsWholeLink}
 
 -- ---- what flows
 
-begun_more : (texts : List (List ℕ)) (arrived byte : ℕ) (bytes : List ℕ) → is_begun texts arrived ≡ true → is_begun (texts ++ (byte ∷ bytes) ∷ []) arrived ≡ true
-begun_more [] arrived byte bytes begun = lt-ltb arrived (length (byte ∷ bytes)) (omega (arith, eqb-true arrived 0 begun))
-begun_more (text ∷ texts) arrived byte bytes begun = begun
-
-begun_text : (text : List ℕ) (stream : Stream) → is_begun stream.texts stream.arrived ≡ true → is_begun (with_text text stream).texts (with_text text stream).arrived ≡ true
-begun_text [] stream begun = begun
-begun_text (byte ∷ bytes) stream begun = begun_more stream.texts stream.arrived byte bytes begun
-
 begun_nul : (texts : List (List ℕ)) (arrived : ℕ) → is_begun texts arrived ≡ true → is_begun (nul_put texts arrived).texts (nul_put texts arrived).arrived ≡ true
 begun_nul [] arrived begun = refl
 begun_nul (text ∷ texts) arrived begun =
@@ -63,11 +57,6 @@ begun_arrival count stream = begun_by (with_arrival count stream) (stream.arrive
 dry_none : (number : Option ℕ) → is_dry_without number [] ≡ true
 dry_none None = refl
 dry_none (Some number) = refl
-
-still_dry : (number : Option ℕ) (count : ℕ) (texts : List (List ℕ)) → is_dry_without number texts ≡ true → is_dry_without number (reached count texts).texts ≡ true
-still_dry None count [] dry = refl
-still_dry None count (text ∷ texts) dry = absurd (cc)
-still_dry (Some number) count texts dry = refl
 
 -- ---- a link
 
@@ -223,7 +212,7 @@ moved_whole : (answer : Result FloorPlan MoveNo) (s : LineState) → AreWholeLin
 moved_whole (Ok floor) s all = all
 moved_whole (Err why) s all = all
 
-more_whole : (is_bridge : Bool) (capacity used : ℕ) (s : LineState) → AreWholeLinks s → AreWholeLinks (one_more is_bridge capacity used s)
+pub more_whole : (is_bridge : Bool) (capacity used : ℕ) (s : LineState) → AreWholeLinks s → AreWholeLinks (one_more is_bridge capacity used s)
 more_whole is_bridge capacity used s all link = subst IsWholeLink (sym (more_at is_bridge capacity used s link)) (all link)
 
 -- a link that is spoiled stands, and lies between two machines

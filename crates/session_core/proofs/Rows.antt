@@ -1,6 +1,7 @@
 -- The plain program computes exactly the rows of the table.
 use Rattle.std.proofs.Common.{◌≡◌, ◌≢◌, ◌≤◌, ◌&&◌, ◌↔◌, ℕ, Bool, true, false, cond, Option, Some, None, IfSome, refl, subst, arith, nat_eq, nat_lt}
 use Rattle.std.proofs.lemmas.Bool.Decides.{nat_tests}
+use Rattle.std.proofs.lemmas.Bool.{and_parts}
 use Rattle.line_base.specs.declared.states.Role.{Role}
 use Rattle.line_base.specs.declared.states.Role.TheVariants.{Upstream, Downstream}
 use Rattle.hermes_horizontal.specs.declared.message.Features.{Features}
@@ -42,15 +43,7 @@ test_five j most other = grind (arith, nat_tests)
 
 -- the two parts of a test
 
-and_left : (a b : Bool) → (a && b) ≡ true → a ≡ true
-and_left true b both = refl
-and_left false b both = both
-
-and_right : (a b : Bool) → (a && b) ≡ true → b ≡ true
-and_right true b both = both
-and_right false b both = cc
-
-not_left : (a : Bool) → (a && true) ≡ false → a ≡ false
+pub not_left : (a : Bool) → (a && true) ≡ false → a ≡ false
 not_left true other = other
 not_left false other = refl
 
@@ -66,8 +59,8 @@ ticked_by role state k n f given asked =
 tick_by : (role : Role) (state : SessionState) (k n : ℕ) (f : Features) (given asked : Bool) → IsConnected state
     → is_given_up state (raised k) f ≡ given → nat_eq (raised k) 2 ≡ asked
     → IsSessionRow (end_of role state k n f) tick (ticked_by role state k n f given asked)
-tick_by role _ k n f true _ in_handshake given _ = gives_up_handshake (five (raised k) (raised_most k) (and_left _ _ given))
-tick_by role _ k n f true _ in_standing given _ = gives_up_standing (five (raised k) (raised_most k) (and_left _ _ given)) (and_right (nat_lt 4 (raised k)) _ given)
+tick_by role _ k n f true _ in_handshake given _ = gives_up_handshake (five (raised k) (raised_most k) (and_parts _ _ given).0)
+tick_by role _ k n f true _ in_standing given _ = gives_up_standing (five (raised k) (raised_most k) (and_parts _ _ given).0) (and_parts (nat_lt 4 (raised k)) _ given).1
 tick_by role _ k n f false true in_handshake _ asked = asks in_handshake (two (raised k) asked)
 tick_by role _ k n f false true in_standing _ asked = asks in_standing (two (raised k) asked)
 tick_by role _ k n f false false in_handshake given asked = waits_in_handshake (not_two (raised k) asked) (not_five (raised k) (not_left _ given))

@@ -1,5 +1,6 @@
 -- Laws on silent ticks.
-use Rattle.std.proofs.Common.{◌≡◌, ◌≤◌, ◌&&◌, ℕ, zero, suc, Bool, true, false, cond, List, [], ◌∷◌, Option, Some, None, refl, sym, subst, nat_eq, arith}
+use Rattle.std.proofs.Common.{◌≡◌, ◌≤◌, ℕ, zero, suc, Bool, true, false, cond, List, [], ◌∷◌, Option, Some, None, refl, sym, subst, nat_eq, arith}
+use mathlib.Core.Bool.{and-false}
 use Rattle.line_base.specs.declared.states.Role.{Role}
 use Rattle.hermes_horizontal.specs.declared.message.Features.{Features}
 use Rattle.hermes_horizontal.specs.declared.message.Horizontal.{Horizontal}
@@ -33,14 +34,10 @@ listed_ends s there fresh listed =
 
 -- a peer that is not watched
 
-and_false : (a : Bool) → (a && false) ≡ false
-and_false true = refl
-and_false false = refl
-
 unlisted_tick : (role : Role) (k n j : ℕ) (f : Features) (asked : Bool) → f.check_alive ≡ false → nat_eq j 2 ≡ asked
     → (ticked (end_of role Standing k n f) j).after ≡ end_of role Standing j (cond asked (grown n) n) f
-unlisted_tick role k n j f true unlisted test = rw (unlisted, and_false, test) refl
-unlisted_tick role k n j f false unlisted test = rw (unlisted, and_false, test) refl
+unlisted_tick role k n j f true unlisted test = rw (unlisted, and-false, test) refl
+unlisted_tick role k n j f false unlisted test = rw (unlisted, and-false, test) refl
 
 stays : (ticks : ℕ) (role : Role) (k n : ℕ) (f : Features) → f.check_alive ≡ false → (after_ticks ticks (end_of role Standing k n f)).state ≡ Standing
 stays zero role k n f unlisted = refl

@@ -1,5 +1,7 @@
 -- Entries of the ledger: which stand after a deed.
 use Rattle.std.proofs.Common.{◌≡◌, refl, sym, ◌∙◌, ap, ℕ, ◌==◌, Bool, true, false, not, ◌&&◌, ◌||◌, List, [], ◌∷◌, ◌++◌, Option, Some, None, option_to_list, if◌then◌else◌, eqb-true, eq-eqb}
+use Rattle.std.proofs.lemmas.Bool.{not-true, and_parts}
+use mathlib.Core.Bool.{or-false, or_assoc}
 use Rattle.standings.specs.declared.mark.Mark.{Mark}
 use Rattle.standings.specs.declared.mark.Mark.TheVariants.{Kept, Outlet, Intake}
 use Rattle.standings.specs.declared.entry.Entry.{Entry}
@@ -7,7 +9,6 @@ use Rattle.standings.specs.declared.deed.Deed.{Deed}
 use Rattle.standings.specs.Marks.{is_same_mark}
 use Rattle.standings.specs.Deeds.{added, taken}
 use Rattle.standings.specs.Ledger.{IsLegal, Ledger, has_entry, is_entry, is_found, is_missing, is_same_entry, ledger_after, without}
-use Rattle.standings.proofs.Standings.{and_first, and_second}
 
 pub same_mark_is : (one other : Mark) → is_same_mark one other ≡ true → one ≡ other
 same_mark_is (Kept one) (Kept other) same = ap Kept (eqb-true one other same)
@@ -27,31 +28,12 @@ mark_is_itself (Intake machine) = eq-eqb machine machine refl
 
 pub same_entry_is : (one other : Entry) → is_same_entry one other ≡ true → one ≡ other
 same_entry_is one other same =
-    let ids : one.id ≡ other.id = eqb-true one.id other.id (and_first (one.id == other.id) (is_same_mark one.mark other.mark) same) in
-    let marks : one.mark ≡ other.mark = same_mark_is one.mark other.mark (and_second (one.id == other.id) (is_same_mark one.mark other.mark) same) in
+    let ids : one.id ≡ other.id = eqb-true one.id other.id (and_parts (one.id == other.id) (is_same_mark one.mark other.mark) same).0 in
+    let marks : one.mark ≡ other.mark = same_mark_is one.mark other.mark (and_parts (one.id == other.id) (is_same_mark one.mark other.mark) same).1 in
     ap (λ (i : ℕ). record { id = i; mark = one.mark }) ids ∙ ap (λ (m : Mark). record { id = other.id; mark = m }) marks
 
 pub entry_is_itself : (entry : Entry) → is_same_entry entry entry ≡ true
 entry_is_itself entry = rw (eq-eqb entry.id entry.id refl) (mark_is_itself entry.mark)
-
--- where one entry is this one and another isn't, they differ
-differ : (one other entry : Entry) → is_same_entry one entry ≡ true → is_same_entry other entry ≡ false → is_same_entry one other ≡ false
-differ one other entry same differs = pick (is_same_entry one other) refl where
-  pick : (b : Bool) → is_same_entry one other ≡ b → b ≡ false
-  pick false is = refl
-  pick true is =
-      let one_is : one ≡ entry = same_entry_is one entry same in
-      let other_is : other ≡ entry = sym (same_entry_is one other is) ∙ one_is in
-      let itself : is_same_entry other entry ≡ true = ap (λ (e : Entry). is_same_entry e entry) other_is ∙ entry_is_itself entry in
-      absurd (let h : true ≡ false = sym itself ∙ differs in cc)
-
-pub or_false : (b : Bool) → (b || false) ≡ b
-or_false true = refl
-or_false false = refl
-
-pub or_assoc : (a b c : Bool) → ((a || b) || c) ≡ (a || (b || c))
-or_assoc true b c = refl
-or_assoc false b c = refl
 
 pub has_entry-append : (entry : Entry) (front back : List Entry) → has_entry entry (front ++ back) ≡ (has_entry entry front || has_entry entry back)
 has_entry-append entry [] back = refl
@@ -96,7 +78,7 @@ has_entry-without entry (Some out) marks = has_entry-without_one entry out marks
 
 has_entry-to_list : (entry : Entry) (one : Option Entry) → has_entry entry (option_to_list one) ≡ is_entry one entry
 has_entry-to_list entry None = refl
-has_entry-to_list entry (Some one) = or_false (is_same_entry one entry)
+has_entry-to_list entry (Some one) = or-false (is_same_entry one entry)
 
 -- after a deed stand the entries that stood before, but the one that it takes, and the one that it adds
 pub stands_after : (ledger : Ledger) (deed : Deed) (entry : Entry)
@@ -106,17 +88,13 @@ stands_after ledger deed entry =
     ∙ ap (λ (b : Bool). b || has_entry entry (option_to_list (added deed))) (has_entry-without entry (taken deed) ledger.marks)
     ∙ ap (λ (b : Bool). (has_entry entry ledger.marks && not (is_entry (taken deed) entry)) || b) (has_entry-to_list entry (added deed))
 
-pub not_true : (b : Bool) → not b ≡ true → b ≡ false
-not_true false h = refl
-not_true true h = sym h
-
 -- a legal deed finds the mark that it takes
 pub found_before : (ledger : Ledger) (deed : Deed) (entry : Entry) → IsLegal ledger deed → taken deed ≡ Some entry → has_entry entry ledger.marks ≡ true
 found_before ledger deed entry legal takes = ap (λ (o : Option Entry). is_found o ledger.marks) (sym takes) ∙ legal.takes
 
 -- and doesn't find the one that it adds
 pub missing_before : (ledger : Ledger) (deed : Deed) (entry : Entry) → IsLegal ledger deed → added deed ≡ Some entry → has_entry entry ledger.marks ≡ false
-missing_before ledger deed entry legal adds = not_true (has_entry entry ledger.marks) (ap (λ (o : Option Entry). is_missing o ledger.marks) (sym adds) ∙ legal.adds)
+missing_before ledger deed entry legal adds = not-true (has_entry entry ledger.marks) (ap (λ (o : Option Entry). is_missing o ledger.marks) (sym adds) ∙ legal.adds)
 
 -- the mark that it takes is gone
 pub gone_after : (ledger : Ledger) (deed : Deed) (entry : Entry) → IsLegal ledger deed → taken deed ≡ Some entry → has_entry entry (ledger_after ledger deed).marks ≡ false

@@ -1,9 +1,10 @@
 -- The marks of an id along a line are those of the machines that have it.
 use Rattle.std.proofs.Common.{◌≡◌, ◌≢◌, refl, sym, ◌∙◌, ap, arith, zero, suc, ℕ, ◌+◌, ◌<◌, ◌==◌, Bool, true, false, ◌&&◌, ◌||◌, List, [], ◌∷◌, ◌++◌, eq-eqb, ne_eqb}
+use Rattle.std.proofs.lemmas.Bool.{and_left}
+use mathlib.Core.Bool.{or-false, or_assoc}
 use Rattle.standings.specs.declared.mark.Mark.{Mark}
 use Rattle.standings.specs.declared.mark.Mark.TheVariants.{Kept, Outlet, Intake}
 use Rattle.standings.specs.Marks.{Owned, Where, kept, outlet, intake, has_at, has_id, has_mark, is_held, is_same_mark, mark_at, mark_if, marks_at, marks_from, marks_of, owned_at}
-use Rattle.standings.proofs.Entries.{or_assoc, or_false}
 
 has_mark-append : (mark : Mark) (front back : List Mark) → has_mark mark (front ++ back) ≡ (has_mark mark front || has_mark mark back)
 has_mark-append mark [] back = refl
@@ -15,10 +16,6 @@ abbrev of_three : Where → Bool → Bool → Bool → Bool
 of_three kept a b c = a
 of_three outlet a b c = b
 of_three intake a b c = c
-
-and_true : (b : Bool) → b ≡ (b && true)
-and_true true = refl
-and_true false = refl
 
 and_false : (b : Bool) → false ≡ (b && false)
 and_false true = refl
@@ -61,13 +58,9 @@ at_machine kept machine other owned id = among_three kept machine other (has_id 
 at_machine outlet machine other owned id = among_three outlet machine other (has_id id owned.kept) (is_held id owned.held) (is_held id owned.taking)
 at_machine intake machine other owned id = among_three intake machine other (has_id id owned.kept) (is_held id owned.held) (is_held id owned.taking)
 
-no_test : (test b : Bool) → test ≡ false → (test && b) ≡ false
-no_test false b is = refl
-no_test true b is = absurd (cc)
-
 -- a machine has no mark of another
 elsewhere : (place : Where) (machine other : ℕ) (owned : Owned) (id : ℕ) → machine ≢ other → has_mark (mark_at place other) (marks_at machine owned id) ≡ false
-elsewhere place machine other owned id apart = at_machine place machine other owned id ∙ no_test (machine == other) (has_at place owned id) (ne_eqb machine other apart)
+elsewhere place machine other owned id apart = at_machine place machine other owned id ∙ and_left (machine == other) (has_at place owned id) (ne_eqb machine other apart)
 
 -- machines have no mark of one before them
 none_before : (place : Where) (machine other : ℕ) (line : List Owned) (id : ℕ) → other < machine → has_mark (mark_at place other) (marks_from machine line id) ≡ false
@@ -85,7 +78,7 @@ found_at intake machine before [] id = refl
 found_at place machine zero (owned ∷ line) id =
     has_mark-append (mark_at place (machine + 0)) (marks_at machine owned id) (marks_from (machine + 1) line id)
     ∙ ap (λ (b : Bool). has_mark (mark_at place (machine + 0)) (marks_at machine owned id) || b) (none_before place (machine + 1) (machine + 0) line id (omega arith))
-    ∙ or_false (has_mark (mark_at place (machine + 0)) (marks_at machine owned id))
+    ∙ or-false (has_mark (mark_at place (machine + 0)) (marks_at machine owned id))
     ∙ at_machine place machine (machine + 0) owned id
     ∙ rw (eq-eqb machine (machine + 0) (omega arith)) refl
 found_at place machine (suc before) (owned ∷ line) id =

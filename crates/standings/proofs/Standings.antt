@@ -1,27 +1,20 @@
 -- The standing that is found is the one that the marks give.
-use Rattle.std.proofs.Common.{◌≡◌, ◌≢◌, refl, sym, ◌∙◌, ap, subst, arith, ℕ, ◌+◌, ◌-◌, Bool, true, false, ◌&&◌, List, [], ◌∷◌, Option, Some, None, IfSome, if◌then◌else◌, eqb-true, eq-eqb}
+use Rattle.std.proofs.Common.{◌≡◌, ◌≢◌, refl, sym, ◌∙◌, ap, subst, arith, ℕ, ◌+◌, ◌-◌, Bool, true, false, List, [], ◌∷◌, Option, Some, None, IfSome, if◌then◌else◌, eqb-true, eq-eqb}
 use Rattle.std.proofs.lemmas.Option.{same_Some, none-some}
 use Rattle.std.specs.List.{list_all, list_any}
+use Rattle.std.proofs.lemmas.Bool.{and_parts}
 use Rattle.standings.specs.declared.mark.Mark.{Mark}
 use Rattle.standings.specs.declared.mark.Mark.TheVariants.{Kept, Outlet, Intake}
 use Rattle.standings.specs.declared.standing.Standing.{Standing}
 use Rattle.standings.specs.declared.standing.Standing.TheVariants.{With, Between}
 use Rattle.standings.specs.Standing.{HasStanding, gap_named, is_among, is_handed_at, is_kept_by, kept_alone, standing_by, standing_of}
 
-pub and_first : (a b : Bool) → (a && b) ≡ true → a ≡ true
-and_first true b both = refl
-and_first false b both = both
-
-pub and_second : (a b : Bool) → (a && b) ≡ true → b ≡ true
-and_second true b both = both
-and_second false b both = absurd (cc)
-
 -- where all marks are of the gap that the first one in a gap names, that one is handed there
 named_handed : (gap : ℕ) (marks : List Mark) → gap_named marks ≡ Some gap → list_all (is_among gap) marks ≡ true → list_any (is_handed_at gap) marks ≡ true
 named_handed gap [] named among = absurd (none-some gap named)
-named_handed gap (Kept machine ∷ marks) named among = named_handed gap marks named (and_second (is_among gap (Kept machine)) (list_all (is_among gap) marks) among)
+named_handed gap (Kept machine ∷ marks) named among = named_handed gap marks named (and_parts (is_among gap (Kept machine)) (list_all (is_among gap) marks) among).1
 named_handed gap (Outlet machine ∷ marks) named among = rw (eq-eqb machine gap (same_Some machine gap named)) refl
-named_handed gap (Intake machine ∷ marks) named among = rw (and_first (is_among gap (Intake machine)) (list_all (is_among gap) marks) among) refl
+named_handed gap (Intake machine ∷ marks) named among = rw (and_parts (is_among gap (Intake machine)) (list_all (is_among gap) marks) among).0 refl
 
 found_between : (gap : ℕ) (marks : List Mark) (among : Bool) → list_all (is_among gap) marks ≡ among → gap_named marks ≡ Some gap
     → IfSome (if among then Some (Between gap) else None) (HasStanding marks)
@@ -50,25 +43,25 @@ found marks = found_by marks (gap_named marks) refl
 -- marks of one machine that keeps the board are in no gap
 alone_unnamed : (machine : ℕ) (marks : List Mark) → list_all (is_kept_by machine) marks ≡ true → gap_named marks ≡ None
 alone_unnamed machine [] alone = refl
-alone_unnamed machine (Kept other ∷ marks) alone = alone_unnamed machine marks (and_second (is_kept_by machine (Kept other)) (list_all (is_kept_by machine) marks) alone)
+alone_unnamed machine (Kept other ∷ marks) alone = alone_unnamed machine marks (and_parts (is_kept_by machine (Kept other)) (list_all (is_kept_by machine) marks) alone).1
 alone_unnamed machine (Outlet other ∷ marks) alone = absurd (cc)
 alone_unnamed machine (Intake other ∷ marks) alone = absurd (cc)
 
 alone_with : (machine : ℕ) (marks : List Mark) → marks ≢ [] → list_all (is_kept_by machine) marks ≡ true → kept_alone marks ≡ Some (With machine)
 alone_with machine [] some alone = absurd (some refl)
 alone_with machine (Kept other ∷ marks) some alone =
-    let is : other ≡ machine = eqb-true other machine (and_first (is_kept_by machine (Kept other)) (list_all (is_kept_by machine) marks) alone) in
-    rw (is, and_second (is_kept_by machine (Kept other)) (list_all (is_kept_by machine) marks) alone) refl
+    let is : other ≡ machine = eqb-true other machine (and_parts (is_kept_by machine (Kept other)) (list_all (is_kept_by machine) marks) alone).0 in
+    rw (is, (and_parts (is_kept_by machine (Kept other)) (list_all (is_kept_by machine) marks) alone).1) refl
 alone_with machine (Outlet other ∷ marks) some alone = absurd (cc)
 alone_with machine (Intake other ∷ marks) some alone = absurd (cc)
 
 -- marks of one gap with one that is handed there name that gap
 handed_named : (gap : ℕ) (marks : List Mark) → list_any (is_handed_at gap) marks ≡ true → list_all (is_among gap) marks ≡ true → gap_named marks ≡ Some gap
 handed_named gap [] handed among = absurd (cc)
-handed_named gap (Kept machine ∷ marks) handed among = handed_named gap marks handed (and_second (is_among gap (Kept machine)) (list_all (is_among gap) marks) among)
-handed_named gap (Outlet machine ∷ marks) handed among = ap Some (eqb-true machine gap (and_first (is_among gap (Outlet machine)) (list_all (is_among gap) marks) among))
+handed_named gap (Kept machine ∷ marks) handed among = handed_named gap marks handed (and_parts (is_among gap (Kept machine)) (list_all (is_among gap) marks) among).1
+handed_named gap (Outlet machine ∷ marks) handed among = ap Some (eqb-true machine gap (and_parts (is_among gap (Outlet machine)) (list_all (is_among gap) marks) among).0)
 handed_named gap (Intake machine ∷ marks) handed among =
-    let is : machine ≡ gap + 1 = eqb-true machine (gap + 1) (and_first (is_among gap (Intake machine)) (list_all (is_among gap) marks) among) in
+    let is : machine ≡ gap + 1 = eqb-true machine (gap + 1) (and_parts (is_among gap (Intake machine)) (list_all (is_among gap) marks) among).0 in
     let before : machine - 1 ≡ gap = omega arith in
     ap Some before
 

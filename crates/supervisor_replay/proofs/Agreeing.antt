@@ -35,12 +35,15 @@ use Rattle.std.proofs.Common.{
 }
 use Rattle.std.specs.Prelude.{take}
 use Rattle.std.specs.List.{AllByRecursion}
-use Rattle.std.proofs.lemmas.Bool.{false≢true}
+use Rattle.std.proofs.lemmas.Bool.{false≢true, or_cases, false_from_ne_true, or_parts}
+use Rattle.line_step.proofs.Counted.{steps-lines}
+use Rattle.one_standing.proofs.Reaching.{run_more, behind_more}
+use Rattle.one_standing.proofs.MirroringEnds.{vacuous}
 use Rattle.line_script.specs.declared.line.ScriptLine.{ScriptLine}
 use Rattle.standings.specs.Marks.{has_mark, intake, kept, outlet}
 use Rattle.standings.specs.declared.mark.Mark.TheVariants.{Kept, Outlet, Intake}
 use Rattle.line_report.specs.declared.happening.Happening.{Happening}
-use Rattle.line_step.specs.Lies.{has_lie, is_lie, tells_lie}
+use Rattle.line_step.specs.Lies.{has_lie, tells_lie}
 use Rattle.line_step.specs.Lines.{LineSteps}
 use Rattle.line_step.specs.Runs.{IsRun, Point, all_told, state_behind}
 use Rattle.line_step.specs.Shown.{standings_told}
@@ -54,7 +57,7 @@ use Rattle.one_standing.proofs.Carrying.{SaysAlone}
 use Rattle.one_standing.proofs.FactsOf.{facts_of}
 use Rattle.one_standing.proofs.LedgerMarks.{mark_at_machine}
 use Rattle.one_standing.proofs.LineForms.{ConnectsBear}
-use Rattle.one_standing.proofs.LineRun.{AreStood, Stood, line_stood, lines_after, none_stood, run_stood}
+use Rattle.one_standing.proofs.LineRun.{AreStood, Stood, line_stood, none_stood, run_stood, honest_front}
 use Rattle.line_step.proofs.Vouching.{lies_remembered}
 use Rattle.one_standing.proofs.OneStand.{one_standing_of}
 use Rattle.one_standing.proofs.RestMore.{counted_stands}
@@ -73,10 +76,6 @@ use Rattle.supervisor_replay.proofs.Silent.{standings_silent}
 
 -- ---- what the marks say
 
-either_true : (a b : Bool) → (a || b) ≡ true → (a ≡ true) ⊎ (b ≡ true)
-either_true true b is = inl refl
-either_true false b is = inr is
-
 or_right : (a b : Bool) → (a ≡ false → b ≡ true) → (a || b) ≡ true
 or_right true b next = refl
 or_right false b next = next refl
@@ -85,10 +84,6 @@ same_tests : (a b : Bool) → (a ≡ true → b ≡ true) → (b ≡ true → a 
 same_tests true b one two = sym (one refl)
 same_tests false true one two = two refl
 same_tests false false one two = refl
-
-not_true : (b : Bool) → (b ≡ true → ⊥) → b ≡ false
-not_true true never = absurd (never refl)
-not_true false never = refl
 
 at_not_way : {X : Type 0} (machine gap : ℕ) → At machine ≡ Way gap → X
 at_not_way machine gap is = cc
@@ -126,7 +121,7 @@ agrees_of t id s past st one was never =
           (has_mark (Outlet machine) (marks_in s id)) (λ none.
           held_is machine ∙ h.at machine place (sym (kept_is machine) ∙ none));
       is_at = λ machine has.
-          elim (either_true (has_mark (Kept machine) (marks_in s id))
+          elim (or_cases (has_mark (Kept machine) (marks_in s id))
           (has_mark (Outlet machine) (marks_in s id)) has) [
             | inl mine ↦ h.kept_at machine (sym (kept_is machine) ∙ mine)
             | inr mine ↦ h.held_at machine (sym (held_is machine) ∙ mine)
@@ -147,10 +142,10 @@ agrees_of t id s past st one was never =
           → ((m : ℕ) → has_mark (Intake m) (marks_in s id) ≡ (view_of id s).taken m)
           → IsOnlyMark (Intake (gap + 1)) (marks_in s id)
       only gap place taken kept_is held_is taken_is (Kept m) =
-          kept_is m ∙ not_true ((view_of id s).kept m) (λ has.
+          kept_is m ∙ false_from_ne_true ((view_of id s).kept m) (λ has.
           at_not_way m gap (sym (was.holds.kept_at m has) ∙ place))
       only gap place taken kept_is held_is taken_is (Outlet m) =
-          held_is m ∙ not_true ((view_of id s).held m) (λ has.
+          held_is m ∙ false_from_ne_true ((view_of id s).held m) (λ has.
           at_not_way m gap (sym (was.holds.held_at m has) ∙ place))
       only gap place taken kept_is held_is taken_is (Intake m) =
           taken_is m
@@ -168,15 +163,6 @@ stood_uncounted : (t : Trace) (next : LineState) (lines : ℕ) → next.lines �
     → Stands t (counted_to lines next)
     → Stands t next
 stood_uncounted t next lines few st = counted_stands t (counted_to lines next) next.lines few st
-
-front_honest : (a b : List Happening) → tells_lie (a ++ b) ≡ false → tells_lie a ≡ false
-front_honest [] b is = refl
-front_honest (happening ∷ a) b is = by (is_lie happening) is (λ rest. front_honest a b rest) where
-  by : (lies : Bool) → (lies || tells_lie (a ++ b)) ≡ false
-      → (tells_lie (a ++ b) ≡ false → tells_lie a ≡ false)
-      → (lies || tells_lie a) ≡ false
-  by true rest next = rest
-  by false rest next = next rest
 
 -- the count is none of what is looked at
 counted_agrees : (id : ℕ) (next : LineState) (lines : ℕ) (past done told : List Happening)
@@ -221,7 +207,7 @@ steps_agree alone id number line before after told past was now few honest watch
     let seen : IsWatched (counted_to (next.lines + 1) next) =
     subst (λ (s : LineState). IsWatched s) steps.after_is watched2 in
     let front : tells_lie done ≡ false =
-    front_honest done (standings_told before next) (ap tells_lie (sym steps.told_is) ∙ honest) in
+    honest_front done (standings_told before next) (ap tells_lie (sym steps.told_is) ∙ honest) in
     subst (λ (s : LineState). Agreed id s (past ++ told)) (sym steps.after_is)
     (counted_agrees id next (next.lines + 1) past done told before steps.told_is
     (does_agree id t t2 number line before next done past front steps.does (record {
@@ -239,22 +225,11 @@ steps_agree alone id number line before after told past was now few honest watch
 
 -- ---- a run
 
-or_first : (a b : Bool) → (a || b) ≡ false → a ≡ false
-or_first false b is = refl
-or_first true b is = is
-
-or_second : (a b : Bool) → (a || b) ≡ false → b ≡ false
-or_second false b is = is
-or_second true b is = absurd (false≢true (sym is))
-
 -- a line without a machine: nothing was told, and no machine has a mark
 none_marked : (id : ℕ) (machine : ℕ) → ((view_of id no_line).kept machine ≡ false)
     × (((view_of id no_line).held machine ≡ false) × ((view_of id no_line).taken machine ≡ false))
 none_marked id zero = (refl, (refl, refl))
 none_marked id (suc place) = (refl, (refl, refl))
-
-not_here : {X : Type 0} {b : Bool} → b ≡ false → b ≡ true → X
-not_here none is = absurd (false≢true (sym none ∙ is))
 
 nowhere_at : {X : Type 0} (machine : ℕ) → Nowhere ≡ At machine → X
 nowhere_at machine is = cc
@@ -265,14 +240,14 @@ nowhere_way gap is = cc
 pub none_agreed : (id : ℕ) → Agreed id no_line []
 none_agreed id = record {
   holds = record {
-    kept_at = λ j has. not_here (none_marked id j).0 has;
-    held_at = λ j has. not_here (none_marked id j).1.0 has;
+    kept_at = λ j has. vacuous (none_marked id j).0 has;
+    held_at = λ j has. vacuous (none_marked id j).1.0 has;
     at = λ j place none. nowhere_at j place;
     way = λ j place. nowhere_way j place;
     on_way = λ j left taken kept held. absurd (false≢true left);
     off = λ lost. absurd (false≢true lost);
     lost = λ j lost has. absurd (false≢true lost);
-    leaves = λ j held leaving lost. not_here (none_marked id j).1.0 held;
+    leaves = λ j held leaving lost. vacuous (none_marked id j).1.0 held;
     on_floor = λ j place off. nowhere_way j place;
     over = λ j left taken. absurd (false≢true left);
     behind = λ k left i above. absurd (false≢true left);
@@ -281,7 +256,7 @@ none_agreed id = record {
 }
 
 none_watched : IsWatched no_line
-none_watched machine id marked = not_here (none_by machine id) marked where
+none_watched machine id marked = vacuous (none_by machine id) marked where
   none_by : (machine id : ℕ) → is_marked_at no_line machine id ≡ false
   none_by zero id = refl
   none_by (suc place) id = refl
@@ -322,11 +297,11 @@ run_agrees alone s (line ∷ asked) (point ∷ points)
     (suc n) past fit few was run all honest watched seen agreed never =
     let here : s.lines + 1 ≤ 1000000 = omega (arith, few) in
     let left : point.after.lines + length asked ≤ 1000000 =
-    omega (arith, few, lines_after (s.lines + 1) line s point.after point.told run.0) in
+    omega (arith, few, steps-lines (s.lines + 1) line s point.after point.told run.0) in
     let first : tells_lie point.told ≡ false =
-    or_first (tells_lie point.told) (has_lie (take n points)) honest in
+    (or_parts (tells_lie point.told) (has_lie (take n points)) honest).0 in
     let rest : has_lie (take n points) ≡ false =
-    or_second (tells_lie point.told) (has_lie (take n points)) honest in
+    (or_parts (tells_lie point.told) (has_lie (take n points)) honest).1 in
     let next : (id : ℕ) → Agreed id point.after (past ++ point.told) =
     λ id. steps_agree alone id (s.lines + 1) line s point.after point.told past was all.0
     (lines_few point.after all.0)
@@ -380,14 +355,14 @@ behind_run alone s (line ∷ asked) [] past connects fit few was run honest watc
 behind_run alone s (line ∷ asked)
     (point ∷ points) past connects fit few was run honest watched seen agreed never =
     let first : tells_lie point.told ≡ false =
-    or_first (tells_lie point.told) (has_lie points) honest in
-    let rest : has_lie points ≡ false = or_second (tells_lie point.told) (has_lie points) honest in
+    (or_parts (tells_lie point.told) (has_lie points) honest).0 in
+    let rest : has_lie points ≡ false = (or_parts (tells_lie point.told) (has_lie points) honest).1 in
     let here : s.lines + 1 ≤ 1000000 = omega (arith, few) in
     let stood : Stood point.after =
     line_stood alone connects
     (s.lines + 1) line s point.after point.told refl here fit.0 first was run.0 in
     let left : point.after.lines + length asked ≤ 1000000 =
-    omega (arith, few, lines_after (s.lines + 1) line s point.after point.told run.0) in
+    omega (arith, few, steps-lines (s.lines + 1) line s point.after point.told run.0) in
     let next : (id : ℕ) → Agreed id point.after (past ++ point.told) =
     λ id. steps_agree alone id (s.lines + 1) line s point.after point.told past was stood
     (lines_few point.after stood)
@@ -426,43 +401,26 @@ honest_run asked points s run behind none =
 
 lies_first : (points : List Point) (point : Point) → has_lie (points ++ point ∷ []) ≡ false
     → (has_lie points ≡ false) × (tells_lie point.told ≡ false)
-lies_first [] point is = (refl, or_first (tells_lie point.told) false is)
+lies_first [] point is = (refl, (or_parts (tells_lie point.told) false is).0)
 lies_first (first ∷ points) point is =
-    let here = or_first (tells_lie first.told) (has_lie (points ++ point ∷ [])) is in
+    let here = (or_parts (tells_lie first.told) (has_lie (points ++ point ∷ [])) is).0 in
     let rest =
     lies_first points point
-    (or_second (tells_lie first.told) (has_lie (points ++ point ∷ [])) is) in
+    (or_parts (tells_lie first.told) (has_lie (points ++ point ∷ [])) is).1 in
     (none_both (tells_lie first.told) (has_lie points) here rest.0, rest.1) where
       none_both : (a b : Bool) → a ≡ false → b ≡ false → (a || b) ≡ false
       none_both false b one two = two
       none_both true b one two = one
 
-run_more : (s : LineState) (asked : List ScriptLine) (points : List Point) (line : ScriptLine)
-    (point : Point)
-    → IsRun s asked points
-    → LineSteps ((state_behind s points).lines + 1) line
-    (state_behind s points) point.after point.told
-    → IsRun s (asked ++ line ∷ []) (points ++ point ∷ [])
-run_more s [] [] line point run steps = (steps, tt)
-run_more s [] (first ∷ points) line point run steps = absurd run
-run_more s (one ∷ asked) [] line point run steps = absurd run
-run_more s (one ∷ asked) (first ∷ points) line point run steps =
-    (run.0, run_more first.after asked points line point run.1 steps)
-
-run_lines : (s : LineState) (asked : List ScriptLine) (points : List Point) → IsRun s asked points
+pub run_lines : (s : LineState) (asked : List ScriptLine) (points : List Point) → IsRun s asked points
     → (state_behind s points).lines ≡ s.lines + length asked
 run_lines s [] [] run = omega arith
 run_lines s [] (point ∷ points) run = absurd run
 run_lines s (line ∷ asked) [] run = absurd run
 run_lines s (line ∷ asked) (point ∷ points) run =
     let later = run_lines point.after asked points run.1 in
-    let one = lines_after (s.lines + 1) line s point.after point.told run.0 in
+    let one = steps-lines (s.lines + 1) line s point.after point.told run.0 in
     omega (arith, later, one)
-
-last_behind : (s : LineState) (points : List Point) (point : Point)
-    → state_behind s (points ++ point ∷ []) ≡ point.after
-last_behind s [] point = refl
-last_behind s (first ∷ points) point = last_behind first.after points point
 
 next_agrees : (alone : SaysAlone) → ConnectsBear
     → (line : ScriptLine) (after : LineState) (told : List Happening)
@@ -480,7 +438,7 @@ next_agrees alone connects line after told asked points fit fits few run steps n
     run_more no_line asked points line point run steps in
     let honest : has_lie (points ++ point ∷ []) ≡ false =
     honest_run (asked ++ line ∷ []) (points ++ point ∷ []) after whole
-    (last_behind no_line points point) none in
+    (behind_more no_line points point) none in
     let parts = lies_first points point honest in
     let count : (state_behind no_line points).lines ≡ 0 + length asked =
     run_lines no_line asked points run in

@@ -27,7 +27,8 @@ use Rattle.std.proofs.Common.{
 }
 use Rattle.std.specs.Prelude.{is_some, slice_get}
 use Rattle.std.specs.List.{list_all}
-use Rattle.std.proofs.lemmas.List.{map-append}
+use Rattle.std.proofs.lemmas.Bool.{and_parts}
+use Rattle.node_core.proofs.Sound.{ids_behind}
 use Rattle.line_base.specs.declared.states.Seen.{Seen}
 use Rattle.line_base.specs.declared.states.Seen.TheVariants as sees
 use Rattle.line_base.specs.declared.states.Side.{Side}
@@ -215,7 +216,7 @@ use Rattle.node_core.specs.Information.{forecasts}
 use Rattle.smema_bridge.specs.declared.line.SegmentLine.{SegmentLine}
 use Rattle.smema_bridge.specs.declared.line.SegmentLine.TheVariants.{Available, Failed, Ready}
 use Rattle.standings.specs.Marks.{has_id}
-use Rattle.one_standing.proofs.LedgerWalk.{and_one, and_two, is_silent, kept_ids, own_parts}
+use Rattle.one_standing.proofs.LedgerWalk.{is_silent, kept_ids, own_parts, ids_without, ids_instead, ids_marked, silent_by}
 use Rattle.line_history.proofs.OfferingStep.{IsNoHand}
 use Rattle.line_history.proofs.Stepping.{IsJustStarted}
 use Rattle.supervisor_replay.proofs.Tells.{is_quiet}
@@ -229,26 +230,21 @@ abbrev pub are_aside : List Act → Bool
 are_aside [] = true
 are_aside (act ∷ others) = is_aside act && are_aside others
 
-aside_by : (one front both : Bool) → (one && front) ≡ true → (front ≡ true → both ≡ true)
-    → (one && both) ≡ true
-aside_by true front both is next = next is
-aside_by false front both is next = cc
-
 pub both_aside : (first rest : List Act) → are_aside first ≡ true → are_aside rest ≡ true
     → are_aside (first ++ rest) ≡ true
 both_aside [] rest one other = other
 both_aside (act ∷ first) rest one other =
-    aside_by (is_aside act) (are_aside first) (are_aside (first ++ rest)) one (λ is.
+    silent_by (is_aside act) (are_aside first) (are_aside (first ++ rest)) one (λ is.
     both_aside first rest is other)
 
 pub aside_quiet : (told : List Act) → are_aside told ≡ true → list_all is_quiet told ≡ true
 aside_quiet [] is = refl
 aside_quiet (act ∷ others) is =
     let one : (is_silent act && is_quiet act) ≡ true =
-    and_one (is_aside act) (are_aside others) is in
+    (and_parts (is_aside act) (are_aside others) is).0 in
     both_true (is_quiet act) (list_all is_quiet others)
-    (and_two (is_silent act) (is_quiet act) one)
-    (aside_quiet others (and_two (is_aside act) (are_aside others) is)) where
+    (and_parts (is_silent act) (is_quiet act) one).1
+    (aside_quiet others (and_parts (is_aside act) (are_aside others) is).1) where
       both_true : (a b : Bool) → a ≡ true → b ≡ true → (a && b) ≡ true
       both_true true b one two = two
       both_true false b one two = one
@@ -301,8 +297,8 @@ pub course_quiet : (seen : Option Seen) (own : Own) (told : List Act) → are_as
     → Course seen own told own
 course_quiet seen own [] quiet = course_end
 course_quiet seen own (act ∷ others) quiet =
-    course_on (and_one (is_aside act) (are_aside others) quiet)
-    (course_quiet seen own others (and_two (is_aside act) (are_aside others) quiet))
+    course_on (and_parts (is_aside act) (are_aside others) quiet).0
+    (course_quiet seen own others (and_parts (is_aside act) (are_aside others) quiet).1)
 
 course_append : {seen : Option Seen} {own one end : Own} {told others : List Act}
     → Course seen own told one → Course seen one others end → Course seen own (told ++ others) end
@@ -431,10 +427,6 @@ start_goes desk intake false kept (refuses _) = course_quiet _ _ _ refl
 start_goes desk intake true [] (refuses _) = course_quiet _ _ _ refl
 start_goes desk intake true (b ∷ bs) (out_opens _) = course_opens (course_quiet _ _ _ refl)
 
-behind_ids : (kept : List Record) (board : Record)
-    → ids_of kept ++ board.id ∷ [] ≡ ids_of (kept ++ board ∷ [])
-behind_ids kept board = sym (map-append (λ (b : Record). b.id) kept (board ∷ []))
-
 -- of a board that is settled
 settled_turn : {a : Option Seen} {told : List Act} (kept : List Record) (board : Record)
     (held : Option ℕ) → are_aside told ≡ true
@@ -444,7 +436,7 @@ settled_turn : {a : Option Seen} {told : List Act} (kept : List Record) (board :
 settled_turn {a = a} {told = told} kept board held quiet = record {
   course = course_settles
       (subst (λ (ids : List ℕ). Course a (own_parts (ids_of kept ++ board.id ∷ []) held None) told
-      (own_parts ids held None)) (behind_ids kept board) (course_quiet a _ told quiet));
+      (own_parts ids held None)) (ids_behind kept board) (course_quiet a _ told quiet));
   keeps = seen_none;
 }
 
@@ -733,41 +725,6 @@ notices_goes desk side body =
 
 -- ---- by hand
 
-ids_without : (id : ℕ) (kept : List Record)
-    → without_id id (ids_of kept) ≡ ids_of (without id kept)
-ids_without id [] = refl
-ids_without id (board ∷ boards) = without_by (board.id == id) (ids_without id boards) where
-  without_by : (test : Bool) → without_id id (ids_of boards) ≡ ids_of (without id boards)
-      → (if test then ids_of boards else board.id ∷ without_id id (ids_of boards))
-      ≡ ids_of (if test then boards else board ∷ without id boards)
-  without_by true same = refl
-  without_by false same = ap (λ (ids : List ℕ). board.id ∷ ids) same
-
-ids_instead : (id : ℕ) (other : Record) (kept : List Record)
-    → with_id_instead id other.id (ids_of kept) ≡ ids_of (with_instead id other kept)
-ids_instead id other [] = refl
-ids_instead id other (board ∷ boards) =
-    instead_by (board.id == id) (ids_instead id other boards) where
-      instead_by : (test : Bool)
-          → with_id_instead id other.id (ids_of boards) ≡ ids_of (with_instead id other boards)
-          → (if test then other.id ∷ ids_of boards else board.id ∷ with_id_instead id other.id
-          (ids_of boards))
-          ≡ ids_of (if test then other ∷ boards else board ∷ with_instead id other boards)
-      instead_by true same = refl
-      instead_by false same = ap (λ (ids : List ℕ). board.id ∷ ids) same
-
-ids_marked : (id : ℕ) (quality : Quality) (kept : List Record)
-    → ids_of kept ≡ ids_of (with_mark id quality kept)
-ids_marked id quality [] = refl
-ids_marked id quality (board ∷ boards) =
-    marked_by (board.id == id) (ids_marked id quality boards) where
-      marked_by : (test : Bool) → ids_of boards ≡ ids_of (with_mark id quality boards)
-          → board.id ∷ ids_of boards
-          ≡ ids_of (if test then record board { quality = quality } ∷ boards else board ∷ with_mark id
-          quality boards)
-      marked_by true same = refl
-      marked_by false same = ap (λ (ids : List ℕ). board.id ∷ ids) same
-
 -- what becomes of a machine as it meets an event
 pub record Meets (body : Body) (d : Done) : Type 0 where
   pub hands : Hands (seen_of body) (own_of body) d.acts (own_of d.body)
@@ -795,7 +752,7 @@ inserts_meets : (id : ℕ) (desk : Desk) (barcode : Option (List ℕ)) (body : B
 inserts_meets id desk barcode body =
     let board : Record = plain_record id desk.name barcode in record {
       hands = hands_kept (body.kept ++ board ∷ []) (id_of (held body.outlet))
-          (id_of (in_held body.intake)) (behind_ids body.kept board) hands_insert;
+          (id_of (in_held body.intake)) (ids_behind body.kept board) hands_insert;
       keeps = seen_same;
     }
 

@@ -1,22 +1,23 @@
 -- A LINE, as the link below a machine sees it: where no offer of a board is still to be taken up
 -- there, the machine below doesn't start the board, and none is still to be taken up behind the
 -- line, if the machine above keeps the board no more.
-use Rattle.std.proofs.Common.{Bool, Err, List, None, Ok, Option, Result, Some, [], ap, append-nil, arith, false, inl, inr, length, refl, subst, suc, sym, true, zero, ℕ, ◌++◌, ◌+◌, ◌-◌, ◌||◌, ◌∙◌, ◌∷◌, ◌≡◌, ◌≢◌, ◌≤◌, ◌⊎◌}
+use Rattle.std.proofs.Common.{Bool, Err, List, None, Ok, Option, Result, Some, [], ap, append-nil, arith, false, inl, inr, length, refl, subst, sym, true, ℕ, ◌++◌, ◌+◌, ◌-◌, ◌||◌, ◌∙◌, ◌∷◌, ◌≡◌, ◌≢◌, ◌≤◌, ◌⊎◌}
 use Rattle.std.specs.Prelude.{drop}
 use Rattle.std.specs.List.{list_any}
-use Rattle.std.proofs.lemmas.Bool.{false≢true, ltb-true}
+use Rattle.std.proofs.lemmas.Bool.{false≢true}
+use Rattle.one_standing.proofs.RestLine.{node_there}
+use Rattle.line_history.proofs.UpForms.{other_done, not_bytes, flow_fits, met_fits}
 use Rattle.line_base.specs.declared.states.Role.TheVariants.{Downstream, Upstream}
 use Rattle.line_base.specs.declared.states.Side.{Side}
 use Rattle.line_base.specs.declared.states.Side.TheVariants.{Entry, Exit}
 use Rattle.board_record.specs.Maker.{Maker, next_id}
 use Rattle.board_record.specs.declared.maker.IdsUsedUp.{IdsUsedUp}
 use Rattle.hermes_horizontal.specs.declared.message.Horizontal.{Horizontal}
-use Rattle.hermes_horizontal.specs.declared.message.Message.{Message}
 use Rattle.hermes_stream.specs.Frames.{NeedMore, answer_of}
 use Rattle.session_core.specs.End.{SessionEnd, is_connected_state}
 use Rattle.handover_in.specs.State.{InState, passes_offers_over}
 use Rattle.line_link.specs.Flow.{Stream, coming, flowing, with_arrival}
-use Rattle.line_link.specs.Link.{LinkParts, after_connect, after_flow, after_spoil, connected, connected_of, cut, is_too_much, next_number, nulled, spoil_sent}
+use Rattle.line_link.specs.Link.{LinkParts, after_connect, after_flow, after_spoil, connected_of, cut, is_too_much, next_number, nulled, spoil_sent}
 use Rattle.line_link.specs.declared.link.Connected.{Connected}
 use Rattle.line_link.specs.declared.link.Connected.TheVariants as connections
 use Rattle.line_link.proofs.Coming.{coming_of_nul}
@@ -56,13 +57,13 @@ use Rattle.custody.specs.Words.{down_words}
 use Rattle.custody.proofs.Spoils.{puts_a_nul}
 use Rattle.custody.proofs.Texts.{nothing_flows}
 use Rattle.machine_custody.specs.Flight.{AreOldest, oldest_none}
-use Rattle.link_messages.specs.Fit.{AreFitActs, AreFitWords, IsFitInput, none_fit}
+use Rattle.link_messages.specs.Fit.{AreFitActs, IsFitInput, none_fit}
 use Rattle.link_messages.specs.Heard.{Heard, HeardSpoiled, bodies}
 use Rattle.link_messages.proofs.Fitting.{fit_behind}
 use Rattle.line_step.specs.Lines.{Becomes, Connects, Flows, LineDoes, LineSteps, Moves, Unless, arrived, connecting, cut_in, lied, met, move_told, moved, spoil_told, spoiled, unseen}
 use Rattle.line_step.specs.Numbered.{node_at}
 use Rattle.line_step.specs.Opened.{open_act, open_after, opened_by}
-use Rattle.line_step.specs.Reasons.{May, has_link, is_empty, may_connect, may_do, may_flow}
+use Rattle.line_step.specs.Reasons.{May, is_empty, may_connect, may_do, may_flow}
 use Rattle.line_step.specs.Shown.{shown, standings_told}
 use Rattle.line_step.specs.State.{LineState, one_more, with_world}
 use Rattle.line_step.specs.Steps.{MachineSteps, is_second, moment_of, read_by, unread_by}
@@ -71,7 +72,7 @@ use Rattle.line_step.proofs.Connecting.{free_below}
 use Rattle.line_step.proofs.Keeps.{more_at}
 use Rattle.line_step.proofs.Numbers.{Written, link_set, machine_within, nowhere, same_or_not, written}
 use Rattle.line_step.proofs.Opening.{steps_open}
-use Rattle.one_standing.specs.Carried.{Carries, IsFitMachine, Trace, carries_over, carries_spoiled, carries_whole}
+use Rattle.one_standing.specs.Carried.{IsFitMachine, Trace}
 use Rattle.one_standing.specs.Links.{AreWholeLinks}
 use Rattle.one_standing.specs.Stands.{Stands}
 use Rattle.one_standing.specs.Standing.{IsFitLine}
@@ -79,23 +80,21 @@ use Rattle.one_standing.specs.Waits.{AreWaiting}
 use Rattle.one_standing.proofs.Behind.{fit_machine}
 use Rattle.one_standing.proofs.BlameJoins.{whole_connecting}
 use Rattle.one_standing.proofs.BlameLines.{met_quiet, more_same}
-use Rattle.one_standing.proofs.BlameSteps.{NewBytes, acts_fit, heard_good, is_bytes, new_bytes, others_stay, quiet_fit}
+use Rattle.one_standing.proofs.BlameSteps.{NewBytes, acts_fit, heard_good, new_bytes, others_stay, quiet_fit}
 use Rattle.one_standing.proofs.Carrying.{SaysAlone}
 use Rattle.one_standing.proofs.Counting.{is_wrong_first}
 use Rattle.one_standing.proofs.LedgerLine.{same_nodes}
 use Rattle.one_standing.proofs.LineForms.{numbered}
-use Rattle.one_standing.proofs.Mirroring.{node_there}
-use Rattle.one_standing.proofs.MirroringCall.{dry_down}
-use Rattle.one_standing.proofs.MirroringEnds.{before_one}
-use Rattle.one_standing.proofs.MirroringFlow.{CanFlow, arrival, can_flow, empty_of, link_there, no_words}
-use Rattle.one_standing.proofs.MirroringPlain.{is_plain_input}
+use Rattle.one_standing.proofs.MirroringCall.{dry_down, connected_flows}
+use Rattle.one_standing.proofs.MirroringFlow.{CanFlow, arrival, can_flow, empty_of, no_words, bodies_drop}
+use Rattle.one_standing.proofs.MirroringPlain.{is_plain_input, no_second}
 use Rattle.one_standing.proofs.Plain.{node_next}
 use Rattle.one_standing.proofs.WholeLinks.{steps as whole_steps, whole_arrival, whole_links}
-use Rattle.line_history.proofs.View.{cut_none, done_append, done_by, other_acts, own_acts, shown_none, standings_none, told_of_act, undriven, undriven_signals, undriven_step, unvouched_none}
+use Rattle.line_history.proofs.View.{cut_none, done_append, done_by, own_acts, shown_none, standings_none, told_of_act, undriven, undriven_signals, undriven_step, unvouched_none}
 use Rattle.supervisor_replay.proofs.Bodies.{keeps_it}
 use Rattle.supervisor_replay.proofs.Free.{Down, DownOn, IsFree, IsOther, down_over, down_spoiled, down_whole, entry_words, offers_it, starts_it}
 use Rattle.supervisor_replay.proofs.LinkDown.{acts_down, at_set, on_cut, on_limit}
-use Rattle.supervisor_replay.proofs.Receiving.{Receives, step_receives}
+use Rattle.supervisor_replay.proofs.Receiving.{Receives, step_receives, none_both}
 use Rattle.supervisor_replay.proofs.Sending.{step_offers_not}
 
 pub record StaysFree (id k : ℕ) (after : LineState) (told : List Happening) : Type 0 where
@@ -156,12 +155,6 @@ own_plain number m input start after told steps =
     steps.steps.lane.told
     ∙ undriven_step (desk_of steps.node (moment_of number)) (unread_by m start.world)
     (event_of steps.node.maker input steps.steps.lane.words) steps.node.lane.body
-
-other_done : (k number m : ℕ) (input : Input) (start after : LineState) (told : List Happening)
-    → MachineSteps number m input start after told → k ≢ m → done_by k told ≡ []
-other_done k number m input start after told steps apart =
-    ap (done_by k) steps.told_is ∙ other_acts (is_second input) k m steps.acts
-    (read_by m start.world) apart
 
 -- a machine that keeps the board no more sends no offer of it
 sends_none : (id number m : ℕ) (input : Input) (start after : LineState) (told : List Happening)
@@ -308,11 +301,6 @@ incoming_none link then =
       later = λ on now free.
           then on now;
     }
-
-bodies_drop : (n : ℕ) (said : List Message) → bodies (drop n said) ≡ drop n (bodies said)
-bodies_drop zero said = refl
-bodies_drop (suc n) [] = refl
-bodies_drop (suc n) (message ∷ said) = bodies_drop n said
 
 -- a piece arrives
 incoming_piece : {id : ℕ} {passes stands : Bool} {old piece new : List ℕ} {still : Bool}
@@ -546,18 +534,10 @@ step_goes alone id k number m input start after told still steps fit dry whole f
     by (inr apart) =
         beside_goes alone id k number m input start after told apart steps fit dry whole free
 
-not_bytes : (input : Input) → is_plain_input input ≡ true → is_bytes input ≡ false
-not_bytes (inputs.Bytes side piece) plain = absurd (false≢true plain)
-not_bytes _ plain = refl
-
 plain_still : (input : Input) → is_plain_input input ≡ true → still_entry input ≡ true
 plain_still (inputs.Bytes side piece) plain = absurd (false≢true plain)
 plain_still inputs.Connect plain = absurd (false≢true plain)
 plain_still _ plain = refl
-
-plain_second : (input : Input) → is_plain_input input ≡ true → is_second input ≡ false
-plain_second inputs.Second plain = absurd (false≢true plain)
-plain_second _ plain = refl
 
 plain_free : SaysAlone
     → (id k number m : ℕ) (input : Input) (t : Trace) (before next : LineState)
@@ -569,7 +549,7 @@ plain_free alone id k number m input t before next told plain fits few st free s
     plain_still input plain) steps
     (quiet_fit number m input before next told (not_bytes input plain) fits few
     (st.fit m) steps)
-    (λ second. absurd (false≢true (sym (plain_second input plain) ∙ second))) st.links free)
+    (λ second. absurd (false≢true (sym (no_second input plain) ∙ second))) st.links free)
 
 -- ---- a line without a step
 
@@ -603,63 +583,6 @@ unless_free (Err reason) id k before next told Does free does then =
     becomes_free id k before next _ told does (still_free id k before _ refl free)
 
 -- ---- bytes arrive
-
--- the words of a piece are fit
-carries_fit : {stands : Bool} {stream : Stream} {messages : List Horizontal} → SaysAlone
-    → (words : List Word) (old piece new : List ℕ) (still : Bool) (later : Stream)
-    → coming stream ≡ piece ++ coming later → is_empty (coming stream) ≡ false
-    → AreWords old piece new still words → Carries stands old stream messages → AreFitWords words
-carries_fit alone words old piece new still later is some are (carries_whole said good flows) =
-    alone.fit_words old piece (coming later) new still words said (alone.sayable said good) good
-    (subst (λ (bytes : List ℕ). FlowsAs old bytes (texts_of said)) is flows) are
-carries_fit alone words old piece new still later is some are (carries_spoiled spoils) =
-    alone.fit_wrong old piece (coming later) new still words
-    (subst (λ (bytes : List ℕ). Spoiled old bytes) is spoils) are
-carries_fit {stream = stream} alone words old piece new still later is some are
-    (carries_over off nothing) = absurd (false≢true (sym some ∙ empty_of (coming stream) nothing))
-
-flow_fits : SaysAlone
-    → (t : Trace) (number j : ℕ) (side : Side) (count : Option ℕ) (before after : LineState)
-    (told : List Happening) → CanFlow (j + 1) side before → Stands t before
-    → (flows : Flows number (j + 1) side count before after told)
-    → AreFitWords flows.steps.steps.lane.words
-flow_fits alone t number j Entry count before after told can st flows =
-    let steps = flows.steps in
-    let s : Stream = (link_at j before.world).flows.to_downstream in
-    let within = (machine_within (j + 1) before steps.node steps.there).1 in
-    let behind : 1 ≤ j = omega (arith, ltb-true 1 (j + 1) can.beside) in
-    let there : has_link j before ≡ true = link_there j (length before.machines) behind within in
-    let node_is : node_at before (j + 1) ≡ steps.node =
-    node_there (j + 1) before steps.node steps.there in
-    let same : coming s ≡ coming (link_at (j + 1 - 1) before.world).flows.to_downstream =
-    ap (λ (k : ℕ). coming (link_at k before.world).flows.to_downstream) (sym (before_one j)) in
-    let stream : Stream = (link_at (j + 1 - 1) before.world).flows.to_downstream in
-    let waits : Carries (link_at j before.world).stands steps.node.lane.entry_bytes s (t.down j) =
-    subst (λ (m : NodeState). Carries (link_at j before.world).stands m.lane.entry_bytes s
-    (t.down j)) node_is (st.carried j there).down in
-    carries_fit alone steps.steps.lane.words steps.node.lane.entry_bytes flows.piece.now
-    steps.next.lane.entry_bytes (is_open Entry steps.next.lane.body)
-    (with_arrival (flowing count stream) stream)
-    (same ∙ arrival (flowing count stream) stream flows.piece.now flows.bytes)
-    (ap is_empty same ∙ can.comes) steps.steps.lane.brings.0 waits
-flow_fits alone t number j Exit count before after told can st flows =
-    let steps = flows.steps in
-    let s : Stream = (link_at (j + 1) before.world).flows.to_upstream in
-    let within : j + 1 + 1 ≤ length before.machines =
-    omega (arith, ltb-true (j + 1) (length before.machines) can.beside) in
-    let there : has_link (j + 1) before ≡ true =
-    link_there (j + 1) (length before.machines) (omega arith) within in
-    let node_is : node_at before (j + 1) ≡ steps.node =
-    node_there (j + 1) before steps.node steps.there in
-    let waits : Carries (link_at (j + 1) before.world).stands steps.node.lane.exit_bytes s
-    (t.up (j + 1)) =
-    subst (λ (m : NodeState). Carries (link_at (j + 1) before.world).stands m.lane.exit_bytes s
-    (t.up (j + 1))) node_is (st.carried (j + 1) there).up in
-    carries_fit alone steps.steps.lane.words steps.node.lane.exit_bytes flows.piece.now
-    steps.next.lane.exit_bytes (is_open Exit steps.next.lane.body)
-    (with_arrival (flowing count s) s)
-    (arrival (flowing count s) s flows.piece.now flows.bytes) can.comes steps.steps.lane.brings.0
-    waits
 
 flow_acts_fit : SaysAlone
     → (t : Trace) (number j : ℕ) (side : Side) (count : Option ℕ) (before after : LineState)
@@ -820,35 +743,14 @@ flow_free alone id k number m side count t before next told may few st free flow
 
 -- ---- a connection is made
 
-none_any : (id : ℕ) (a b : List Act) → list_any (starts_it id) a ≡ false
-    → list_any (starts_it id) b ≡ false → list_any (starts_it id) (a ++ b) ≡ false
-none_any id [] b one two = two
-none_any id (act ∷ a) b one two = by (starts_it id act) one (none_any id a b)
-  where
-    by : (test : Bool) → (test || list_any (starts_it id) a) ≡ false
-        → (list_any (starts_it id) a ≡ false → list_any (starts_it id) b ≡ false
-        → list_any (starts_it id) (a ++ b) ≡ false)
-        → (test || list_any (starts_it id) (a ++ b)) ≡ false
-    by true one then = one
-    by false one then = then one two
-
 none_twice : (id k : ℕ) (earlier later told : List Happening) → told ≡ earlier ++ later
     → list_any (starts_it id) (done_by (k + 1) earlier) ≡ false
     → list_any (starts_it id) (done_by (k + 1) later) ≡ false
     → list_any (starts_it id) (done_by (k + 1) told) ≡ false
 none_twice id k earlier later told is one two =
     ap (λ (l : List Happening). list_any (starts_it id) (done_by (k + 1) l)) is ∙ ap
-    (list_any (starts_it id)) (done_append (k + 1) earlier later) ∙ none_any id
+    (list_any (starts_it id)) (done_append (k + 1) earlier later) ∙ none_both id
     (done_by (k + 1) earlier) (done_by (k + 1) later) one two
-
-connected_flows : (number : Option ℕ) (next : ℕ) (link : LinkParts)
-    → (connected number next link).flows ≡ link.flows
-connected_flows None next link = refl
-connected_flows (Some other) next link = refl
-
-met_fits : (on : Connected) → IsFitInput (met on)
-met_fits connections.Accepted = tt
-met_fits connections.Second = tt
 
 met_still : (on : Connected) → still_entry (met on) ≡ true
 met_still connections.Accepted = refl

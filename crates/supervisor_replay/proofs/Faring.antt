@@ -1,5 +1,7 @@
 -- What was told of a board stays right, whatever becomes of it.
 use Rattle.std.proofs.Common.{◌≡◌, ◌≢◌, ◌≤◌, ◌⊎◌, ◌∙◌, ◌+◌, ℕ, Bool, true, false, inl, inr, refl, subst, sym, ap, arith, eq-eqb, ne_eqb}
+use Rattle.std.proofs.lemmas.Bool.{cases_Bool, false_from_ne_true}
+use Rattle.one_standing.proofs.RestLine.{same_place}
 use Rattle.hermes_vertical.specs.declared.message.Passing.TheVariants.{ByHand, Transferred}
 use Rattle.line_step.proofs.Numbers.{same_or_not}
 use Rattle.supervisor_replay.specs.Replay.{At, Nowhere, Told, Way, Whereabouts, departs, nothing_told, on_its_way, taken_from}
@@ -27,15 +29,6 @@ record Right (v : View) (told : Told) (left : ℕ → Bool) : Type 0 where
 not_both : {b : Bool} → b ≡ true → b ≡ false → ⊥
 not_both is not = cc
 
-true_or_false : (b : Bool) → (b ≡ true) ⊎ (b ≡ false)
-true_or_false true = inl refl
-true_or_false false = inr refl
-
--- what isn't true is false
-is_false : (b : Bool) → (b ≡ true → ⊥) → b ≡ false
-is_false true never = absurd (never refl)
-is_false false never = refl
-
 has_not : (v : View) (i : ℕ) → v.kept i ≡ false → v.held i ≡ false → Has v i → ⊥
 has_not v i kept held (inl is) = not_both is kept
 has_not v i kept held (inr is) = not_both is held
@@ -43,15 +36,15 @@ has_not v i kept held (inr is) = not_both is held
 right_of : (v : View) (told : Told) (left : ℕ → Bool) → Holds v told left → Right v told left
 right_of v told left h = record {
   has_at = λ i has. elim has [ inl is ↦ h.kept_at i is | inr is ↦ h.held_at i is ];
-  at_has = λ i place. elim (true_or_false (v.kept i)) [
+  at_has = λ i place. elim (cases_Bool (v.kept i)) [
     | inl is ↦ inl is
     | inr not ↦ inr (h.at i place not)
   ];
   way_left = λ i place. (h.way i place).0;
   way_taken = λ i place. (h.way i place).1;
   on_way = λ i left taken none. h.on_way i left taken
-      (λ k. is_false (v.kept k) (λ is. none k (inl is)))
-      (λ k. is_false (v.held k) (λ is. none k (inr is)));
+      (λ k. false_from_ne_true (v.kept k) (λ is. none k (inl is)))
+      (λ k. false_from_ne_true (v.held k) (λ is. none k (inr is)));
   off = h.off;
   lost = λ i lost has taken. not_both taken (h.lost i lost has);
   leaves = h.leaves;
@@ -80,16 +73,16 @@ holds_of v told left r passed = record {
   way = λ i place. (r.way_left i place, r.way_taken i place);
   on_way = λ i left taken kept held. r.on_way i left taken (λ k. has_not v k (kept k) (held k));
   off = r.off;
-  lost = λ i lost has. is_false (v.taken (i + 1)) (r.lost i lost has);
+  lost = λ i lost has. false_from_ne_true (v.taken (i + 1)) (r.lost i lost has);
   leaves = r.leaves;
   on_floor = r.on_floor;
   over = λ i left taken. (
-    is_false (v.kept i) (λ is. r.over i left taken (inl is)),
-    is_false (v.held i) (λ is. r.over i left taken (inr is)),
+    false_from_ne_true (v.kept i) (λ is. r.over i left taken (inl is)),
+    false_from_ne_true (v.held i) (λ is. r.over i left taken (inr is)),
   );
   behind = λ k gone i above. (
-    is_false (v.kept i) (λ is. passed.has k i gone above (inl is)),
-    (is_false (v.held i) (λ is. passed.has k i gone above (inr is)), passed.takes k i gone above),
+    false_from_ne_true (v.kept i) (λ is. passed.has k i gone above (inl is)),
+    (false_from_ne_true (v.held i) (λ is. passed.has k i gone above (inr is)), passed.takes k i gone above),
   );
 }
 
@@ -296,9 +289,6 @@ right_so {v = v} {w = w} r apart has takes off is same =
 
 -- ---- it leaves
 
-same_gap : (i m : ℕ) → i + 1 ≡ m + 1 → i ≡ m
-same_gap i m is = omega (arith, is)
-
 right_left : {j : ℕ} {v w : View} {told told2 : Told} {left left2 : ℕ → Bool} → Right v told left
     → IsSole v → IsPlaced v → IsApart j v w → v.held (j + 1) ≡ true → v.leaving (j + 1) ≡ true
     → HasNone j w → TakesAsBefore j v w → w.off ≡ v.off
@@ -306,7 +296,7 @@ right_left : {j : ℕ} {v w : View} {told told2 : Told} {left left2 : ℕ → Bo
     → Right w told2 left2
 right_left {j} {v} {w} {told} {told2} {left} {left2}
     r sole placed apart held leaving none takes off is set =
-    elim (true_or_false told.lost) [ inl gone ↦ nowhere gone | inr there ↦ on there ]
+    elim (cases_Bool told.lost) [ inl gone ↦ nowhere gone | inr there ↦ on there ]
   where
     taken : (i : ℕ) → w.taken i ≡ v.taken i
     taken = taken_same apart takes
@@ -316,7 +306,7 @@ right_left {j} {v} {w} {told} {told2} {left} {left2}
 
     gap_is : (i : ℕ) → w.taken (i + 1) ≡ true → i ≡ j + 1
     gap_is i on =
-        same_gap i (j + 1) (sole.held_above (j + 1) (i + 1) held (sym (taken (i + 1)) ∙ on))
+        same_place i (j + 1) (sole.held_above (j + 1) (i + 1) held (sym (taken (i + 1)) ∙ on))
 
     below_it : (i : ℕ) → w.taken (i + 1) ≡ true → v.taken (j + 1 + 1) ≡ true
     below_it i on =
@@ -351,7 +341,7 @@ right_gone {j} {v} {w} {told} {told2} r sole apart had none takes off is same =
     (λ gone. off (sym (lost_of told_is) ∙ gone))
     (λ i gone on.
     let taken : v.taken (i + 1) ≡ true = sym (taken_same apart takes (i + 1)) ∙ on in
-    let here : i ≡ j + 1 = same_gap i (j + 1) (below sole (j + 1) (i + 1) had taken) in
+    let here : i ≡ j + 1 = same_place i (j + 1) (below sole (j + 1) (i + 1) had taken) in
     r.over i (sym (same i) ∙ gone) taken (subst (λ k. Has v k) (sym here) had))
 
 -- ---- it settles, or comes by hand
@@ -377,7 +367,7 @@ right_settled {j} {v} {w} r sole apart taken kept held has off is =
 
     none : (i : ℕ) → Has v i → ⊥
     none i had =
-        let above : j ≡ i = same_gap j i (below sole i (j + 1) had taken) in
+        let above : j ≡ i = same_place j i (below sole i (j + 1) had taken) in
         has_not v j kept held (subst (λ k. Has v k) (sym above) had)
 
 right_new : {j : ℕ} {v w : View} {told told2 : Told} {left left2 : ℕ → Bool} → IsApart j v w
@@ -429,12 +419,12 @@ missing_at : {j : ℕ} {v w : View} {told told2 : Told} {left left2 : ℕ → Bo
     → told2 ≡ departs (j + 1) ByHand told → Same left left2
     → (place : Whereabouts) → told.place ≡ place → Right w told2 left2
 missing_at {j} {told = told} r sole apart taken has free gone is same (At i) place =
-    let gap : i ≡ j = sym (same_gap j i (below sole i (j + 1) (r.at_has i place) taken)) in
+    let gap : i ≡ j = sym (same_place j i (below sole i (j + 1) (r.at_has i place) taken)) in
     missing_above r sole apart taken has free gone
     (is ∙ (by_hand (j + 1) told (At j) (place ∙ ap At gap) ∙ from_above j told)) same i place
 missing_at {j} {told = told} r sole apart taken has free gone is same (Way i) place =
     let gap : i ≡ j =
-    same_gap i j (sole.one_taken (i + 1) (j + 1) (r.way_taken i place) taken) in
+    same_place i j (sole.one_taken (i + 1) (j + 1) (r.way_taken i place) taken) in
     missing_nowhere sole apart taken has free gone
     (place_of (is ∙ (by_hand (j + 1) told (Way j) (place ∙ ap Way gap) ∙ from_way j told)))
     (λ k it. let at : told.place ≡ At k = r.has_at k it in cc)
@@ -458,8 +448,8 @@ no_way : {j : ℕ} {v : View} {told : Told} {left : ℕ → Bool} → Right v to
     → told.place ≡ Way j → ⊥
 no_way {j} {v} r missing there place =
     let none : Has v j → ⊥ = r.over j (r.way_left j place) (r.way_taken j place) in
-    let on : v.off ≡ false = is_false v.off (λ gone. not_both (r.on_floor j place gone) missing) in
-    none (inl (there (is_false (v.held j) (λ is. none (inr is))) on))
+    let on : v.off ≡ false = false_from_ne_true v.off (λ gone. not_both (r.on_floor j place gone) missing) in
+    none (inl (there (false_from_ne_true (v.held j) (λ is. none (inr is))) on))
 
 -- what will leave is not above it
 leaving_else : {j : ℕ} {v w : View} → IsApart j v w → (v.held j ≡ true → v.leaving j ≡ false)
@@ -468,7 +458,7 @@ leaving_else : {j : ℕ} {v w : View} → IsApart j v w → (v.held j ≡ true �
 leaving_else {j} {v} apart stays_above i held leaving taken =
     let other : i ≢ j = λ above. not_both (sym (ap v.leaving above) ∙ leaving)
     (stays_above (sym (ap v.held above) ∙ held)) in
-    apart.taken (i + 1) (λ gap. other (same_gap i j gap)) ∙ taken
+    apart.taken (i + 1) (λ gap. other (same_place i j gap)) ∙ taken
 
 right_upstream : {j : ℕ} {v w : View} {told told2 : Told} {left left2 : ℕ → Bool}
     → Right v told left → IsSole v → IsApart j v w → v.taken (j + 1) ≡ true
@@ -497,7 +487,7 @@ right_upstream {j} {v} {w} {told}
     never : (i : ℕ) → told.place ≡ Way i → ⊥
     never i place =
         let gap : i ≡ j =
-        same_gap i j (sole.one_taken (i + 1) (j + 1) (r.way_taken i place) taken) in
+        same_place i j (sole.one_taken (i + 1) (j + 1) (r.way_taken i place) taken) in
         no_way r missing there (place ∙ ap Way gap)
 
 -- ---- WHATEVER BECOMES OF IT
@@ -655,7 +645,7 @@ right_started {j} {v} {w} {told} {left} {left2} r started on = record {
         ∙ r.leaves i (sym (started.held i) ∙ held) (sym (started.leaving i) ∙ leaving) there
   ];
   on_floor = λ i place gone.
-      started.missing (i + 1) (λ gap. other_way i place (same_gap i j gap))
+      started.missing (i + 1) (λ gap. other_way i place (same_place i j gap))
       ∙ r.on_floor i place (sym started.off ∙ gone);
   over = λ i gone is it. r.over i (was_left i gone)
       (sym (taken i (other_left i gone)) ∙ is) (stays.was i it);
@@ -675,7 +665,7 @@ right_started {j} {v} {w} {told} {left} {left2} r started on = record {
     was_left i gone = sym (started.cleared.there i (other_left i gone)) ∙ gone
 
     taken : (i : ℕ) → i ≢ j → w.taken (i + 1) ≡ v.taken (i + 1)
-    taken i other = started.others (i + 1) (λ gap. other (same_gap i j gap))
+    taken i other = started.others (i + 1) (λ gap. other (same_place i j gap))
 
 -- what has left below is started but where it is off the floor
 passed_started : {j : ℕ} {v w : View} {left left2 : ℕ → Bool} → HasPassed v left
@@ -712,7 +702,7 @@ starting j v w told left left2 h started on =
 -- of a board that is taken out on its way the entry below sees it
 sees_it : {v w : View} {told : Told} {left : ℕ → Bool} → Right v told left → IsSole v → IsMoved v w
     → (i : ℕ) → told.place ≡ Way i → w.off ≡ true → w.missing (i + 1) ≡ true
-sees_it {v = v} {w = w} {told = told} r sole moved i place gone = elim (true_or_false v.off) [
+sees_it {v = v} {w = w} {told = told} r sole moved i place gone = elim (cases_Bool v.off) [
   | inl before ↦ moved.missing (i + 1) (r.on_floor i place before)
   | inr there ↦ out_of (moved.taken_out there gone)
 ]
@@ -834,7 +824,7 @@ there_removed {j = j} sole apart kept takes off = record {
   gone = λ i _ _. off;
   on = λ i _ is. absurd (not_both off is);
   out = λ i other _ taken _.
-      absurd (other (same_gap i (j + 1) (sole.kept_above (j + 1) (i + 1) kept taken)));
+      absurd (other (same_place i (j + 1) (sole.kept_above (j + 1) (i + 1) kept taken)));
 }
 
 there_new : {j : ℕ} {v w : View} → ((i : ℕ) → v.held i ≡ false) → ((i : ℕ) → v.taken i ≡ false)

@@ -1,6 +1,8 @@
 -- Whether a board of an id is on the floor, behind a line: it comes by its insertion and goes by its removal alone.
-use Rattle.std.proofs.Common.{◌≡◌, ◌≤◌, ◌==◌, ◌||◌, ℕ, Bool, true, false, List, [], ◌∷◌, Option, Some, None, refl, sym, subst, arith, eqb-true}
+use Rattle.std.proofs.Common.{◌≡◌, ◌≤◌, ◌==◌, ℕ, Bool, true, false, List, [], ◌∷◌, Option, Some, None, refl, sym, subst, arith, eqb-true}
 use Rattle.std.specs.List.{list_any}
+use Rattle.std.proofs.lemmas.Bool.{or_parts}
+use Rattle.one_standing.proofs.ApartStep.{same_count as same_less, bare_count}
 use Rattle.line_base.specs.declared.states.Side.TheVariants.{Entry, Exit}
 use Rattle.line_world.specs.Boards.{ChangesId, LosesBoard}
 use Rattle.line_world.specs.FloorPlan.{has_id}
@@ -34,14 +36,6 @@ may_bring id _ = false
 
 abbrev pub may_bring_any : ℕ → List Happening → Bool
 may_bring_any id told = list_any (may_bring id) told
-
-or_first : (a b : Bool) → (a || b) ≡ false → a ≡ false
-or_first false b is = refl
-or_first true b is = is
-
-or_second : (a b : Bool) → (a || b) ≡ false → b ≡ false
-or_second false b is = is
-or_second true b is = absurd (let no : true ≡ false = is in cc)
 
 gained : (x : ℕ) (board : Board) (old new : List Board) → LosesBoard new old board
     → counted x old ≤ counted x new
@@ -106,10 +100,10 @@ all_stay : (x : ℕ) (told : List Happening) (old new : List Board)
 all_stay x [] old new not same = same_count x old new same
 all_stay x (happening ∷ told) old new not change =
     let one =
-    stays_by x happening old change.0 (or_first (may_lose x happening) (may_lose_any x told) not)
+    stays_by x happening old change.0 (or_parts (may_lose x happening) (may_lose_any x told) not).0
     change.1 in
     let rest =
-    all_stay x told change.0 new (or_second (may_lose x happening) (may_lose_any x told) not)
+    all_stay x told change.0 new (or_parts (may_lose x happening) (may_lose_any x told) not).1
     change.2 in
     omega (arith, one, rest)
 
@@ -131,12 +125,6 @@ gained_other x id old new apart gain =
     let more = lost_with x gain.front gain.back (record { id = Some id }) false (new_board x id apart) in
     rw (gain.before, gain.after) (omega (arith, more))
 
-gained_bare : (x : ℕ) (old new : List Board) → LosesBoard new old (record { id = None })
-    → counted x new ≤ counted x old
-gained_bare x old new gain =
-    let more = lost_with x gain.front gain.back (record { id = None }) false refl in
-    rw (gain.before, gain.after) (omega (arith, more))
-
 lost : (x : ℕ) (board : Board) (old new : List Board) → LosesBoard old new board
     → counted x new ≤ counted x old
 lost x board old new loss =
@@ -152,9 +140,6 @@ changed x was now old new apart change =
     (new_board x now apart) in
     rw (there.before, there.after) (omega (arith, same))
 
-same_less : (x : ℕ) (old new : List Board) → new ≡ old → counted x new ≤ counted x old
-same_less x old new same = rw same (omega arith)
-
 comes_by : (x : ℕ) (happening : Happening) (old new : List Board) → may_bring x happening ≡ false
     → ChangesBoards happening old new → counted x new ≤ counted x old
 comes_by x (happenings.Done machine (acts.Inserts id)) old new not gain = gained_other x id old new not gain
@@ -162,7 +147,7 @@ comes_by x (happenings.Done machine (acts.Removes id)) old new not loss = lost x
 comes_by x (happenings.Done machine (acts.Replaces was now)) old new not change =
     changed x was now old new not change
 comes_by x (happenings.Moved gap moves.Take) old new not loss = lost x loss.0 old new loss.1
-comes_by x (happenings.Unseen machine Entry) old new not gain = gained_bare x old new gain
+comes_by x (happenings.Unseen machine Entry) old new not gain = bare_count x old new gain
 comes_by x (happenings.Unseen machine Exit) old new not loss = lost x loss.0 old new loss.1
 comes_by x _ old new not same = same_less x old new same
 
@@ -171,10 +156,10 @@ all_come : (x : ℕ) (told : List Happening) (old new : List Board)
 all_come x [] old new not same = same_less x old new same
 all_come x (happening ∷ told) old new not change =
     let one =
-    comes_by x happening old change.0 (or_first (may_bring x happening) (may_bring_any x told) not)
+    comes_by x happening old change.0 (or_parts (may_bring x happening) (may_bring_any x told) not).0
     change.1 in
     let rest =
-    all_come x told change.0 new (or_second (may_bring x happening) (may_bring_any x told) not)
+    all_come x told change.0 new (or_parts (may_bring x happening) (may_bring_any x told) not).1
     change.2 in
     omega (arith, one, rest)
 

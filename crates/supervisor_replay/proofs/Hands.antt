@@ -78,6 +78,9 @@ use Rattle.line_step.proofs.Hands.{
   supervises-quiet,
 }
 use Rattle.std.specs.Prelude.{slice_get}
+use Rattle.line_history.proofs.Offering.{or_join}
+use Rattle.one_standing.proofs.MirroringEnds.{vacuous}
+use mathlib.Core.Bool.{or-false}
 use Rattle.supervisor_replay.proofs.Bodies.{brings_in, takes_out}
 use Rattle.one_standing.specs.Told.{IsTold, told_first}
 use Rattle.one_standing.proofs.ApartStep.{told_before, told_behind}
@@ -99,16 +102,12 @@ quiet_in id (acts.Removes other ∷ made) all = absurd all.0
 quiet_in id (acts.Replaces old new ∷ made) all = absurd all.0
 quiet_in id (act ∷ made) all = quiet_in id made all.1
 
-or_join : (x y z : Bool) → (x || (y || z)) ≡ ((x || y) || z)
-or_join true y z = refl
-or_join false y z = refl
-
 any_join : (f : Act → Bool) (a b : List Act) → list_any f (a ++ b) ≡ (list_any f a || list_any f b)
 any_join f [] b = refl
 any_join f (act ∷ a) b =
     ap (λ (rest : Bool). f act || rest) (any_join f a b) ∙ or_join (f act) (list_any f a) (list_any f b)
 
-middle : (x y z : Bool) → x ≡ false → z ≡ false → (x || (y || z)) ≡ y
+pub middle : (x y z : Bool) → x ≡ false → z ≡ false → (x || (y || z)) ≡ y
 middle false true z one two = refl
 middle false false z one two = two
 middle true y z one two = absurd (false≢true (sym one))
@@ -145,9 +144,6 @@ step_ins id desk unread event body =
     (quiet_in id last.acts (announces-quiet desk met.body))
 
 -- ---- which events they are of
-
-not_both : {X : Type 0} {b : Bool} → b ≡ false → b ≡ true → X
-not_both off is = absurd (false≢true (sym off ∙ is))
 
 or_nothing : (b : Bool) → (b || false) ≡ true → b ≡ true
 or_nothing true is = refl
@@ -194,56 +190,52 @@ outs_are id desk (Replace old new) body is =
     replaced_out id old new (is_kept old body.kept) _ body is
 outs_are id desk (Insert new barcode) body is = absurd (false≢true is)
 outs_are id desk Nothing body is = absurd (false≢true is)
-outs_are id desk Connect body is = not_both (quiet_out id _ (opens-quiet desk Entry body)) is
-outs_are id desk Accepted body is = not_both (quiet_out id _ (opens-quiet desk Exit body)) is
-outs_are id desk Second body is = not_both (quiet_out id _ (second-quiet desk body)) is
+outs_are id desk Connect body is = vacuous (quiet_out id _ (opens-quiet desk Entry body)) is
+outs_are id desk Accepted body is = vacuous (quiet_out id _ (opens-quiet desk Exit body)) is
+outs_are id desk Second body is = vacuous (quiet_out id _ (second-quiet desk body)) is
 outs_are id desk (Words side words) body is =
-    not_both (quiet_out id _ (heard-quiet desk side words body)) is
-outs_are id desk (Notice side) body is = not_both (quiet_out id _ (notices-quiet desk side body)) is
-outs_are id desk Tick body is = not_both (quiet_out id _ (both_tick-quiet desk body)) is
-outs_are id desk Shutdown body is = not_both (quiet_out id _ (both_shut-quiet desk body)) is
-outs_are id desk (Fault side) body is = not_both (quiet_out id _ (faults-quiet desk side body)) is
+    vacuous (quiet_out id _ (heard-quiet desk side words body)) is
+outs_are id desk (Notice side) body is = vacuous (quiet_out id _ (notices-quiet desk side body)) is
+outs_are id desk Tick body is = vacuous (quiet_out id _ (both_tick-quiet desk body)) is
+outs_are id desk Shutdown body is = vacuous (quiet_out id _ (both_shut-quiet desk body)) is
+outs_are id desk (Fault side) body is = vacuous (quiet_out id _ (faults-quiet desk side body)) is
 outs_are id desk (Will side on) body is = absurd (false≢true is)
-outs_are id desk (Level line on) body is = not_both (quiet_out id (sets_level desk line on body).acts (levels-quiet desk line on body)) is
+outs_are id desk (Level line on) body is = vacuous (quiet_out id (sets_level desk line on body).acts (levels-quiet desk line on body)) is
 outs_are id desk (Mark other quality) body is =
-    not_both (quiet_out id _ (marks-quiet (is_kept other body.kept) _ body (acts.Marks other quality) tt)) is
+    vacuous (quiet_out id _ (marks-quiet (is_kept other body.kept) _ body (acts.Marks other quality) tt)) is
 outs_are id desk Forecast body is =
-    not_both (quiet_out id _ (forecasts-quiet desk (slice_get body.kept 0))) is
+    vacuous (quiet_out id _ (forecasts-quiet desk (slice_get body.kept 0))) is
 outs_are id desk (Query barcode) body is = absurd (false≢true is)
 outs_are id desk (Supervised what) body is =
-    not_both (quiet_out id (supervises desk what body).acts (supervises-quiet desk what body)) is
+    vacuous (quiet_out id (supervises desk what body).acts (supervises-quiet desk what body)) is
 
 pub ins_are : (id : ℕ) (desk : Desk) (event : Event) (body : Machine)
     → list_any (brings_in id) (event_did desk event body).acts ≡ true → BringsIn id event
-ins_are id desk (Remove old) body is = not_both (removed_in id old (is_kept old body.kept) _ body) is
+ins_are id desk (Remove old) body is = vacuous (removed_in id old (is_kept old body.kept) _ body) is
 ins_are id desk (Replace old new) body is = replaced_in id old new (is_kept old body.kept) _ body is
 ins_are id desk (Insert new barcode) body is =
     subst (λ (n : ℕ). BringsIn id (Insert n barcode)) (sym (eqb-true new id (or_nothing (new == id) is))) in_inserted
 ins_are id desk Nothing body is = absurd (false≢true is)
-ins_are id desk Connect body is = not_both (quiet_in id _ (opens-quiet desk Entry body)) is
-ins_are id desk Accepted body is = not_both (quiet_in id _ (opens-quiet desk Exit body)) is
-ins_are id desk Second body is = not_both (quiet_in id _ (second-quiet desk body)) is
+ins_are id desk Connect body is = vacuous (quiet_in id _ (opens-quiet desk Entry body)) is
+ins_are id desk Accepted body is = vacuous (quiet_in id _ (opens-quiet desk Exit body)) is
+ins_are id desk Second body is = vacuous (quiet_in id _ (second-quiet desk body)) is
 ins_are id desk (Words side words) body is =
-    not_both (quiet_in id _ (heard-quiet desk side words body)) is
-ins_are id desk (Notice side) body is = not_both (quiet_in id _ (notices-quiet desk side body)) is
-ins_are id desk Tick body is = not_both (quiet_in id _ (both_tick-quiet desk body)) is
-ins_are id desk Shutdown body is = not_both (quiet_in id _ (both_shut-quiet desk body)) is
-ins_are id desk (Fault side) body is = not_both (quiet_in id _ (faults-quiet desk side body)) is
+    vacuous (quiet_in id _ (heard-quiet desk side words body)) is
+ins_are id desk (Notice side) body is = vacuous (quiet_in id _ (notices-quiet desk side body)) is
+ins_are id desk Tick body is = vacuous (quiet_in id _ (both_tick-quiet desk body)) is
+ins_are id desk Shutdown body is = vacuous (quiet_in id _ (both_shut-quiet desk body)) is
+ins_are id desk (Fault side) body is = vacuous (quiet_in id _ (faults-quiet desk side body)) is
 ins_are id desk (Will side on) body is = absurd (false≢true is)
-ins_are id desk (Level line on) body is = not_both (quiet_in id (sets_level desk line on body).acts (levels-quiet desk line on body)) is
+ins_are id desk (Level line on) body is = vacuous (quiet_in id (sets_level desk line on body).acts (levels-quiet desk line on body)) is
 ins_are id desk (Mark other quality) body is =
-    not_both (quiet_in id _ (marks-quiet (is_kept other body.kept) _ body (acts.Marks other quality) tt)) is
+    vacuous (quiet_in id _ (marks-quiet (is_kept other body.kept) _ body (acts.Marks other quality) tt)) is
 ins_are id desk Forecast body is =
-    not_both (quiet_in id _ (forecasts-quiet desk (slice_get body.kept 0))) is
+    vacuous (quiet_in id _ (forecasts-quiet desk (slice_get body.kept 0))) is
 ins_are id desk (Query barcode) body is = absurd (false≢true is)
 ins_are id desk (Supervised what) body is =
-    not_both (quiet_in id (supervises desk what body).acts (supervises-quiet desk what body)) is
+    vacuous (quiet_in id (supervises desk what body).acts (supervises-quiet desk what body)) is
 
 -- ---- what the report tells of it
-
-or_false : (b : Bool) → (b || false) ≡ b
-or_false true = refl
-or_false false = refl
 
 -- a test of happenings that looks at a machine's act alone
 pub record LooksAtActs (f : Happening → Bool) (g : Act → Bool) : Type 0 where
@@ -253,7 +245,7 @@ pub record LooksAtActs (f : Happening → Bool) (g : Act → Bool) : Type 0 wher
 
 cut_none : (f : Happening → Bool) (g : Act → Bool) (link : ℕ) (on : Sent) → LooksAtActs f g
     → list_any f (cut_told link on) ≡ false
-cut_none f g link sent.Cuts looks = or_false (f (happenings.Cut link)) ∙ looks.cuts link
+cut_none f g link sent.Cuts looks = or-false (f (happenings.Cut link)) ∙ looks.cuts link
 cut_none f g link sent.Flows looks = refl
 cut_none f g link sent.Vanishes looks = refl
 
@@ -263,13 +255,13 @@ sent_any : (f : Happening → Bool) (g : Act → Bool) (second : Bool) (machine 
 sent_any f g true machine side message world looks =
     ap (λ (b : Bool). f (happenings.Done machine (acts.Sends side message)) || b)
     (cut_none f g machine (answer_sent (canonical message) (link_at machine world)) looks)
-    ∙ or_false (f (happenings.Done machine (acts.Sends side message)))
+    ∙ or-false (f (happenings.Done machine (acts.Sends side message)))
     ∙ looks.each machine (acts.Sends side message)
 sent_any f g false machine side message world looks =
     ap (λ (b : Bool). f (happenings.Done machine (acts.Sends side message)) || b)
     (cut_none f g (link_of machine side)
     (sent_of (end_of side) (canonical message) (link_at (link_of machine side) world)) looks)
-    ∙ or_false (f (happenings.Done machine (acts.Sends side message)))
+    ∙ or-false (f (happenings.Done machine (acts.Sends side message)))
     ∙ looks.each machine (acts.Sends side message)
 
 act_any : (f : Happening → Bool) (g : Act → Bool) (second : Bool) (machine : ℕ) (act : Act) (world : WorldParts)
@@ -278,7 +270,7 @@ act_any f g second machine (acts.Sends side message) world looks =
     sent_any f g (answers second side message) machine side message world looks
 act_any f g second machine (acts.Drive side on) world looks = sym (looks.drives side on)
 act_any f g second machine act world looks =
-    or_false (f (happenings.Done machine act)) ∙ looks.each machine act
+    or-false (f (happenings.Done machine act)) ∙ looks.each machine act
 
 pub acts_any : (f : Happening → Bool) (g : Act → Bool) (second : Bool) (machine : ℕ) (made : List Act)
     (world : WorldParts) → LooksAtActs f g
@@ -322,7 +314,7 @@ any_plain f tells signals number machine input before after told steps =
     ∙ signals_pass (list_any f) (λ front signal on.
     any_join f front (acts.Signals signal on ∷ [])
     ∙ ap (λ (b : Bool). list_any f front || (b || false)) (signals signal on)
-    ∙ or_false (list_any f front)) steps.steps.made steps.node.bridge steps.next.lane.body
+    ∙ or-false (list_any f front)) steps.steps.made steps.node.bridge steps.next.lane.body
     ∙ ap (list_any f) steps.steps.lane.told
     ∙ tells_pass (list_any f) (λ act made plain same. ap (λ (b : Bool). f act || b) same)
     (λ message made. ap (λ (b : Bool). b || list_any f made) (tells message))
@@ -402,10 +394,10 @@ standing_none : (f : Happening → Bool) → PassesNone f → (x : ℕ) (told : 
     → list_any f (standing_told x told) ≡ false
 standing_none f none x None = refl
 standing_none f none x (Some (tolds.With machine)) =
-    or_false (f (happenings.With machine x)) ∙ none.at machine x
+    or-false (f (happenings.With machine x)) ∙ none.at machine x
 standing_none f none x (Some (tolds.Between gap)) =
-    or_false (f (happenings.Between gap x)) ∙ none.between gap x
-standing_none f none x (Some tolds.Gone) = or_false (f (happenings.Gone x)) ∙ none.gone x
+    or-false (f (happenings.Between gap x)) ∙ none.between gap x
+standing_none f none x (Some tolds.Gone) = or-false (f (happenings.Gone x)) ∙ none.gone x
 
 each_none : (f : Happening → Bool) (g : ℕ → List Happening) (ids : List ℕ)
     → ((x : ℕ) → list_any f (g x) ≡ false) → list_any f (flat_map g ids) ≡ false
@@ -422,7 +414,7 @@ with_standings f none told before next =
     (each_none f (λ x. standing_told x (told_of (marks_in before x) (marks_in next x)))
     (ascending (ids_marked before ++ ids_marked next))
     (λ x. standing_none f none x (told_of (marks_in before x) (marks_in next x))))
-    ∙ or_false (list_any f told)
+    ∙ or-false (list_any f told)
 
 pub loses_none : (id : ℕ) → PassesNone (may_lose id)
 loses_none id = record { at = λ machine x. refl; between = λ gap x. refl; gone = λ x. refl }

@@ -1,6 +1,7 @@
 -- A board that is inserted is kept behind the step.
 use Rattle.std.proofs.Common.{◌≡◌, ◌∙◌, ◌++◌, ◌||◌, ◌==◌, ℕ, Bool, true, false, List, [], ◌∷◌, Option, Some, None, refl, ap, eq-eqb}
 use Rattle.std.specs.Prelude.{slice_get}
+use Rattle.line_history.proofs.OfferingWhole.{offer_back}
 use Rattle.board_record.specs.declared.record.Record.{Record}
 use Rattle.board_record.specs.declared.sensed.Sensed.{Sensed}
 use Rattle.handover_in.specs.Row.{InRow, intake_row}
@@ -10,7 +11,7 @@ use Rattle.handover_in.specs.declared.input.InInput.TheVariants as in_input
 use Rattle.handover_in.proofs.Rows.{row_is as in_row_is}
 use Rattle.handover_out.specs.Row.{OutRow, outlet_row}
 use Rattle.handover_out.specs.State.{OutState}
-use Rattle.handover_out.specs.Table.{IsOutletRow, offers as offers_row, revokes}
+use Rattle.handover_out.specs.Table.{IsOutletRow, revokes}
 use Rattle.handover_out.specs.declared.input.OutInput.TheVariants as out_input
 use Rattle.handover_out.proofs.Rows.{row_is}
 use Rattle.node_core.specs.Announces.{announces, offer, offer_by, offers_now, readies_now, ready, ready_by, revoke, revoke_by, revokes_now, start_by, starts_now, unreadies_now, unready, unready_by}
@@ -29,10 +30,6 @@ use Rattle.supervisor_replay.proofs.Bodies.{keeps_it}
 revoke_back : {s : OutState} {row : OutRow} → IsOutletRow s out_input.Revoke row
     → row.act.back ≡ None
 revoke_back revokes = refl
-
-offer_back : {id : ℕ} {s : OutState} {row : OutRow} → IsOutletRow s (out_input.Offer id) row
-    → row.act.back ≡ None
-offer_back offers_row = refl
 
 ready_keep : {s : InState} {row : InRow} → IsIntakeRow s in_input.Ready row → row.act.keep ≡ None
 ready_keep gets_ready = refl

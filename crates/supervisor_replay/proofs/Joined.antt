@@ -1,6 +1,7 @@
 -- A line in which a connection is made: both its machines make a step.
 use Rattle.std.proofs.Common.{◌≡◌, ◌≢◌, ◌<◌, ◌∙◌, ◌⊎◌, ◌++◌, ◌+◌, ◌-◌, ◌==◌, ℕ, Bool, true, false, List, Option, Some, None, inl, inr, refl, sym, ap, subst, arith, not, ltb-true}
 use Rattle.std.proofs.lemmas.Bool.{false≢true}
+use Rattle.one_standing.proofs.Connected.{less_two}
 use Rattle.line_base.specs.declared.states.Side.TheVariants.{Entry}
 use Rattle.line_world.specs.declared.board.Board.{Board}
 use Rattle.handover_in.specs.State.{board_of_phase as held_in, may_connect as may_call}
@@ -261,9 +262,6 @@ met_handless : (on : Connected) → IsHandless (met on)
 met_handless connections.Accepted = tt
 met_handless connections.Second = tt
 
-two_less : (machine : ℕ) → 1 < machine → machine - 2 + 1 + 1 ≡ machine
-two_less machine behind = omega (arith, behind)
-
 one_less : (j : ℕ) → j + 1 + 1 - 1 ≡ j + 1
 one_less j = omega arith
 
@@ -309,4 +307,4 @@ connect_line id number machine t t2 before next done past p may twice =
     has_one_above machine before
     (neighbour_there machine before (machine_in machine before) (not (has_neighbour machine Entry before)) refl may) in
     subst (λ (m : ℕ). may_connect m before ≡ may_do → Connects number m before next done → Agreed id next (past ++ done))
-    (two_less machine behind) (connect_at id number (machine - 2) t t2 before next done past p) may twice
+    (less_two machine behind) (connect_at id number (machine - 2) t t2 before next done past p) may twice

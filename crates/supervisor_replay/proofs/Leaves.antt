@@ -2,8 +2,9 @@
 -- a sensor event that is read says so, and what is read comes first.
 use Rattle.std.proofs.Common.{Bool, List, None, Option, Some, [], ap, false, refl, subst, sym, true, ℕ, ◌++◌, ◌==◌, ◌||◌, ◌∙◌, ◌∷◌, ◌≡◌}
 use Rattle.std.specs.List.{list_any}
-use Rattle.std.proofs.lemmas.Bool.{false≢true}
+use Rattle.std.proofs.lemmas.Bool.{false≢true, or_from, and_parts}
 use Rattle.std.proofs.lemmas.List.Folds.{list_any-append}
+use Rattle.one_standing.proofs.MirroringEnds.{vacuous}
 use Rattle.line_base.specs.declared.states.Seen.{Seen}
 use Rattle.line_base.specs.declared.states.SensorEvent.{SensorEvent}
 use Rattle.line_base.specs.declared.states.Side.{Side}
@@ -36,7 +37,7 @@ use Rattle.node_core.specs.declared.act.Act.TheVariants as acts
 use Rattle.node_core.specs.declared.act.Deed.TheVariants as deeds
 use Rattle.node_core.specs.declared.lane.Body.{Body as Machine}
 use Rattle.standings.specs.Marks.{is_held}
-use Rattle.one_standing.proofs.LedgerWalk.{and_one, and_two, is_silent}
+use Rattle.one_standing.proofs.LedgerWalk.{is_silent}
 use Rattle.supervisor_replay.proofs.Bodies.{holds_it}
 use Rattle.supervisor_replay.proofs.Course.{Announced, Calm, Course, Hands, announced, are_aside, calm_asks, calm_goes, course_drops, course_end, course_on, course_opens, course_returns, course_settles, event_meets, hands_calm, hands_insert, hands_remove, hands_replace, is_aside, starts_none, starts_one}
 use Rattle.supervisor_replay.proofs.Events.{
@@ -57,14 +58,10 @@ leaves_act id _ = false
 abbrev leaves_in : ℕ → List Act → Bool
 leaves_in id made = list_any (leaves_act id) made
 
-either_not : (a b : Bool) → a ≡ false → b ≡ false → (a || b) ≡ false
-either_not false b one two = two
-either_not true b one two = one
-
 neither : (id : ℕ) (a b : List Act) → leaves_in id a ≡ false → leaves_in id b ≡ false
     → leaves_in id (a ++ b) ≡ false
 neither id a b one two =
-    list_any-append (leaves_act id) a b ∙ either_not (leaves_in id a) (leaves_in id b) one two
+    list_any-append (leaves_act id) a b ∙ or_from (leaves_in id a) (leaves_in id b) one two
 
 -- ---- the event and the announcements say it of none
 
@@ -80,20 +77,20 @@ quiet_act id (acts.Deed (deeds.Drops other)) is = refl
 quiet_act id _ is = refl
 
 aside_act : (id : ℕ) (act : Act) → is_aside act ≡ true → leaves_act id act ≡ false
-aside_act id act is = quiet_act id act (and_two (is_silent act) (is_quiet act) is)
+aside_act id act is = quiet_act id act (and_parts (is_silent act) (is_quiet act) is).1
 
 asides : (id : ℕ) (made : List Act) → are_aside made ≡ true → leaves_in id made ≡ false
 asides id [] is = refl
 asides id (act ∷ others) is =
-    either_not (leaves_act id act) (leaves_in id others)
-    (aside_act id act (and_one (is_aside act) (are_aside others) is))
-    (asides id others (and_two (is_aside act) (are_aside others) is))
+    or_from (leaves_act id act) (leaves_in id others)
+    (aside_act id act (and_parts (is_aside act) (are_aside others) is).0)
+    (asides id others (and_parts (is_aside act) (are_aside others) is).1)
 
 course_none : {seen : Option Seen} {own end : Own} {made : List Act} (id : ℕ)
     → Course seen own made end → leaves_in id made ≡ false
 course_none id course_end = refl
 course_none id (course_on {act = act} {others = others} is more) =
-    either_not (leaves_act id act) (leaves_in id others) (aside_act id act is)
+    or_from (leaves_act id act) (leaves_in id others) (aside_act id act is)
     (course_none id more)
 course_none id (course_opens more) = course_none id more
 course_none id (course_returns more) = course_none id more
@@ -163,14 +160,11 @@ in_none id desk (Some (in_deeds.Drops other)) None (Some on) = refl
 in_none id desk (Some (in_deeds.Drops other)) (Some what) None = refl
 in_none id desk (Some (in_deeds.Drops other)) (Some what) (Some on) = refl
 
-never : {X : Type 0} {b : Bool} → b ≡ false → b ≡ true → X
-never none is = absurd (false≢true (sym none ∙ is))
-
 entry_leaving : (id : ℕ) (desk : Desk) (body : Machine) (found : Option InRow)
     → Leaving id body (intake_row_did desk body found)
-entry_leaving id desk body None = record { held = λ is. never refl is; still = λ is. is }
+entry_leaving id desk body None = record { held = λ is. vacuous refl is; still = λ is. is }
 entry_leaving id desk body (Some row) = record {
-  held = λ is. never (in_none id desk row.act.deed row.act.send row.act.drive) is;
+  held = λ is. vacuous (in_none id desk row.act.deed row.act.send row.act.drive) is;
   still = λ is. is;
 }
 
@@ -180,15 +174,15 @@ is_held_by id mine body held is = rw held is
 
 not_held : {X : Type 0} (id : ℕ) (body : Machine) → held_out body.outlet.phase ≡ None
     → holds_it id body ≡ true → X
-not_held id body none is = never (rw none refl) is
+not_held id body none is = vacuous (rw none refl) is
 
 exit_leaving : {e : SensorEvent} {s : OutState} {found : Option OutRow} (id : ℕ) (desk : Desk)
     (body : Machine)
     → ExitTurn e s found → body.outlet ≡ s → Leaving id body (outlet_row_did desk body found)
 exit_leaving id desk body exit_none is =
-    record { held = λ told. never refl told; still = λ has. has }
+    record { held = λ told. vacuous refl told; still = λ has. has }
 exit_leaving {s = s} id desk body (exit_stays {after = after} same) is = record {
-  held = λ told. never refl told;
+  held = λ told. vacuous refl told;
   still = λ has. by_same (same ∙ sym (ap held_of is)) has;
 } where
   held_of : OutState → Option Record
@@ -214,17 +208,17 @@ exit_leaving id desk body
             → (one || leaves_in id (out_sent desk body.kept send ++ drives Exit drive)) ≡ true
             → one ≡ true
         by_one true told = refl
-        by_one false told = never (sends_none id desk body.kept send drive) told
+        by_one false told = vacuous (sends_none id desk body.kept send drive) told
 exit_leaving id desk body
     (exit_returns {after = after} {mine = mine} {send = send} {drive = drive} held none) is =
     record {
-      held = λ told. never (sends_none id desk body.kept send drive) told;
+      held = λ told. vacuous (sends_none id desk body.kept send drive) told;
       still = λ has. not_held id (record body { outlet = after }) none has;
     }
 exit_leaving id desk body
     (exit_loses {after = after} {mine = mine} {send = send} {drive = drive} held none) is =
     record {
-      held = λ told. never (sends_none id desk body.kept send drive) told;
+      held = λ told. vacuous (sends_none id desk body.kept send drive) told;
       still = λ has. not_held id (record body { outlet = after }) none has;
     }
 
@@ -238,7 +232,7 @@ saw_leaving id desk Exit event body =
 
 read_leaving : (id : ℕ) (desk : Desk) (unread : List Sensed) (body : Machine)
     → Leaving id body (all_read desk unread body)
-read_leaving id desk [] body = record { held = λ is. never refl is; still = λ is. is }
+read_leaving id desk [] body = record { held = λ is. vacuous refl is; still = λ is. is }
 read_leaving id desk (sensed ∷ others) body =
     let first : Done = saw desk sensed.side sensed.event body in
     let one : Leaving id body first = saw_leaving id desk sensed.side sensed.event body in
@@ -276,4 +270,4 @@ leaves_held id desk unread event body is =
     (sym (list_any-append (leaves_act id) read.acts (met.acts ++ said.acts)) ∙ is)) where
       first : (a b : Bool) → b ≡ false → (a || b) ≡ true → a ≡ true
       first true b none is = refl
-      first false b none is = never none is
+      first false b none is = vacuous none is

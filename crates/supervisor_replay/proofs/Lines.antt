@@ -2,12 +2,12 @@
 use Rattle.std.proofs.Common.{◌≡◌, ◌≢◌, ◌∙◌, ◌⊎◌, ◌++◌, ◌+◌, ◌==◌, ◌||◌, ℕ, Bool, true, false, List, inl, inr, refl, sym, ap, subst, arith}
 use Rattle.std.specs.List.{list_any}
 use Rattle.std.proofs.lemmas.Bool.{false≢true}
+use Rattle.one_standing.proofs.RestLine.{node_there}
 use Rattle.board_record.specs.Maker.{Maker}
 use Rattle.node_core.specs.declared.word.Word.{Word}
 use Rattle.node_core.specs.Supervising.{supervised_after}
 use Rattle.line_world.specs.declared.board.Board.{Board}
 use Rattle.line_step.proofs.Numbers.{machine_set_own}
-use Rattle.one_standing.proofs.Mirroring.{node_there}
 use Rattle.line_history.proofs.OfferingStep.{IsNoHand}
 use Rattle.board_record.specs.declared.sensed.Sensed.{Sensed}
 use Rattle.node_core.specs.Event.{Event, event_of}
@@ -196,10 +196,6 @@ unknown_parts id s past (inl old) = inl old
 unknown_parts id s past (inr un) = inr (un.told, un.left)
 
 -- ---- a machine that is not supervised has no mark
-
-or_none : (a b : Bool) → (a || b) ≡ false → (a ≡ false) × (b ≡ false)
-or_none false b is = (refl, is)
-or_none true b is = absurd (false≢true (sym is))
 
 or_false : (a b c : Bool) → ((a || (b || c)) ≡ true → ⊥) → (a ≡ false) × ((b ≡ false) × (c ≡ false))
 or_false false false false not = (refl, (refl, refl))

@@ -4,10 +4,11 @@ use Rattle.std.proofs.Common.{Bool, List, None, Option, Some, [], ap, false, inl
 use Rattle.std.specs.Prelude.{cond}
 use Rattle.std.specs.List.{list_any}
 use Rattle.std.proofs.lemmas.Bool.{eqb-false, false≢true, or_parts}
+use Rattle.one_standing.proofs.BlameLinks.{first_frame}
 use Rattle.line_base.specs.declared.states.Role.TheVariants.{Downstream, Upstream}
 use Rattle.line_base.specs.declared.states.Side.{Side}
 use Rattle.line_base.specs.declared.states.Side.TheVariants.{Entry, Exit}
-use Rattle.hermes_stream.specs.Frames.{IsOneFrame, NeedMore, answer_of}
+use Rattle.hermes_stream.specs.Frames.{NeedMore, answer_of}
 use Rattle.hermes_horizontal.specs.Canonical.{canonical}
 use Rattle.hermes_horizontal.specs.declared.message.Horizontal.{Horizontal}
 use Rattle.hermes_horizontal.specs.declared.message.Horizontal.TheVariants as messages
@@ -20,7 +21,7 @@ use Rattle.node_core.specs.declared.act.Act.TheVariants as acts
 use Rattle.node_core.specs.declared.act.Deed.{Deed}
 use Rattle.node_core.specs.declared.act.Deed.TheVariants as deeds
 use Rattle.link_messages.specs.Fit.{AreFit, AreFitActs, IsFit, IsFitAct, more_fit, more_said, none_fit, none_said}
-use Rattle.link_messages.specs.Heard.{AreSayable, bodies, more_sayable}
+use Rattle.link_messages.specs.Heard.{bodies}
 use Rattle.link_messages.proofs.Fitting.{both_fit}
 use Rattle.custody.specs.Bytes.{Flows, Spoiled, texts_of}
 use Rattle.custody.specs.Contents.{OpenAll, open_back, open_end, open_new, open_none, open_passed, open_service}
@@ -33,7 +34,7 @@ use Rattle.line_step.specs.Acts.{act_did, acts_did, answers, counted, sent_by}
 use Rattle.line_step.specs.World.{WorldParts, end_of, link_at, link_of, with_link}
 use Rattle.line_step.proofs.Numbers.{Written, link_set, link_set_other, nowhere, same_or_not, written}
 use Rattle.one_standing.specs.Links.{IsWholeLink}
-use Rattle.one_standing.proofs.Carrying.{SaysAlone}
+use Rattle.one_standing.proofs.Carrying.{SaysAlone, bodies_append}
 use Rattle.one_standing.proofs.MirroringCall.{dry_down}
 use Rattle.one_standing.proofs.WholeLinks.{whole_act}
 use Rattle.supervisor_replay.proofs.Free.{Down, DownOn, IsOther, down_over, down_spoiled, down_whole, is_offer_of, offers_it}
@@ -68,26 +69,16 @@ open_alone (messages.TransportFinished state id) other b = open_end open_none
 open_alone (messages.ServiceDescription service) other b = open_service open_none
 open_alone _ other b = open_none
 
-bodies_behind : (said : List Message) (message : Message)
-    → bodies (said ++ message ∷ []) ≡ bodies said ++ message.body ∷ []
-bodies_behind [] message = refl
-bodies_behind (first ∷ said) message =
-    ap (λ (hs : List Horizontal). first.body ∷ hs) (bodies_behind said message)
-
 open_more : {id : ℕ} {passes : Bool} (said : List Message) (message : Message)
     → is_offer_of id message.body ≡ false → OpenAll (IsOther id) passes (down_words (bodies said))
     → OpenAll (IsOther id) passes (down_words (bodies (said ++ message ∷ [])))
 open_more {id = id} {passes = passes} said message other h =
     subst (λ (ws : List DownWord). OpenAll (IsOther id) passes ws)
     (sym (ap (λ (hs : List Horizontal). down_words hs)
-    (bodies_behind said message) ∙ down_words-append (bodies said) (message.body ∷ [])))
+    (bodies_append said message) ∙ down_words-append (bodies said) (message.body ∷ [])))
     (open_behind (before_down message.body []) (open_alone message.body other) h)
 
 -- ---- one message more
-
-one_sayable : {message : Message} {said : List Message} → AreSayable (message ∷ said)
-    → IsOneFrame (canonical message)
-one_sayable (more_sayable one others) = one.one
 
 whole_more : {id : ℕ} {passes stands : Bool} {waiting bytes : List ℕ} → SaysAlone
     → (message : Message) → IsFit message → is_offer_of id message.body ≡ false
@@ -98,7 +89,7 @@ whole_more {waiting = waiting} {bytes = bytes} alone message fit other said good
     down_whole (said ++ message ∷ []) (both_fit good (more_fit fit none_fit))
     (open_more said message other free)
     (sends_a_message waiting bytes said message
-    (one_sayable (alone.sayable (message ∷ []) (more_fit fit none_fit))) flows)
+    (first_frame (alone.sayable (message ∷ []) (more_fit fit none_fit))) flows)
 
 -- nothing waits and nothing flows
 none_flows : {waiting bytes : List ℕ} → waiting ≡ [] → bytes ≡ [] → Flows waiting bytes []

@@ -31,8 +31,10 @@ use Rattle.std.proofs.Common.{
   ◌⊎◌,
 }
 use Rattle.std.specs.List.{list_all, list_any}
-use Rattle.std.proofs.lemmas.Bool.{false≢true}
+use Rattle.std.proofs.lemmas.Bool.{false≢true, or_cases, or_parts, or_from, or_left, or_right, and_parts}
 use Rattle.std.proofs.lemmas.List.Folds.{list_any-append}
+use Rattle.line_step.proofs.WithTells.{tells_append}
+use Rattle.line_step.proofs.Unnamed.{apart_ids}
 use Rattle.line_base.specs.declared.states.Seen.{Seen}
 use Rattle.line_base.specs.declared.states.Seen.TheVariants as sees
 use Rattle.board_record.specs.declared.record.Record.{Record}
@@ -80,9 +82,9 @@ use Rattle.custody.specs.Floor.{Run}
 use Rattle.custody.specs.Place.{Place, is_away, is_upstream}
 use Rattle.standings.specs.Ledger.{are_different}
 use Rattle.standings.specs.Marks.{has_id, is_held}
-use Rattle.one_standing.proofs.LedgerSteps.{all_of, none_either}
+use Rattle.one_standing.proofs.LedgerSteps.{all_of, different_front}
 use Rattle.one_standing.proofs.LedgerTurns.{different_first, different_rest}
-use Rattle.one_standing.proofs.LedgerWalk.{and_two, is_silent, own_parts}
+use Rattle.one_standing.proofs.LedgerWalk.{is_silent, own_parts}
 use Rattle.supervisor_replay.specs.Replay.{At, Told, departs}
 use Rattle.supervisor_replay.proofs.Bodies.{brings_in, holds_it, keeps_it, takes_out}
 use Rattle.supervisor_replay.proofs.Course.{
@@ -127,7 +129,6 @@ use Rattle.supervisor_replay.proofs.Tells.{
   says_both,
   says_none,
   says_quiet,
-  tells_append,
   watching,
 }
 
@@ -139,26 +140,6 @@ has id own = has_id id own.kept || is_held id own.held
 abbrev pub takes : ℕ → Own → Bool
 takes id own = is_held id own.taking
 
-pub one_is : (a b : Bool) → (a || b) ≡ true → (a ≡ true) ⊎ (b ≡ true)
-one_is true b is = inl refl
-one_is false b is = inr is
-
-pub none_is : (a b : Bool) → (a || b) ≡ false → (a ≡ false) × (b ≡ false)
-none_is false b is = (refl, is)
-none_is true b is = absurd (false≢true (sym is))
-
-pub or_not : (a b : Bool) → a ≡ false → b ≡ false → (a || b) ≡ false
-or_not false b one two = two
-or_not true b one two = one
-
-pub or_one : (a b : Bool) → a ≡ true → (a || b) ≡ true
-or_one true b is = refl
-or_one false b is = absurd (false≢true is)
-
-pub or_two : (a b : Bool) → b ≡ true → (a || b) ≡ true
-or_two true b is = refl
-or_two false b is = is
-
 -- an id that comes to the back
 last_id : (id other : ℕ) (ids : List ℕ)
     → has_id id (ids ++ other ∷ []) ≡ (has_id id ids || ((other == id) || false))
@@ -168,11 +149,11 @@ pub last_is : (id other : ℕ) (ids : List ℕ) → (other == id) ≡ true
     → has_id id (ids ++ other ∷ []) ≡ true
 last_is id other ids is =
     last_id id other ids
-    ∙ or_two (has_id id ids) ((other == id) || false) (or_one (other == id) false is)
+    ∙ or_right (has_id id ids) ((other == id) || false) (or_left (other == id) false is)
 
 back_none : (a b : Bool) → b ≡ false → (a || (b || false)) ≡ a
 back_none true b is = refl
-back_none false b is = or_not b false is refl
+back_none false b is = or_from b false is refl
 
 last_not : (id other : ℕ) (ids : List ℕ) → (other == id) ≡ false
     → has_id id (ids ++ other ∷ []) ≡ has_id id ids
@@ -262,7 +243,7 @@ settles_by : {id j : ℕ} {seen : Option Seen} {end : Own} {all : List Act} (des
     → Fare id j seen (own_parts ids mine (Some other)) end
     ((acts.Deed (deeds.Settles other) ∷ arrives desk Transferred other ∷ []) ++ all)
 settles_by {id = id} {j = j} {all = all} desk other ids mine true is (fare_so h t s) =
-    fare_settles is t (h ∙ or_one (has_id id (ids ++ other ∷ [])) (is_held id mine)
+    fare_settles is t (h ∙ or_left (has_id id (ids ++ other ∷ [])) (is_held id mine)
     (last_is id other ids is))
     (says_both id j _ all
     (says_true (λ told. record told { place = At (j + 1) }) is (settles_says id j other desk))
@@ -345,7 +326,7 @@ course_fares : {seen : Option Seen} {own end : Own} {made : List Act} (id j : �
     → Fare id j seen own end (with_tells desk (watching looked) made)
 course_fares id j desk looked free course_end = fare_so refl refl (says_none id j)
 course_fares id j desk looked free (course_on {act = act} {others = others} aside more) =
-    fare_quiet desk looked act others (and_two (is_silent act) (is_quiet act) aside) refl refl
+    fare_quiet desk looked act others (and_parts (is_silent act) (is_quiet act) aside).1 refl refl
     (course_fares id j desk looked free more)
 course_fares id j desk looked free (course_opens {id = other} {ids = ids} {others = others} more) =
     fare_quiet desk looked (acts.Deed (deeds.Opens other)) others refl
@@ -368,20 +349,20 @@ course_fares {seen = seen} id j desk looked (inr same)
 hand_out : (id : ℕ) (act : Act) (others : List Act) → is_quiet act ≡ true
     → list_any (takes_out id) others ≡ false → list_any (takes_out id) (act ∷ others) ≡ false
 hand_out id act others is rest =
-    or_not (takes_out id act) (list_any (takes_out id) others)
-    (none_is (takes_out id act) false (quiet_out id (act ∷ []) (quiet_one act is))).0 rest
+    or_from (takes_out id act) (list_any (takes_out id) others)
+    (or_parts (takes_out id act) false (quiet_out id (act ∷ []) (quiet_one act is))).0 rest
 
 hand_in : (id : ℕ) (act : Act) (others : List Act) → is_quiet act ≡ true
     → list_any (brings_in id) others ≡ false → list_any (brings_in id) (act ∷ others) ≡ false
 hand_in id act others is rest =
-    or_not (brings_in id act) (list_any (brings_in id) others)
-    (none_is (brings_in id act) false (quiet_in id (act ∷ []) (quiet_one act is))).0 rest
+    or_from (brings_in id act) (list_any (brings_in id) others)
+    (or_parts (brings_in id act) false (quiet_in id (act ∷ []) (quiet_one act is))).0 rest
 
 course_out : {seen : Option Seen} {own end : Own} {made : List Act} (id : ℕ)
     → Course seen own made end → list_any (takes_out id) made ≡ false
 course_out id course_end = refl
 course_out id (course_on {act = act} {others = others} aside more) =
-    hand_out id act others (and_two (is_silent act) (is_quiet act) aside) (course_out id more)
+    hand_out id act others (and_parts (is_silent act) (is_quiet act) aside).1 (course_out id more)
 course_out id (course_opens more) = course_out id more
 course_out id (course_returns more) = course_out id more
 course_out id (course_settles more) = course_out id more
@@ -391,7 +372,7 @@ course_in : {seen : Option Seen} {own end : Own} {made : List Act} (id : ℕ)
     → Course seen own made end → list_any (brings_in id) made ≡ false
 course_in id course_end = refl
 course_in id (course_on {act = act} {others = others} aside more) =
-    hand_in id act others (and_two (is_silent act) (is_quiet act) aside) (course_in id more)
+    hand_in id act others (and_parts (is_silent act) (is_quiet act) aside).1 (course_in id more)
 course_in id (course_opens more) = course_in id more
 course_in id (course_returns more) = course_in id more
 course_in id (course_settles more) = course_in id more
@@ -419,7 +400,7 @@ pub held_alone : (id : ℕ) (mine : Option ℕ) (ids more : List ℕ)
     → (has_id id ids ≡ false) × (has_id id more ≡ false)
 held_alone id None ids more different is = absurd (false≢true is)
 held_alone id (Some other) ids more different is =
-    none_either id ids more
+    apart_ids id ids more
     (same_ids other id (ids ++ more) is (different_first other (ids ++ more) different))
 
 kept_alone : (id : ℕ) (mine : Option ℕ) (ids more : List ℕ)
@@ -429,16 +410,6 @@ kept_alone id mine ids more different there = by_test (is_held id mine) refl whe
   by_test : (test : Bool) → is_held id mine ≡ test → test ≡ false
   by_test false is = refl
   by_test true is = absurd (false≢true (sym (held_alone id mine ids more different is).0 ∙ there))
-
-different_front : (xs ys : List ℕ) → are_different (xs ++ ys) ≡ true → are_different xs ≡ true
-different_front [] ys is = refl
-different_front (x ∷ xs) ys is =
-    both_not (has_id x xs) (are_different xs)
-    (none_either x xs ys (different_first x (xs ++ ys) is)).0
-    (different_front xs ys (different_rest x (xs ++ ys) is)) where
-      both_not : (a b : Bool) → a ≡ false → b ≡ true → (not a && b) ≡ true
-      both_not false b one two = two
-      both_not true b one two = absurd (false≢true (sym one))
 
 different_kept : (mine : Option ℕ) (ids more : List ℕ)
     → are_different (one_of mine ++ (ids ++ more)) ≡ true → are_different ids ≡ true
@@ -459,7 +430,7 @@ gone_id id other (mine ∷ ids) is different =
           same_ids mine id ids (eq-eqb mine id (eqb-true mine other at ∙ eqb-true other id is))
           (different_first mine ids different)
       by_test false at rest =
-          or_not (mine == id) (has_id id (without_id other ids))
+          or_from (mine == id) (has_id id (without_id other ids))
           (ap (λ (n : ℕ). mine == n) (sym (eqb-true other id is)) ∙ at) rest
 
 -- another stays
@@ -486,9 +457,9 @@ replaced_in id old new (mine ∷ ids) is there =
       by_test : (test : Bool) → (mine == old) ≡ test → (test || has_id old ids) ≡ true
           → (has_id old ids ≡ true → has_id id (with_id_instead old new ids) ≡ true)
           → has_id id (if test then new ∷ ids else mine ∷ with_id_instead old new ids) ≡ true
-      by_test true at found rest = or_one (new == id) (has_id id ids) is
+      by_test true at found rest = or_left (new == id) (has_id id ids) is
       by_test false at found rest =
-          or_two (mine == id) (has_id id (with_id_instead old new ids)) (rest found)
+          or_right (mine == id) (has_id id (with_id_instead old new ids)) (rest found)
 
 replaced_out : (id old new : ℕ) (ids : List ℕ) → (old == id) ≡ true → (new == id) ≡ false
     → are_different ids ≡ true → has_id id (with_id_instead old new ids) ≡ false
@@ -500,11 +471,11 @@ replaced_out id old new (mine ∷ ids) is other different =
           → has_id id (with_id_instead old new ids) ≡ false
           → has_id id (if test then new ∷ ids else mine ∷ with_id_instead old new ids) ≡ false
       by_test true at rest =
-          or_not (new == id) (has_id id ids) other
+          or_from (new == id) (has_id id ids) other
           (same_ids mine id ids (eq-eqb mine id (eqb-true mine old at ∙ eqb-true old id is))
           (different_first mine ids different))
       by_test false at rest =
-          or_not (mine == id) (has_id id (with_id_instead old new ids))
+          or_from (mine == id) (has_id id (with_id_instead old new ids))
           (ap (λ (n : ℕ). mine == n) (sym (eqb-true old id is)) ∙ at) rest
 
 replaced_not : (id old new : ℕ) (ids : List ℕ) → (old == id) ≡ false → (new == id) ≡ false
@@ -532,12 +503,12 @@ insert_met : {seen : Option Seen} (id j : ℕ) (desk : Desk) (other : ℕ) (ids 
     → Met id j seen (own_parts ids mine taking) (own_parts (ids ++ other ∷ []) mine taking)
     (acts.Inserts other ∷ []) (acts.Inserts other ∷ arrives desk ByHand other ∷ [])
 insert_met id j desk other ids mine taking true is =
-    comes_in (or_one (other == id) false is) (last_is id other ids is) refl
+    comes_in (or_left (other == id) false is) (last_is id other ids is) refl
     (says_true (λ told. record told { place = At (j + 1) }) is (insert_says id j other desk))
 insert_met id j desk other ids mine taking false is =
     goes_so (fare_so (ap (λ (b : Bool). b || is_held id mine) (last_not id other ids is)) refl
     (says_false (λ told. record told { place = At (j + 1) }) is (insert_says id j other desk)))
-    refl (or_not (other == id) false is refl)
+    refl (or_from (other == id) false is refl)
 
 -- one is taken out
 remove_says : (id j other : ℕ) (desk : Desk)
@@ -556,15 +527,15 @@ remove_met : {seen : Option Seen} (id j : ℕ) (desk : Desk) (other : ℕ) (ids 
     (acts.Removes other ∷ []) (acts.Removes other ∷ departing desk ByHand other ∷ [])
 remove_met id j desk other ids mine taking there different true is =
     let kept : has_id id ids ≡ true = same_has other id ids is there in
-    goes_out (or_one (other == id) false is) kept
-    (or_not (has_id id (without_id other ids)) (is_held id mine)
+    goes_out (or_left (other == id) false is) kept
+    (or_from (has_id id (without_id other ids)) (is_held id mine)
     (gone_id id other ids is (different_kept mine ids (one_of taking) different))
     (kept_alone id mine ids (one_of taking) different kept)) refl
     (says_true (departs (j + 1) ByHand) is (remove_says id j other desk))
 remove_met id j desk other ids mine taking there different false is =
     goes_so (fare_so (ap (λ (b : Bool). b || is_held id mine) (stays_id id other ids is)) refl
     (says_false (departs (j + 1) ByHand) is (remove_says id j other desk)))
-    (or_not (other == id) false is refl) refl
+    (or_from (other == id) false is refl) refl
 
 -- one is replaced by another
 abbrev replacing : Desk → ℕ → ℕ → List Act
@@ -591,19 +562,19 @@ replace_met id j desk old new ids mine taking there different true true is other
     absurd (false≢true (sym (apart refl)))
 replace_met id j desk old new ids mine taking there different true false is other apart =
     let kept : has_id id ids ≡ true = same_has old id ids is there in
-    goes_out (or_one (old == id) false is) kept
-    (or_not (has_id id (with_id_instead old new ids)) (is_held id mine)
+    goes_out (or_left (old == id) false is) kept
+    (or_from (has_id id (with_id_instead old new ids)) (is_held id mine)
     (replaced_out id old new ids is other (different_kept mine ids (one_of taking) different))
     (kept_alone id mine ids (one_of taking) different kept)) refl
     (says_as (λ told. rw (other, is) refl) (replace_says id j old new desk))
 replace_met id j desk old new ids mine taking there different false true is other apart =
-    comes_in (or_one (new == id) false other) (replaced_in id old new ids other there) refl
+    comes_in (or_left (new == id) false other) (replaced_in id old new ids other there) refl
     (says_as (λ told. rw (other, is) refl) (replace_says id j old new desk))
 replace_met id j desk old new ids mine taking there different false false is other apart =
     goes_so (fare_so
     (ap (λ (b : Bool). b || is_held id mine) (replaced_not id old new ids is other)) refl
     (says_as (λ told. rw (other, is) refl) (replace_says id j old new desk)))
-    (or_not (old == id) false is refl) (or_not (new == id) false other refl)
+    (or_from (old == id) false is refl) (or_from (new == id) false other refl)
 
 -- the supervisor says or is asked something
 ask_met : {seen : Option Seen} {own : Own} (id j : ℕ) (desk asked : Desk)
@@ -618,7 +589,7 @@ ask_met id j desk asked looked (Answer query order) =
     goes_so (fare_so refl refl (record { told = λ told. refl; left = λ gap left. refl })) refl refl
 
 back_is : (a b : Bool) → ((a || false) ≡ true → (b || false) ≡ false) → a ≡ true → b ≡ false
-back_is true b apart is = (none_is b false (apart refl)).0
+back_is true b apart is = (or_parts b false (apart refl)).0
 back_is false b apart is = absurd (false≢true is)
 
 hands_met : {seen : Option Seen} {own end : Own} {made : List Act} (id j : ℕ) (desk : Desk)
@@ -697,7 +668,7 @@ seen_held (inn.Waiting _ _ _) own is = refl
 
 pub not_of : (id : ℕ) (body : Machine) → has id (own_of body) ≡ false → HasNot id body
 not_of id body none =
-    let two = none_is (keeps_it id body) (holds_it id body) none in
+    let two = or_parts (keeps_it id body) (holds_it id body) none in
     record { kept = two.0; held = two.1 }
 
 pub still_of : (id : ℕ) (body now : Machine) → has id (own_of now) ≡ has id (own_of body)
@@ -705,8 +676,8 @@ pub still_of : (id : ℕ) (body now : Machine) → has id (own_of now) ≡ has i
 still_of id body now same = by_test (has id (own_of body)) refl where
   by_test : (test : Bool) → has id (own_of body) ≡ test → HasStill id body now
   by_test true is =
-      has_still (one_is (keeps_it id body) (holds_it id body) is)
-      (one_is (keeps_it id now) (holds_it id now) (same ∙ is))
+      has_still (or_cases (keeps_it id body) (holds_it id body) is)
+      (or_cases (keeps_it id now) (holds_it id now) (same ∙ is))
   by_test false is = has_not (not_of id body is) (not_of id now (same ∙ is))
 
 fare_met : {id j : ℕ} {place : Place} {body now : Machine} {made all : List Act}
@@ -718,7 +689,7 @@ fare_met : {id j : ℕ} {place : Place} {body now : Machine} {made all : List Ac
 fare_met {id = id} {body = body} {now = now} away home out in_hand (fare_so h t s) =
     met_so (still_of id body now h) t s out in_hand
 fare_met {id = id} {now = now} away home out in_hand (fare_settles t u h s) =
-    met_settles t u (one_is (keeps_it id now) (holds_it id now) h) s out in_hand
+    met_settles t u (or_cases (keeps_it id now) (holds_it id now) h) s out in_hand
 fare_met {id = id} {body = body} {now = now} away home out in_hand (fare_missing t u h o s) =
     met_missing t u (away o) (still_of id body now h) s out in_hand
 fare_met {id = id} {body = body} {now = now} away home out in_hand (fare_upstream t u h o s) =

@@ -36,6 +36,7 @@ use Rattle.std.proofs.Common.{
 }
 use Rattle.std.specs.List.{list_any}
 use Rattle.std.proofs.lemmas.List.Folds.{list_any-append}
+use Rattle.std.proofs.lemmas.Bool.{or_left, or_right, or_cases}
 use Rattle.line_base.specs.declared.states.Side.TheVariants.{Entry, Exit}
 use Rattle.board_record.specs.declared.record.Record.{Record}
 use Rattle.board_record.specs.declared.sensed.Sensed.{Sensed}
@@ -82,13 +83,10 @@ use Rattle.supervisor_replay.proofs.Bodies.{
   takes_it,
   will_leave,
 }
-use Rattle.supervisor_replay.proofs.Sights.{on_floor, view_of}
+use Rattle.supervisor_replay.proofs.Sights.{on_floor, view_of, true_false}
 use Rattle.supervisor_replay.proofs.Views.{IsMoved, View}
 
 -- ---- boards, counted
-
-true_false : {X : Type 0} {b : Bool} → b ≡ true → b ≡ false → X
-true_false one two = cc
 
 some_on : (n : ℕ) → (n == 0) ≡ false → 1 ≤ n
 some_on n on = elim (none_or_one n) [ inl none ↦ true_false (eq-eqb n 0 none) on | inr some ↦ some ]
@@ -158,18 +156,6 @@ miss_more old more =
     ap (list_any is_taking_out) (entry-append old more)
     ∙ list_any-append is_taking_out (events_at Entry old) (events_at Entry more)
 
-or_first : (a b : Bool) → a ≡ true → (a || b) ≡ true
-or_first true b is = refl
-or_first false b is = absurd (let never : false ≡ true = is in cc)
-
-or_second : (a b : Bool) → b ≡ true → (a || b) ≡ true
-or_second true b is = refl
-or_second false b is = is
-
-or_either : (a b : Bool) → (a || b) ≡ true → (a ≡ true) ⊎ (b ≡ true)
-or_either true b is = inl refl
-or_either false b is = inr is
-
 still_misses : (a b c : Bool) → (b ≡ true → c ≡ true) → (a || b) ≡ true → (a || c) ≡ true
 still_misses true b c more is = refl
 still_misses false b c more is = more is
@@ -203,7 +189,7 @@ leave_at gap i step old new r (inl here) below is =
     let at : will_leave (unread_of new gap) ≡ true = rw here at is in
     let more = sym (leave_more (unread_of old gap) (seen_at Exit (event_of step)))
     ∙ ap will_leave (sym r.exit) ∙ at in
-    elim (or_either (will_leave (unread_of old gap)) (will_leave (seen_at Exit (event_of step)))
+    elim (or_cases (will_leave (unread_of old gap)) (will_leave (seen_at Exit (event_of step)))
     more) [
       | inl was ↦ inl (rw here was)
       | inr now ↦ inr (here, left_seen step now)
@@ -212,7 +198,7 @@ leave_at gap i step old new r (inr apart) (inl below) is =
     let at : will_leave (unread_of new (gap + 1)) ≡ true = rw below at is in
     let more = sym (leave_more (unread_of old (gap + 1)) (seen_at Entry (event_of step)))
     ∙ ap will_leave (sym r.entry) ∙ at in
-    elim (or_either (will_leave (unread_of old (gap + 1)))
+    elim (or_cases (will_leave (unread_of old (gap + 1)))
     (will_leave (seen_at Entry (event_of step))) more) [
       | inl was ↦ inl (rw below was)
       | inr now ↦ true_false now (entry_unleft step)
@@ -223,7 +209,7 @@ leave_at gap i step old new r (inr apart) (inr other) is =
 miss_by : (old new more : List Sensed) → new ≡ old ++ more → will_miss old ≡ true
     → will_miss new ≡ true
 miss_by old new more same is =
-    ap will_miss same ∙ miss_more old more ∙ or_first (will_miss old) (will_miss more) is
+    ap will_miss same ∙ miss_more old more ∙ or_left (will_miss old) (will_miss more) is
 
 miss_at : (gap i : ℕ) (step : Move) (old new : FloorPlan) → ReachesBothSides gap step old new
     → (i ≡ gap) ⊎ (i ≢ gap) → (i ≡ gap + 1) ⊎ (i ≢ gap + 1)
@@ -243,7 +229,7 @@ miss_take : (gap : ℕ) (step : Move) (old new : FloorPlan) → ReachesBothSides
     → step ≡ moves.Take → will_miss (unread_of new (gap + 1)) ≡ true
 miss_take gap step old new r take =
     ap will_miss r.entry ∙ miss_more (unread_of old (gap + 1)) (seen_at Entry (event_of step))
-    ∙ or_second (will_miss (unread_of old (gap + 1))) (will_miss (seen_at Entry (event_of step)))
+    ∙ or_right (will_miss (unread_of old (gap + 1))) (will_miss (seen_at Entry (event_of step)))
     (ap (λ (m : Move). will_miss (seen_at Entry (event_of m))) take)
 
 -- ---- the board in the gap
@@ -384,7 +370,7 @@ taken_then : (id : ℕ) (t : Trace) (gap : ℕ) (step : Move) (s : LineState) (p
     → (view_of id (with_plan plan s)).missing (gap + 1) ≡ true
 taken_then id t gap step s plan d take =
     let body = (node_at (with_plan plan s) (gap + 1)).lane.body in
-    or_second (is_gone_own (own_of_phase body.intake.phase)) (will_miss (unread_of plan (gap + 1)))
+    or_right (is_gone_own (own_of_phase body.intake.phase)) (will_miss (unread_of plan (gap + 1)))
     (miss_take gap step s.world.floor plan
     (reaches_both_sides gap step s.world.floor plan d.done) take)
 

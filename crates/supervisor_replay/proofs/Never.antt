@@ -3,8 +3,9 @@
 use Rattle.std.proofs.Common.{Bool, List, [], ap, false, inl, inr, refl, sym, true, ℕ, ◌++◌, ◌+◌, ◌==◌, ◌||◌, ◌&&◌, ◌∙◌, ◌∷◌, ◌≡◌, ◌≤◌, ◌⊎◌}
 use Rattle.std.specs.Prelude.{if◌then◌else◌}
 use Rattle.std.specs.List.{list_any}
-use Rattle.std.proofs.lemmas.Bool.{false≢true}
+use Rattle.std.proofs.lemmas.Bool.{false≢true, or_parts, or_left, or_right}
 use Rattle.std.proofs.lemmas.List.Folds.{list_any-append}
+use mathlib.Core.Bool.{or-false}
 use Rattle.line_script.specs.declared.line.ScriptLine.{ScriptLine}
 use Rattle.line_report.specs.declared.happening.Happening.{Happening}
 use Rattle.line_report.specs.declared.happening.Happening.TheVariants as happenings
@@ -32,15 +33,11 @@ use Rattle.supervisor_replay.proofs.Happenings.{left_after_append}
 
 -- ---- what the acts of a machine say of it
 
-or_none : (b : Bool) → (b || false) ≡ b
-or_none true = refl
-or_none false = refl
-
 one_leaves : (gap id machine : ℕ) (act : Act) (same : Bool) → (machine == gap) ≡ same
     → leaves_at gap id (happenings.Done machine act)
     ≡ list_any (leaves_act id) (if same then told_of_act act else [])
 one_leaves gap id machine (acts.Deed (deeds.Leaves other)) true is =
-    rw is (sym (or_none (other == id)))
+    rw is (sym (or-false (other == id)))
 one_leaves gap id machine (acts.Deed (deeds.Leaves other)) false is = rw is refl
 one_leaves gap id machine (acts.Deed (deeds.Opens other)) true is = refl
 one_leaves gap id machine (acts.Deed (deeds.Refuses other)) true is = refl
@@ -85,7 +82,7 @@ undriven_one : (id : ℕ) (act : Act) (rest : Bool)
 undriven_one id (acts.Drive side on) rest = refl
 undriven_one id (acts.Signals signal on) rest = refl
 undriven_one id (acts.Tells message) rest = refl
-undriven_one id act rest = ap (λ (b : Bool). b || rest) (or_none (leaves_act id act))
+undriven_one id act rest = ap (λ (b : Bool). b || rest) (or-false (leaves_act id act))
 
 undriven_leaves : (id : ℕ) (made : List Act)
     → list_any (leaves_act id) (undriven made) ≡ list_any (leaves_act id) made
@@ -118,19 +115,11 @@ or_both true true c = refl
 or_both true false c = refl
 or_both false b c = refl
 
-first_not : (a b : Bool) → (a || b) ≡ false → a ≡ false
-first_not false b is = refl
-first_not true b is = is
-
-second_not : (a b : Bool) → (a || b) ≡ false → b ≡ false
-second_not false b is = is
-second_not true b is = absurd (false≢true (sym is))
-
 -- of one happening
 start_not : (test same : Bool) (other id : ℕ) (left : Bool) → test ≡ same
     → list_any (starts_it id) (if same then acts.Deed (deeds.Starts other) ∷ [] else []) ≡ false
     → (if test && (other == id) then false else left) ≡ left
-start_not true true other id left is none = rw (first_not (other == id) false none) refl
+start_not true true other id left is none = rw (or_parts (other == id) false none).0 refl
 start_not false same other id left is none = refl
 start_not true false other id left is none = absurd (false≢true (sym is))
 
@@ -151,13 +140,13 @@ with_one gap id _ left none = refl
 unstarted : (gap id : ℕ) (told : List Happening) (left : Bool)
     → list_any (starts_it id) (done_by (gap + 1) told) ≡ false
     → since_after gap id told left ≡ (left || list_any (leaves_at gap id) told)
-unstarted gap id [] left none = sym (or_none left)
+unstarted gap id [] left none = sym (or-false left)
 unstarted gap id (happening ∷ told) left none =
     let parts =
     sym (list_any-append (starts_it id) (done_act (gap + 1) happening)
     (done_by (gap + 1) told)) ∙ none in
-    ap (since_after gap id told) (with_one gap id happening left (first_not _ _ parts))
-    ∙ unstarted gap id told (leaves_at gap id happening || left) (second_not _ _ parts)
+    ap (since_after gap id told) (with_one gap id happening left (or_parts _ _ parts).0)
+    ∙ unstarted gap id told (leaves_at gap id happening || left) (or_parts _ _ parts).1
     ∙ or_both (leaves_at gap id happening) left (list_any (leaves_at gap id) told)
 
 -- ---- whether or not it starts it, what has left was told to leave
@@ -183,14 +172,6 @@ either_true : {X : Type 0} (a b : Bool) → (a ≡ true → X) → (b ≡ true �
 either_true true b one two is = one refl
 either_true false b one two is = two is
 
-or_first : (a b : Bool) → a ≡ true → (a || b) ≡ true
-or_first true b is = refl
-or_first false b is = absurd (false≢true is)
-
-or_second : (a b : Bool) → b ≡ true → (a || b) ≡ true
-or_second true b is = refl
-or_second false b is = is
-
 -- it was told before, or is told now
 less_told : (gap id : ℕ) (told : List Happening) (left : Bool)
     → since_after gap id told left ≡ true
@@ -201,11 +182,11 @@ less_told gap id (happening ∷ told) left is =
       | inl now ↦
           either_true (leaves_at gap id happening) left
           (λ here. inr
-          (or_first (leaves_at gap id happening) (list_any (leaves_at gap id) told) here))
+          (or_left (leaves_at gap id happening) (list_any (leaves_at gap id) told) here))
           (λ was. inl was)
           (less_one gap id happening left now)
       | inr later ↦ inr
-          (or_second (leaves_at gap id happening) (list_any (leaves_at gap id) told) later)
+          (or_right (leaves_at gap id happening) (list_any (leaves_at gap id) told) later)
     ]
 
 pub left_was : (gap id : ℕ) (reported : List Happening) → left_since gap id reported ≡ true
@@ -223,10 +204,6 @@ pub record Never (id j : ℕ) (s : LineState) (past : List Happening) : Type 0 w
   -- it was not started since
   pub still : has_left (j + 1) id past ≡ true → left_since (j + 1) id past ≡ true
   pub free : left_since (j + 1) id past ≡ true → IsFree id (j + 1) s
-
-not_true : (b : Bool) → (b ≡ true → ⊥) → b ≡ false
-not_true true none = absurd (none refl)
-not_true false none = refl
 
 -- where no offer was to be taken up before the line
 free_never : (id j : ℕ) (after : LineState) (told past : List Happening)

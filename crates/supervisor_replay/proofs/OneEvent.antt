@@ -31,6 +31,7 @@ use Rattle.std.specs.Prelude.{option_map}
 use Rattle.std.specs.List.{list_all, list_any}
 use Rattle.std.proofs.lemmas.Bool.{false≢true}
 use Rattle.std.proofs.lemmas.List.{map-append}
+use mathlib.Core.Bool.{or-false, or-true}
 use Rattle.line_base.specs.declared.states.Seen.{Seen}
 use Rattle.line_base.specs.declared.states.SensorEvent.{SensorEvent}
 use Rattle.line_base.specs.declared.states.SensorEvent.TheVariants as event
@@ -170,14 +171,6 @@ none_held id none is = absurd (false≢true (sym (is_none_of id none) ∙ is))
 or_both : (a b c : Bool) → b ≡ c → (a || b) ≡ (a || c)
 or_both a b c is = ap (λ (x : Bool). a || x) is
 
-or_off : (a : Bool) → (a || false) ≡ a
-or_off true = refl
-or_off false = refl
-
-or_on : (a : Bool) → (a || true) ≡ true
-or_on true = refl
-or_on false = refl
-
 -- ---- the entry
 
 -- what the entry's half says behind a deed
@@ -201,14 +194,14 @@ settles_fares : {unread : List Sensed} {place : Place} {phase : Phase} {mine : R
     (with_deed desk sees Entry e (deeds.Settles mine.id) more)
 settles_fares {mine = mine} id j desk sees e body o rd more true quiet same is =
     read_settles (is_this id same ∙ is) refl
-    (inl (has_back id body.kept mine ∙ or_both _ _ true is ∙ or_on _))
+    (inl (has_back id body.kept mine ∙ or_both _ _ true is ∙ or-true _))
     (deed_is id j desk sees Entry e (deeds.Settles mine.id) more quiet (λ told. if_so _ _ is)
     (λ gap left. refl))
 settles_fares {phase = phase} {mine = mine} id j desk sees e body o rd more false quiet same is =
     read_so
     (still_same id (with_intake body (state_of phase o rd))
     (with_settled body (state_of Idle o rd) mine)
-    (has_back id body.kept mine ∙ or_both _ _ false is ∙ or_off _) refl)
+    (has_back id body.kept mine ∙ or_both _ _ false is ∙ or-false _) refl)
     (sym (is_this id same ∙ is))
     (deed_is id j desk sees Entry e (deeds.Settles mine.id) more quiet (λ told. if_not _ _ is)
     (λ gap left. refl))

@@ -25,8 +25,11 @@ use Rattle.std.proofs.Common.{
   None,
 }
 use Rattle.std.specs.List.{list_any}
-use Rattle.std.proofs.lemmas.Bool.{false≢true}
+use Rattle.std.proofs.lemmas.Bool.{false≢true, or_right, false_from_ne_true}
 use Rattle.std.proofs.lemmas.List.Folds.{list_any-append}
+use Rattle.line_step.proofs.Unnamed.{apart_ids}
+use Rattle.one_standing.proofs.MirroringEnds.{vacuous}
+use mathlib.Core.Bool.{or-false}
 use Rattle.line_base.specs.declared.states.SensorEvent.{SensorEvent}
 use Rattle.line_base.specs.declared.states.Side.{Side}
 use Rattle.line_base.specs.declared.states.Side.TheVariants.{Entry, Exit}
@@ -39,7 +42,7 @@ use Rattle.custody.specs.Place.{Place}
 use Rattle.custody.specs.Words.{events_at}
 use Rattle.standings.specs.Ledger.{are_different}
 use Rattle.standings.specs.Marks.{has_id, is_held}
-use Rattle.one_standing.proofs.LedgerSteps.{all_of, none_either}
+use Rattle.one_standing.proofs.LedgerSteps.{all_of}
 use Rattle.one_standing.proofs.LedgerTurns.{different_first, different_rest}
 use Rattle.supervisor_replay.proofs.Bodies.{
   holds_it,
@@ -77,18 +80,14 @@ not_front x (y ∷ xs) ys different has =
     front_by false is later = later
     front_by true is later =
         let none : has_id y ys ≡ false =
-        (none_either y xs ys (different_first y (xs ++ ys) different)).1 in
+        (apart_ids y xs ys (different_first y (xs ++ ys) different)).1 in
         let no : has_id x ys ≡ false =
         subst (λ (z : ℕ). has_id z ys ≡ false) (eqb-true y x is) none in
         absurd (false≢true (sym no ∙ has))
 
-or_false : (a : Bool) → (a || false) ≡ a
-or_false true = refl
-or_false false = refl
-
 one_held : (id : ℕ) (one : Option ℕ) → has_id id (one_of one) ≡ is_held id one
 one_held id None = refl
-one_held id (Some other) = or_false (other == id)
+one_held id (Some other) = or-false (other == id)
 
 -- what is taken is not kept, and not held
 taken_apart : (id : ℕ) (own : Own) → are_different (all_of own) ≡ true
@@ -100,7 +99,7 @@ taken_apart id own different is =
     ap are_different (append_assoc (one_of own.held) own.kept (one_of own.taking)) ∙ different in
     let none : has_id id front ≡ false =
     not_front id front (one_of own.taking) all (one_held id own.taking ∙ is) in
-    let parts = none_either id (one_of own.held) own.kept none in
+    let parts = apart_ids id (one_of own.held) own.kept none in
     (parts.1, sym (one_held id own.held) ∙ parts.0)
 
 -- what is held is not kept
@@ -136,7 +135,7 @@ back_by false b c d is = is
 
 pub has_back : (id : ℕ) (kept : List Record) (board : Record)
     → has_id id (ids_of (kept ++ board ∷ [])) ≡ (has_id id (ids_of kept) || (board.id == id))
-has_back id [] board = or_false (board.id == id)
+has_back id [] board = or-false (board.id == id)
 has_back id (one ∷ kept) board =
     back_by (one.id == id) (has_id id (ids_of kept)) (board.id == id)
     (has_id id (ids_of (kept ++ board ∷ []))) (has_back id kept board)
@@ -180,10 +179,6 @@ or_first : (a b : Bool) → (a || false) ≡ true → (a || b) ≡ true
 or_first true b is = refl
 or_first false b is = absurd (false≢true is)
 
-or_second : (a b : Bool) → b ≡ true → (a || b) ≡ true
-or_second true b is = refl
-or_second false b is = is
-
 first_leaves : (side : Side) (event : SensorEvent) (others : List Sensed)
     → will_leave (record { side = side; event = event } ∷ []) ≡ true
     → will_leave (record { side = side; event = event } ∷ others) ≡ true
@@ -195,7 +190,7 @@ later_leaves : (side : Side) (event : SensorEvent) (others : List Sensed) → wi
     → will_leave (record { side = side; event = event } ∷ others) ≡ true
 later_leaves Entry event others is = is
 later_leaves Exit event others is =
-    or_second (is_leaving_event event) (list_any is_leaving_event (events_at Exit others)) is
+    or_right (is_leaving_event event) (list_any is_leaving_event (events_at Exit others)) is
 
 -- where the machine neither holds nor takes it, nothing becomes of it
 record Nothing (id j : ℕ) (one now : Machine) (all : List Act) : Type 0 where
@@ -203,23 +198,16 @@ record Nothing (id j : ℕ) (one now : Machine) (all : List Act) : Type 0 where
   takes : takes_it id now ≡ false
   says : Says id j all (λ told. told)
 
-no_more : {X : Type 0} {a : Bool} → a ≡ false → a ≡ true → X
-no_more none is = absurd (false≢true (sym none ∙ is))
-
 nothing_more : {id j : ℕ} {unread : List Sensed} {place : Place} {one now : Machine}
     {all : List Act} → holds_it id one ≡ false → takes_it id one ≡ false
     → ReadFares id j unread place one now all → Nothing id j one now all
 nothing_more held takes (read_so still same says) =
     record { still = still; takes = same ∙ takes; says = says }
-nothing_more held takes (read_leaves is leaves none same says) = no_more held is
-nothing_more held takes (read_lost is none same says) = no_more held is
-nothing_more held takes (read_settles is over has says) = no_more takes is
-nothing_more held takes (read_missing is over away still says) = no_more takes is
-nothing_more held takes (read_upstream is over above still says) = no_more takes is
-
-not_so : (a : Bool) → (a ≡ true → ⊥) → a ≡ false
-not_so true never = absurd (never refl)
-not_so false never = refl
+nothing_more held takes (read_leaves is leaves none same says) = vacuous held is
+nothing_more held takes (read_lost is none same says) = vacuous held is
+nothing_more held takes (read_settles is over has says) = vacuous takes is
+nothing_more held takes (read_missing is over away still says) = vacuous takes is
+nothing_more held takes (read_upstream is over above still says) = vacuous takes is
 
 -- nothing became of it at first
 behind_so : {id j : ℕ} {place : Place} {body one now : Machine} {first second : List Act}
@@ -251,16 +239,16 @@ behind_so {id = id} {j = j} {first = first} {second = second} sensed others mine
     (says_both id j first second says says2)
 
 -- an outlet's board is not taken, and a board that is taken is not held
-held_untaken : {id : ℕ} {body : Machine} → Apart id body → holds_it id body ≡ true
+pub held_untaken : {id : ℕ} {body : Machine} → Apart id body → holds_it id body ≡ true
     → takes_it id body ≡ false
 held_untaken {id = id} {body = body} alone held =
-    not_so (takes_it id body) (λ is. it_not (inr held) (alone.taking is))
+    false_from_ne_true (takes_it id body) (λ is. it_not (inr held) (alone.taking is))
 
 taken_unheld : {id : ℕ} {body : Machine} (one : Machine) → Apart id body
     → (holds_it id one ≡ true → holds_it id body ≡ true) → takes_it id body ≡ true
     → holds_it id one ≡ false
 taken_unheld {id = id} one alone mine is =
-    not_so (holds_it id one) (λ held. it_not (inr (mine held)) (alone.taking is))
+    false_from_ne_true (holds_it id one) (λ held. it_not (inr (mine held)) (alone.taking is))
 
 -- what becomes of a board as one event is read, and then the others
 pub behind_one : {id j : ℕ} {place : Place} {body one now : Machine} {first second : List Act}

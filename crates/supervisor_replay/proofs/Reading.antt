@@ -19,6 +19,8 @@ use Rattle.std.proofs.Common.{
 }
 use Rattle.std.specs.List.{list_any}
 use Rattle.std.proofs.lemmas.List.Folds.{list_any-append}
+use Rattle.std.proofs.lemmas.Bool.{or_from}
+use Rattle.line_step.proofs.WithTells.{tells_append}
 use Rattle.line_base.specs.declared.states.SensorEvent.{SensorEvent}
 use Rattle.line_base.specs.declared.states.Side.TheVariants.{Entry}
 use Rattle.board_record.specs.declared.record.Record.{Record}
@@ -42,13 +44,9 @@ use Rattle.supervisor_replay.proofs.Events.{Later}
 use Rattle.supervisor_replay.proofs.OneEvent.{Went, one_went}
 use Rattle.supervisor_replay.proofs.Parts.{ReadFares, read_so}
 use Rattle.supervisor_replay.proofs.Places.{apart, behind_one, still_same}
-use Rattle.supervisor_replay.proofs.Tells.{says_none, tells_append, watch_append, watching}
+use Rattle.supervisor_replay.proofs.Tells.{says_none, watch_append, watching}
 
 -- ---- the events one behind the other
-
-either_not : (a b : Bool) → a ≡ false → b ≡ false → (a || b) ≡ false
-either_not false b one two = two
-either_not true b one two = one
 
 -- an event, and then the others
 then_went : {es : List SensorEvent} {place : Place} {board : Record} (id j : ℕ) (desk : Desk)
@@ -71,9 +69,9 @@ then_went {place = place} id j desk sensed others body one next different a b =
           ∙ ap (λ (v : Watch). watch_behind v next.acts) a.watch ∙ b.watch;
       different = b.different;
       hand_out = list_any-append (takes_out id) one.acts next.acts
-          ∙ either_not _ _ a.hand_out b.hand_out;
+          ∙ or_from _ _ a.hand_out b.hand_out;
       hand_in = list_any-append (brings_in id) one.acts next.acts
-          ∙ either_not _ _ a.hand_in b.hand_in;
+          ∙ or_from _ _ a.hand_in b.hand_in;
       held = λ h. a.held (b.held h);
     }
 

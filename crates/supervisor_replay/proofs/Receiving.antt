@@ -1,9 +1,9 @@
 -- What a machine's step makes of the offers of a board that are on their way to its entry: where
 -- none will be taken up, none is, and the machine doesn't start the board.
-use Rattle.std.proofs.Common.{Bool, List, None, Option, Some, [], false, length, ne_eqb, refl, subst, sym, true, ℕ, ℤ, ◌++◌, ◌||◌, ◌∙◌, ◌∷◌, ◌==◌, ◌≡◌}
+use Rattle.std.proofs.Common.{Bool, List, None, Option, Some, [], false, length, ne_eqb, refl, subst, sym, true, ℕ, ℤ, ◌++◌, ◌∙◌, ◌∷◌, ◌==◌, ◌≡◌}
 use Rattle.std.specs.Prelude.{drop, is_some, slice_get}
 use Rattle.std.specs.List.{list_any}
-use Rattle.std.proofs.lemmas.Bool.{false≢true}
+use Rattle.std.proofs.lemmas.Bool.{false≢true, or_from}
 use Rattle.std.proofs.lemmas.List.Folds.{list_any-append}
 use Rattle.line_base.specs.declared.states.Quality.TheVariants as qualities
 use Rattle.line_base.specs.declared.states.Severity.TheVariants.{Fatal}
@@ -82,14 +82,10 @@ pub record Receives (id : ℕ) (words : List Word) (messages : List Horizontal)
 
 -- ---- acts that start nothing
 
-neither : (a b : Bool) → a ≡ false → b ≡ false → (a || b) ≡ false
-neither false b one two = two
-neither true b one two = absurd (false≢true (sym one))
-
-none_both : (id : ℕ) (a b : List Act) → list_any (starts_it id) a ≡ false
+pub none_both : (id : ℕ) (a b : List Act) → list_any (starts_it id) a ≡ false
     → list_any (starts_it id) b ≡ false → list_any (starts_it id) (a ++ b) ≡ false
 none_both id a b one two =
-    list_any-append (starts_it id) a b ∙ neither (list_any (starts_it id) a)
+    list_any-append (starts_it id) a b ∙ or_from (list_any (starts_it id) a)
     (list_any (starts_it id) b) one two
 
 deeds_none : (id : ℕ) (deed : Option OutDeed) → list_any (starts_it id) (out_does deed) ≡ false
@@ -198,7 +194,7 @@ row_passes _ calm is = cc
 row_none : {s : InState} {w : InInput} {row : InRow} (id : ℕ) (desk : Desk) → IsIntakeRow s w row
     → OfferIs (IsOther id) s.offer → list_any (starts_it id) (in_told desk row.act) ≡ false
 row_none id desk (starts_transport {board = board}) (offer_is other) =
-    neither (board.id == id) false (ne_eqb board.id id other) refl
+    or_from (board.id == id) false (ne_eqb board.id id other) refl
 row_none id desk (closed_between {heard = true}) o = refl
 row_none id desk (closed_between {heard = false}) o = refl
 row_none id desk (closed_inside {heard = true}) o = refl

@@ -1,5 +1,5 @@
 -- THE SUPERVISOR'S REPLAY AGREES, form by form, and over a run.
-use Rattle.std.proofs.Common.{◌≡◌, ◌≤◌, ◌∙◌, ◌++◌, ◌+◌, ◌==◌, ◌||◌, ℕ, zero, suc, Bool, true, false, List, [], ◌∷◌, Option, Some, None, Ok, Err, length, refl, sym, ap, subst, arith}
+use Rattle.std.proofs.Common.{◌≡◌, ◌∙◌, ◌++◌, ◌+◌, ◌==◌, ◌||◌, ℕ, zero, suc, Bool, true, false, List, [], ◌∷◌, Option, Some, None, Ok, Err, length, refl, sym, ap, subst}
 use Rattle.std.specs.Prelude.{if◌then◌else◌, nat_lt, slice_index_or, ◌-◌}
 use Rattle.board_record.specs.declared.sensed.Sensed.{Sensed}
 use Rattle.node_core.specs.Node.{NodeState}
@@ -61,6 +61,7 @@ use Rattle.supervisor_replay.proofs.Turns.{
   remove_line,
   replace_line,
   same_line,
+  same_count,
 }
 use Rattle.supervisor_replay.proofs.Views.{IsSame}
 
@@ -77,15 +78,12 @@ record SameMachines (before next : LineState) : Type 0 where
   bodies : (k : ℕ) → unwilled (node_at next k).lane.body ≡ unwilled (node_at before k).lane.body
   unread : (k : ℕ) → (machine_at next.world.floor k).unread ≡ (machine_at before.world.floor k).unread
 
-counts_same : (a b : ℕ) → a ≤ b → b ≤ a → (a == 0) ≡ (b == 0)
-counts_same a b one two = let same : a ≡ b = omega (arith, one, two) in ap (λ (n : ℕ). n == 0) same
-
 off_same : (id : ℕ) (before next : LineState) (what : List Happening)
     → Goes before next (what ++ standings_told before next) → IsPlain what
     → (view_of id next).off ≡ (view_of id before).off
 off_same id before next what goes plain =
     let all : List Happening = what ++ standings_told before next in
-    counts_same (counted id (boards_of next)) (counted id (boards_of before))
+    same_count (counted id (boards_of next)) (counted id (boards_of before))
     (comes_not id before next all goes (with_standings (may_bring id) (brings_none id) what before next ∙ plain.brings id))
     (stays_there id before next all goes (with_standings (may_lose id) (loses_none id) what before next ∙ plain.loses id))
 

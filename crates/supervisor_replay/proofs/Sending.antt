@@ -1,10 +1,11 @@
 -- A machine offers a board that it keeps alone; and where its outlet holds a board, no offer of it
 -- is still to be taken up.
-use Rattle.std.proofs.Common.{Bool, List, None, Option, Some, [], ap, false, refl, sym, true, ℕ, ◌++◌, ◌+◌, ◌==◌, ◌||◌, ◌∙◌, ◌∷◌, ◌≡◌}
+use Rattle.std.proofs.Common.{Bool, List, None, Option, Some, [], ap, false, refl, sym, true, ℕ, ◌++◌, ◌+◌, ◌==◌, ◌∙◌, ◌∷◌, ◌≡◌}
 use Rattle.std.specs.Prelude.{is_some, slice_get}
 use Rattle.std.specs.List.{list_any}
-use Rattle.std.proofs.lemmas.Bool.{false≢true}
+use Rattle.std.proofs.lemmas.Bool.{false≢true, or_from, or_parts}
 use Rattle.std.proofs.lemmas.List.Folds.{list_any-append}
+use Rattle.custody.proofs.Open.{stale_open}
 use Rattle.line_base.specs.declared.states.SensorEvent.{SensorEvent}
 use Rattle.line_base.specs.declared.states.Side.{Side}
 use Rattle.line_base.specs.declared.states.Side.TheVariants.{Entry, Exit}
@@ -69,8 +70,7 @@ use Rattle.node_core.specs.declared.word.Word.{Word}
 use Rattle.node_core.specs.declared.word.Word.TheVariants.{Says, Wrong}
 use Rattle.line_link.specs.Flow.{Stream, coming}
 use Rattle.custody.specs.Apart.{Entry as EntryEnd, Exit as ExitEnd, entry_none, entry_shaking, entry_shaking_waiting, entry_stopped, entry_transporting, entry_waits, entry_waits_in, exit_called_stuck, exit_described_stuck, exit_none_stuck, exit_shaking_stuck, exit_stop_sent, exit_stuck, exit_stuck_stop_sent, exit_transporting}
-use Rattle.custody.specs.Contents.{OfferIs, OpenAll, no_offer, open_back, open_none, open_passed}
-use Rattle.custody.specs.Flight.{Stale, stale_none, stale_offer, stale_revoke}
+use Rattle.custody.specs.Contents.{OfferIs, OpenAll, no_offer, open_none}
 use Rattle.custody.specs.Place.{Place}
 use Rattle.custody.specs.Shape.{Shape, stop_sent, stuck_stop_heard, stuck_stop_sent, stuck_transporting, transporting}
 use Rattle.custody.specs.Talks.{Talks, apart, live, shaking_stuck}
@@ -79,7 +79,6 @@ use Rattle.standings.specs.Marks.{has_id, is_held}
 use Rattle.line_step.specs.Numbered.{node_at}
 use Rattle.line_step.specs.Reasons.{has_link}
 use Rattle.line_step.specs.State.{LineState}
-use Rattle.line_step.proofs.Unnamed.{neither}
 use Rattle.one_standing.specs.Carried.{Carries, Trace, carries_over, carries_spoiled, carries_whole}
 use Rattle.one_standing.specs.Stands.{Stands}
 use Rattle.supervisor_replay.proofs.Bodies.{holds_it, keeps_it}
@@ -90,13 +89,9 @@ use Rattle.supervisor_replay.proofs.Free.{Down, IsFree, IsOther, down_over, down
 abbrev Quiet : ℕ → List Act → Type 0
 Quiet id told = list_any (offers_it id) told ≡ false
 
-none_of : (a b : Bool) → a ≡ false → b ≡ false → (a || b) ≡ false
-none_of false b one two = two
-none_of true b one two = one
-
 both : (id : ℕ) (a b : List Act) → Quiet id a → Quiet id b → Quiet id (a ++ b)
 both id a b one two =
-    list_any-append (offers_it id) a b ∙ none_of (list_any (offers_it id) a)
+    list_any-append (offers_it id) a b ∙ or_from (list_any (offers_it id) a)
     (list_any (offers_it id) b) one two
 
 -- ---- the outlet, but for an offer
@@ -356,7 +351,7 @@ words_quiet id desk side (word ∷ words) body =
 
 kept_quiet : (id : ℕ) (test : Bool) (after body : Machine) (act : Act) → offers_it id act ≡ false
     → Quiet id (if_kept test after act body).acts
-kept_quiet id true after body act is = none_of (offers_it id act) false is refl
+kept_quiet id true after body act is = or_from (offers_it id act) false is refl
 kept_quiet id false after body act is = refl
 
 faults_quiet : (id : ℕ) (desk : Desk) (side : Side) (body : Machine)
@@ -419,8 +414,8 @@ behind_kept : (id : ℕ) (board : Record) (kept : List Record)
     → has_id id (ids_of (kept ++ board ∷ [])) ≡ false → has_id id (ids_of kept) ≡ false
 behind_kept id board [] is = refl
 behind_kept id board (b ∷ bs) is =
-    let parts = neither (b.id == id) (has_id id (ids_of (bs ++ board ∷ []))) is in
-    none_of (b.id == id) (has_id id (ids_of bs)) parts.0 (behind_kept id board bs parts.1)
+    let parts = or_parts (b.id == id) (has_id id (ids_of (bs ++ board ∷ []))) is in
+    or_from (b.id == id) (has_id id (ids_of bs)) parts.0 (behind_kept id board bs parts.1)
 
 settled_kept : (id : ℕ) (keep : Option Record) (kept : List Record)
     → has_id id (ids_of (settled keep kept)) ≡ false → has_id id (ids_of kept) ≡ false
@@ -472,7 +467,7 @@ front_quiet : (id other : ℕ) (desk : Desk) (kept : List Record) {s : OutState}
     → Quiet id (out_told desk kept row.act)
 front_quiet id other desk [] row_offers is = refl
 front_quiet id other desk (b ∷ bs) row_offers is =
-    none_of (b.id == id) false (neither (b.id == id) (has_id id (ids_of bs)) is).0 refl
+    or_from (b.id == id) false (or_parts (b.id == id) (has_id id (ids_of bs)) is).0 refl
 
 offer_row_kept : (id other : ℕ) (desk : Desk) (body : Machine) {row : OutRow}
     → IsOutletRow body.outlet (out_input.Offer other) row
@@ -545,11 +540,6 @@ record Passed (Q : Record
     → Type 0) (i : In) (f : Option Record) (down : List DownWord) : Type 0 where
   pub offers : OpenAll Q (passes_offers_over i) down
   pub offer : OfferIs Q f
-
-stale_open : {Q : Record → Type 0} {down : List DownWord} → Stale down → OpenAll Q true down
-stale_open stale_none = open_none
-stale_open (stale_offer more) = open_passed (stale_open more)
-stale_open (stale_revoke more) = open_back (stale_open more)
 
 shape_passed : {Q : Record
     → Type 0} {o : Out} {of : Option ℕ} {rd : Bool} {i : In} {f : Option Record} {ri : Bool}

@@ -29,6 +29,8 @@ use Rattle.std.proofs.Common.{
   sym,
 }
 use Rattle.std.specs.List.{list_any}
+use Rattle.std.proofs.lemmas.Bool.{false_from_ne_true}
+use Rattle.line_history.proofs.Where.{none_some, starts_upstream, left_there, begun_is}
 use Rattle.line_base.specs.declared.states.Seen.{Seen}
 use Rattle.line_base.specs.declared.states.SensorEvent.{SensorEvent}
 use Rattle.board_record.specs.declared.record.Record.{Record}
@@ -178,15 +180,8 @@ near : (t : Trace) (s : LineState) (j : ℕ) → Stands t s
     → Neighbours (stand_of s j) (between_of t s j) (stand_of s (j + 1))
 near t s j st = st.keeps.neighbours.at j
 
-fails : (b : Bool) → (b ≡ true → ⊥) → b ≡ false
-fails true no_way = absurd (no_way refl)
-fails false no_way = refl
-
-true_false : {X : Type 0} {b : Bool} → b ≡ true → b ≡ false → X
+pub true_false : {X : Type 0} {b : Bool} → b ≡ true → b ≡ false → X
 true_false one two = cc
-
-none_some : {X : Type 0} (r : Record) → ◌≡◌ {A = Option Record} None (Some r) → X
-none_some r is = cc
 
 kept_mark : (s : LineState) (id machine : ℕ) → keeps_it id (node_at s machine).lane.body ≡ true
     → HasMark (stand_of s) id (marks.Kept machine)
@@ -228,7 +223,7 @@ sole_of t s id st one = record {
       ∙ taken_counted s id i here);
   kept_above = λ i j kept taken. below_of j st (kept_mark s id i kept) taken;
   held_above = λ i j held taken. below_of j st (held_mark s id i held) taken;
-  apart = λ j kept. fails (holds_it id (node_at s j).lane.body) (one.kept_alone j id kept);
+  apart = λ j kept. false_from_ne_true (holds_it id (node_at s j).lane.body) (one.kept_alone j id kept);
 }
 
 next_apart : (j : ℕ) → j ≡ j + 1 → ⊥
@@ -239,9 +234,9 @@ none_above : {t : Trace} {s : LineState} {id : ℕ} {mark : Mark} (j : ℕ) → 
     → HasMark (stand_of s) id mark → link_of mark ≡ j + 1
     → (keeps_it id (node_at s j).lane.body ≡ false) × (holds_it id (node_at s j).lane.body ≡ false)
 none_above {s = s} {id = id} j st has at = (
-  fails (keeps_it id (node_at s j).lane.body)
+  false_from_ne_true (keeps_it id (node_at s j).lane.body)
       (λ is. next_apart j (same_link st (kept_mark s id j is) has ∙ at)),
-  fails (holds_it id (node_at s j).lane.body)
+  false_from_ne_true (holds_it id (node_at s j).lane.body)
       (λ is. next_apart j (same_link st (held_mark s id j is) has ∙ at)),
 )
 
@@ -342,10 +337,6 @@ upstream_here Lost up = absurd (let never : false ≡ true = up in cc)
 upstream_here Stolen up = absurd (let never : false ≡ true = up in cc)
 
 -- ---- a board beyond the gap
-
-left_there : {lies : Gap} {b : Record} → GapAt lies Across b
-    → lies ≡ gaps.Left (record { id = Some b.id })
-left_there gap_left = refl
 
 -- the board of an outlet, where the ghost is across
 across_at : (t : Trace) (s : LineState) (j : ℕ) → Stands t s → (t.ghost j).place ≡ Across
@@ -481,7 +472,7 @@ upstream_of t s id j st place taken =
     let own = id_held id (taken_below s j) taken in (
       missing_at t s id j st taken ∙ upstream_here (t.ghost j).place place,
       (
-        (λ held. fails ((view_of id s).leaving j)
+        (λ held. false_from_ne_true ((view_of id s).leaving j)
             (λ leaving. no_leaving (gone_beyond t s id j st held leaving) place)),
         (λ none on. kept_or_off t s id j own.0 st own.2 on
             (n.holds.upstream own.0 own.1
@@ -502,18 +493,6 @@ kept_on t s id j st kept =
     on_floor t s id (at_machine j) st
     (lies_at (part_lies_at (has_end t s st) st.keeps
     (in_middle (id_kept id (node_at s j).lane.body.kept kept))))
-
-starts_upstream : {i : In} {drive : Bool} {p : Place} {b : Record} → EntryFloor i [] drive p b
-    → IsJustStarted i → is_upstream p ≡ true
-starts_upstream (in_free full across) started = absurd started
-starts_upstream (in_taking sees_fresh) started = refl
-starts_upstream (in_taking sees_home) started = refl
-starts_upstream (in_taking on_begun) started = absurd started
-starts_upstream (in_taking on_across) started = absurd started
-starts_upstream (in_taken_in so) started = elim so [ ]
-starts_upstream (in_stopped sees) started = absurd started
-starts_upstream (in_waiting sees) started = absurd started
-starts_upstream in_waiting_on started = absurd started
 
 -- a board that was just started, by a machine that has read all events, is on the floor where the
 -- outlet above holds it
@@ -560,10 +539,6 @@ held_where q at_start held = inl refl
 held_where q begun_read held = inr refl
 held_where q stuck_begun held = inr refl
 
-begun_there : {lies : Gap} {b : Record} → GapAt lies InGap b
-    → lies ≡ gaps.Begun (record { id = Some b.id })
-begun_there gap_begun = refl
-
 lies_begun_at : (t : Trace) (s : LineState) (id j : ℕ) (q : Record) → Stands t s
     → (t.ghost j).place ≡ InGap → held_above s j ≡ Some q → q.id ≡ id
     → LiesIn id (between_of t s j).gap.lies
@@ -571,7 +546,7 @@ lies_begun_at t s id j q st at held same =
     let n = near t s j st in
     let begun : (between_of t s j).gap.lies
     ≡ gaps.Begun (record { id = Some (t.ghost j).board.id }) =
-    begun_there (rw at at n.pair.gap) in
+    begun_is (rw at at n.pair.gap) in
     subst (λ (x : ℕ). LiesIn x (between_of t s j).gap.lies) (ghost_named t s id j q st held same)
     (subst (λ (l : Gap). LiesIn (t.ghost j).board.id l) (sym begun) lies_begun)
 

@@ -26,7 +26,7 @@ use Rattle.std.proofs.Common.{
   ◌≡◌,
   ◌⊎◌,
 }
-use Rattle.std.proofs.lemmas.Bool.{false≢true}
+use Rattle.std.proofs.lemmas.Bool.{false≢true, and_from}
 use Rattle.line_base.specs.declared.states.Seen.{Seen}
 use Rattle.line_base.specs.declared.states.SensorEvent.{SensorEvent}
 use Rattle.line_base.specs.declared.states.Side.{Side}
@@ -256,17 +256,13 @@ asks_silent asked (Answer query order) = record {
   left = λ gap id machine left. refl;
 }
 
-both_aside : (a b : Bool) → a ≡ true → b ≡ true → (a && b) ≡ true
-both_aside true b one two = two
-both_aside false b one two = one
-
 -- a course of acts from nothing moves nothing
 course_nothing : {seen : Option Seen} {own end : Own} {made : List Act} → Course seen own made end
     → HasNothing own → (are_aside made ≡ true) × (end ≡ own)
 course_nothing course_end none = (refl, refl)
 course_nothing (course_on {act = act} {others = others} aside more) none =
     let rest = course_nothing more none in
-    (both_aside (is_aside act) (are_aside others) aside rest.0, rest.1)
+    (and_from (is_aside act) (are_aside others) aside rest.0, rest.1)
 course_nothing (course_opens {id = id} {ids = ids} more) none = no_first id ids (none id).0
 course_nothing (course_returns {id = id} more) none = no_one id (none id).1.0
 course_nothing (course_settles {id = id} more) none = no_one id (none id).1.1

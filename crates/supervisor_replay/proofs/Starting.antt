@@ -29,6 +29,9 @@ use Rattle.std.proofs.Common.{
 }
 use Rattle.std.specs.List.{list_any}
 use Rattle.std.proofs.lemmas.List.Folds.{list_any-append}
+use Rattle.std.proofs.lemmas.Bool.{or_from}
+use Rattle.line_step.proofs.WithTells.{tells_append}
+use Rattle.one_standing.proofs.Behind.{before_apart}
 use Rattle.line_base.specs.declared.states.Seen.{Seen}
 use Rattle.line_base.specs.declared.states.Seen.TheVariants as sees
 use Rattle.handover_in.specs.State.{own_of_phase}
@@ -65,7 +68,6 @@ use Rattle.supervisor_replay.proofs.Course.{
   starts_none,
   starts_one,
 }
-use Rattle.supervisor_replay.proofs.Meeting.{or_not}
 use Rattle.supervisor_replay.proofs.Tells.{
   left_append,
   quiet_in,
@@ -73,7 +75,6 @@ use Rattle.supervisor_replay.proofs.Tells.{
   quiet_out,
   quiet_tells,
   quiet_told,
-  tells_append,
   told_append,
 }
 use Rattle.supervisor_replay.proofs.Views.{
@@ -150,7 +151,7 @@ said_out id (starts_one s) =
     let start : List Act = acts.Deed (deeds.Starts s.id) ∷ s.after in
     ap (list_any (takes_out id)) s.made_is
     ∙ list_any-append (takes_out id) s.before start
-    ∙ or_not (list_any (takes_out id) s.before) (list_any (takes_out id) start)
+    ∙ or_from (list_any (takes_out id) s.before) (list_any (takes_out id) start)
     (quiet_out id s.before (aside_quiet s.before s.quiet))
     (quiet_out id s.after (aside_quiet s.after s.silent))
 
@@ -161,7 +162,7 @@ said_in id (starts_one s) =
     let start : List Act = acts.Deed (deeds.Starts s.id) ∷ s.after in
     ap (list_any (brings_in id)) s.made_is
     ∙ list_any-append (brings_in id) s.before start
-    ∙ or_not (list_any (brings_in id) s.before) (list_any (brings_in id) start)
+    ∙ or_from (list_any (brings_in id) s.before) (list_any (brings_in id) start)
     (quiet_in id s.before (aside_quiet s.before s.quiet))
     (quiet_in id s.after (aside_quiet s.after s.silent))
 
@@ -248,16 +249,13 @@ same_then id j v off two now kept held taken gone = record {
 next_gap : (i j : ℕ) → i ≢ j → j + 1 ≢ i + 1
 next_gap i j other same = other (omega (arith, same))
 
-above_apart : (j : ℕ) → j ≢ j + 1
-above_apart j = omega arith
-
 -- the machine above is as it was
 from_then : (id j : ℕ) (v : View) (off : Bool) (two : Machine) → IsFrom j v off
     → IsFrom j (view_then id j two off v) off
 from_then id j v off two (inl kept) =
-    inl (put_there (j + 1) (keeps_it id two) v.kept j (above_apart j) ∙ kept)
+    inl (put_there (j + 1) (keeps_it id two) v.kept j (before_apart j) ∙ kept)
 from_then id j v off two (inr (inl held)) =
-    inr (inl (put_there (j + 1) (holds_it id two) v.held j (above_apart j) ∙ held))
+    inr (inl (put_there (j + 1) (holds_it id two) v.held j (before_apart j) ∙ held))
 from_then id j v off two (inr (inr gone)) = inr (inr gone)
 
 cleared : (a b left : Bool) → a ≡ true → b ≡ true → (if a && b then false else left) ≡ false
@@ -296,7 +294,7 @@ start_ends id j v off two now front last s there from left is =
       off = refl;
       there = λ held.
           there taken s.just
-          (sym (put_there (j + 1) (holds_it id two) v.held j (above_apart j)) ∙ held);
+          (sym (put_there (j + 1) (holds_it id two) v.held j (before_apart j)) ∙ held);
       from = from_then id j v off two (from taken s.just);
       cleared = record {
         here = left j ∙ start_left j id (j + 1) (front j) s

@@ -1,6 +1,8 @@
 -- A step of a machine of the line keeps what was told of an id right.
-use Rattle.std.proofs.Common.{◌≡◌, ◌≢◌, ◌∙◌, ◌⊎◌, ◌+◌, ◌||◌, ℕ, Bool, true, false, List, [], ◌∷◌, inl, inr, refl, sym, ap, subst, eq-eqb, ne_eqb}
+use Rattle.std.proofs.Common.{◌≡◌, ◌≢◌, ◌∙◌, ◌⊎◌, ◌+◌, ℕ, Bool, true, false, List, [], ◌∷◌, inl, inr, refl, sym, ap, subst, eq-eqb, ne_eqb}
 use Rattle.std.specs.List.{list_any}
+use Rattle.one_standing.proofs.RestLine.{node_there}
+use mathlib.Core.Bool.{or-false}
 use Rattle.line_base.specs.declared.states.Side.TheVariants.{Entry}
 use Rattle.line_world.specs.FloorPlan.{machine_at}
 use Rattle.node_core.specs.Desk.{Desk}
@@ -25,7 +27,6 @@ use Rattle.line_step.specs.State.{LineState, machine_in}
 use Rattle.line_step.specs.Steps.{MachineSteps, is_second, moment_of, read_by, unread_by}
 use Rattle.line_step.proofs.Changing.{step_changes}
 use Rattle.line_step.proofs.Numbers.{machine_set_own, same_or_not}
-use Rattle.one_standing.proofs.Mirroring.{node_there}
 use Rattle.one_standing.specs.Carried.{Trace, between_of, stand_of}
 use Rattle.one_standing.specs.Relation.{Neighbours}
 use Rattle.one_standing.specs.Stands.{Stands}
@@ -104,10 +105,6 @@ step_left gap id number machine input before after told steps was =
 
 -- ---- the view behind a step
 
-or_false : (b : Bool) → (b || false) ≡ b
-or_false true = refl
-or_false false = refl
-
 put_own : (machine i : ℕ) (here : Bool) (others : ℕ → Bool) → i ≡ machine
     → put machine here others i ≡ here
 put_own machine i here others is = rw (eq-eqb i machine is) refl
@@ -170,7 +167,7 @@ then_view id number j input start next done steps now is =
       missing = λ i. each_put (j + 1) i (is_gone_own (own_of_phase now.intake.phase))
           (view_of id start).missing (view_of id next).missing
           (ap (misses_it (node_at next (j + 1)).lane.body) own.read
-          ∙ or_false (is_gone_own (own_of_phase (node_at next (j + 1)).lane.body.intake.phase))
+          ∙ or-false (is_gone_own (own_of_phase (node_at next (j + 1)).lane.body.intake.phase))
           ∙ ap (λ (b : Machine). is_gone_own (own_of_phase b.intake.phase)) is)
           (λ apart. ap (λ (s : Stand). misses_it s.node.lane.body s.place.unread) (other i apart));
       off = refl;

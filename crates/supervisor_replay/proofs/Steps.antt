@@ -27,6 +27,9 @@ use Rattle.std.proofs.Common.{
 use Rattle.std.specs.List.{list_any}
 use Rattle.std.proofs.lemmas.Bool.{false≢true}
 use Rattle.std.proofs.lemmas.List.Folds.{list_any-append}
+use Rattle.line_step.proofs.WithTells.{tells_append}
+use Rattle.supervisor_replay.proofs.Hands.{middle}
+use mathlib.Core.Bool.{or-false}
 use Rattle.line_base.specs.declared.states.Seen.{Seen}
 use Rattle.line_base.specs.declared.states.SensorEvent.{SensorEvent}
 use Rattle.line_base.specs.declared.states.Side.TheVariants.{Entry}
@@ -128,7 +131,7 @@ use Rattle.supervisor_replay.proofs.Parts.{
   read_so,
   read_upstream,
 }
-use Rattle.supervisor_replay.proofs.Places.{Apart, apart, still_both, still_it, still_not}
+use Rattle.supervisor_replay.proofs.Places.{Apart, apart, still_both, still_it, still_not, held_untaken}
 use Rattle.supervisor_replay.proofs.Reading.{Read, read_fares}
 use Rattle.supervisor_replay.proofs.Silence.{
   Silent,
@@ -156,7 +159,6 @@ use Rattle.supervisor_replay.proofs.Tells.{
   left_append,
   left_then,
   says_both,
-  tells_append,
   told_append,
 }
 use Rattle.supervisor_replay.proofs.Views.{
@@ -341,13 +343,6 @@ must_so free no_out no_in (met_upstream t _ _ _ _ _ _) = absurd (false≢true (s
 must_so free no_out no_in (met_new brings _ _ _) = absurd (no_in brings)
 must_so free no_out no_in (met_removed goes _ _ _ _) = absurd (no_out goes)
 
-untaken : {id : ℕ} {body : Machine} → Apart id body → holds_it id body ≡ true
-    → takes_it id body ≡ false
-untaken {id = id} {body = body} ids held = by_test (takes_it id body) refl where
-  by_test : (test : Bool) → takes_it id body ≡ test → test ≡ false
-  by_test false is = refl
-  by_test true is = absurd (false≢true (sym (ids.taking is).held ∙ held))
-
 -- its outlet held it, or its intake
 held_so : {id j : ℕ} {unread : List Sensed} {place : Place} {v : View} {told : Told}
     {left : ℕ → Bool} {body one two : Machine} {met all : List Act} {off : Bool}
@@ -355,7 +350,7 @@ held_so : {id j : ℕ} {unread : List Sensed} {place : Place} {v : View} {told :
     → takes_it id one ≡ takes_it id body → MetFares id j place one two met all
     → MetSo id j one two met all
 held_so {j = j} a held same =
-    must_so (same ∙ untaken a.ids held)
+    must_so (same ∙ held_untaken a.ids held)
     (λ goes. false≢true (sym (a.ids.held held) ∙ a.hand goes))
     (λ brings. false≢true (sym ((a.new brings).1.1.1.0 (j + 1)) ∙ a.here.held ∙ held))
 
@@ -457,10 +452,6 @@ floor_sees (in_stopped saw) holds = sees_away saw
 floor_sees (in_waiting saw) holds = sees_away saw
 floor_sees in_waiting_on holds = refl
 
-or_none : (a : Bool) → a ≡ (a || false)
-or_none true = refl
-or_none false = refl
-
 id_some : (id : ℕ) (one : Option Record) → is_held id (id_of one) ≡ true → is_some one ≡ true
 id_some id None is = is
 id_some id (Some board) is = refl
@@ -502,23 +493,18 @@ missing_is : {place : Place} {board : Record} {drive : Bool} (id : ℕ) (unread 
 missing_is id unread body one two before floor seen was taken =
     let holds : is_some (held_in one.intake.phase) ≡ true = taken_one id one two seen taken in
     ap is_gone_own (held_seen id one two seen taken)
-    ∙ or_none (is_gone_own (seen_of one))
+    ∙ sym (or-false (is_gone_own (seen_of one)))
     ∙ floor_sees (floor holds).1 holds
     ∙ sym (floor_sees before (id_some id (held_in body.intake.phase) was))
 
 -- ---- what goes by hand in the whole step goes in the event
-
-middle_is : (a b c : Bool) → a ≡ false → c ≡ false → (a || (b || c)) ≡ b
-middle_is false true c one two = refl
-middle_is false false c one two = two
-middle_is true b c one two = absurd (false≢true (sym one))
 
 middle_any : (p : Act → Bool) (read met said : List Act) → list_any p read ≡ false
     → list_any p said ≡ false → list_any p (read ++ (met ++ said)) ≡ list_any p met
 middle_any p read met said one two =
     list_any-append p read (met ++ said)
     ∙ ap (λ (b : Bool). list_any p read || b) (list_any-append p met said)
-    ∙ middle_is (list_any p read) (list_any p met) (list_any p said) one two
+    ∙ middle (list_any p read) (list_any p met) (list_any p said) one two
 
 -- ---- the acts of the step, with what is told
 

@@ -66,18 +66,6 @@ pub watch_append : (watch : Watch) (first second : List Act)
 watch_append watch [] second = refl
 watch_append watch (act ∷ first) second = watch_append (watch_after watch act) first second
 
-pub tells_append : (desk : Desk) (watch : Watch) (first second : List Act)
-    → with_tells desk watch (first ++ second)
-    ≡ with_tells desk watch first ++ with_tells desk (watch_behind watch first) second
-tells_append desk watch [] second = refl
-tells_append desk watch (act ∷ first) second =
-    let next : Watch = watch_after watch act in
-    let told : List Act = tells_behind desk watch act in
-    ap (λ (xs : List Act). act ∷ (told ++ xs)) (tells_append desk next first second)
-    ∙ ap (λ (xs : List Act). act ∷ xs)
-    (sym (append_assoc told (with_tells desk next first)
-    (with_tells desk (watch_behind next first) second)))
-
 pub told_append : (id machine : ℕ) (first second : List Act) (told : Told)
     → told_acts id machine (first ++ second) told
     ≡ told_acts id machine second (told_acts id machine first told)

@@ -1,7 +1,9 @@
 -- The lines in which one machine makes a step: of no hand, and of a hand.
-use Rattle.std.proofs.Common.{◌≡◌, ◌≢◌, ◌≤◌, ◌∙◌, ◌⊎◌, ◌++◌, ◌+◌, ◌==◌, ◌||◌, ℕ, Bool, true, false, List, Option, Some, Result, Ok, Err, inl, inr, refl, sym, ap, arith, eq-eqb, not}
+use Rattle.std.proofs.Common.{◌≡◌, ◌≢◌, ◌≤◌, ◌∙◌, ◌++◌, ◌+◌, ◌==◌, ◌||◌, ℕ, Bool, true, false, List, Option, Some, Result, Ok, Err, inl, inr, refl, sym, ap, arith, not}
 use Rattle.std.specs.List.{list_any}
-use Rattle.std.proofs.lemmas.Bool.{false≢true}
+use Rattle.std.proofs.lemmas.Bool.{false≢true, false_from_ne_true}
+use Rattle.one_standing.proofs.RestLine.{node_there}
+use Rattle.one_standing.proofs.HandSteps.{own_gone}
 use Rattle.board_record.specs.Maker.{next_id}
 use Rattle.board_record.specs.declared.maker.IdsUsedUp.{IdsUsedUp}
 use Rattle.board_record.specs.declared.record.Record.{Record}
@@ -40,7 +42,6 @@ use Rattle.one_standing.proofs.ApartStep.{
 }
 use Rattle.one_standing.proofs.LedgerWalk.{kept_ids}
 use Rattle.one_standing.proofs.LineForms.{numbered, own_first, there_may}
-use Rattle.one_standing.proofs.Mirroring.{node_there}
 use Rattle.supervisor_replay.specs.Replay.{IsWatched, Told, nothing_told, told_of}
 use Rattle.supervisor_replay.proofs.Since.{left_since}
 use Rattle.supervisor_replay.proofs.Bodies.{brings_in, holds_it, keeps_it, takes_it, takes_out}
@@ -102,14 +103,6 @@ same_line before = record { stands = λ k. refl; boards = refl }
 
 -- ---- of a hand
 
-either : (b : Bool) → (b ≡ true) ⊎ (b ≡ false)
-either true = inl refl
-either false = inr refl
-
-false_by : (b : Bool) → (b ≡ true → ⊥) → b ≡ false
-false_by true not = absurd (not refl)
-false_by false not = refl
-
 -- what goes by hand was kept
 out_kept : (id number j : ℕ) (input : Input) (before next : LineState) (done : List Happening)
     → (steps : MachineSteps number (j + 1) input before next done)
@@ -143,22 +136,14 @@ new_unknown id number j input t t2 before next done past p steps is =
       (
         unknown.left,
         (
-          λ i. false_by ((view_of id before).kept i) (λ has. never (old_mark t before id i p.st (inl has))),
+          λ i. false_from_ne_true ((view_of id before).kept i) (λ has. never (old_mark t before id i p.st (inl has))),
           (
-            λ i. false_by ((view_of id before).held i) (λ has. never (old_mark t before id i p.st (inr (inl has)))),
-            λ i. false_by ((view_of id before).taken i) (λ has. never (old_mark t before id i p.st (inr (inr has)))),
+            λ i. false_from_ne_true ((view_of id before).held i) (λ has. never (old_mark t before id i p.st (inr (inl has)))),
+            λ i. false_from_ne_true ((view_of id before).taken i) (λ has. never (old_mark t before id i p.st (inr (inr has)))),
           ),
         ),
       ),
     )
-
--- what goes by hand is on the floor no more
-grown_here : (machine id : ℕ) (gone : ℕ → ℕ → Bool) → grown machine id gone machine id ≡ true
-grown_here machine id gone =
-    rw (eq-eqb machine machine refl, eq-eqb id id refl) (or_true (gone machine id)) where
-      or_true : (b : Bool) → (b || true) ≡ true
-      or_true true = refl
-      or_true false = refl
 
 out_off : (id number j : ℕ) (input : Input) (t t2 : Trace) (before next : LineState) (done past : List Happening)
     → Passing id t t2 before next done past → (steps : MachineSteps number (j + 1) input before next done)
@@ -175,15 +160,15 @@ out_off id number j input t t2 before next done past p steps kept is =
     elim (out_before (standings_told before next) (step_out id number (j + 1) input before next done steps is)) [
       | is_removed told ↦ gone_count t3 next (j + 1) id
           (apart_removed t t3 before next all (j + 1) id (at_machine (j + 1)) p.st.ids p.goes told (lies_at here)
-          (λ k y. refl) parted) (grown_here (j + 1) id t.gone)
+          (λ k y. refl) parted) (own_gone (j + 1) id t.gone)
       | is_replaced new told ↦ gone_count t3 next (j + 1) id
           (apart_replaced t t3 before next all (j + 1) id new (at_machine (j + 1)) p.st.ids p.goes told (lies_at here)
-          (λ k y. refl) parted) (grown_here (j + 1) id t.gone)
+          (λ k y. refl) parted) (own_gone (j + 1) id t.gone)
     ] in
     ap (λ (n : ℕ). n == 0) none
 
 -- and a board that no hand touches is where it was
-same_count : (a b : ℕ) → a ≤ b → b ≤ a → (a == 0) ≡ (b == 0)
+pub same_count : (a b : ℕ) → a ≤ b → b ≤ a → (a == 0) ≡ (b == 0)
 same_count a b one two = let same : a ≡ b = omega (arith, one, two) in ap (λ (n : ℕ). n == 0) same
 
 untouched : (id number j : ℕ) (input : Input) (t t2 : Trace) (before next : LineState) (done past : List Happening)
@@ -216,8 +201,8 @@ hand_seen id number j input t t2 before next done past p steps out brought true 
 hand_seen id number j input t t2 before next done past p steps out brought false is =
     let outs = list_any (takes_out id) (plain_of number (j + 1) input before next done steps) in
     let ins = list_any (brings_in id) (plain_of number (j + 1) input before next done steps) in
-    let no_out : outs ≡ false = false_by outs (λ has. false≢true (sym is ∙ out has)) in
-    let no_in : ins ≡ false = false_by ins (λ has. false≢true (sym is ∙ brought has)) in
+    let no_out : outs ≡ false = false_from_ne_true outs (λ has. false≢true (sym is ∙ out has)) in
+    let no_in : ins ≡ false = false_from_ne_true ins (λ has. false≢true (sym is ∙ brought has)) in
     seen_by id number j input before before next next done steps p.watched p.watched2 refl refl
     (untouched id number j input t t2 before next done past p steps no_out no_in) false is
 

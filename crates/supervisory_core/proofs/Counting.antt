@@ -15,7 +15,7 @@ pub record IsOpen (orders : List Order) (query : ℕ) : Type 0 where
   pub placed : slice_get orders (query - 1) ≡ Some order
   pub waits : order.answer ≡ None
 
-no_answer : (query : ℕ) (answer : Option (List ℕ)) → answer_kept query answer ≡ Ok tt → answer ≡ None
+pub no_answer : (query : ℕ) (answer : Option (List ℕ)) → answer_kept query answer ≡ Ok tt → answer ≡ None
 no_answer query None e = refl
 no_answer query (Some text) e = absurd cc
 

@@ -46,7 +46,7 @@ kept_asking orders after_it question same query text e = ap (λ (os : List Order
 
 -- ---- an answer more
 
-elsewhere : (orders : List Order) (place other : ℕ) (order : Order) → (place == other) ≡ false → slice_get (slice_set orders place order) other ≡ slice_get orders other
+pub elsewhere : (orders : List Order) (place other : ℕ) (order : Order) → (place == other) ≡ false → slice_get (slice_set orders place order) other ≡ slice_get orders other
 elsewhere [] place other order e = refl
 elsewhere (first ∷ orders) zero zero order e = absurd cc
 elsewhere (first ∷ orders) zero (suc other) order e = refl
@@ -72,7 +72,7 @@ other_by orders number query order false is some other =
     let apart : (number - 1 == query - 1) ≡ false = grind (arith, nat_tests) in
     ap answer_in (elsewhere orders (number - 1) (query - 1) order apart)
 
-other_answered : (orders : List Order) (number query : ℕ) (text : List ℕ) → answer_of orders number ≡ Ok tt → (number == query) ≡ false → answer_to (answered orders number text) query ≡ answer_to orders query
+pub other_answered : (orders : List Order) (number query : ℕ) (text : List ℕ) → answer_of orders number ≡ Ok tt → (number == query) ≡ false → answer_to (answered orders number text) query ≡ answer_to orders query
 other_answered orders number query text e other =
     let w = is_open orders number e in
     ap (λ (os : List Order). answer_to os query) (answered_is orders number text w)

@@ -1,6 +1,7 @@
 -- The plain program computes exactly the rows of the table, and a session stands once it was described.
 use Rattle.std.proofs.Common.{◌≡◌, ◌↔◌, ◌||◌, Bool, true, false, List, [], ◌∷◌, Option, Some, None, IfSome, refl, ap, subst, ◌∙◌}
 use Rattle.std.specs.List.{list_any}
+use mathlib.Core.Bool.{or_assoc}
 use Rattle.hermes_horizontal.specs.declared.message.Ping.TheVariants as pings
 use Rattle.hermes_vertical.specs.declared.message.Vertical.{Vertical}
 use Rattle.hermes_vertical.specs.declared.message.Vertical.TheVariants as bodies
@@ -61,11 +62,7 @@ one_step false (bodies.BoardDeparted passage) = refl
 one_step true (bodies.QueryWorkOrderInfo query question) = refl
 one_step false (bodies.QueryWorkOrderInfo query question) = refl
 
-or_grouped : (a b c : Bool) → ((a || b) || c) ≡ (a || (b || c))
-or_grouped true b c = refl
-or_grouped false b c = refl
-
-or_false : (a : Bool) → a ≡ (a || false)
+pub or_false : (a : Bool) → a ≡ (a || false)
 or_false true = refl
 or_false false = refl
 
@@ -73,7 +70,7 @@ stands_by : (stands : Bool) (messages : List Vertical) → stands_after stands m
 stands_by stands [] = or_false stands
 stands_by stands (message ∷ messages) =
     ap (λ (b : Bool). stands_after b messages) (one_step stands message) ∙ stands_by (stands || is_description message) messages
-    ∙ or_grouped stands (is_description message) (list_any is_description messages)
+    ∙ or_assoc stands (is_description message) (list_any is_description messages)
 
 pub stands_exactly : (messages : List Vertical) → stands_after false messages ≡ list_any is_description messages
 stands_exactly messages = stands_by false messages

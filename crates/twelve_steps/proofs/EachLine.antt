@@ -1,8 +1,9 @@
 -- Each form of line of an undisturbed stretch.
-use Rattle.std.proofs.Common.{Bool, List, None, Option, Result, Ok, Err, Some, [], ap, arith, false, length, ne_eqb, refl, subst, sym, true, ℕ, ◌&&◌, ◌+◌, ◌-◌, ◌∙◌, ◌∷◌, ◌≡◌, ◌≢◌, ◌≤◌, ◌⊎◌, ◌||◌, inl, inr}
+use Rattle.std.proofs.Common.{Bool, List, None, Option, Result, Ok, Err, Some, [], ap, arith, false, length, ne_eqb, refl, subst, sym, true, ℕ, ◌+◌, ◌-◌, ◌∙◌, ◌∷◌, ◌≡◌, ◌≢◌, ◌≤◌, ◌⊎◌, ◌||◌, inl, inr}
 use Rattle.std.specs.Prelude.{nat_le, nat_lt}
-use Rattle.std.proofs.lemmas.Bool.{le-leb, lt-ltb}
+use Rattle.std.proofs.lemmas.Bool.{le-leb, lt-ltb, and_from, or_right}
 use Rattle.std.proofs.lemmas.List.{length-append}
+use Rattle.one_standing.proofs.Behind.{fit_machine}
 use Rattle.board_record.specs.declared.record.Record.{Record}
 use Rattle.line_base.specs.declared.states.Role.TheVariants.{Upstream}
 use Rattle.line_base.specs.declared.states.Side.{Side}
@@ -31,8 +32,7 @@ use Rattle.node_core.specs.declared.lane.Body.{Body}
 use Rattle.node_core.proofs.Keeping.{ended_keeps, heard_keeps, if_keeps, keeps_behind, session_keeps}
 use Rattle.session_core.specs.Input.{opened, second}
 use Rattle.session_core.specs.Row.{session_row}
-use Rattle.line_base.specs.Text.{IsText}
-use Rattle.link_messages.specs.Fit.{AreFitRecords, IsFitBody, IsFitMaker}
+use Rattle.link_messages.specs.Fit.{AreFitRecords}
 use Rattle.line_report.specs.declared.happening.Happening.{Happening}
 use Rattle.line_step.specs.Lines.{Becomes, Connects, Flows, LineDoes, connecting, cut_in, met, move_told, moved, spoiled}
 use Rattle.line_step.specs.Numbered.{node_at}
@@ -57,7 +57,7 @@ use Rattle.twelve_steps.proofs.Flowing.{above_flows, above_line, forth_less, goe
 use Rattle.twelve_steps.proofs.FlowingDown.{below_flows, below_line}
 use Rattle.twelve_steps.proofs.Going.{AreCounted, Forth, Stage, counted, next_node}
 use Rattle.twelve_steps.proofs.Lower.{Aside, aside_by}
-use Rattle.twelve_steps.proofs.Lines.{Goes, Had, becomes_goes, beyond_step, counts_of, elsewhere_flow, elsewhere_step, forth_later, goes_none, goes_one, later_told, link_untouched, or_right, other_link, outcome_later, refused, sense_by, settled_behind, told_below, unless_goes, acts_settle}
+use Rattle.twelve_steps.proofs.Lines.{Goes, Had, becomes_goes, beyond_step, counts_of, elsewhere_flow, elsewhere_step, forth_later, goes_none, goes_one, later_told, link_untouched, other_link, outcome_later, refused, sense_by, settled_behind, told_below, unless_goes, acts_settle}
 use Rattle.twelve_steps.proofs.Turning.{HasSettled}
 use Rattle.node_core.specs.Places.{used}
 
@@ -185,14 +185,6 @@ below_meets {k = k} {id = id} {left = left} {number = number} {told = told} {tol
     forth_less 0 (omega arith) (below_line alone k id number left told told_now inputs.Second s s.world next done st counts whole refl few fit steps own steps.steps.lane.brings.0 refl
     (λ body r. aside_by (second_leaves desk body r) (session_keeps (used body) desk Exit second body (session_row (session_at Exit body) second) refl)) later (λ h. says (subst (λ (n : ℕ). tells_settled k n done ≡ true) (st.same ∙ st.named) (settles st.b.id h))))
 
-fit_same : (s next : LineState) (m : ℕ) → node_at next m ≡ node_at s m → IsFitMachine s m → IsFitMachine next m
-fit_same s next m same fit = record {
-  body = subst (λ (n : NodeState). IsFitBody n.lane.body) (sym same) fit.body;
-  maker = subst (λ (n : NodeState). IsFitMaker n.maker) (sym same) fit.maker;
-  name = subst (λ (n : NodeState). IsText n.name) (sym same) fit.name;
-  lane = subst (λ (n : NodeState). n.number ≤ 999_999_999) (sym same) fit.lane;
-}
-
 connect_elsewhere : {k : ℕ} {id : Record} {left number : ℕ} {told : Bool} {s next : LineState} {done : List Happening} (m : ℕ) → Had k id left number told s next → IsElsewhere k m → Connects number m s next done → (m - 1 ≡ k + 1) ⊎ (m - 1 ≢ k + 1) → Goes k id left told s (lines.Connect m) next done
 connect_elsewhere {k = k} {id = id} {left = left} {number = number} {told = told} {s = s} {next = next} {done = done} m h e c which =
     let one = (counted k s h.st.linked).0 in
@@ -221,7 +213,7 @@ connect_elsewhere {k = k} {id = id} {left = left} {number = number} {told = told
           let input : Input = met (connected_of (link_at (m - 1) s.world).upstream) in
           let second_step : MachineSteps number (k + 1) input c.between next c.later = subst (λ (n : ℕ). MachineSteps number n input c.between next c.later) is c.second in
           goes_none (lines.Connect m) refl
-          (below_meets input (met_is (connected_of (link_at (m - 1) s.world).upstream)) h.alone st counts_now whole h.few (fit_same s c.between (k + 1) first.below (h.stood.stands.fit (k + 1))) role second_step (later_told k id.id told done)
+          (below_meets input (met_is (connected_of (link_at (m - 1) s.world).upstream)) h.alone st counts_now whole h.few (fit_machine s c.between (k + 1) first.below (h.stood.stands.fit (k + 1))) role second_step (later_told k id.id told done)
           (λ n settles. ap (λ (hs : List Happening). tells_settled k n hs) second_step.told_is ∙ acts_settle (is_second input) k n second_step.acts (read_by (k + 1) c.between.world) settles)
           (λ is_told. or_right told (tells_settled k id.id done) (ap (λ (hs : List Happening). tells_settled k id.id hs) c.told_is ∙ settled_behind k id.id c.earlier c.later is_told)))
       | inr other ↦
@@ -229,11 +221,6 @@ connect_elsewhere {k = k} {id = id} {left = left} {number = number} {told = told
     ]
 
 -- ---- lines of elsewhere
-
-tests_true : (one two : Bool) → one ≡ true → two ≡ true → (one && two) ≡ true
-tests_true true true x y = refl
-tests_true true false x y = absurd (cc)
-tests_true false two x y = absurd (cc)
 
 more_untouched : (k : ℕ) (is_bridge : Bool) (capacity many : ℕ) (s : LineState) → has_link k s ≡ true → Untouched k s (one_more is_bridge capacity many s)
 more_untouched k is_bridge capacity many s linked =
@@ -245,7 +232,7 @@ more_untouched k is_bridge capacity many s linked =
     let below : length s.machines + 1 ≢ k + 1 = omega (arith, most) in
     let count : length now.machines ≡ length s.machines + 1 = length-append s.machines _ in
     machine_beyond k (length s.machines + 1) s now above below (more_changes is_bridge capacity many s)
-    (λ _. tests_true (nat_le 1 k) (nat_lt k (length now.machines)) (le-leb 1 k one) (lt-ltb k (length now.machines) (omega (arith, most, count))))
+    (λ _. and_from (nat_le 1 k) (nat_lt k (length now.machines)) (le-leb 1 k one) (lt-ltb k (length now.machines) (omega (arith, most, count))))
 
 cut_elsewhere : {k : ℕ} {id : Record} {left : ℕ} {told : Bool} {s next : LineState} {done what : List Happening} (gap : ℕ) → Stage k id left told s → gap ≢ k → Becomes (cut_in gap s) what next done → Goes k id left told s (lines.Cut gap) next done
 cut_elsewhere {k = k} {s = s} gap st apart b = becomes_goes (lines.Cut gap) st (link_untouched k gap (cut (link_at gap s.world)) s apart) refl b

@@ -10,9 +10,6 @@ use Rattle.board_record.specs.declared.record.Record.{Record}
 use Rattle.board_record.specs.declared.sensed.Sensed.{Sensed}
 use Rattle.hermes_horizontal.specs.declared.message.Horizontal.{Horizontal}
 use Rattle.hermes_horizontal.specs.declared.message.Message.{Message}
-use Rattle.session_core.specs.declared.state.SessionState.{SessionState}
-use Rattle.session_core.specs.declared.state.SessionState.TheVariants.{Standing}
-use Rattle.session_core.specs.End.{is_connected_state}
 use Rattle.handover_out.specs.State.{is_idle_phase}
 use Rattle.handover_out.specs.declared.phase.Phase.{Phase}
 use Rattle.line_link.specs.Flow.{Stream, coming}
@@ -52,7 +49,7 @@ use Rattle.twelve_steps.specs.Twelve.{one_if}
 use Rattle.twelve_steps.specs.Undisturbed.{are_some}
 use Rattle.twelve_steps.proofs.Beside.{IsFirst, Leaves, leaves_still, reaches}
 use Rattle.twelve_steps.proofs.Going.{AreCounted, Forth, Stage, counted, finish_above, lane_reaches, next_node}
-use Rattle.twelve_steps.proofs.Lower.{Lower}
+use Rattle.twelve_steps.proofs.Lower.{Lower, open_if}
 use Rattle.twelve_steps.proofs.Stage.{Joint}
 use Rattle.twelve_steps.proofs.Texts.{Carrying, Flying, HeardOne, flying_rest, heard_none, heard_one, hears_text, whole_text}
 use Rattle.twelve_steps.proofs.Turning.{above_beside, above_hearing, above_read_fits, above_said_fits, hearing, is_settled, last}
@@ -123,9 +120,6 @@ above_line alone k id number left told input s w0 next done st together whole fl
     (finish_above alone k id number left (one_if (are_some st.up_seen) + 0) told input s w0 next done st together whole floor first steps st.up carrying u (x.first ++ more) behind (lane_reaches Exit number k input (with_world w0 s) next done steps ∙ ap (λ (xs : List Act). reaches Exit xs) lane.told ∙ turns.reached) acts_fit (x.ends u more follows))
 
 -- ---- it hears the oldest message
-
-pub open_if : (state : SessionState) → state ≡ Standing → is_connected_state state ≡ true
-open_if state is = ap (λ (s : SessionState). is_connected_state s) is
 
 none_comes : (waiting : List ℕ) (stream : Stream) → Flying waiting stream [] → coming stream ≡ []
 none_comes waiting stream f = ap (λ (ts : List (List ℕ)). drop stream.arrived (bytes_of ts)) f.flies.texts ∙ drop_all stream.arrived [] (omega arith)

@@ -48,12 +48,12 @@ use Rattle.twelve_steps.specs.Twelve.{one_if}
 use Rattle.twelve_steps.specs.Undisturbed.{are_some}
 use Rattle.twelve_steps.proofs.Beside.{reaches}
 use Rattle.twelve_steps.proofs.Going.{AreCounted, Forth, Stage, counted, finish_below, lane_reaches}
-use Rattle.twelve_steps.proofs.Lower.{Aside, IsLower, Lower, aside_still, settled}
+use Rattle.twelve_steps.proofs.Lower.{Aside, IsLower, Lower, aside_still, settled, open_if}
 use Rattle.twelve_steps.proofs.Lower as lower
 use Rattle.twelve_steps.proofs.Stage.{Joint}
 use Rattle.twelve_steps.proofs.Texts.{Carrying, Flying, HeardOne, flying_rest, heard_none, heard_one, hears_text, whole_text}
 use Rattle.one_standing.proofs.Mirroring.{fit_desk}
-use Rattle.twelve_steps.proofs.Flowing.{Oldest, Outcome, comes_to_end, fit_oldest, forth_less, goes_forth, oldest_by, open_if}
+use Rattle.twelve_steps.proofs.Flowing.{Oldest, Outcome, comes_to_end, fit_oldest, forth_less, goes_forth, oldest_by}
 use Rattle.twelve_steps.proofs.Turning.{HasSettled, Tells, below_beside, below_hearing, below_read_fits, below_said_fits, follows_tell, has_both, has_before, hearing, hears_tell, last, reads_tell, tells_both}
 use Rattle.twelve_steps.proofs.Upper.{Upper}
 use Rattle.twelve_steps.proofs.Upper as upper

@@ -1,7 +1,8 @@
 -- The stage of a line's handover, and what a step of the machine above or below its gap makes of it.
 use Rattle.std.proofs.Common.{Bool, List, [], ap, arith, false, length, refl, subst, sym, true, ℕ, ◌&&◌, ◌++◌, ◌+◌, ◌-◌, ◌∙◌, ◌≡◌, ◌≢◌, ◌≤◌}
 use Rattle.std.specs.Prelude.{nat_le, nat_lt}
-use Rattle.std.proofs.lemmas.Bool.{le-leb, leb-true, ltb-true}
+use Rattle.std.proofs.lemmas.Bool.{le-leb, leb-true, ltb-true, and_from}
+use Rattle.one_standing.proofs.MirroringEnds.{before_one}
 use Rattle.line_base.specs.declared.states.SensorEvent.{SensorEvent}
 use Rattle.line_base.specs.declared.states.Side.{Side}
 use Rattle.line_base.specs.declared.states.Side.TheVariants.{Entry, Exit}
@@ -38,7 +39,7 @@ use Rattle.one_standing.proofs.RestLine.{links_stay, node_there}
 use Rattle.twelve_steps.proofs.Beside.{reaches, signals_reach}
 use Rattle.twelve_steps.proofs.Lower.{IsLower, Lower}
 use Rattle.twelve_steps.proofs.Reaching.{above_of, all_between, below_of, unread_of}
-use Rattle.twelve_steps.proofs.Saying.{bodies_both, bodies_count, entry_drives, entry_says, exit_drives, exit_says, few_down, few_up}
+use Rattle.twelve_steps.proofs.Saying.{bodies_count, entry_drives, entry_says, exit_drives, exit_says, few_down, few_up, bodies_both as both_bodies}
 use Rattle.twelve_steps.proofs.Stage.{Joint, Way, across, begun, drive_after, entry_on, exit_on, fresh, inside, left_of}
 use Rattle.twelve_steps.proofs.Texts.{Carrying}
 use Rattle.twelve_steps.proofs.Turning.{AboveEnds, BelowEnds, is_settled}
@@ -112,13 +113,8 @@ pub record Stepped (m : ℕ) (side : Side) (told : List Act) (before between : B
   pub unread : (machine_at next.world.floor m).unread ≡ []
   pub node_is : node_at next m ≡ node
 
-tests_true : (one two : Bool) → one ≡ true → two ≡ true → (one && two) ≡ true
-tests_true true true x y = refl
-tests_true true false x y = absurd (cc)
-tests_true false two x y = absurd (cc)
-
 pub gap_there : (k : ℕ) (plan : FloorPlan) → 1 ≤ k → k ≤ length plan.gaps → (nat_le 1 k && nat_le k (length plan.gaps)) ≡ true
-gap_there k plan one many = tests_true (nat_le 1 k) (nat_le k (length plan.gaps)) (le-leb 1 k one) (le-leb k (length plan.gaps) many)
+gap_there k plan one many = and_from (nat_le 1 k) (nat_le k (length plan.gaps)) (le-leb 1 k one) (le-leb k (length plan.gaps) many)
 
 pub next_node : (number m : ℕ) (input : Input) (s0 next : LineState) (done : List Happening) (steps : MachineSteps number m input s0 next done) → node_at next m ≡ steps.next
 next_node number m input s0 next done steps = node_there m next steps.next (ap (machine_in m) steps.after_is ∙ machine_set_own m s0 steps.node steps.next steps.there)
@@ -168,9 +164,6 @@ exit_stepped number k input s0 next done steps first many gap =
       node_is = next_node number k input s0 next done steps;
     }
 
-before_one : (k : ℕ) → k + 1 - 1 ≡ k
-before_one k = omega arith
-
 -- and at its entry
 pub entry_stepped : (number k : ℕ) (input : Input) (s0 next : LineState) (done : List Happening) (steps : MachineSteps number (k + 1) input s0 next done) → length s0.world.floor.machines ≡ length s0.machines → 1 ≤ k → k ≤ length s0.world.floor.gaps
     → Stepped (k + 1) Entry (reaches Entry steps.acts) (between_in k s0.world) (between_in k next.world) steps.next next
@@ -192,9 +185,6 @@ entry_stepped number k input s0 next done steps many one gap =
     }
 
 -- ---- the machine above has made a step, and the line stands where it leaves it
-
-both_bodies : (down more : List Message) → bodies (down ++ more) ≡ bodies down ++ bodies more
-both_bodies down more = bodies_both down more
 
 few_messages : (ms : List Message) → length (bodies ms) ≤ 15 → length ms ≤ 15
 few_messages ms few =

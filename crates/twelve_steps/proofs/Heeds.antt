@@ -1,8 +1,10 @@
 -- What a machine has announced it stands by between its steps: what it offers it is willing to hand over, and while it said that it
 -- is ready it is willing and has a place.
-use Rattle.std.proofs.Common.{Bool, List, None, Option, Result, Ok, Err, Some, [], ap, arith, false, length, refl, subst, suc, sym, true, zero, ℕ, ◌&&◌, ◌++◌, ◌+◌, ◌<◌, ◌∙◌, ◌∷◌, ◌≡◌, ◌≢◌, ◌≤◌, ◌⊎◌, ◌||◌, inl, inr}
-use Rattle.std.specs.Prelude.{is_none, is_some, not, slice_get, slice_index_or}
+use Rattle.std.proofs.Common.{Bool, List, None, Option, Result, Ok, Err, Some, [], ap, arith, false, length, refl, subst, suc, sym, true, ℕ, ◌&&◌, ◌+◌, ◌<◌, ◌∙◌, ◌∷◌, ◌≡◌, ◌≢◌, ◌≤◌, ◌⊎◌, ◌||◌, inl, inr}
+use Rattle.std.specs.Prelude.{is_none, is_some, not, slice_get}
 use Rattle.std.proofs.lemmas.Bool.{ltb-true}
+use Rattle.one_standing.proofs.RestNone.{node_none}
+use Rattle.one_standing.proofs.LedgerLine.{last_node}
 use Rattle.board_record.specs.declared.record.Record.{Record}
 use Rattle.line_base.specs.declared.states.Side.TheVariants.{Entry, Exit}
 use Rattle.handover_out.specs.Row.{OutRow, outlet_row}
@@ -37,7 +39,7 @@ use Rattle.node_core.specs.declared.lane.End.{End}
 use Rattle.node_core.proofs.Keeping.{at_intake_keeps}
 use Rattle.line_report.specs.declared.happening.Happening.{Happening}
 use Rattle.line_step.specs.Lines.{Becomes, Connects, Flows, LineDoes, Moves, Unless, moved}
-use Rattle.line_step.specs.Numbered.{Stand, no_node, node_at}
+use Rattle.line_step.specs.Numbered.{Stand, node_at}
 use Rattle.line_step.specs.Reasons.{May}
 use Rattle.line_step.specs.Runs.{IsRun, Point, state_behind}
 use Rattle.line_step.specs.State.{LineState, no_line, one_more, profile_of}
@@ -213,12 +215,8 @@ step_heeds number m input before after told steps h = record { at = λ n. step_h
 new_heeds : (is_bridge : Bool) (capacity : ℕ) → Heeds capacity (first_body is_bridge)
 new_heeds is_bridge capacity = record { exit = λ idle some. absurd (cc); entry = λ free told. absurd (cc) }
 
-last_is : (nodes : List NodeState) (new : NodeState) → slice_index_or (nodes ++ new ∷ []) (length nodes) no_node ≡ new
-last_is [] new = refl
-last_is (node ∷ nodes) new = last_is nodes new
-
 last_at : (is_bridge : Bool) (capacity many : ℕ) (s : LineState) → node_at (one_more is_bridge capacity many s) (suc (length s.machines)) ≡ new_node (profile_of is_bridge (length s.machines + 1) capacity many)
-last_at is_bridge capacity many s = last_is s.machines (new_node (profile_of is_bridge (length s.machines + 1) capacity many))
+last_at is_bridge capacity many s = last_node s.machines (new_node (profile_of is_bridge (length s.machines + 1) capacity many))
 
 more_heeds_at : (is_bridge : Bool) (capacity many n : ℕ) (s : LineState) → HeedsAll s → (n ≡ length s.machines + 1) ⊎ (n ≢ length s.machines + 1) → Heeds (node_at (one_more is_bridge capacity many s) n).capacity (node_at (one_more is_bridge capacity many s) n).lane.body
 more_heeds_at is_bridge capacity many n s h (inl is) =
@@ -295,12 +293,8 @@ run_heeds (line ∷ asked) (point ∷ points) s h run =
     let next : HeedsAll steps.next = does_heed (s.lines + 1) line s steps.next steps.done steps.does h in
     run_heeds asked points point.after (subst (λ (x : LineState). HeedsAll x) (sym steps.after_is) (record { at = next.at })) run.1
 
-no_node_at : (m : ℕ) → node_at no_line m ≡ no_node
-no_node_at zero = refl
-no_node_at (suc m) = refl
-
 none_at : (m : ℕ) → Heeds (node_at no_line m).capacity (node_at no_line m).lane.body
-none_at m = subst (λ (x : NodeState). Heeds x.capacity x.lane.body) (sym (no_node_at m)) (new_heeds false 1)
+none_at m = subst (λ (x : NodeState). Heeds x.capacity x.lane.body) (sym (node_none m)) (new_heeds false 1)
 
 pub none_heeds : HeedsAll no_line
 none_heeds = record { at = none_at }

@@ -1,6 +1,8 @@
 -- The machine below the gap keeps the record of the board that settles there.
 use Rattle.std.proofs.Common.{Bool, List, [], arith, eqb-true, false, length, refl, subst, sym, true, ℕ, ◌+◌, ◌==◌, ◌||◌, ◌∷◌, ◌≡◌, ◌≤◌}
 use Rattle.std.specs.List.{AllByRecursion}
+use Rattle.std.proofs.lemmas.Bool.{and_parts, or_parts}
+use Rattle.line_step.proofs.Counted.{steps-lines}
 use Rattle.board_record.specs.declared.record.Record.{Record}
 use Rattle.line_script.specs.declared.line.ScriptLine.{ScriptLine}
 use Rattle.line_script.specs.declared.line.ScriptLine.TheVariants as lines
@@ -21,13 +23,11 @@ use Rattle.one_standing.proofs.LineRun.{Stood, line_stood}
 use Rattle.line_history.specs.Offered.{IsLast}
 use Rattle.line_history.proofs.Courses.{IsByHand}
 use Rattle.line_history.proofs.OfferedRun.{AreOffered, line_are_offered, line_keeps_last, still_among}
-use Rattle.line_history.proofs.Offering.{settles_act, settles_acts, settles_append}
-use Rattle.line_history.proofs.OfferingWhole.{IsAmong, among_first, among_later}
+use Rattle.line_history.proofs.Offering.{settles_acts, settles_append}
+use Rattle.line_history.proofs.OfferingWhole.{IsAmong, among_first}
 use Rattle.line_history.proofs.View.{done_act, done_by}
 use Rattle.twelve_steps.specs.Twelve.{HoldsIt, HoldsItToEnd, KeepsItToEnd, Unless, has_ended, is_settling, tells_settled}
 use Rattle.twelve_steps.specs.Undisturbed.{AreUndisturbed, IsUndisturbed, NamesElsewhere, begins, blank, connects_above, elsewhere, enters, flows_above, flows_below, flows_down, flows_up, leaves, more, notices_above, notices_below, senses, shows, spoils_above, spoils_below}
-use Rattle.twelve_steps.proofs.Running.{lines_after, or_first, or_second}
-use Rattle.one_standing.proofs.LedgerWalk.{and_one, and_two}
 
 -- ---- a stretch is of no hand at machine k + 1
 
@@ -59,22 +59,11 @@ no_hand connects_above here = absurd here
 
 -- ---- what is told to settle
 
-still_act : {id : ℕ} (act : Act) (ids : List ℕ) → IsAmong id ids → IsAmong id (settles_act act ids)
-still_act (acts.Deed (deeds.Settles other)) ids is = among_later is
-still_act (acts.Deed (deeds.Opens other)) ids is = is
-still_act (acts.Deed (deeds.Refuses other)) ids is = is
-still_act (acts.Deed (deeds.Leaves other)) ids is = is
-still_act (acts.Deed (deeds.Returns other)) ids is = is
-still_act (acts.Deed (deeds.Loses other)) ids is = is
-still_act (acts.Deed (deeds.Starts other)) ids is = is
-still_act (acts.Deed (deeds.Drops other)) ids is = is
-still_act _ ids is = is
-
 -- the first happening, or a later one
 one_settles : (k id : ℕ) (h : Happening) (ids : List ℕ) → is_settling k id h ≡ true → IsAmong id (settles_acts (done_act (k + 1) h) ids)
 one_settles k id (happenings.Done machine (acts.Deed (deeds.Settles board))) ids is =
-    let here : machine == k + 1 ≡ true = and_one (machine == k + 1) (board == id) is in
-    let same : board ≡ id = eqb-true board id (and_two (machine == k + 1) (board == id) is) in
+    let here : machine == k + 1 ≡ true = (and_parts (machine == k + 1) (board == id) is).0 in
+    let same : board ≡ id = eqb-true board id (and_parts (machine == k + 1) (board == id) is).1 in
     subst (λ (xs : List Act). IsAmong id (settles_acts xs ids)) (sym (own here)) (subst (λ (n : ℕ). IsAmong id (n ∷ ids)) (sym same) among_first) where
       own : machine == k + 1 ≡ true → done_act (k + 1) (happenings.Done machine (acts.Deed (deeds.Settles board))) ≡ acts.Deed (deeds.Settles board) ∷ []
       own here = rw here refl
@@ -108,13 +97,13 @@ run_keeps alone connects k board lines [] settled s stood offered fit few run ca
 run_keeps alone connects k board [] (point ∷ points) settled s stood offered fit few run calm honest holds = absurd run
 run_keeps alone connects k board (line ∷ lines) (point ∷ points) settled s stood offered fit few run (more calm others) honest holds =
     let here : s.lines + 1 ≤ 1000000 = omega (arith, few) in
-    let first : tells_lie point.told ≡ false = or_first (tells_lie point.told) (has_lie points) honest in
+    let first : tells_lie point.told ≡ false = (or_parts (tells_lie point.told) (has_lie points) honest).0 in
     let after : Stood point.after = line_stood alone connects (s.lines + 1) line s point.after point.told refl here fit.0 first stood run.0 in
-    let behind : point.after.lines + length lines ≤ 1000000 = omega (arith, few, lines_after (s.lines + 1) line s point.after point.told run.0) in
+    let behind : point.after.lines + length lines ≤ 1000000 = omega (arith, few, steps-lines (s.lines + 1) line s point.after point.told run.0) in
     let now : Bool = settled || tells_settled k board.id point.told in (
       line_keeps line point calm offered holds.0 run.0,
       unless_next (has_ended k now point.after) (HoldsItToEnd k board now point.after points) (KeepsItToEnd k board now points)
-          (λ later. run_keeps alone connects k board lines points now point.after after (line_are_offered (s.lines + 1) line s point.after point.told stood after run.0 offered) fit.1 behind run.1 others (or_second (tells_lie point.told) (has_lie points) honest) later) holds.1,
+          (λ later. run_keeps alone connects k board lines points now point.after after (line_are_offered (s.lines + 1) line s point.after point.told stood after run.0 offered) fit.1 behind run.1 others (or_parts (tells_lie point.told) (has_lie points) honest).1 later) holds.1,
     )
 
 -- what is offered, along the script before
@@ -124,7 +113,7 @@ behind_offered alone connects [] (point ∷ points) s stood offered fit few run 
 behind_offered alone connects (line ∷ asked) [] s stood offered fit few run honest = absurd run
 behind_offered alone connects (line ∷ asked) (point ∷ points) s stood offered fit few run honest =
     let here : s.lines + 1 ≤ 1000000 = omega (arith, few) in
-    let first : tells_lie point.told ≡ false = or_first (tells_lie point.told) (has_lie points) honest in
+    let first : tells_lie point.told ≡ false = (or_parts (tells_lie point.told) (has_lie points) honest).0 in
     let after : Stood point.after = line_stood alone connects (s.lines + 1) line s point.after point.told refl here fit.0 first stood run.0 in
-    let behind : point.after.lines + length asked ≤ 1000000 = omega (arith, few, lines_after (s.lines + 1) line s point.after point.told run.0) in
-    behind_offered alone connects asked points point.after after (line_are_offered (s.lines + 1) line s point.after point.told stood after run.0 offered) fit.1 behind run.1 (or_second (tells_lie point.told) (has_lie points) honest)
+    let behind : point.after.lines + length asked ≤ 1000000 = omega (arith, few, steps-lines (s.lines + 1) line s point.after point.told run.0) in
+    behind_offered alone connects asked points point.after after (line_are_offered (s.lines + 1) line s point.after point.told stood after run.0 offered) fit.1 behind run.1 (or_parts (tells_lie point.told) (has_lie points) honest).1

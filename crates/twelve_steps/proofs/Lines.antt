@@ -1,6 +1,8 @@
 -- A line of an undisturbed stretch.
-use Rattle.std.proofs.Common.{Bool, List, None, Option, Ok, Err, Some, [], ap, arith, eq-eqb, false, ne_eqb, refl, subst, sym, true, ℕ, ◌&&◌, ◌++◌, ◌+◌, ◌==◌, ◌∙◌, ◌∷◌, ◌≡◌, ◌≢◌, ◌≤◌, ◌⊎◌, ◌||◌, inl, inr}
+use Rattle.std.proofs.Common.{Bool, List, None, Option, Ok, Err, Some, [], ap, arith, false, ne_eqb, refl, subst, sym, true, ℕ, ◌&&◌, ◌++◌, ◌+◌, ◌==◌, ◌∙◌, ◌∷◌, ◌≡◌, ◌≢◌, ◌≤◌, ◌⊎◌, ◌||◌, inl, inr}
 use Rattle.std.specs.Prelude.{not}
+use Rattle.std.proofs.lemmas.Bool.{or_left, or_right}
+use Rattle.custody.proofs.Rows.{same as own_eq}
 use Rattle.board_record.specs.declared.record.Record.{Record}
 use Rattle.line_base.specs.declared.states.Role.TheVariants.{Upstream}
 use Rattle.line_base.specs.declared.states.Side.{Side}
@@ -41,14 +43,6 @@ use Rattle.twelve_steps.proofs.Turning.{HasSettled, has_first, has_later}
 
 -- ---- what is told of a board that settles
 
-pub or_left : (a b : Bool) → a ≡ true → (a || b) ≡ true
-or_left true b is = refl
-or_left false b is = absurd (cc)
-
-pub or_right : (a b : Bool) → b ≡ true → (a || b) ≡ true
-or_right true b is = refl
-or_right false b is = is
-
 by_first : (one two three : Bool) → (one || two) ≡ true → (two ≡ true → three ≡ true) → (one || three) ≡ true
 by_first true two three is more = refl
 by_first false two three is more = more is
@@ -64,9 +58,6 @@ settled_behind k id (h ∷ told) more is = or_right (is_settling k id h) (tells_
 pub no_append : (told more : List Happening) → tells_no told ≡ true → tells_no (told ++ more) ≡ true
 no_append [] more is = absurd (cc)
 no_append (h ∷ told) more is = by_first (is_no h) (tells_no told) (tells_no (told ++ more)) is (no_append told more)
-
-pub own_eq : (n : ℕ) → (n == n) ≡ true
-own_eq n = eq-eqb n n refl
 
 settling : (k id : ℕ) → is_settling k id (happenings.Done (k + 1) (acts.Deed (deeds.Settles id))) ≡ true
 settling k id = rw (own_eq (k + 1), own_eq id) refl

@@ -1,7 +1,8 @@
 -- THE MACHINE BELOW the gap, at its entry: how far it is in an undisturbed handover, and what its steps do to that.
-use Rattle.std.proofs.Common.{Bool, List, None, Option, Some, [], ap, append-nil, arith, false, refl, subst, sym, true, ℕ, ℤ, ◌++◌, ◌+◌, ◌<◌, ◌==◌, ◌∙◌, ◌∷◌, ◌≡◌, ◌≤◌}
-use Rattle.std.proofs.lemmas.Bool.{eq-eqb, lt-ltb, ltb-true}
+use Rattle.std.proofs.Common.{Bool, List, None, Option, Some, [], ap, append-nil, arith, false, refl, subst, sym, true, ℕ, ℤ, ◌++◌, ◌+◌, ◌<◌, ◌∙◌, ◌∷◌, ◌≡◌, ◌≤◌}
+use Rattle.std.proofs.lemmas.Bool.{lt-ltb, ltb-true}
 use Rattle.std.specs.Prelude.{is_some, not, slice_get, ◌&&◌, ◌||◌}
+use Rattle.custody.proofs.Rows.{same as own_id}
 use Rattle.line_base.specs.declared.states.Quality.TheVariants as quality
 use Rattle.line_base.specs.declared.states.Role.TheVariants.{Downstream}
 use Rattle.line_base.specs.declared.states.Seen.{Seen}
@@ -151,9 +152,6 @@ in_is phase offer ready body s r p o d = λ i. record body {
   entry = record body.entry { session = record body.entry.session { state = s i; role = r i } };
 }
 
-own_id : (n : ℕ) → (n == n) ≡ true
-own_id n = eq-eqb n n refl
-
 -- ---- sensor events
 
 abbrev pub stop_said : Desk → Record → Act
@@ -220,9 +218,6 @@ pub data Hears (r : Record) : Lower → Horizontal → Lower → List Act → Ty
   hears_end : Hears r (takes true false) (message.TransportFinished transfer.Complete r.id) (takes true true) []
   hears_end_inside : Hears r stopped (message.TransportFinished transfer.Complete r.id) (settled false) (acts.Deed (deeds.Settles r.id) ∷ [])
 
-same_used : (phase : Phase) (offer : Option Record) (ready : Bool) (body : Body) → body.intake.phase ≡ Idle → phase ≡ Idle → used (with_in phase offer ready body) ≡ used body
-same_used phase offer ready body was is = rw (was, is) refl
-
 pub hears_turns : {capacity : ℕ} {r : Record} {l m : Lower} {what : Horizontal} {said : List Act} (desk : Desk) (stamp : Option ℤ) (body : Body) → Hears r l what m said → IsLower capacity r l body → Turns capacity r m said (hears desk Entry (record { stamp = stamp; body = what }) body)
 hears_turns {capacity = capacity} {r = r} desk stamp body hears_offer is =
     let room = is.room in
@@ -278,7 +273,7 @@ no_unready true false willing place none = refl
 no_unready false false willing place none = refl
 no_unready free true willing place none = absurd (cc)
 
-room_unready : (free ready willing place : Bool) → willing ≡ true → place ≡ true → (free && ready && (not willing || not place)) ≡ false
+pub room_unready : (free ready willing place : Bool) → willing ≡ true → place ≡ true → (free && ready && (not willing || not place)) ≡ false
 room_unready true true true true on there = refl
 room_unready true false true true on there = refl
 room_unready false ready true true on there = refl
@@ -331,13 +326,6 @@ no_start true true false false is = refl
 no_start true false ready false is = refl
 no_start false free ready false is = refl
 no_start stands free ready true is = absurd (cc)
-
-all_start : (stands free ready offer : Bool) → stands ≡ true → free ≡ true → ready ≡ true → offer ≡ true → (stands && free && ready && offer) ≡ true
-all_start true true true true a b c d = refl
-all_start false free ready offer a b c d = absurd (cc)
-all_start true false ready offer a b c d = absurd (cc)
-all_start true true false offer a b c d = absurd (cc)
-all_start true true true false a b c d = absurd (cc)
 
 pub ready_tests : (stands free ready willing place : Bool) → (stands && free && not ready && willing && place) ≡ true → (willing ≡ true) × (place ≡ true)
 ready_tests stands free ready true true is = (refl, refl)
@@ -461,7 +449,7 @@ step_aside {r = r} {m = m} {said = said} desk unread event body is rs aside =
 last_turns : {capacity : ℕ} {r : Record} {l : Lower} (desk : Desk) (body : Body) → IsLower capacity r l body → Turns capacity r l [] (all_heard desk Entry [] body)
 last_turns desk body is = record { lower = is; reached = refl }
 
-open_if : (state : SessionState) → state ≡ Standing → is_connected_state state ≡ true
+pub open_if : (state : SessionState) → state ≡ Standing → is_connected_state state ≡ true
 open_if state is = ap (λ (s : SessionState). is_connected_state s) is
 
 -- and where it hears one message at its entry

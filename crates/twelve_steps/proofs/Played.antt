@@ -48,7 +48,7 @@ use Rattle.twelve_steps.specs.Example.{IsReachedAnnounced, announced_line, board
 use Rattle.twelve_steps.proofs.Example.{is_announced, offer_one, place_one, said_fits}
 use Rattle.one_standing.proofs.Mirroring.{moment_fits}
 use Rattle.twelve_steps.proofs.Texts.{sayable_one}
-use Rattle.line_step.proofs.Ascending.{choose_true, choose_false}
+use Rattle.line_step.proofs.Ascending.{choose_true, choose_false, not_itself}
 
 -- ---- the step of a machine, computed: no bytes wait behind it
 
@@ -131,14 +131,10 @@ sends_alone alone from link message fit stands alone_there =
       sent_is = choose_true link.stands (fate (across from) now) sent.Vanishes stands ∙ choose_false (is_too_much (across from) now) sent.Cuts sent.Flows few;
     }
 
--- and arrives whole
-own_less : (n : ℕ) → nat_lt n n ≡ false
-own_less n = le-ltb n n (omega arith)
-
 arrives_whole : (text : List ℕ) → reached (0 + (length text - 0)) (text ∷ []) ≡ dry
 arrives_whole text =
     let count : 0 + (length text - 0) ≡ length text = omega arith in
-    ap (λ (n : ℕ). reached n (text ∷ [])) count ∙ choose_false (nat_lt (length text) (length text)) (record { texts = text ∷ []; arrived = length text }) (reached (length text - length text) []) (own_less (length text))
+    ap (λ (n : ℕ). reached n (text ∷ [])) count ∙ choose_false (nat_lt (length text) (length text)) (record { texts = text ∷ []; arrived = length text }) (reached (length text - length text) []) (not_itself (length text))
 
 piece_whole : (text : List ℕ) → text ≡ take (length text - 0) (text ++ [])
 piece_whole text =

@@ -3,6 +3,7 @@ use Rattle.std.proofs.Common.{Bool, List, None, Result, Ok, Some, [], ap, arith,
 use Rattle.std.specs.Prelude.{IsOk, not}
 use Rattle.std.proofs.lemmas.Bool.{lt-ltb, ltb-true}
 use Rattle.std.proofs.lemmas.List.{length-append, length-drop}
+use Rattle.custody.proofs.Rows.{same as own_eq}
 use Rattle.line_base.specs.declared.states.SensorEvent.{SensorEvent}
 use Rattle.line_base.specs.declared.states.Side.{Side}
 use Rattle.line_base.specs.declared.states.Side.TheVariants.{Entry, Exit}
@@ -47,10 +48,9 @@ use Rattle.one_standing.specs.Relation.{Owns}
 use Rattle.one_standing.proofs.LineRun.{Stood}
 use Rattle.one_standing.proofs.RestLine.{node_there}
 use Rattle.twelve_steps.specs.Undisturbed.{CanGoOn, are_some}
-use Rattle.twelve_steps.proofs.Flowing.{open_if}
 use Rattle.twelve_steps.proofs.Going.{AreCounted, IsGap as IsGapOf, LiesAs, Stage, counted, lies_across, lies_begun, lies_fresh}
-use Rattle.twelve_steps.proofs.Lines.{counts_of, own_eq, unread_above, unread_below}
-use Rattle.twelve_steps.proofs.Lower.{Lower, takes}
+use Rattle.twelve_steps.proofs.Lines.{counts_of, unread_above, unread_below}
+use Rattle.twelve_steps.proofs.Lower.{Lower, takes, open_if}
 use Rattle.twelve_steps.proofs.Stage.{Above, Below, IsPast, Joint, Way, above_begun, above_begun_read, above_fresh, above_left, above_left_only, across, begun, below_begun, below_begun_read, below_fresh, below_full, below_full_only, crossed, done_above, done_below, fresh, inside_first, left, left_heard, moving, offered, offered_ready, past_across, past_inside, started, started_ready}
 use Rattle.twelve_steps.proofs.Texts.{Flying}
 use Rattle.twelve_steps.proofs.Upper.{Upper, ended, moves as moves_out, phase_of}

@@ -2,6 +2,8 @@
 use Rattle.std.proofs.Common.{Bool, List, Some, [], ap, arith, false, length, refl, subst, sym, true, ℕ, ◌&&◌, ◌+◌, ◌∙◌, ◌∷◌, ◌≡◌, ◌≤◌, ◌||◌, if◌then◌else◌}
 use Rattle.std.specs.Prelude.{not}
 use Rattle.std.specs.List.{AllByRecursion}
+use Rattle.std.proofs.lemmas.Bool.{or_parts, and_from}
+use Rattle.line_step.proofs.Counted.{steps-lines}
 use Rattle.board_record.specs.declared.record.Record.{Record}
 use Rattle.handover_out.specs.State.{is_idle_phase}
 use Rattle.handover_in.specs.State.{board_of_phase}
@@ -72,19 +74,6 @@ one_line {k = k} {id = id} {left = left} {told = told} {s = s} {after = after} {
 
 -- ---- the stretch
 
-pub or_first : (a b : Bool) → (a || b) ≡ false → a ≡ false
-or_first true b is = is
-or_first false b is = refl
-
-pub or_second : (a b : Bool) → (a || b) ≡ false → b ≡ false
-or_second true b is = absurd (cc)
-or_second false b is = is
-
-both_true : (a b : Bool) → a ≡ true → b ≡ true → (a && b) ≡ true
-both_true true true x y = refl
-both_true true false x y = absurd (cc)
-both_true false b x y = absurd (cc)
-
 -- the steps of one line, and of those behind it unless it was the last
 total : (over : Bool) (one rest now left : ℕ) → (over ≡ false → rest ≤ now) → now + one ≤ left → one + (if over then 0 else rest) ≤ left
 total true one rest now left later few = omega (arith, few)
@@ -126,7 +115,7 @@ by_outcome {k = k} {id = id} {left = left} {told = told} {s = s} line lines poin
     }
 by_outcome {k = k} {id = id} {left = left} {told = told} {s = s} line lines point points can holds (comes_to_end e) later =
     let told_now = told || tells_settled k id.id point.told in
-    let over : has_ended k told_now point.after ≡ true = both_true told_now (is_idle_phase (node_at point.after k).lane.body.outlet.phase) e.told_is e.idle in
+    let over : has_ended k told_now point.after ≡ true = and_from told_now (is_idle_phase (node_at point.after k).lane.body.outlet.phase) e.told_is e.idle in
     let fewer = e.fewer in
     record {
       few = total (has_ended k told_now point.after) (one_if (is_link_step k s line point.told)) (steps_to_end k id.id told_now point.after lines points) 0 left (λ off. absurd (let no : true ≡ false = sym over ∙ off in cc)) (omega (arith, fewer));
@@ -134,17 +123,14 @@ by_outcome {k = k} {id = id} {left = left} {told = told} {s = s} line lines poin
       holds = (holds, all_of (has_ended k told_now point.after) (HoldsItToEnd k id told_now point.after points) (λ off. absurd (let no : true ≡ false = sym over ∙ off in cc)));
     }
 
-pub lines_after : (number : ℕ) (line : ScriptLine) (before after : LineState) (told : List Happening) → LineSteps number line before after told → after.lines ≡ before.lines + 1
-lines_after number line before after told steps = ap (λ (s : LineState). s.lines) steps.after_is ∙ ap (λ (n : ℕ). n + 1) (lines_stay number line before steps.next steps.done steps.does)
-
 pub run_ends : {k : ℕ} {id : Record} → SaysAlone → ConnectsBear → (lines : List ScriptLine) (points : List Point) (left : ℕ) (told : Bool) (s : LineState) → Stage k id left told s → Stood s → AllByRecursion IsFitLine lines → s.lines + length lines ≤ 1000000 → IsRun s lines points → AreUndisturbed k lines → has_lie points ≡ false → Ends left k id told s lines points
 run_ends alone connects [] [] left told s st stood fit few run calm honest = record { few = omega arith; possible = can_go_on st stood; holds = holds_it st }
 run_ends alone connects [] (point ∷ points) left told s st stood fit few run calm honest = absurd run
 run_ends alone connects (line ∷ lines) [] left told s st stood fit few run calm honest = absurd run
 run_ends {k = k} {id = id} alone connects (line ∷ lines) (point ∷ points) left told s st stood fit few run (more one others) honest =
     let here : s.lines + 1 ≤ 1000000 = omega (arith, few) in
-    let first : tells_lie point.told ≡ false = or_first (tells_lie point.told) (has_lie points) honest in
+    let first : tells_lie point.told ≡ false = (or_parts (tells_lie point.told) (has_lie points) honest).0 in
     let after : Stood point.after = line_stood alone connects (s.lines + 1) line s point.after point.told refl here fit.0 first stood run.0 in
-    let behind : point.after.lines + length lines ≤ 1000000 = omega (arith, few, lines_after (s.lines + 1) line s point.after point.told run.0) in
+    let behind : point.after.lines + length lines ≤ 1000000 = omega (arith, few, steps-lines (s.lines + 1) line s point.after point.told run.0) in
     by_outcome line lines point points (can_go_on st stood) (holds_it st) (one_line alone line one here st stood after run.0)
-    (λ now stage. run_ends alone connects lines points now (told || tells_settled k id.id point.told) point.after stage after fit.1 behind run.1 others (or_second (tells_lie point.told) (has_lie points) honest))
+    (λ now stage. run_ends alone connects lines points now (told || tells_settled k id.id point.told) point.after stage after fit.1 behind run.1 others (or_parts (tells_lie point.told) (has_lie points) honest).1)

@@ -3,6 +3,8 @@ use Rattle.std.proofs.Common.{Bool, List, None, Option, Some, [], ap, append-nil
 use Rattle.std.proofs.lemmas.List.{take-append-drop}
 use Rattle.std.specs.List.{AllByRecursion}
 use Rattle.std.specs.Prelude.{is_some, slice_get}
+use Rattle.std.proofs.lemmas.Bool.{or_parts}
+use Rattle.line_step.proofs.Counted.{steps-lines}
 use Rattle.board_record.specs.declared.record.Record.{Record}
 use Rattle.hermes_horizontal.specs.Canonical.{canonical}
 use Rattle.hermes_horizontal.specs.declared.message.Horizontal.{Horizontal}
@@ -62,7 +64,7 @@ use Rattle.twelve_steps.proofs.Going.{IsGap as IsGapOf, Stage, counted, lies_fre
 use Rattle.twelve_steps.proofs.Heeds.{HeedsAll, none_heeds, run_heeds}
 use Rattle.twelve_steps.proofs.Keeping.{behind_offered, run_keeps}
 use Rattle.twelve_steps.proofs.Lower.{IsLower, readies}
-use Rattle.twelve_steps.proofs.Running.{Ends, lines_after, or_first, or_second, run_ends}
+use Rattle.twelve_steps.proofs.Running.{Ends, run_ends}
 use Rattle.twelve_steps.proofs.Stage.{Joint, fresh, left_of, offered, offered_ready}
 use Rattle.twelve_steps.proofs.Texts.{Flying}
 use Rattle.twelve_steps.proofs.Upper.{offers}
@@ -254,16 +256,16 @@ behind_stood alone connects [] (point ∷ points) s stood fit few run honest = a
 behind_stood alone connects (line ∷ asked) [] s stood fit few run honest = absurd run
 behind_stood alone connects (line ∷ asked) (point ∷ points) s stood fit few run honest =
     let here : s.lines + 1 ≤ 1000000 = omega (arith, few) in
-    let first : tells_lie point.told ≡ false = or_first (tells_lie point.told) (has_lie points) honest in
+    let first : tells_lie point.told ≡ false = (or_parts (tells_lie point.told) (has_lie points) honest).0 in
     let after : Stood point.after = line_stood alone connects (s.lines + 1) line s point.after point.told refl here fit.0 first stood run.0 in
-    let behind : point.after.lines + length asked ≤ 1000000 = omega (arith, few, lines_after (s.lines + 1) line s point.after point.told run.0) in
-    behind_stood alone connects asked points point.after after fit.1 behind run.1 (or_second (tells_lie point.told) (has_lie points) honest)
+    let behind : point.after.lines + length asked ≤ 1000000 = omega (arith, few, steps-lines (s.lines + 1) line s point.after point.told run.0) in
+    behind_stood alone connects asked points point.after after fit.1 behind run.1 (or_parts (tells_lie point.told) (has_lie points) honest).1
 
 behind_lines : (asked : List ScriptLine) (points : List Point) (s : LineState) → IsRun s asked points → (state_behind s points).lines ≡ s.lines + length asked
 behind_lines [] [] s run = omega arith
 behind_lines [] (point ∷ points) s run = absurd run
 behind_lines (line ∷ asked) [] s run = absurd run
-behind_lines (line ∷ asked) (point ∷ points) s run = omega (arith, behind_lines asked points point.after run.1, lines_after (s.lines + 1) line s point.after point.told run.0)
+behind_lines (line ∷ asked) (point ∷ points) s run = omega (arith, behind_lines asked points point.after run.1, steps-lines (s.lines + 1) line s point.after point.told run.0)
 
 fit_front : (asked stretch : List ScriptLine) → AllByRecursion IsFitLine (asked ++ stretch) → AllByRecursion IsFitLine asked × AllByRecursion IsFitLine stretch
 fit_front [] stretch fit = (tt, fit)

@@ -1,8 +1,9 @@
 -- Messages in flight on a link: one more is sent, and the oldest arrives whole.
-use Rattle.std.proofs.Common.{Bool, List, None, Some, [], ap, append-nil, append_assoc, arith, drop, false, length, refl, subst, sym, take, true, ℕ, ◌*◌, ◌++◌, ◌+◌, ◌-◌, ◌<◌, ◌∙◌, ◌∷◌, ◌≡◌, ◌≤◌, eqb-true, lt-ltb, ltb-true}
+use Rattle.std.proofs.Common.{Bool, List, None, Some, [], ap, append-nil, arith, drop, false, length, refl, subst, sym, take, true, ℕ, ◌*◌, ◌++◌, ◌+◌, ◌-◌, ◌<◌, ◌∙◌, ◌∷◌, ◌≡◌, ◌≤◌, lt-ltb, ltb-true}
 use Rattle.std.proofs.lemmas.Bool.{le-ltb}
 use Rattle.std.proofs.lemmas.List.{drop-append-le, length-append, length-drop, take-append-drop, take-append-le, take_at}
 use Rattle.std.specs.Prelude.{nat_lt}
+use Rattle.line_link.proofs.Coming.{bytes_of-append, begun_within}
 use Rattle.line_base.specs.declared.states.Role.{Role}
 use Rattle.line_base.specs.declared.states.Role.TheVariants.{Downstream, Upstream}
 use Rattle.hermes_horizontal.specs.Canonical.{canonical}
@@ -57,22 +58,11 @@ few_bytes alone (message ∷ said) (more_fit fit fits) =
 
 -- ---- a message is sent
 
-bytes_append : (front back : List (List ℕ)) → bytes_of (front ++ back) ≡ bytes_of front ++ bytes_of back
-bytes_append [] back = refl
-bytes_append (text ∷ front) back = ap (λ (l : List ℕ). text ++ l) (bytes_append front back) ∙ sym (append_assoc text (bytes_of front) (bytes_of back))
-
-begun_within : (texts : List (List ℕ)) (arrived : ℕ) → is_begun texts arrived ≡ true → arrived ≤ length (bytes_of texts)
-begun_within [] arrived begun = omega (arith, eqb-true arrived 0 begun)
-begun_within (text ∷ texts) arrived begun = omega (arith, length-append text (bytes_of texts), ltb-true arrived (length text) begun)
-
-sent_text : (message : Message) (stream : Stream) → with_text (canonical message) stream ≡ record stream { texts = stream.texts ++ canonical message ∷ [] }
-sent_text message stream = refl
-
 pub flying_sent : {waiting : List ℕ} {said : List Message} (stream : Stream) (message : Message) → IsFit message → Flying waiting stream said → Flying waiting (with_text (canonical message) stream) (said ++ message ∷ [])
 flying_sent {waiting = waiting} {said = said} stream message fit f =
     let begun = f.begun in
     let same : take stream.arrived (bytes_of (stream.texts ++ canonical message ∷ [])) ≡ take stream.arrived (bytes_of stream.texts) =
-    ap (λ (l : List ℕ). take stream.arrived l) (bytes_append stream.texts (canonical message ∷ [])) ∙ take-append-le stream.arrived (bytes_of stream.texts) (bytes_of (canonical message ∷ [])) (begun_within stream.texts stream.arrived begun) in
+    ap (λ (l : List ℕ). take stream.arrived l) (bytes_of-append stream.texts (canonical message ∷ [])) ∙ take-append-le stream.arrived (bytes_of stream.texts) (bytes_of (canonical message ∷ [])) (begun_within stream.texts stream.arrived begun) in
     record {
       flies = record {
         texts = ap (λ (ts : List (List ℕ)). ts ++ canonical message ∷ []) f.flies.texts ∙ sym (texts_append said (message ∷ []));

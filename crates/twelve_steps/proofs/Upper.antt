@@ -1,7 +1,8 @@
 -- THE MACHINE ABOVE the gap, at its exit: how far it is in an undisturbed handover, and what its steps do to that.
-use Rattle.std.proofs.Common.{Bool, List, None, Option, Some, [], ap, false, refl, sym, true, ℕ, ℤ, ◌++◌, ◌∙◌, ◌∷◌, ◌≡◌, subst, ◌==◌, append-nil}
-use Rattle.std.proofs.lemmas.Bool.{eq-eqb}
+use Rattle.std.proofs.Common.{Bool, List, None, Option, Some, [], ap, false, refl, sym, true, ℕ, ℤ, ◌++◌, ◌∙◌, ◌∷◌, ◌≡◌, subst, append-nil}
 use Rattle.std.specs.Prelude.{is_none, is_some, not, slice_get, ◌&&◌, ◌||◌}
+use Rattle.twelve_steps.proofs.Lower.{open_if, room_unready}
+use Rattle.custody.proofs.Rows.{same as own_id}
 use Rattle.line_base.specs.declared.states.Quality.{Quality}
 use Rattle.line_base.specs.declared.states.Role.TheVariants.{Upstream}
 use Rattle.line_base.specs.declared.states.SensorEvent.{SensorEvent}
@@ -15,8 +16,7 @@ use Rattle.board_record.specs.declared.sensed.Sensed.{Sensed as Seen}
 use Rattle.hermes_horizontal.specs.declared.message.Horizontal.{Horizontal}
 use Rattle.hermes_horizontal.specs.declared.message.Horizontal.TheVariants as message
 use Rattle.hermes_horizontal.specs.declared.message.Message.{Message}
-use Rattle.session_core.specs.End.{is_connected_state, taken}
-use Rattle.session_core.specs.declared.state.SessionState.{SessionState}
+use Rattle.session_core.specs.End.{taken}
 use Rattle.session_core.specs.declared.state.SessionState.TheVariants.{Standing}
 use Rattle.handover_out.specs.Act.{nothing}
 use Rattle.handover_out.specs.Row.{OutRow, outlet_row, row_if, started}
@@ -176,9 +176,6 @@ pub data Hears (r : Record) : Upper → Horizontal → Upper → List Act → Ty
   hears_start : Hears r (offers true) (message.StartTransport r.id) (moves false) (acts.Drive Exit true ∷ [])
   hears_stop : {said : Transfer} → Hears r ended (message.StopTransport said r.id) (over None) []
 
-own_id : (n : ℕ) → (n == n) ≡ true
-own_id n = eq-eqb n n refl
-
 start_turns : (desk : Desk) (stamp : Option ℤ) (r : Record) (others : List Record) (body : Body) → body.kept ≡ r ∷ others → body.exit.session.state ≡ Standing → body.exit.session.role ≡ Upstream
     → body.outlet ≡ record { phase = Idle; offered = Some r.id; touched = body.outlet.touched; ready = true }
     → Turns r (moves false) (acts.Drive Exit true ∷ []) (passed desk Exit (record { stamp = stamp; body = message.StartTransport r.id }) body (start_took desk r.id (would_open body.outlet r.id) body))
@@ -229,20 +226,13 @@ pub record Announced (desk : Desk) (r : Record) (u : Upper) (d : Done) : Type 0 
 front_test : (r : Record) (kept : List Record) → IsFirst r kept → is_front (Some r.id) (slice_get kept 0) ≡ true
 front_test r kept first = ap (λ (ks : List Record). is_front (Some r.id) (slice_get ks 0)) first.is ∙ own_id r.id
 
-by_tests : (idle offered willing front : Bool) → willing ≡ true → front ≡ true → (idle && offered && (not willing || not front)) ≡ false
-by_tests true true true true on first = refl
-by_tests true false true true on first = refl
-by_tests false offered true true on first = refl
-by_tests idle offered true false on first = absurd (cc)
-by_tests idle offered false front on first = absurd (cc)
-
 by_none : (idle offered test : Bool) → offered ≡ false → (idle && offered && test) ≡ false
 by_none true false test none = refl
 by_none false offered test none = refl
 by_none true true test none = absurd (cc)
 
 revoke_none : (offered : Option ℕ) (willing : Bool) (kept : List Record) (phase : Phase) → willing ≡ true → is_front offered (slice_get kept 0) ≡ true → (is_idle_phase phase && is_some offered && (not willing || not (is_front offered (slice_get kept 0)))) ≡ false
-revoke_none offered willing kept phase on front = by_tests (is_idle_phase phase) (is_some offered) willing (is_front offered (slice_get kept 0)) on front
+revoke_none offered willing kept phase on front = room_unready (is_idle_phase phase) (is_some offered) willing (is_front offered (slice_get kept 0)) on front
 
 revoke_nothing : (offered : Option ℕ) (test idle : Bool) → offered ≡ None → (idle && is_some offered && test) ≡ false
 revoke_nothing offered test idle none = by_none idle (is_some offered) test (ap (λ (o : Option ℕ). is_some o) none)
@@ -375,9 +365,6 @@ step_beside {r = r} {v = v} {said = said} desk unread event body is rs leaves =
           (turns_both read (λ (b : Body). and_then (event_did desk event b) (announces desk)) first
           (turns_both did (announces desk) second third.turns)),
     )
-
-open_if : (state : SessionState) → state ≡ Standing → is_connected_state state ≡ true
-open_if state is = ap (λ (s : SessionState). is_connected_state s) is
 
 last_turns : {r : Record} {u : Upper} (desk : Desk) (body : Body) → IsUpper r u body → Turns r u [] (all_heard desk Exit [] body)
 last_turns desk body is = record { upper = is; reached = refl }

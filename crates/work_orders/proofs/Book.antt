@@ -27,7 +27,6 @@ use Rattle.std.proofs.Common.{
   ap,
   arith,
 }
-use Rattle.std.proofs.lemmas.Bool.Decides.{nat_tests}
 use Rattle.hermes_vertical.specs.declared.message.Question.{Question}
 use Rattle.supervisory_core.specs.declared.order.Order.{Order}
 use Rattle.supervisory_core.specs.Calls.{after, asks}
@@ -41,7 +40,7 @@ use Rattle.supervisory_core.specs.Orders.{
   open_order,
   order_numbered,
 }
-use Rattle.supervisory_core.proofs.Counting.{answered_is, is_open}
+use Rattle.supervisory_core.proofs.Counting.{no_answer}
 
 abbrev answer_in : Option Order → Option (List ℕ)
 answer_in found = option_and_then (λ order. order.answer) found
@@ -75,46 +74,12 @@ asking_keeps orders question query = same_asked (is_full orders) orders question
 
 -- ---- an answer more
 
-elsewhere : (orders : List Order) (place other : ℕ) (order : Order) → (place == other) ≡ false
-    → slice_get (slice_set orders place order) other ≡ slice_get orders other
-elsewhere [] place other order apart = refl
-elsewhere (first ∷ orders) zero zero order apart = absurd cc
-elsewhere (first ∷ orders) zero (suc other) order apart = refl
-elsewhere (first ∷ orders) (suc place) zero order apart = refl
-elsewhere (first ∷ orders) (suc place) (suc other) order apart =
-    elsewhere orders place other order
-    (let h : (place == other) ≡ false = grind (arith, nat_tests) in h)
-
-other_by : (zeroth : Bool) (orders : List Order) (number query : ℕ) (order : Order)
-    → (query == 0) ≡ zeroth → (number == 0) ≡ false → (number == query) ≡ false
-    → answer_in (cond zeroth None (slice_get (slice_set orders (number - 1) order) (query - 1)))
-    ≡ answer_in (cond zeroth None (slice_get orders (query - 1)))
-other_by true orders number query order is counted other = refl
-other_by false orders number query order is counted other =
-    let apart : (number - 1 == query - 1) ≡ false = grind (arith, nat_tests) in
-    ap answer_in (elsewhere orders (number - 1) (query - 1) order apart)
-
--- leaves the answers of all other questions
-pub answering_keeps : (orders : List Order) (number query : ℕ) (text : List ℕ)
-    → answer_of orders number ≡ Ok tt → (number == query) ≡ false
-    → answer_to (answered orders number text) query ≡ answer_to orders query
-answering_keeps orders number query text taken other =
-    let asked = is_open orders number taken in
-    ap (λ (os : List Order). answer_to os query) (answered_is orders number text asked)
-    ∙ other_by (query == 0) orders number query (record asked.order { answer = Some text }) refl
-    asked.counted other
-
 -- ---- what is answered was asked, and had no answer
-
-none_kept : (query : ℕ) (answer : Option (List ℕ)) → answer_kept query answer ≡ Ok tt
-    → answer ≡ None
-none_kept query None taken = refl
-none_kept query (Some text) taken = absurd cc
 
 open_at : (query : ℕ) (found : Option Order) → answer_at query found ≡ Ok tt
     → (is_some found ≡ true) × (answer_in found ≡ None)
 open_at query None taken = absurd cc
-open_at query (Some order) taken = (refl, none_kept query order.answer taken)
+open_at query (Some order) taken = (refl, no_answer query order.answer taken)
 
 pub was_open : (orders : List Order) (query : ℕ) → answer_of orders query ≡ Ok tt
     → (is_some (order_numbered orders query) ≡ true) × (answer_to orders query ≡ None)

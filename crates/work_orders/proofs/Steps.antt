@@ -41,7 +41,7 @@ use Rattle.supervisory_core.specs.declared.error.AnswerError.{AnswerError}
 use Rattle.supervisory_core.specs.declared.error.AnswerError.TheVariants as answer_errors
 use Rattle.supervisory_core.specs.Calls.{after_answer}
 use Rattle.supervisory_core.specs.Orders.{answer_of, answer_to, answered, order_numbered}
-use Rattle.supervisory_core.proofs.Kept.{now_answered}
+use Rattle.supervisory_core.proofs.Kept.{now_answered, other_answered}
 use Rattle.node_core.specs.Announces.{announces}
 use Rattle.node_core.specs.Desk.{Desk}
 use Rattle.node_core.specs.Event.{Event, Insert, Replace, Supervised, event_of, with_new}
@@ -74,7 +74,7 @@ use Rattle.line_step.proofs.Numbers.{
 }
 use Rattle.line_step.proofs.WithTells.{flat_with_tells}
 use Rattle.work_orders.specs.Answers.{Answers, GetsAnswer, answers_of, kept_in, word_in}
-use Rattle.work_orders.proofs.Book.{answering_keeps, asking_keeps, was_open}
+use Rattle.work_orders.proofs.Book.{asking_keeps, was_open}
 use Rattle.work_orders.proofs.Told.{Silent, acts_words, if_own, own_none}
 use Rattle.work_orders.proofs.Walk.{All, OfEvent, Plain, acts_all, announces_all, read_all}
 
@@ -346,7 +346,7 @@ answer_once number machine query order before after told steps may at asked =
           (sym (words true false here this))
           (subst (λ (n : ℕ). kept_in after n asked ≡ kept_in before n asked)
           (eqb-true machine at here)
-          (behind asked ∙ answering_keeps steps.node.orders query asked order taken this
+          (behind asked ∙ other_answered steps.node.orders query asked order taken this
           ∙ sym (before_is asked number machine
           (inputs.Answer query order) before after told steps)))
       by false same here this =

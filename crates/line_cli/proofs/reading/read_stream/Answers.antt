@@ -1,6 +1,7 @@
 use Rattle.std.proofs.Common.{◌≡◌, ◌≤◌, ◌<◌, ◌+◌, ◌-◌, length, take, drop, ap, ◌∙◌, arith, false, true}
 use Rattle.std.proofs.lemmas.List.{length-take-le}
-use Rattle.line_cli.proofs.Going.{front-room, causes-write_fault, causes-read_fault}
+use Rattle.log_verdict.proofs.Going.{front-room}
+use Rattle.line_cli.proofs.Going.{causes-write_fault, causes-read_fault}
 use Rattle.line_cli.proofs.ReadSteps.{nothing-over, reads-none, reads-first, reads-piece, reads-pushed, reads-memory, reads-write_fault, reads-read_fault, reads-end, reads-large, causes-ended}
 use Rattle.line_cli.proofs.reading.read_stream.Goals as goal
 

@@ -1,6 +1,7 @@
 use Rattle.std.proofs.Common.{◌≡◌, ◌≤◌, length, take, drop, refl, arith}
 use Rattle.std.proofs.lemmas.List.{length-take-le}
-use Rattle.line_cli.proofs.Going.{front-room, goes-first, goes-piece, goes-pushed, runs-memory, runs-part, runs-read_fault, runs-refused, runs-end_refused, runs-whole, causes-refused, causes-whole, causes-write_fault, causes-read_fault}
+use Rattle.log_verdict.proofs.Going.{front-room}
+use Rattle.line_cli.proofs.Going.{goes-first, goes-piece, goes-pushed, runs-memory, runs-part, runs-read_fault, runs-refused, runs-end_refused, runs-whole, causes-refused, causes-whole, causes-write_fault, causes-read_fault}
 use Rattle.line_cli.proofs.running.run_script.Goals as goal
 
 pub loop-count-init : goal.loop-count-init
