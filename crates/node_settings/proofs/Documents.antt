@@ -4,6 +4,7 @@ use Rattle.std.specs.List.{list_all}
 use Rattle.std.specs.Str.{IsUtf8, is_utf8, chars}
 use Rattle.std.proofs.lemmas.Str.{IsUtf8-from_is_utf8, is_utf8-from_IsUtf8}
 use Rattle.std.proofs.lemmas.Bool.Decides.{nat_tests}
+use mathlib.Core.Bool.{and-false}
 use Rattle.line_base.specs.Text.{IsAllowed, is_allowed_char}
 use Rattle.toml.specs.Data.{Members}
 use Rattle.toml.specs.Parse.{parse_document}
@@ -35,11 +36,7 @@ not_both true true never = absurd (never refl refl)
 not_both true false never = refl
 not_both false b never = refl
 
-and_false : (a : Bool) → (a && false) ≡ false
-and_false true = refl
-and_false false = refl
-
 pub is_id_text-bad : (bytes : List ℕ) → (IsAllowed bytes → ⊥) → is_id_text bytes ≡ false
 is_id_text-bad bytes bad =
     rw (not_both (is_utf8 bytes) (list_all is_allowed_char (chars bytes)) (λ utf8 allowed. bad (record { utf8 = IsUtf8-from_is_utf8 bytes utf8; allowed = allowed })))
-    (and_false (nat_le 1 (length bytes) && nat_le (length bytes) 64))
+    (and-false (nat_le 1 (length bytes) && nat_le (length bytes) 64))
