@@ -1,8 +1,9 @@
 -- What a machine owns is read off its log, whatever follows.
 use Rattle.std.proofs.Common.{◌≡◌, ◌∙◌, sym, ap, refl, ℕ, ◌<◌, ◌^◌, ◌==◌, Bool, true, false, not, List, [], ◌∷◌, ◌++◌, Option, None, Some, codes, decimal, flat_map, append_assoc, append-nil, if◌then◌else◌}
-use Rattle.std.proofs.lemmas.Bool.{and_parts, false≢true}
+use Rattle.std.proofs.lemmas.Bool.{and_parts, not-true}
 use Rattle.std.proofs.lemmas.List.Elements.{recursion_from_All}
 use Rattle.std.specs.List.{AllByRecursion, list_all}
+use Rattle.node_core.proofs.Keeping.{own_append}
 use Rattle.line_base.specs.declared.states.Side.{Side}
 use Rattle.line_base.specs.declared.states.Side.TheVariants.{Entry, Exit}
 use Rattle.board_record.specs.BoardId.{id_text}
@@ -26,20 +27,16 @@ use Rattle.node_run.proofs.Inner.{inner, spaced, inner_act, inner_deed, inner_wh
 
 -- ---- a line
 
-not_end : (t : Bool) → not t ≡ true → t ≡ false
-not_end true h = absurd (false≢true h)
-not_end false h = refl
-
 line_read : (line text rest : List ℕ) (own : Own) → inner text → own_behind line (text ++ (10 ∷ rest)) own ≡ own_behind [] rest (own_line (line ++ text) own)
 line_read line [] rest own h = ap (λ l. own_behind [] rest (own_line l own)) (sym (append-nil line))
 line_read line (b ∷ text) rest own h =
     let parts = and_parts (is_inner b) (list_all is_inner text) h in
-    ap (λ (t : Bool). if t then own_behind [] (text ++ (10 ∷ rest)) (own_line line own) else own_behind (line ++ (b ∷ [])) (text ++ (10 ∷ rest)) own) (not_end (b == 10) parts.0)
+    ap (λ (t : Bool). if t then own_behind [] (text ++ (10 ∷ rest)) (own_line line own) else own_behind (line ++ (b ∷ [])) (text ++ (10 ∷ rest)) own) (not-true (b == 10) parts.0)
     ∙ line_read (line ++ (b ∷ [])) text rest own parts.1
     ∙ ap (λ l. own_behind [] rest (own_line l own)) (append_assoc line (b ∷ []) text)
 
 not_blank : (b : ℕ) → is_solid b ≡ true → (b == 32) ≡ false
-not_blank b h = not_end (b == 32) (and_parts (not (b == 10)) (not (b == 32)) h).1
+not_blank b h = not-true (b == 32) (and_parts (not (b == 10)) (not (b == 32)) h).1
 
 behind_solid : (a b : List ℕ) → list_all is_solid a ≡ true → behind_blank (a ++ (32 ∷ b)) ≡ b
 behind_solid [] b h = refl
@@ -169,10 +166,6 @@ answer_read number (shows turn kept out taking) rest own =
     ∙ held_read turn Entry taking rest own
 
 -- ---- a log
-
-pub own_append : (own : Own) (a b : List Act) → own_after own (a ++ b) ≡ own_after (own_after own a) b
-own_append own [] b = refl
-own_append own (act ∷ a) b = own_append (own_act own act) a b
 
 tells_read : (number : ℕ) {log : List ℕ} {told : List Act} → TellsActs number log told → (rest : List ℕ) (own : Own) → own_behind [] (log ++ rest) own ≡ own_behind [] rest (own_after own told)
 tells_read number no_lines rest own = refl

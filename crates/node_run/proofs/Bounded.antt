@@ -1,6 +1,6 @@
 -- No more text waits than may where a run goes on.
-use Rattle.std.proofs.Common.{◌≡◌, refl, sym, ℕ, Bool, true, false, ◌||◌, List, Option, None, Some, length, ◌≤◌, ◌⊎◌, inl, inr, nat_lt, if◌then◌else◌, arith}
-use Rattle.std.proofs.lemmas.Bool.{false≢true}
+use Rattle.std.proofs.Common.{◌≡◌, refl, sym, ℕ, Bool, true, false, List, Option, None, Some, length, ◌≤◌, ◌⊎◌, inl, inr, nat_lt, if◌then◌else◌, arith}
+use Rattle.std.proofs.lemmas.Bool.{false≢true, or_parts}
 use Rattle.std.proofs.lemmas.Bool.Decides.{nat_tests}
 use Rattle.line_outside.specs.declared.way.Way.{Way}
 use Rattle.line_outside.specs.declared.way.Way.TheVariants as ways
@@ -28,14 +28,10 @@ none_due None None false false false false next goes = (refl, refl, refl, refl)
 few_bytes : (unsent : List ℕ) → nat_lt most_unsent (length unsent) ≡ false → length unsent ≤ most_unsent
 few_bytes unsent few = grind (arith, nat_tests)
 
-both_false : (a b : Bool) → (a || b) ≡ false → b ≡ false
-both_false true b e = absurd (false≢true (sym e))
-both_false false b e = e
-
 bounded_by : (wire : Wire) (unsent : List ℕ) → is_due_by wire unsent ≡ false → (wire ≡ wires.Rests) ⊎ (length unsent ≤ most_unsent)
 bounded_by wires.Rests unsent due = inl refl
 bounded_by wires.Stands unsent due = inr (few_bytes unsent due)
-bounded_by wires.Ends unsent due = inr (few_bytes unsent (both_false (is_empty unsent) (nat_lt most_unsent (length unsent)) due))
+bounded_by wires.Ends unsent due = inr (few_bytes unsent (or_parts (is_empty unsent) (nat_lt most_unsent (length unsent)) due).1)
 bounded_by wires.Breaks unsent due = absurd (false≢true (sym due))
 
 all_few : (rules : Rules) (s : RunState) → goes_on (next_of rules s) ≡ true

@@ -1,43 +1,31 @@
 -- A side that hears of the end of its connection has none then, and the other side is as it was. A machine that is
 -- supervised, or no more, leaves both as they were.
-use Rattle.std.proofs.Common.{◌≡◌, ◌∙◌, ap, refl, ℤ, Bool, true, false, List, [], Option, None, Some}
+use Rattle.std.proofs.Common.{◌≡◌, ◌∙◌, ap, refl, ℤ, Bool, true, false, List, []}
 use Rattle.line_base.specs.declared.states.Side.{Side}
 use Rattle.line_base.specs.declared.states.Side.TheVariants.{Entry, Exit}
-use Rattle.handover_out.specs.Row.{OutRow, outlet_row}
+use Rattle.handover_out.specs.Row.{outlet_row}
 use Rattle.handover_out.specs.declared.input.OutInput.TheVariants as out_input
-use Rattle.handover_in.specs.Row.{InRow, intake_row}
+use Rattle.handover_in.specs.Row.{intake_row}
 use Rattle.handover_in.specs.declared.input.InInput.TheVariants as in_input
 use Rattle.node_core.specs.Desk.{Desk}
 use Rattle.node_core.specs.declared.act.Act.{Act}
 use Rattle.node_core.specs.declared.input.Input.TheVariants as inputs
 use Rattle.node_core.specs.declared.lane.Body.{Body}
 use Rattle.node_core.specs.Connect.{notices, if_open}
-use Rattle.node_core.specs.Halves.{ended, outlet_row_did, intake_row_did}
+use Rattle.node_core.specs.Halves.{ended}
 use Rattle.node_core.specs.Node.{NodeState, desk_of}
 use Rattle.node_core.specs.Sides.{is_open}
 use Rattle.node_core.specs.Step.{Steps}
 use Rattle.node_core.proofs.Opened.{end_closes}
-use Rattle.node_core.proofs.Stepping.{announces_open}
+use Rattle.node_core.proofs.Stepping.{announces_open, intake_open, outlet_open}
 
 abbrev pub other : Side → Side
 other Entry = Exit
 other Exit = Entry
 
-intake_leaves : (desk : Desk) (at : Side) (body : Body) (r : Option InRow) → is_open at (intake_row_did desk body r).body ≡ is_open at body
-intake_leaves desk Entry body None = refl
-intake_leaves desk Exit body None = refl
-intake_leaves desk Entry body (Some r) = refl
-intake_leaves desk Exit body (Some r) = refl
-
-outlet_leaves : (desk : Desk) (at : Side) (body : Body) (r : Option OutRow) → is_open at (outlet_row_did desk body r).body ≡ is_open at body
-outlet_leaves desk Entry body None = refl
-outlet_leaves desk Exit body None = refl
-outlet_leaves desk Entry body (Some r) = refl
-outlet_leaves desk Exit body (Some r) = refl
-
 ended_leaves : (desk : Desk) (side : Side) (body : Body) → is_open (other side) (ended desk side body).body ≡ is_open (other side) body
-ended_leaves desk Entry body = intake_leaves desk Exit _ (intake_row body.intake in_input.Closed)
-ended_leaves desk Exit body = outlet_leaves desk Entry _ (outlet_row body.outlet out_input.Closed)
+ended_leaves desk Entry body = intake_open desk Exit _ (intake_row body.intake in_input.Closed)
+ended_leaves desk Exit body = outlet_open desk Entry _ (outlet_row body.outlet out_input.Closed)
 
 opened_closes : (desk : Desk) (side : Side) (test : Bool) (told : List Act) (body : Body) → is_open side body ≡ test → is_open side (if_open test (record { body = (ended desk side body).body; acts = told }) body).body ≡ false
 opened_closes desk side true told body e = end_closes desk side body

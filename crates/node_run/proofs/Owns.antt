@@ -1,5 +1,6 @@
 -- What a machine owns follows from its log.
 use Rattle.std.proofs.Common.{◌≡◌, ◌∙◌, sym, subst, ap, refl, ℕ, ℤ, Bool, true, false, List, [], ◌++◌, Option, None, Some, Result, Ok, Err, append-nil, codes}
+use Rattle.node_core.proofs.Keeping.{own_append}
 use Rattle.line_base.specs.declared.states.Side.TheVariants.{Entry, Exit}
 use Rattle.board_record.specs.declared.sensed.Sensed.{Sensed}
 use Rattle.line_outside.specs.Given.{Given}
@@ -23,7 +24,7 @@ use Rattle.line_script.specs.declared.line.LineWhy.TheVariants as whys
 use Rattle.line_report.specs.declared.happening.Reason.TheVariants as reasons
 use Rattle.handover_out.specs.State as outlets
 use Rattle.handover_in.specs.State as intakes
-use Rattle.node_core.proofs.Lasting.{owns_after}
+use Rattle.node_core.proofs.Lasting.{owns_after as steps_own}
 use Rattle.node_core.specs.May.{may_of, may_do}
 use Rattle.node_core.specs.Node.{NodeState}
 use Rattle.node_core.specs.Own.{own_of, own_after}
@@ -48,7 +49,7 @@ use Rattle.node_run.specs.declared.channel.Word.TheVariants as words
 use Rattle.node_run.specs.Steps.{Takes, TakesStep, MeetsSecond}
 use Rattle.node_run.specs.After.{after_listen, after_send, after_panel, panel_arrived, panel_second, panel_bytes, panel_closed, after_supervisory, supervisory_arrived, supervisory_second, supervisory_bytes, supervisory_closed, broken, AfterUpstream, AfterDownstream, AfterPoll, AfterClose}
 use Rattle.node_run.specs.Lines.{cut_line, without_return, is_too_long, Tells, DoesInput, StepsAloud, AsksIf, AsksConnect, may_ask, DoesAsked, KeepsFront, Fronts, Ends, DoesCut}
-use Rattle.node_run.proofs.Accounts.{own_append, own_read}
+use Rattle.node_run.proofs.Accounts.{own_read}
 use Rattle.node_run.specs.Account.{AreProper}
 use Rattle.node_run.specs.Owning.{OwnIsRead, IsAnswer, refuses, denies, shows, TellsActs, no_lines, step_lines, answer_lines, OwnFollows}
 use Rattle.node_run.specs.Runs.{Moves, listens, connects, polls, sends, refuses as refuses_second, closes, skips, does_line, does_hear, Runs, begins, goes_on}
@@ -61,9 +62,6 @@ pub data Part (number : ℕ) (s t : RunState) (log : List ℕ) : Type 0 where
   quiet : log ≡ [] → t.node ≡ s.node → Part number s t log
   answers : IsAnswer number log → t.node ≡ s.node → Part number s t log
   steps : (turn : ℕ) → (acts : List Act) → AreProper acts → log ≡ lines_of turn number acts → own_of t.node.lane.body ≡ own_after (own_of s.node.lane.body) acts → Part number s t log
-
-steps_own : (s t : NodeState) (sensed : List Sensed) (input : Input) (moment : ℤ) (told : List Act) → may_of s input ≡ may_do → Steps s sensed input moment t told → own_of t.lane.body ≡ own_after (own_of s.lane.body) told
-steps_own s t sensed input moment told may made = owns_after s t sensed input moment told may made
 
 step_part : (number : ℕ) (rules : Rules) (moment : ℤ) (sensed : List Sensed) (input : Input) (from s t : RunState) (log : List ℕ)
     → from.node ≡ s.node → may_of s.node input ≡ may_do → rules.number ≡ number → TakesStep rules moment sensed input from t log → Part number s t log
