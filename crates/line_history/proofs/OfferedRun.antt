@@ -105,7 +105,7 @@ undriven_settles (act ∷ told) ids =
     settles_append (told_of_act act) (undriven told) ids ∙ (undriven_settles told (settles_acts (told_of_act act) ids) ∙ ap (λ (x : List ℕ). settles_acts told x) (settle_one act ids))
 
 -- a board that was told to settle is among those that did
-pub still_act : {id : ℕ} (act : Act) (ids : List ℕ) → IsAmong id ids → IsAmong id (settles_act act ids)
+still_act : {id : ℕ} (act : Act) (ids : List ℕ) → IsAmong id ids → IsAmong id (settles_act act ids)
 still_act (acts.Deed (deeds.Settles other)) ids is = among_later is
 still_act (acts.Deed (deeds.Opens other)) ids is = is
 still_act (acts.Deed (deeds.Refuses other)) ids is = is

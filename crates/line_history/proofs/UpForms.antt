@@ -330,7 +330,7 @@ unless_next (Err reason) k t before next told Does st does then = becomes_next k
 -- ---- bytes arrive
 
 -- the words of a piece are fit
-pub carries_fit : {stands : Bool} {stream : Stream} {messages : List Horizontal} → SaysAlone → (words : List Word) (old piece new : List ℕ) (still : Bool) (later : Stream) → coming stream ≡ piece ++ coming later → is_empty (coming stream) ≡ false
+carries_fit : {stands : Bool} {stream : Stream} {messages : List Horizontal} → SaysAlone → (words : List Word) (old piece new : List ℕ) (still : Bool) (later : Stream) → coming stream ≡ piece ++ coming later → is_empty (coming stream) ≡ false
     → AreWords old piece new still words → Carries stands old stream messages → AreFitWords words
 carries_fit alone words old piece new still later is some are (carries_whole said good flows) =
     alone.fit_words old piece (coming later) new still words said (alone.sayable said good) good (subst (λ (bytes : List ℕ). FlowsAs old bytes (texts_of said)) is flows) are

@@ -801,7 +801,7 @@ given-goes may number machine input s after told handless h does =
     unless-goes may s after told (MachineSteps number machine input s after told) h (handless-goes number machine input s after told handless h) does
 
 -- a board that may be taken out, or replaced, is here
-pub here-behind : (own : Result (Unit {0}) No) (here : Bool) (next : May) (done : Unit {0}) → behind_own own (no_if (not here) reasons.NotHere next) ≡ Ok done → here ≡ true
+here-behind : (own : Result (Unit {0}) No) (here : Bool) (next : May) (done : Unit {0}) → behind_own own (no_if (not here) reasons.NotHere next) ≡ Ok done → here ≡ true
 here-behind (Err why) here next done is = cc
 here-behind (Ok _) true next done is = refl
 here-behind (Ok _) false next done is = cc

@@ -138,7 +138,7 @@ closed-at Entry Exit = refl
 closed-at Exit Entry = refl
 closed-at Exit Exit = refl
 
-pub closed-act : (side : Side) (act : Act) → open_act side false act ≡ false
+closed-act : (side : Side) (act : Act) → open_act side false act ≡ false
 closed-act side (acts.Closes at) = closed-at side at
 closed-act side (acts.Notices at) = closed-at side at
 closed-act side (acts.Reads at event) = refl

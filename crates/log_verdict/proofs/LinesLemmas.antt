@@ -12,7 +12,7 @@ use Rattle.log_verdict.specs.LineEnds.{HasNoEnd}
 abbrev is_end : ℕ → Bool
 is_end b = b == 10
 
-pub onto_first_parts : (b : ℕ) (parts : List (List ℕ)) → (first : List ℕ) × (others : List (List ℕ)) × (onto_first b parts ≡ first ∷ others)
+onto_first_parts : (b : ℕ) (parts : List (List ℕ)) → (first : List ℕ) × (others : List (List ℕ)) × (onto_first b parts ≡ first ∷ others)
 onto_first_parts b [] = (b ∷ [], [], refl)
 onto_first_parts b (part ∷ parts) = (b ∷ part, parts, refl)
 
@@ -33,7 +33,7 @@ parts_of (b ∷ bs) =
     record { first = parts.0; others = parts.1; split = parts.2 }
 
 -- a front without a line end, its line end, and what follows
-pub lines-end : (front rest : List ℕ) → HasNoEnd front → lines (front ++ 10 ∷ rest) ≡ strip_carriage_return front ∷ lines rest
+lines-end : (front rest : List ℕ) → HasNoEnd front → lines (front ++ 10 ∷ rest) ≡ strip_carriage_return front ∷ lines rest
 lines-end front rest none =
     let parts = parts_of rest in
     rw (slice_split_at is_end front 10 rest none.none refl, parts.split) refl
@@ -48,7 +48,7 @@ lines-pending pending part rest none =
     let text : pending ++ ((part ++ 10 ∷ []) ++ rest) ≡ (pending ++ part) ++ 10 ∷ rest = simp append_assoc in
     ap lines text ∙ lines-end (pending ++ part) rest none
 
-pub strip_by : (t : Bool) (line : List ℕ) → length line ≤ length (if t then take (length line - 1) line else line) + 1
+strip_by : (t : Bool) (line : List ℕ) → length line ≤ length (if t then take (length line - 1) line else line) + 1
 strip_by true line = omega (arith, length-take-le (length line - 1) line (omega arith))
 strip_by false line = omega arith
 

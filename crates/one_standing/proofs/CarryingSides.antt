@@ -125,7 +125,7 @@ texted_stands Exit text link = refl
 begun_first : (arrived byte : ℕ) (bytes : List ℕ) → arrived ≡ 0 → nat_lt arrived (length (byte ∷ bytes)) ≡ true
 begun_first arrived byte bytes none = grind (arith, none)
 
-pub begun_behind : (texts : List (List ℕ)) (arrived byte : ℕ) (bytes : List ℕ) → is_begun texts arrived ≡ true → is_begun (texts ++ (byte ∷ bytes) ∷ []) arrived ≡ true
+begun_behind : (texts : List (List ℕ)) (arrived byte : ℕ) (bytes : List ℕ) → is_begun texts arrived ≡ true → is_begun (texts ++ (byte ∷ bytes) ∷ []) arrived ≡ true
 begun_behind [] arrived byte bytes begun = begun_first arrived byte bytes (eqb-true arrived 0 begun)
 begun_behind (text ∷ texts) arrived byte bytes begun = begun
 

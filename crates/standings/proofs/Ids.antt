@@ -49,7 +49,7 @@ adds_named (Loses gap other) id unnamed = tt
 adds_named (Settles gap other) id unnamed = one_other id other unnamed
 adds_named (Drops gap other) id unnamed = tt
 
-pub mark_of_id-append : (is : Bool) (mark : Mark) (front back : List Mark) → mark_of_id is mark (front ++ back) ≡ mark_of_id is mark front ++ back
+mark_of_id-append : (is : Bool) (mark : Mark) (front back : List Mark) → mark_of_id is mark (front ++ back) ≡ mark_of_id is mark front ++ back
 mark_of_id-append true mark front back = refl
 mark_of_id-append false mark front back = refl
 
@@ -63,7 +63,7 @@ other_apart : (first out : Entry) (id : ℕ) → is_same_entry first out ≡ tru
 other_apart first out id same apart = ap (λ (e : Entry). e.id == id) (same_entry_is first out same) ∙ apart
 
 -- putting out an entry of another id leaves the marks of an id
-pub out_step : (id : ℕ) (out first : Entry) (marks : List Entry) (is_out : Bool) → is_same_entry first out ≡ is_out → (out.id == id) ≡ false
+out_step : (id : ℕ) (out first : Entry) (marks : List Entry) (is_out : Bool) → is_same_entry first out ≡ is_out → (out.id == id) ≡ false
     → marks_in id (without (Some out) marks) ≡ marks_in id marks
     → marks_in id (if not is_out then first ∷ without (Some out) marks else without (Some out) marks) ≡ mark_of_id (first.id == id) first.mark (marks_in id marks)
 out_step id out first marks true same apart later = rw (other_apart first out id same apart) later

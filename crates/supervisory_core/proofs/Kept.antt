@@ -46,7 +46,7 @@ kept_asking orders after_it question same query text e = ap (λ (os : List Order
 
 -- ---- an answer more
 
-pub elsewhere : (orders : List Order) (place other : ℕ) (order : Order) → (place == other) ≡ false → slice_get (slice_set orders place order) other ≡ slice_get orders other
+elsewhere : (orders : List Order) (place other : ℕ) (order : Order) → (place == other) ≡ false → slice_get (slice_set orders place order) other ≡ slice_get orders other
 elsewhere [] place other order e = refl
 elsewhere (first ∷ orders) zero zero order e = absurd cc
 elsewhere (first ∷ orders) zero (suc other) order e = refl
