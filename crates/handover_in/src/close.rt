@@ -13,7 +13,7 @@ impl State {
     pub(crate) fn close(&mut self) -> InAct
         ensures { closed_row self.old.phase ≡ row self.new result }
     {
-        self.offer = None;
+        self.put_offer(None);
         self.ready = false;
         match mem::replace(&mut self.phase, Phase::Idle) {
             Phase::Idle => InAct::nothing(),
@@ -22,7 +22,7 @@ impl State {
                 self.close_stopped(board, own, heard == Some(Transfer::Complete))
             }
             Phase::Waiting { board, own, heard } => {
-                self.phase = Phase::Waiting { board, own, heard };
+                self.enter(Phase::Waiting { board, own, heard });
                 InAct::nothing()
             }
         }
@@ -35,7 +35,7 @@ impl State {
         if own == Seen::NotStarted {
             return InAct::drops(board, own, None, Some(false));
         }
-        self.phase = Phase::Waiting { board, own, heard };
+        self.enter(Phase::Waiting { board, own, heard });
         if heard {
             InAct::nothing()
         } else {
@@ -51,11 +51,11 @@ impl State {
         match own {
             Seen::NotStarted | Seen::Taken => InAct::drops(board, own, None, None),
             Seen::Incomplete | Seen::Complete => {
-                self.phase = Phase::Waiting {
+                self.enter(Phase::Waiting {
                     board,
                     own,
                     heard: left,
-                };
+                });
                 InAct::nothing()
             }
         }

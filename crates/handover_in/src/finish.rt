@@ -28,7 +28,7 @@ impl State {
             Phase::Taking { board, own, .. } => Ok(self.finish_running(board, own, heard)),
             Phase::Stopped { board, own, .. } => Ok(self.end_stopped(board, own, heard)),
             phase => {
-                self.phase = phase;
+                self.enter(phase);
                 Err(InBreach::TransportFinished)
             }
         }
@@ -39,22 +39,22 @@ impl State {
         ensures { finishes_running heard self.old board own ≡ row self.new result }
     {
         if heard == Transfer::Complete {
-            self.phase = Phase::Taking {
+            self.enter(Phase::Taking {
                 board,
                 own,
                 heard: true,
-            };
+            });
             return InAct::nothing();
         }
         let said = stop(&board, own);
         match in_ends(own, heard) {
             InEnd::Drop => InAct::drops(board, own, said, Some(false)),
             _ => {
-                self.phase = Phase::Stopped {
+                self.enter(Phase::Stopped {
                     board,
                     own,
                     heard: Some(heard),
-                };
+                });
                 InAct::stops(said)
             }
         }
@@ -69,11 +69,11 @@ impl State {
             InEnd::Keep => InAct::settles(board, None, None),
             InEnd::Drop => InAct::drops(board, own, None, None),
             InEnd::Wait => {
-                self.phase = Phase::Stopped {
+                self.enter(Phase::Stopped {
                     board,
                     own,
                     heard: Some(heard),
-                };
+                });
                 InAct::nothing()
             }
         }
@@ -101,7 +101,7 @@ impl State {
                 ..
             } => InAct::settles(board, None, None),
             phase => {
-                self.phase = phase;
+                self.enter(phase);
                 InAct::nothing()
             }
         }

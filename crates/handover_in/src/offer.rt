@@ -36,11 +36,11 @@ impl State {
         match self.offer.take() {
             Some(board) => {
                 let id = board.id;
-                self.phase = Phase::Taking {
+                self.enter(Phase::Taking {
                     board,
                     own: Seen::NotStarted,
                     heard: false,
-                };
+                });
                 InAct::starts(id)
             }
             None => InAct::nothing(),
@@ -60,7 +60,7 @@ impl State {
         if !self.takes_offers() || self.offer.is_some() {
             return Err(InBreach::BoardAvailable);
         }
-        self.offer = Some(board);
+        self.put_offer(Some(board));
         Ok(InAct::nothing())
     }
 
@@ -77,7 +77,7 @@ impl State {
         if !self.takes_offers() || self.offer.is_none() {
             return Err(InBreach::RevokeBoardAvailable);
         }
-        self.offer = None;
+        self.put_offer(None);
         Ok(InAct::nothing())
     }
 

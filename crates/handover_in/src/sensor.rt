@@ -37,11 +37,11 @@ impl State {
             (SensorEvent::Full, _) => self.come_in(board, heard),
             (SensorEvent::Taken, Seen::Incomplete) => self.be_taken(board, heard),
             _ => {
-                self.phase = Phase::Taking {
+                self.enter(Phase::Taking {
                     board,
                     own: own_after(own, event),
                     heard,
-                };
+                });
                 InAct::nothing()
             }
         }
@@ -56,11 +56,11 @@ impl State {
         if heard {
             InAct::settles(board, said, Some(false))
         } else {
-            self.phase = Phase::Stopped {
+            self.enter(Phase::Stopped {
                 board,
                 own: Seen::Complete,
                 heard: None,
-            };
+            });
             InAct::stops(said)
         }
     }
@@ -74,11 +74,11 @@ impl State {
         if heard {
             InAct::drops(board, Seen::Taken, said, Some(false))
         } else {
-            self.phase = Phase::Stopped {
+            self.enter(Phase::Stopped {
                 board,
                 own: Seen::Taken,
                 heard: None,
-            };
+            });
             InAct::stops(said)
         }
     }
@@ -89,7 +89,7 @@ impl State {
     {
         match heard {
             None => {
-                self.phase = Phase::Stopped { board, own, heard };
+                self.enter(Phase::Stopped { board, own, heard });
                 InAct::nothing()
             }
             Some(heard) => self.end_stopped(board, own, heard),
@@ -103,11 +103,11 @@ impl State {
         match own {
             Seen::Complete if heard => InAct::settles(board, None, Some(false)),
             Seen::Complete => {
-                self.phase = Phase::Waiting { board, own, heard };
+                self.enter(Phase::Waiting { board, own, heard });
                 InAct::drive_off()
             }
             Seen::Incomplete => {
-                self.phase = Phase::Waiting { board, own, heard };
+                self.enter(Phase::Waiting { board, own, heard });
                 InAct::nothing()
             }
             Seen::NotStarted | Seen::Taken => InAct::drops(board, own, None, Some(false)),
@@ -120,15 +120,15 @@ impl State {
         match mem::replace(&mut self.phase, Phase::Idle) {
             Phase::Taking { board, own, heard } => {
                 let said = stop(&board, own);
-                self.phase = Phase::Stopped {
+                self.enter(Phase::Stopped {
                     board,
                     own,
                     heard: complete_if(heard),
-                };
+                });
                 InAct::stops(said)
             }
             phase => {
-                self.phase = phase;
+                self.enter(phase);
                 InAct::nothing()
             }
         }

@@ -42,6 +42,21 @@ impl State {
         }
     }
 
+    /// Goes over into a phase. The phase before is let go here alone, since each place that lets one go
+    /// is dear to prove.
+    pub(crate) fn enter(&mut self, phase: Phase)
+        ensures { self.new ≡ record self.old { phase = phase } }
+    {
+        self.phase = phase;
+    }
+
+    /// Keeps the record of a board that is offered, or none.
+    pub(crate) fn put_offer(&mut self, offer: Option<Record>)
+        ensures { self.new ≡ record self.old { offer = offer } }
+    {
+        self.offer = offer;
+    }
+
     pub(crate) fn meet(&mut self, input: InInput) -> Result<InAct, InBreach>
         requires { IsGiven self.old input }
         ensures row { IfOk result (λ act. intake_row self.old input ≡ row self.new act) }

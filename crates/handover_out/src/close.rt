@@ -16,12 +16,12 @@ impl State {
         self.ready = false;
         match mem::replace(&mut self.phase, Phase::Idle) {
             Phase::Moving { board, begun: true } => {
-                self.phase = stuck_unlinked(board);
+                self.enter(stuck_unlinked(board));
                 OutAct::drive_off()
             }
             Phase::Moving { board, .. } => OutAct::returns(board, None, Some(false)),
             Phase::Stuck { board, .. } => {
-                self.phase = stuck_unlinked(board);
+                self.enter(stuck_unlinked(board));
                 OutAct::nothing()
             }
             _ => OutAct::nothing(),

@@ -26,9 +26,9 @@ impl State {
     {
         match mem::replace(&mut self.phase, Phase::Idle) {
             Phase::Moving { board, .. } => {
-                self.phase = Phase::Moving { board, begun: true };
+                self.enter(Phase::Moving { board, begun: true });
             }
-            phase => self.phase = phase,
+            phase => self.enter(phase),
         }
         OutAct::nothing()
     }
@@ -39,7 +39,7 @@ impl State {
         match mem::replace(&mut self.phase, Phase::Idle) {
             Phase::Moving { board, .. } => {
                 let told = finished(true, Transfer::Complete, board.id);
-                self.phase = Phase::Ended { id: board.id };
+                self.enter(Phase::Ended { id: board.id });
                 OutAct::leaves(board, told, Some(false))
             }
             Phase::Stuck {
@@ -52,7 +52,7 @@ impl State {
                 OutAct::leaves(board, told, None)
             }
             phase => {
-                self.phase = phase;
+                self.enter(phase);
                 OutAct::nothing()
             }
         }
@@ -63,10 +63,10 @@ impl State {
     {
         match mem::replace(&mut self.phase, Phase::Idle) {
             Phase::Moving { board, .. } => {
-                self.phase = Phase::Moving {
+                self.enter(Phase::Moving {
                     board,
                     begun: false,
-                };
+                });
                 OutAct::nothing()
             }
             Phase::Stuck {
@@ -79,7 +79,7 @@ impl State {
                 OutAct::returns(board, told, None)
             }
             phase => {
-                self.phase = phase;
+                self.enter(phase);
                 OutAct::nothing()
             }
         }
@@ -91,7 +91,7 @@ impl State {
         match mem::replace(&mut self.phase, Phase::Idle) {
             Phase::Moving { board, begun: true } => {
                 let told = finished(true, Transfer::Incomplete, board.id);
-                self.phase = Phase::Ended { id: board.id };
+                self.enter(Phase::Ended { id: board.id });
                 OutAct::loses(board, told, Some(false))
             }
             Phase::Stuck {
@@ -104,7 +104,7 @@ impl State {
                 OutAct::loses(board, told, None)
             }
             phase => {
-                self.phase = phase;
+                self.enter(phase);
                 OutAct::nothing()
             }
         }
@@ -115,9 +115,9 @@ impl State {
         ensures { self.new ≡ over_when_stuck self.old id linked stopped }
     {
         if linked && !stopped {
-            self.phase = Phase::Ended { id };
+            self.enter(Phase::Ended { id });
         } else {
-            self.phase = Phase::Idle;
+            self.enter(Phase::Idle);
             self.touched = None;
         }
     }
@@ -127,20 +127,20 @@ impl State {
     {
         match mem::replace(&mut self.phase, Phase::Idle) {
             Phase::Moving { board, begun: true } => {
-                self.phase = Phase::Stuck {
+                self.enter(Phase::Stuck {
                     board,
                     linked: true,
                     stopped: false,
-                };
+                });
                 OutAct::drive_off()
             }
             Phase::Moving { board, .. } => {
                 let told = finished(true, Transfer::NotStarted, board.id);
-                self.phase = Phase::Ended { id: board.id };
+                self.enter(Phase::Ended { id: board.id });
                 OutAct::returns(board, told, Some(false))
             }
             phase => {
-                self.phase = phase;
+                self.enter(phase);
                 OutAct::nothing()
             }
         }

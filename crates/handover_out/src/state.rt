@@ -53,6 +53,14 @@ impl State {
         }
     }
 
+    /// Goes over into a phase. The phase before is let go here alone, since each place that lets one go
+    /// is dear to prove.
+    pub(crate) fn enter(&mut self, phase: Phase)
+        ensures { self.new ≡ record self.old { phase = phase } }
+    {
+        self.phase = phase;
+    }
+
     /// Does what the outlet table says of this input.
     pub(crate) fn meet(&mut self, input: OutInput) -> Result<OutAct, OutBreach>
         requires { IsGiven self.old input }

@@ -26,10 +26,10 @@ impl State {
         match board {
             Some(board) => {
                 let id = board.id;
-                self.phase = Phase::Moving {
+                self.enter(Phase::Moving {
                     board,
                     begun: false,
-                };
+                });
                 Ok(OutAct {
                     deed: Some(OutDeed::Opens(id)),
                     send: None,
@@ -38,7 +38,7 @@ impl State {
                 })
             }
             None => {
-                self.phase = Phase::Ended { id };
+                self.enter(Phase::Ended { id });
                 Ok(OutAct {
                     deed: Some(OutDeed::Refuses(id)),
                     send: Some(OutSend::Finished {
@@ -71,11 +71,11 @@ impl State {
                 Ok(OutAct::returns(board, told, Some(false)))
             }
             Phase::Moving { board, .. } => {
-                self.phase = stopped(board);
+                self.enter(stopped(board));
                 Ok(OutAct::drive_off())
             }
             Phase::Stuck { board, .. } => {
-                self.phase = stopped(board);
+                self.enter(stopped(board));
                 Ok(OutAct::nothing())
             }
             _ => {
