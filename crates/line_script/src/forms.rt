@@ -271,13 +271,18 @@ pub fn remove(words: &[&[u8]]) -> Result<ScriptLine, LineWhy>
     ensures within { IfOk result IsWithin }
 {
     match words {
-        [machine, id] => {
-            let machine = number(machine, 1, MOST_MACHINES)? as u32;
-            let id = identity(id)?;
-            Ok(ScriptLine::Remove { machine, id })
-        }
+        [machine, id] => remove_one(machine, id),
         _ => Err(LineWhy::WrongCount),
     }
+}
+
+fn remove_one(machine: &[u8], id: &[u8]) -> Result<ScriptLine, LineWhy>
+    ensures answer { result ≡ line_as remove_form (machine.now ∷ id.now ∷ []) }
+    ensures within { IfOk result IsWithin }
+{
+    let machine = number(machine, 1, MOST_MACHINES)? as u32;
+    let id = identity(id)?;
+    Ok(ScriptLine::Remove { machine, id })
 }
 
 pub fn replace(words: &[&[u8]]) -> Result<ScriptLine, LineWhy>
@@ -285,13 +290,18 @@ pub fn replace(words: &[&[u8]]) -> Result<ScriptLine, LineWhy>
     ensures within { IfOk result IsWithin }
 {
     match words {
-        [machine, id] => {
-            let machine = number(machine, 1, MOST_MACHINES)? as u32;
-            let id = identity(id)?;
-            Ok(ScriptLine::Replace { machine, id })
-        }
+        [machine, id] => replace_one(machine, id),
         _ => Err(LineWhy::WrongCount),
     }
+}
+
+fn replace_one(machine: &[u8], id: &[u8]) -> Result<ScriptLine, LineWhy>
+    ensures answer { result ≡ line_as replace_form (machine.now ∷ id.now ∷ []) }
+    ensures within { IfOk result IsWithin }
+{
+    let machine = number(machine, 1, MOST_MACHINES)? as u32;
+    let id = identity(id)?;
+    Ok(ScriptLine::Replace { machine, id })
 }
 
 pub fn mark(words: &[&[u8]]) -> Result<ScriptLine, LineWhy>
@@ -299,18 +309,24 @@ pub fn mark(words: &[&[u8]]) -> Result<ScriptLine, LineWhy>
     ensures within { IfOk result IsWithin }
 {
     match words {
-        [machine, id, spelled_quality] => {
-            let machine = number(machine, 1, MOST_MACHINES)? as u32;
-            let id = identity(id)?;
-            let quality = quality(spelled_quality)?;
-            Ok(ScriptLine::Mark {
-                machine,
-                id,
-                quality,
-            })
-        }
+        [machine, id, quality] => mark_one(machine, id, quality),
         _ => Err(LineWhy::WrongCount),
     }
+}
+
+fn mark_one(machine: &[u8], id: &[u8], spelled_quality: &[u8]) -> Result<ScriptLine, LineWhy>
+    ensures answer { result
+        ≡ line_as mark_form (machine.now ∷ id.now ∷ spelled_quality.now ∷ []) }
+    ensures within { IfOk result IsWithin }
+{
+    let machine = number(machine, 1, MOST_MACHINES)? as u32;
+    let id = identity(id)?;
+    let quality = quality(spelled_quality)?;
+    Ok(ScriptLine::Mark {
+        machine,
+        id,
+        quality,
+    })
 }
 
 pub fn hold(words: &[&[u8]]) -> Result<ScriptLine, LineWhy>
@@ -340,14 +356,19 @@ pub fn signal(words: &[&[u8]]) -> Result<ScriptLine, LineWhy>
     ensures within { IfOk result IsWithin }
 {
     match words {
-        [machine, line, on] => {
-            let machine = number(machine, 1, MOST_MACHINES)? as u32;
-            let line = segment_line(line)?;
-            let on = switch(on)?;
-            Ok(ScriptLine::Signal { machine, line, on })
-        }
+        [machine, line, on] => signal_at(machine, line, on),
         _ => Err(LineWhy::WrongCount),
     }
+}
+
+fn signal_at(machine: &[u8], line: &[u8], on: &[u8]) -> Result<ScriptLine, LineWhy>
+    ensures answer { result ≡ line_as signal_form (machine.now ∷ line.now ∷ on.now ∷ []) }
+    ensures within { IfOk result IsWithin }
+{
+    let machine = number(machine, 1, MOST_MACHINES)? as u32;
+    let line = segment_line(line)?;
+    let on = switch(on)?;
+    Ok(ScriptLine::Signal { machine, line, on })
 }
 
 pub fn connect(words: &[&[u8]]) -> Result<ScriptLine, LineWhy>
@@ -363,27 +384,40 @@ pub fn flow(words: &[&[u8]]) -> Result<ScriptLine, LineWhy>
     ensures within { IfOk result IsWithin }
 {
     match words {
-        [machine, spelled_side] => {
-            let machine = number(machine, 1, MOST_MACHINES)? as u32;
-            let side = side(spelled_side)?;
-            Ok(ScriptLine::Flow {
-                machine,
-                side,
-                bytes: None,
-            })
-        }
-        [machine, spelled_side, count] => {
-            let machine = number(machine, 1, MOST_MACHINES)? as u32;
-            let side = side(spelled_side)?;
-            let count = number(count, 1, MOST_FLOW)? as u32;
-            Ok(ScriptLine::Flow {
-                machine,
-                side,
-                bytes: Some(count),
-            })
-        }
+        [machine, side] => flow_all(machine, side),
+        [machine, side, count] => flow_some(machine, side, count),
         _ => Err(LineWhy::WrongCount),
     }
+}
+
+/// The rest of the oldest text arrives.
+fn flow_all(machine: &[u8], spelled_side: &[u8]) -> Result<ScriptLine, LineWhy>
+    ensures answer { result ≡ line_as flow_form (machine.now ∷ spelled_side.now ∷ []) }
+    ensures within { IfOk result IsWithin }
+{
+    let machine = number(machine, 1, MOST_MACHINES)? as u32;
+    let side = side(spelled_side)?;
+    Ok(ScriptLine::Flow {
+        machine,
+        side,
+        bytes: None,
+    })
+}
+
+/// So many bytes arrive.
+fn flow_some(machine: &[u8], spelled_side: &[u8], count: &[u8]) -> Result<ScriptLine, LineWhy>
+    ensures answer { result
+        ≡ line_as flow_form (machine.now ∷ spelled_side.now ∷ count.now ∷ []) }
+    ensures within { IfOk result IsWithin }
+{
+    let machine = number(machine, 1, MOST_MACHINES)? as u32;
+    let side = side(spelled_side)?;
+    let count = number(count, 1, MOST_FLOW)? as u32;
+    Ok(ScriptLine::Flow {
+        machine,
+        side,
+        bytes: Some(count),
+    })
 }
 
 pub fn notice(words: &[&[u8]]) -> Result<ScriptLine, LineWhy>
