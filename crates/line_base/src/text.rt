@@ -15,9 +15,10 @@ use thiserror::Error;
 /// The most bytes that a text may have.
 pub const MOST_TEXT_BYTES: usize = 1024;
 
-/// A text of at most so many bytes takes no memory. A barcode or a machine's id is seldom longer, and
-/// a longer room would be moved with each record.
-const INLINE_BYTES: usize = 24;
+/// A text of at most so many bytes takes no memory. A machine's id, a product type and many a barcode
+/// are no longer. A longer room would be moved with each record, which costs more than the memory
+/// that the others take.
+const INLINE_BYTES: usize = 16;
 
 /// Text of allowed characters, in UTF-8, of at most 1,024 bytes.
 #[derive(Debug, Drop)]
