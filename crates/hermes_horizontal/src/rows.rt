@@ -1,8 +1,9 @@
 //! The messages, read attribute by attribute in the order of their rows of the table.
 
-ghost use Rattle.std.specs.Prelude.{◌≡◌, ◌∷◌, [], ℕ, map};
+ghost use Rattle.std.specs.Prelude.{◌≡◌, ◌∷◌, [], List, ℕ, map};
+ghost use Rattle.hermes_element.specs.declared.attribute.Attribute.{Attribute};
 ghost use Rattle.hermes_element.specs.Element.{Forest, trees_of};
-ghost use Rattle.hermes_horizontal.specs.Fields.{Gives, said_by, head_columns, decimal_column, head_parts, sizes_parts, clearances_parts};
+ghost use Rattle.hermes_horizontal.specs.Fields.{Gives, said_by, head_columns, decimal_column, head_parts, sizes_parts, clearances_parts, board_found};
 ghost use Rattle.hermes_horizontal.specs.Parts.{info_of};
 ghost use Rattle.hermes_horizontal.specs.Reading.{ReadsRow, ReadsBody, ReadsInfo, IsWhole};
 ghost use Rattle.hermes_horizontal.specs.Rows.{board_columns};
@@ -236,6 +237,20 @@ fn info(
     ensures { ReadsInfo result (values_of at attributes.entry (board_columns required)) }
 {
     let fields = find_board(attributes);
+    info_in(alloc, at, required, &fields)
+}
+
+/// What the fields of a board tell of it. They are only lent here: where they are owned, each way
+/// out lets all sixteen go.
+fn info_in(
+    alloc: Global,
+    at: usize,
+    required: bool,
+    fields: &[Field<'_>; 16],
+) -> Result<Info, MessageError>
+    ensures { (attributes : List Attribute) → fields.now ≡ board_found attributes
+        → ReadsInfo result (values_of at attributes (board_columns required)) }
+{
     let [
         id,
         created_by,
@@ -253,7 +268,7 @@ fn info(
         weight,
         order,
         batch,
-    ] = &fields;
+    ] = fields;
     let head = read_head(at, required, id, created_by, quality, flip)?;
     let sizes = read_sizes(length, width, thickness, speed)?;
     let clearances = read_clearances(top_clearance, bottom_clearance, weight)?;

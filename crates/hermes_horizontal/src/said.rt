@@ -28,10 +28,8 @@ impl Said {
     pub fn new(alloc: Global, what: Horizontal) -> Result<Said, Memory>
         ensures { IfOk result (λ said. said ≡ what) }
     {
-        match Rc::new(alloc, what) {
-            Ok(what) => Ok(Said { what }),
-            Err(_) => Err(Memory),
-        }
+        let what = Rc::new(alloc, what)?;
+        Ok(Said { what })
     }
 
     /// What is said.

@@ -13,6 +13,10 @@ impl From<AllocError> for Memory {
 }
 
 impl<T: Drop> From<AllocFailed<T>> for Memory {
+    // Inlined, it has what is let go at hand part by part, and so all that is ever put there is moved
+    // part by part.
+    #[cold]
+    #[inline(never)]
     fn from(_error: AllocFailed<T>) -> Memory {
         Memory
     }

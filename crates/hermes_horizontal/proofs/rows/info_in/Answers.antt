@@ -1,0 +1,53 @@
+use Rattle.std.proofs.Common.{option_map}
+use Rattle.std.proofs.lemmas.Result.{err_from_is_err_and}
+use Rattle.hermes_horizontal.specs.declared.attr.Attr.TheVariants as attrs
+use Rattle.hermes_horizontal.specs.Fields.{head_parts, sizes_parts, clearances_parts, found_of}
+use Rattle.hermes_horizontal.specs.Values.{worded, text}
+use Rattle.hermes_horizontal.specs.Rows.{optional, board_columns}
+use Rattle.hermes_horizontal.specs.Spelling.{values_of}
+use Rattle.hermes_horizontal.proofs.Joining.{head_refused, sizes_refused, clearances_refused, head_told, info_refused, board_said, two_ok, three_ok}
+use Rattle.hermes_horizontal.proofs.rows.info_in.Goals as goal
+
+pub returns-in_err-head : goal.returns-in_err-head
+returns-in_err-head c attributes found =
+    let p = err_from_is_err_and c.from_residual.result c.from_residual.ensures.1 in
+    let refused = rw found at c.in_err-head.ensures in
+    info_refused (values_of c.args.at attributes (board_columns c.args.required)) c.in_err-head.field-0.0 p.0 c.from_residual.result p.1 p.2
+    (head_refused c.args.at attributes c.args.required c.in_err-head.field-0.0 refused)
+
+pub returns-in_err-sizes : goal.returns-in_err-sizes
+returns-in_err-sizes c attributes found =
+    let created_by = found_of attributes attrs.BoardIdCreatedBy in
+    let p = err_from_is_err_and c.from_residual-in_err-sizes.result c.from_residual-in_err-sizes.ensures.1 in
+    let head = rw found at c.in_ok-head.ensures in
+    let refused = rw found at (c.in_err-sizes.ensures c.args.at) in
+    info_refused (values_of c.args.at attributes (board_columns c.args.required)) c.in_err-sizes.field-0.0 p.0 c.from_residual-in_err-sizes.result p.1 p.2
+    (sizes_refused c.args.at attributes c.args.required (head_parts created_by c.in_ok-head.head) c.in_err-sizes.field-0.0 head refused)
+
+pub returns-in_err-clearances : goal.returns-in_err-clearances
+returns-in_err-clearances c attributes found =
+    let created_by = found_of attributes attrs.BoardIdCreatedBy in
+    let p = err_from_is_err_and c.from_residual-in_err-clearances.result c.from_residual-in_err-clearances.ensures.1 in
+    let head = rw found at c.in_ok-head.ensures in
+    let sizes = rw found at (c.in_ok-sizes.ensures c.args.at) in
+    let refused = rw found at (c.in_err-clearances.ensures c.args.at) in
+    info_refused (values_of c.args.at attributes (board_columns c.args.required)) c.in_err-clearances.field-0.0 p.0 c.from_residual-in_err-clearances.result p.1 p.2
+    (clearances_refused c.args.at attributes c.args.required (head_parts created_by c.in_ok-head.head) (sizes_parts c.in_ok-sizes.sizes) c.in_err-clearances.field-0.0 head sizes refused)
+
+pub returns : goal.returns
+returns c attributes found =
+    let at = c.args.at in
+    let head = rw found at c.in_ok-head.ensures in
+    let sizes = rw found at (c.in_ok-sizes.ensures at) in
+    let clearances = rw found at (c.in_ok-clearances.ensures at) in
+    let created_by = rw found at (c.in_ok-optional_text.ensures at) in
+    let product = rw found at (c.in_ok-optional_text-2.ensures at) in
+    let top = rw found at (c.in_ok-optional_text-3.ensures at) in
+    let bottom = rw found at (c.in_ok-optional_text-4.ensures at) in
+    let order = rw found at (c.in_ok-optional_text-5.ensures at) in
+    let batch = rw found at (c.in_ok-optional_text-6.ensures at) in
+    board_said at attributes c.args.required _ _ (sizes_parts c.in_ok-sizes.sizes) (clearances_parts c.in_ok-clearances.clearances) _
+    (head_told at attributes c.args.required c.in_ok-head.head c.in_ok-optional_text.field-0 head created_by)
+    (three_ok at attributes (optional attrs.ProductTypeId text) (optional attrs.TopBarcode text) (optional attrs.BottomBarcode text) (option_map worded c.in_ok-optional_text-2.field-0) (option_map worded c.in_ok-optional_text-3.field-0) (option_map worded c.in_ok-optional_text-4.field-0) product top bottom)
+    sizes clearances
+    (two_ok at attributes (optional attrs.WorkOrderId text) (optional attrs.BatchId text) (option_map worded c.in_ok-optional_text-5.field-0) (option_map worded c.in_ok-optional_text-6.field-0) order batch)
