@@ -10,6 +10,7 @@ use line_base::{Seen, Transfer};
 use std::mem;
 
 impl State {
+    #[inline(never)]
     pub(crate) fn close(&mut self) -> InAct
         ensures { closed_row self.old.phase ≡ row self.new result }
     {

@@ -14,6 +14,7 @@ use std::mem;
 use transfer_state::{InEnd, in_ends};
 
 impl State {
+    #[inline(never)]
     pub(crate) fn finish(&mut self, heard: Transfer, id: BoardId) -> Result<InAct, InBreach>
         ensures row { IfOk result
             (λ act. finished_row self.old.phase self.old heard id ≡ row self.new act) }
@@ -91,6 +92,7 @@ impl State {
     }
 
     /// A new connection stands: a board that is inside is the machine's.
+    #[inline(never)]
     pub(crate) fn stand(&mut self) -> InAct
         ensures { stand_row self.old.phase self.old ≡ row self.new result }
     {

@@ -147,6 +147,7 @@ impl Intake {
     /// where the table has no row for the message; the intake is then unchanged.
     ///
     /// `Ready`, `Unready` and `Start` are given only where the table has a row for them.
+    #[inline(always)]
     pub fn apply(&mut self, input: InInput) -> Result<InAct, InBreach>
         requires { IsGiven self.old input }
         ensures row { IfOk result (λ act. intake_row self.old input ≡ row self.new act) }

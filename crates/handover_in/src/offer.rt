@@ -28,6 +28,7 @@ impl State {
         InAct::sends(InSend::RevokeMachineReady)
     }
 
+    #[inline(never)]
     pub(crate) fn start(&mut self) -> InAct
         requires { IsGiven self.old InInput.Start }
         ensures { start_row self.old.phase self.old.offer self.old.ready ≡ row self.new result }
@@ -47,6 +48,7 @@ impl State {
         }
     }
 
+    #[inline(never)]
     pub(crate) fn board_available(&mut self, board: Record) -> Result<InAct, InBreach>
         ensures row { IfOk result
             (λ act. board_available_row self.old.phase self.old board ≡ row self.new act) }

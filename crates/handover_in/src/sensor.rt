@@ -14,6 +14,20 @@ impl State {
     pub(crate) fn sense(&mut self, event: SensorEvent) -> InAct
         ensures { sensed_row self.old.phase self.old event ≡ row self.new result }
     {
+        if event == SensorEvent::Begun {
+            // its record stays where it is
+            if let Phase::Taking { own, .. } = &mut self.phase {
+                *own = own_after(*own, event);
+                return InAct::nothing();
+            }
+        }
+        self.sense_board(event)
+    }
+
+    #[inline(never)]
+    fn sense_board(&mut self, event: SensorEvent) -> InAct
+        ensures { sensed_row self.old.phase self.old event ≡ row self.new result }
+    {
         if event == SensorEvent::Left {
             return InAct::nothing();
         }
@@ -114,6 +128,7 @@ impl State {
         }
     }
 
+    #[inline(never)]
     pub(crate) fn fault(&mut self) -> InAct
         ensures { fault_row self.old.phase self.old ≡ row self.new result }
     {

@@ -57,6 +57,10 @@ impl State {
         self.offer = offer;
     }
 
+    /// Does what the intake table says of this input.
+    // Inlined, it comes down to the row of an input that is known, and the input isn't moved. The rows
+    // that move records are not: each would clear room for its records wherever this is.
+    #[inline(always)]
     pub(crate) fn meet(&mut self, input: InInput) -> Result<InAct, InBreach>
         requires { IsGiven self.old input }
         ensures row { IfOk result (λ act. intake_row self.old input ≡ row self.new act) }
@@ -64,17 +68,18 @@ impl State {
             × (breach_of input ≡ Some why)) }
         ensures unchanged { OnErr result (self.new ≡ self.old) }
     {
-        match input {
-            InInput::Ready => Ok(self.get_ready()),
-            InInput::Unready => Ok(self.get_unready()),
-            InInput::Start => Ok(self.start()),
-            InInput::BoardAvailable(board) => self.board_available(board),
-            InInput::RevokeBoardAvailable => self.revoke_board_available(),
-            InInput::Finished { state, id } => self.finish(state, id),
-            InInput::Sensed(event) => Ok(self.sense(event)),
-            InInput::Fault => Ok(self.fault()),
-            InInput::Closed => Ok(self.close()),
-            InInput::Stand => Ok(self.stand()),
-        }
+        let act = match input {
+            InInput::Ready => self.get_ready(),
+            InInput::Unready => self.get_unready(),
+            InInput::Start => self.start(),
+            InInput::BoardAvailable(board) => return self.board_available(board),
+            InInput::RevokeBoardAvailable => return self.revoke_board_available(),
+            InInput::Finished { state, id } => return self.finish(state, id),
+            InInput::Sensed(event) => self.sense(event),
+            InInput::Fault => self.fault(),
+            InInput::Closed => self.close(),
+            InInput::Stand => self.stand(),
+        };
+        Ok(act)
     }
 }

@@ -8,6 +8,7 @@ use board_record::Record;
 use std::mem;
 
 impl State {
+    #[inline(never)]
     pub(crate) fn close(&mut self) -> OutAct
         ensures { closed_row self.old.phase ≡ row self.new result }
     {

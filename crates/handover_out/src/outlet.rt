@@ -124,6 +124,7 @@ impl Outlet {
     ///
     /// An offer or a revocation is given only where the table has a row for it. In `Start` the
     /// board is there exactly where `would_open` holds, and has that id.
+    #[inline(always)]
     pub fn apply(&mut self, input: OutInput) -> Result<OutAct, OutBreach>
         requires { IsGiven self.old input }
         ensures row { IfOk result (λ act. outlet_row self.old input ≡ row self.new act) }

@@ -24,15 +24,13 @@ impl State {
     fn sense_begun(&mut self) -> OutAct
         ensures { begun_row self.old.phase self.old ≡ row self.new result }
     {
-        match mem::replace(&mut self.phase, Phase::Idle) {
-            Phase::Moving { board, .. } => {
-                self.enter(Phase::Moving { board, begun: true });
-            }
-            phase => self.enter(phase),
+        if let Phase::Moving { begun, .. } = &mut self.phase {
+            *begun = true;
         }
         OutAct::nothing()
     }
 
+    #[inline(never)]
     fn sense_left(&mut self) -> OutAct
         ensures { left_row self.old.phase self.old ≡ row self.new result }
     {
@@ -58,6 +56,7 @@ impl State {
         }
     }
 
+    #[inline(never)]
     fn sense_back(&mut self) -> OutAct
         ensures { back_row self.old.phase self.old ≡ row self.new result }
     {
@@ -85,6 +84,7 @@ impl State {
         }
     }
 
+    #[inline(never)]
     fn sense_taken(&mut self) -> OutAct
         ensures { taken_row self.old.phase self.old ≡ row self.new result }
     {
@@ -122,6 +122,7 @@ impl State {
         }
     }
 
+    #[inline(never)]
     pub(crate) fn fault(&mut self) -> OutAct
         ensures { fault_row self.old.phase self.old ≡ row self.new result }
     {

@@ -62,6 +62,9 @@ impl State {
     }
 
     /// Does what the outlet table says of this input.
+    // Inlined, it comes down to the row of an input that is known, and the input isn't moved. The rows
+    // that move records are not: each would clear room for its records wherever this is.
+    #[inline(always)]
     pub(crate) fn meet(&mut self, input: OutInput) -> Result<OutAct, OutBreach>
         requires { IsGiven self.old input }
         ensures row { IfOk result (λ act. outlet_row self.old input ≡ row self.new act) }
@@ -69,17 +72,18 @@ impl State {
             × (breach_of input ≡ Some why)) }
         ensures unchanged { OnErr result (self.new ≡ self.old) }
     {
-        match input {
-            OutInput::Offer(id) => Ok(self.offer(id)),
-            OutInput::Revoke => Ok(self.revoke()),
-            OutInput::MachineReady => self.machine_ready(),
-            OutInput::RevokeMachineReady => self.revoke_machine_ready(),
-            OutInput::Start { id, board } => self.start(id, board),
-            OutInput::Stop { id, .. } => self.stop(id),
-            OutInput::Sensed(event) => Ok(self.sense(event)),
-            OutInput::Fault => Ok(self.fault()),
-            OutInput::Closed => Ok(self.close()),
-        }
+        let act = match input {
+            OutInput::Offer(id) => self.offer(id),
+            OutInput::Revoke => self.revoke(),
+            OutInput::MachineReady => return self.machine_ready(),
+            OutInput::RevokeMachineReady => return self.revoke_machine_ready(),
+            OutInput::Start { id, board } => return self.start(id, board),
+            OutInput::Stop { id, .. } => return self.stop(id),
+            OutInput::Sensed(event) => self.sense(event),
+            OutInput::Fault => self.fault(),
+            OutInput::Closed => self.close(),
+        };
+        Ok(act)
     }
 
     /// Whether no handover is under way.

@@ -11,6 +11,7 @@ use line_base::Transfer;
 use std::mem;
 
 impl State {
+    #[inline(never)]
     pub(crate) fn start(&mut self, id: BoardId, board: Option<Record>) -> Result<OutAct, OutBreach>
         requires { IsSome board ↔ IsTrue (would_open self.old id) }
         ensures row { IfOk result (λ act. start_row self.old.phase self.old id board ≡ row self.new act) }
@@ -52,6 +53,7 @@ impl State {
         }
     }
 
+    #[inline(never)]
     pub(crate) fn stop(&mut self, id: BoardId) -> Result<OutAct, OutBreach>
         ensures row { IfOk result (λ act. stop_row self.old.phase self.old id ≡ row self.new act) }
         ensures breach { IfErr result (λ why. (stop_row self.old.phase self.old id ≡ None)
@@ -60,6 +62,11 @@ impl State {
     {
         if !self.awaits_stop(id) {
             return Err(OutBreach::StopTransport);
+        }
+        if let Phase::Ended { .. } = &self.phase {
+            self.enter(Phase::Idle);
+            self.touched = None;
+            return Ok(OutAct::nothing());
         }
         match mem::replace(&mut self.phase, Phase::Idle) {
             Phase::Moving {

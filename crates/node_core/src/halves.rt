@@ -197,6 +197,7 @@ impl Body {
     }
 
     /// An input to the outlet that is no message.
+    #[inline(always)]
     pub(crate) fn at_outlet(
         &mut self,
         desk: &Desk,
@@ -215,6 +216,7 @@ impl Body {
     }
 
     /// An input to the intake that is no message.
+    #[inline(always)]
     pub(crate) fn at_intake(
         &mut self,
         desk: &Desk,

@@ -77,6 +77,7 @@ impl Body {
     }
 
     /// The outlet meets what a message says.
+    #[inline(always)]
     fn exit_meets(
         &mut self,
         desk: &Desk,
@@ -161,6 +162,7 @@ impl Body {
     }
 
     /// The intake meets what a message says.
+    #[inline(always)]
     fn entry_meets(
         &mut self,
         desk: &Desk,

@@ -1,7 +1,7 @@
 use Rattle.std.proofs.Common.{◌≡◌, ◌∙◌, sym}
 use Rattle.handover_in.specs.declared.phase.Phase.TheVariants.{Taking, Stopped}
 use Rattle.handover_in.proofs.Asked.{sensed_taking, sensed_stopped}
-use Rattle.handover_in.proofs.state.State.sense.Goals as goal
+use Rattle.handover_in.proofs.state.State.sense_board.Goals as goal
 
 pub returns-in-Taking : goal.returns-in-Taking
 returns-in-Taking c =
