@@ -1,4 +1,4 @@
-ghost use Rattle.std.specs.Prelude.{◌≡◌, IfOk};
+ghost use Rattle.std.specs.Prelude.{◌≡◌, IfOk, OnOk};
 ghost use Rattle.board_record.specs.Record.{plain_record};
 
 use crate::id::BoardId;
@@ -61,14 +61,14 @@ impl Record {
     pub fn copy(&self, alloc: Global) -> Result<Record, Memory>
         ensures { IfOk result (λ copy. copy ≡ self.now) }
     {
-        Ok(Record {
+        let mut copy = Record {
             id: self.id,
             created_by: self.created_by.copy(alloc)?,
             quality: self.quality,
             flip: self.flip,
-            product: copied(alloc, &self.product)?,
-            top: copied(alloc, &self.top)?,
-            bottom: copied(alloc, &self.bottom)?,
+            product: None,
+            top: None,
+            bottom: None,
             length: self.length,
             width: self.width,
             thickness: self.thickness,
@@ -76,9 +76,31 @@ impl Record {
             top_clearance: self.top_clearance,
             bottom_clearance: self.bottom_clearance,
             weight: self.weight,
-            order: copied(alloc, &self.order)?,
-            batch: copied(alloc, &self.batch)?,
-        })
+            order: None,
+            batch: None,
+        };
+        copy.take_texts(alloc, self)?;
+        Ok(copy)
+    }
+
+    /// Copies the texts that another record may have.
+    fn take_texts(&mut self, alloc: Global, other: &Record) -> Result<(), Memory>
+        ensures { OnOk result
+            (self.new
+            ≡ record self.old {
+              product = other.now.product;
+              top = other.now.top;
+              bottom = other.now.bottom;
+              order = other.now.order;
+              batch = other.now.batch;
+            }) }
+    {
+        self.product = copied(alloc, &other.product)?;
+        self.top = copied(alloc, &other.top)?;
+        self.bottom = copied(alloc, &other.bottom)?;
+        self.order = copied(alloc, &other.order)?;
+        self.batch = copied(alloc, &other.batch)?;
+        Ok(())
     }
 }
 
