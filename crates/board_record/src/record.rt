@@ -95,11 +95,11 @@ impl Record {
               batch = other.now.batch;
             }) }
     {
-        self.product = copied(alloc, &other.product)?;
-        self.top = copied(alloc, &other.top)?;
-        self.bottom = copied(alloc, &other.bottom)?;
-        self.order = copied(alloc, &other.order)?;
-        self.batch = copied(alloc, &other.batch)?;
+        take_text(alloc, &other.product, &mut self.product)?;
+        take_text(alloc, &other.top, &mut self.top)?;
+        take_text(alloc, &other.bottom, &mut self.bottom)?;
+        take_text(alloc, &other.order, &mut self.order)?;
+        take_text(alloc, &other.batch, &mut self.batch)?;
         Ok(())
     }
 }
@@ -111,4 +111,12 @@ fn copied(alloc: Global, text: &Option<Text>) -> Result<Option<Text>, Memory>
         Some(text) => Ok(Some(text.copy(alloc)?)),
         None => Ok(None),
     }
+}
+
+/// Puts an equal text, if there is one, in the place of another.
+fn take_text(alloc: Global, text: &Option<Text>, place: &mut Option<Text>) -> Result<(), Memory>
+    ensures { OnOk result (place.new ≡ text.now) }
+{
+    *place = copied(alloc, text)?;
+    Ok(())
 }

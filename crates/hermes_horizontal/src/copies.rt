@@ -1,6 +1,6 @@
 //! Messages of their own, equal to others, and board information that tells nothing.
 
-ghost use Rattle.std.specs.Prelude.{◌≡◌, IfOk};
+ghost use Rattle.std.specs.Prelude.{◌≡◌, IfOk, OnOk};
 ghost use Rattle.hermes_horizontal.specs.Parts.{no_info};
 
 use crate::message::{Horizontal, Info, Message, Service};
@@ -107,14 +107,14 @@ impl Info {
     pub fn copy(&self, alloc: Global) -> Result<Info, Memory>
         ensures { IfOk result (λ copy. copy ≡ self.now) }
     {
-        Ok(Info {
+        let mut copy = Info {
             id: self.id,
-            created_by: copied(alloc, &self.created_by)?,
+            created_by: None,
             quality: self.quality,
             flip: self.flip,
-            product: copied(alloc, &self.product)?,
-            top: copied(alloc, &self.top)?,
-            bottom: copied(alloc, &self.bottom)?,
+            product: None,
+            top: None,
+            bottom: None,
             length: self.length,
             width: self.width,
             thickness: self.thickness,
@@ -122,9 +122,33 @@ impl Info {
             top_clearance: self.top_clearance,
             bottom_clearance: self.bottom_clearance,
             weight: self.weight,
-            order: copied(alloc, &self.order)?,
-            batch: copied(alloc, &self.batch)?,
-        })
+            order: None,
+            batch: None,
+        };
+        copy.take_texts(alloc, self)?;
+        Ok(copy)
+    }
+
+    /// Copies the texts that other board information has.
+    fn take_texts(&mut self, alloc: Global, other: &Info) -> Result<(), Memory>
+        ensures { OnOk result
+            (self.new
+            ≡ record self.old {
+              created_by = other.now.created_by;
+              product = other.now.product;
+              top = other.now.top;
+              bottom = other.now.bottom;
+              order = other.now.order;
+              batch = other.now.batch;
+            }) }
+    {
+        take_text(alloc, &other.created_by, &mut self.created_by)?;
+        take_text(alloc, &other.product, &mut self.product)?;
+        take_text(alloc, &other.top, &mut self.top)?;
+        take_text(alloc, &other.bottom, &mut self.bottom)?;
+        take_text(alloc, &other.order, &mut self.order)?;
+        take_text(alloc, &other.batch, &mut self.batch)?;
+        Ok(())
     }
 }
 
@@ -160,6 +184,14 @@ pub fn copied(alloc: Global, text: &Option<Text>) -> Result<Option<Text>, Memory
         Some(text) => Ok(Some(text.copy(alloc)?)),
         None => Ok(None),
     }
+}
+
+/// Puts an equal text, if there is one, in the place of another.
+fn take_text(alloc: Global, text: &Option<Text>, place: &mut Option<Text>) -> Result<(), Memory>
+    ensures { OnOk result (place.new ≡ text.now) }
+{
+    *place = copied(alloc, text)?;
+    Ok(())
 }
 
 /// An equal name of its own.
