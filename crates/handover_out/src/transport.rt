@@ -85,10 +85,7 @@ impl State {
                 self.enter(stopped(board));
                 Ok(OutAct::nothing())
             }
-            _ => {
-                self.touched = None;
-                Ok(OutAct::nothing())
-            }
+            Phase::Ended { .. } | Phase::Idle => unreachable!(),
         }
     }
 
