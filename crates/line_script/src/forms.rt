@@ -3,7 +3,7 @@
 ghost use Rattle.std.specs.Prelude.{◌≡◌, ◌≤◌, ℕ, IfOk, [], ◌∷◌, map};
 ghost use Rattle.line_script.specs.Ranges.{IsBetween, IsWithin};
 ghost use Rattle.line_script.specs.Words.{Reads};
-ghost use Rattle.line_script.specs.Grammar.{number, numeral, sided, side_word, machine_number, room_words, made_room, is_seen_at, lie_of, mapped_ok, then_ok, arguments_as, line_as, machine_form, bridge_form, insert_form, query_form, ask_form, answer_form, remove_form, replace_form, mark_form, hold_form, go_form, signal_form, connect_form, flow_form, notice_form, cut_form, spoil_form, forecast_form, supervise_form, shutdown_form, tick_form, fault_form, lie_form, unseen_form, sense_form, begin_form, left_form, enter_form, back_form, hand_in_form, take_form, show_form};
+ghost use Rattle.line_script.specs.Grammar.{number, numeral, board, identity, sided, side_word, machine_number, room_words, made_room, is_seen_at, lie_of, mapped_ok, then_ok, values_as, arguments_as, line_as, machine_form, bridge_form, insert_form, query_form, ask_form, answer_form, remove_form, replace_form, mark_form, hold_form, go_form, signal_form, connect_form, flow_form, notice_form, cut_form, spoil_form, forecast_form, supervise_form, shutdown_form, tick_form, fault_form, lie_form, unseen_form, sense_form, begin_form, left_form, enter_form, back_form, hand_in_form, take_form, show_form};
 ghost use Rattle.line_script.specs.declared.line.ScriptLine.{ScriptLine as Line};
 
 use crate::line::{LineError, LineWhy, ScriptLine};
@@ -11,7 +11,7 @@ use crate::words::{
     asked_by, event, identity, literal, number, quality, question, segment_line, side, switch,
     token,
 };
-use board_record::Sensed;
+use board_record::{BoardId, Sensed};
 use hermes_vertical::Question;
 use line_base::{SensorEvent, Side};
 use std::alloc::Global;
@@ -65,18 +65,38 @@ fn room_of(words: &[&[u8]]) -> Result<Room, LineWhy>
         × IsBetween 0 281474976710655 room.used) }
 {
     match words {
-        [capacity] => Ok(Room {
-            capacity: number(capacity, 1, MOST_CAPACITY)? as u32,
-            used: 0,
-        }),
-        [capacity, word, used] => {
-            let capacity = number(capacity, 1, MOST_CAPACITY)? as u32;
-            literal(word, b"used")?;
-            let used = number(used, 0, MOST_USED)?;
-            Ok(Room { capacity, used })
-        }
+        [capacity] => unused_room(capacity),
+        [capacity, word, used] => used_room(capacity, word, used),
         _ => Err(LineWhy::WrongCount),
     }
+}
+
+/// The room of a machine that has made no id.
+fn unused_room(capacity: &[u8]) -> Result<Room, LineWhy>
+    ensures answer { (line : ℕ → ℕ → Line)
+        → mapped_ok (λ room. line room.capacity room.used) result
+        ≡ then_ok (values_as room_words (capacity.now ∷ [])) (made_room line) }
+    ensures within { IfOk result (λ room. IsBetween 1 1024 room.capacity
+        × IsBetween 0 281474976710655 room.used) }
+{
+    Ok(Room {
+        capacity: number(capacity, 1, MOST_CAPACITY)? as u32,
+        used: 0,
+    })
+}
+
+fn used_room(capacity: &[u8], word: &[u8], used: &[u8]) -> Result<Room, LineWhy>
+    ensures answer { (line : ℕ → ℕ → Line)
+        → mapped_ok (λ room. line room.capacity room.used) result
+        ≡ then_ok (values_as room_words (capacity.now ∷ word.now ∷ used.now ∷ []))
+        (made_room line) }
+    ensures within { IfOk result (λ room. IsBetween 1 1024 room.capacity
+        × IsBetween 0 281474976710655 room.used) }
+{
+    let capacity = number(capacity, 1, MOST_CAPACITY)? as u32;
+    literal(word, b"used")?;
+    let used = number(used, 0, MOST_USED)?;
+    Ok(Room { capacity, used })
 }
 
 pub fn machine(words: &[&[u8]]) -> Result<ScriptLine, LineWhy>
@@ -270,38 +290,52 @@ pub fn remove(words: &[&[u8]]) -> Result<ScriptLine, LineWhy>
     ensures answer { result ≡ line_as remove_form (map (λ word. word.now) words.now) }
     ensures within { IfOk result IsWithin }
 {
-    match words {
-        [machine, id] => remove_one(machine, id),
-        _ => Err(LineWhy::WrongCount),
-    }
-}
-
-fn remove_one(machine: &[u8], id: &[u8]) -> Result<ScriptLine, LineWhy>
-    ensures answer { result ≡ line_as remove_form (machine.now ∷ id.now ∷ []) }
-    ensures within { IfOk result IsWithin }
-{
-    let machine = number(machine, 1, MOST_MACHINES)? as u32;
-    let id = identity(id)?;
-    Ok(ScriptLine::Remove { machine, id })
+    let board = board_at(words)?;
+    Ok(ScriptLine::Remove {
+        machine: board.machine,
+        id: board.id,
+    })
 }
 
 pub fn replace(words: &[&[u8]]) -> Result<ScriptLine, LineWhy>
     ensures answer { result ≡ line_as replace_form (map (λ word. word.now) words.now) }
     ensures within { IfOk result IsWithin }
 {
+    let board = board_at(words)?;
+    Ok(ScriptLine::Replace {
+        machine: board.machine,
+        id: board.id,
+    })
+}
+
+/// A board by its id, and the machine that has it.
+#[derive(Clone, Copy)]
+struct BoardAt {
+    machine: u32,
+    id: BoardId,
+}
+
+/// The machine and the id of a line that has these two words.
+fn board_at(words: &[&[u8]]) -> Result<BoardAt, LineWhy>
+    ensures answer { mapped_ok (λ at. numeral at.machine ∷ board at.id ∷ []) result
+        ≡ arguments_as (2 ∷ []) (machine_number ∷ identity ∷ [])
+        (map (λ word. word.now) words.now) }
+    ensures within { IfOk result (λ at. IsBetween 1 64 at.machine) }
+{
     match words {
-        [machine, id] => replace_one(machine, id),
+        [machine, id] => board_of(machine, id),
         _ => Err(LineWhy::WrongCount),
     }
 }
 
-fn replace_one(machine: &[u8], id: &[u8]) -> Result<ScriptLine, LineWhy>
-    ensures answer { result ≡ line_as replace_form (machine.now ∷ id.now ∷ []) }
-    ensures within { IfOk result IsWithin }
+fn board_of(machine: &[u8], id: &[u8]) -> Result<BoardAt, LineWhy>
+    ensures answer { mapped_ok (λ at. numeral at.machine ∷ board at.id ∷ []) result
+        ≡ values_as (machine_number ∷ identity ∷ []) (machine.now ∷ id.now ∷ []) }
+    ensures within { IfOk result (λ at. IsBetween 1 64 at.machine) }
 {
     let machine = number(machine, 1, MOST_MACHINES)? as u32;
     let id = identity(id)?;
-    Ok(ScriptLine::Replace { machine, id })
+    Ok(BoardAt { machine, id })
 }
 
 pub fn mark(words: &[&[u8]]) -> Result<ScriptLine, LineWhy>
@@ -564,13 +598,19 @@ fn at_side(words: &[&[u8]]) -> Result<AtSide, LineWhy>
     ensures within { IfOk result (λ at. IsBetween 1 64 at.machine) }
 {
     match words {
-        [machine, spelled_side] => {
-            let machine = number(machine, 1, MOST_MACHINES)? as u32;
-            let side = side(spelled_side)?;
-            Ok(AtSide { machine, side })
-        }
+        [machine, spelled_side] => side_of(machine, spelled_side),
         _ => Err(LineWhy::WrongCount),
     }
+}
+
+fn side_of(machine: &[u8], spelled_side: &[u8]) -> Result<AtSide, LineWhy>
+    ensures answer { mapped_ok (λ at. numeral at.machine ∷ sided at.side ∷ []) result
+        ≡ values_as (machine_number ∷ side_word ∷ []) (machine.now ∷ spelled_side.now ∷ []) }
+    ensures within { IfOk result (λ at. IsBetween 1 64 at.machine) }
+{
+    let machine = number(machine, 1, MOST_MACHINES)? as u32;
+    let side = side(spelled_side)?;
+    Ok(AtSide { machine, side })
 }
 
 pub fn sense(words: &[&[u8]]) -> Result<ScriptLine, LineWhy>

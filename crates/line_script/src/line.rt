@@ -7,7 +7,7 @@ use thiserror::Error;
 
 /// What one line of a script asks for. Machines are numbered from 1 in downstream direction, and a
 /// gap has the number of the machine above it.
-#[derive(Debug, Drop)]
+#[derive(Drop)]
 pub enum ScriptLine {
     /// Nothing: an empty line, or a comment.
     Blank,
