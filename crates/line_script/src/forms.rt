@@ -79,10 +79,8 @@ fn unused_room(capacity: &[u8]) -> Result<Room, LineWhy>
     ensures within { IfOk result (λ room. IsBetween 1 1024 room.capacity
         × IsBetween 0 281474976710655 room.used) }
 {
-    Ok(Room {
-        capacity: number(capacity, 1, MOST_CAPACITY)? as u32,
-        used: 0,
-    })
+    let capacity = number(capacity, 1, MOST_CAPACITY)? as u32;
+    Ok(Room { capacity, used: 0 })
 }
 
 fn used_room(capacity: &[u8], word: &[u8], used: &[u8]) -> Result<Room, LineWhy>
@@ -532,14 +530,20 @@ pub fn lie(words: &[&[u8]]) -> Result<ScriptLine, LineWhy>
     ensures within { IfOk result IsWithin }
 {
     match words {
-        [machine, spelled_side, spelled_event] => {
-            let machine = number(machine, 1, MOST_MACHINES)? as u32;
-            let side = side(spelled_side)?;
-            let event = event(spelled_event)?;
-            lie_at(machine, side, event)
-        }
+        [machine, side, event] => lie_one(machine, side, event),
         _ => Err(LineWhy::WrongCount),
     }
+}
+
+fn lie_one(machine: &[u8], spelled_side: &[u8], spelled_event: &[u8]) -> Result<ScriptLine, LineWhy>
+    ensures answer { result
+        ≡ line_as lie_form (machine.now ∷ spelled_side.now ∷ spelled_event.now ∷ []) }
+    ensures within { IfOk result IsWithin }
+{
+    let machine = number(machine, 1, MOST_MACHINES)? as u32;
+    let side = side(spelled_side)?;
+    let event = event(spelled_event)?;
+    lie_at(machine, side, event)
 }
 
 /// `BadWord` where the sensors of that side see no such event.
