@@ -23,7 +23,9 @@ fn main(rt: HostRuntime) -> io::Result<()> {
 
 fn tell_case(alloc: Global, case: &str, to: &mut Vec<u8>) -> io::Result<()> {
     let mut intake = Intake::new();
-    tell_after(alloc, &mut intake, case, to)
+    let told = tell_after(alloc, &mut intake, case, to);
+    drop(intake);
+    told
 }
 
 fn tell_after(alloc: Global, intake: &mut Intake, case: &str, to: &mut Vec<u8>) -> io::Result<()> {

@@ -18,7 +18,9 @@ pub fn meet(alloc: Global, intake: &mut Intake, word: &str, to: &mut Vec<u8>) ->
     match input_of(alloc, intake, word) {
         Some(input) => {
             let answer = intake.apply(input);
-            told::answer(&answer, to)
+            let told = told::answer(&answer, to);
+            drop(answer);
+            told
         }
         None => write!(to, "nothing is met"),
     }
