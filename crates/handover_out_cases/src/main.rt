@@ -23,7 +23,9 @@ fn main(rt: HostRuntime) -> io::Result<()> {
 
 fn tell_case(alloc: Global, case: &str, to: &mut Vec<u8>) -> io::Result<()> {
     let mut outlet = Outlet::new();
-    tell_after(alloc, &mut outlet, case, to)
+    let told = tell_after(alloc, &mut outlet, case, to);
+    drop(outlet);
+    told
 }
 
 fn tell_after(alloc: Global, outlet: &mut Outlet, case: &str, to: &mut Vec<u8>) -> io::Result<()> {

@@ -18,7 +18,9 @@ pub fn meet(alloc: Global, outlet: &mut Outlet, word: &str, to: &mut Vec<u8>) ->
     match input_of(alloc, outlet, word) {
         Some(input) => {
             let answer = outlet.apply(input);
-            told::answer(&answer, to)
+            let told = told::answer(&answer, to);
+            drop(answer);
+            told
         }
         None => write!(to, "nothing is met"),
     }
