@@ -8,7 +8,7 @@ use crate::bytes::{is_blank, is_declared, is_digit, is_hex_digit, is_letter, is_
 use line_base::{is_allowed_char, is_name_byte, is_name_start};
 
 /// Where in a document of the plain form some bytes end.
-#[derive(Clone, Copy, Debug, PartialEq, Eq)]
+#[derive(Clone, Copy)]
 pub(crate) enum Place {
     /// Before the first byte.
     Start,

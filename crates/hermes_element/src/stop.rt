@@ -1,5 +1,5 @@
 /// Why reading from the left ends.
-#[derive(Clone, Copy, Debug)]
+#[derive(Clone, Copy)]
 pub(crate) enum Stop {
     /// The bytes leave the plain form at this index.
     Shape(usize),
