@@ -313,6 +313,31 @@ attribute_split : (gap name before after value rest : List ℕ) (q : ℕ)
     → (((((((gap ++ name) ++ before) ++ (61 ∷ [])) ++ after) ++ (q ∷ [])) ++ value) ++ (q ∷ [])) ++ rest ≡ gap ++ (name ++ (before ++ (61 ∷ (after ++ (q ∷ (value ++ (q ∷ rest)))))))
 attribute_split gap name before after value rest q = simp append_assoc
 
+-- of the parts that it was split into
+attribute_of : (d : ℕ) (gap : List ℕ) (x : ℕ) (tail : List ℕ) → is_name_start x ≡ true
+    → (n : Split places.Key d is_name_byte tail) (b : Split places.Equals d is_blank (n.head ∷ n.tail)) → (b.head == 61) ≡ true
+    → (a : Split places.Before d is_blank b.tail) → is_quote a.head ≡ true → ValueEnd a.head d a.tail → AttributeEnd d gap (x ∷ tail)
+attribute_of d gap x tail start n b sign a quote v =
+    let made : Assignment = record { gap = gap; name = x ∷ n.front; before = b.front; after = a.front; quote = a.head; value = v.pieces } in
+    let signed : 61 ∷ (a.front ++ (a.head ∷ a.tail)) ≡ b.head ∷ b.tail = ap (λ y. y ∷ (a.front ++ (a.head ∷ a.tail))) (sym (eqb-true b.head 61 sign)) ∙ ap (λ l. b.head ∷ l) a.text in
+    let whole : (x ∷ n.front) ++ (b.front ++ (61 ∷ (a.front ++ (a.head ∷ (value_text v.pieces ++ (a.head ∷ v.rest)))))) ≡ x ∷ tail =
+    ap (λ l. (x ∷ n.front) ++ (b.front ++ (61 ∷ (a.front ++ (a.head ∷ l))))) v.text
+    ∙ ap (λ l. (x ∷ n.front) ++ (b.front ++ l)) signed ∙ ap (λ l. (x ∷ n.front) ++ l) b.text ∙ ap (λ l. x ∷ l) n.text in
+    record {
+      assignment = made;
+      rest = v.rest;
+      is = λ some blanks. record { some = some; gap = blanks; name = and_from (is_name_start x) (list_all is_name_byte n.front) start n.all; before = b.all; after = a.all; quote = quote; value = v.are };
+      text = attribute_split gap (x ∷ n.front) b.front a.front (value_text v.pieces) v.rest a.head ∙ ap (λ l. gap ++ l) whole;
+      goes = v.goes;
+      shorter = omega (
+        arith,
+        shorter n.front (n.head ∷ n.tail) tail n.text,
+        shorter b.front (b.head ∷ b.tail) (n.head ∷ n.tail) b.text,
+        shorter a.front (a.head ∷ a.tail) b.tail a.text,
+        shorter (value_text v.pieces) (a.head ∷ v.rest) a.tail v.text,
+      );
+    }
+
 attribute_end : (d : ℕ) (gap : List ℕ) (x : ℕ) (tail : List ℕ) → is_name_start x ≡ true → accepts places.Key d tail ≡ true → AttributeEnd d gap (x ∷ tail)
 attribute_end d gap x tail start h =
     let n = split places.Key d is_name_byte (λ b p. yes (is_name_byte b) (Some (places.Key, d)) (step_equals d b) p) refl tail h in
@@ -321,30 +346,7 @@ attribute_end d gap x tail start h =
     let sign = only (b.head == 61) places.Equals places.Before d d b.head b.tail (no (is_blank b.head) (Some (places.Equals, d)) (to_if (b.head == 61) places.Before d) b.other) b.goes in
     let a = split places.Before d is_blank (λ y p. stay_blank places.Before d y (to_if (is_quote y) (places.Value y) d) p) refl b.tail sign.1 in
     let quote = only (is_quote a.head) places.Before (places.Value a.head) d d a.head a.tail (no (is_blank a.head) (Some (places.Before, d)) (to_if (is_quote a.head) (places.Value a.head) d) a.other) a.goes in
-    let v = value_end (length a.tail) a.head d a.tail (omega arith) quote.0 quote.1 in
-    let made : Assignment = record { gap = gap; name = x ∷ n.front; before = b.front; after = a.front; quote = a.head; value = v.pieces } in
-    let signed : 61 ∷ (a.front ++ (a.head ∷ a.tail)) ≡ b.head ∷ b.tail = ap (λ y. y ∷ (a.front ++ (a.head ∷ a.tail))) (sym (eqb-true b.head 61 sign.0)) ∙ ap (λ l. b.head ∷ l) a.text in
-    let whole : (x ∷ n.front) ++ (b.front ++ (61 ∷ (a.front ++ (a.head ∷ (value_text v.pieces ++ (a.head ∷ v.rest)))))) ≡ x ∷ tail =
-    ap (λ l. (x ∷ n.front) ++ (b.front ++ (61 ∷ (a.front ++ (a.head ∷ l))))) v.text
-    ∙ ap (λ l. (x ∷ n.front) ++ (b.front ++ l)) signed ∙ ap (λ l. (x ∷ n.front) ++ l) b.text ∙ ap (λ l. x ∷ l) n.text in
-    record {
-      assignment = made;
-      rest = v.rest;
-      is = λ some blanks. record { some = some; gap = blanks; name = and_from (is_name_start x) (list_all is_name_byte n.front) start n.all; before = b.all; after = a.all; quote = quote.0; value = v.are };
-      text = attribute_split gap (x ∷ n.front) b.front a.front (value_text v.pieces) v.rest a.head ∙ ap (λ l. gap ++ l) whole;
-      goes = v.goes;
-      shorter = omega (
-        arith,
-        ap length n.text,
-        length-append n.front (n.head ∷ n.tail),
-        ap length b.text,
-        length-append b.front (b.head ∷ b.tail),
-        ap length a.text,
-        length-append a.front (a.head ∷ a.tail),
-        ap length v.text,
-        length-append (value_text v.pieces) (a.head ∷ v.rest),
-      );
-    }
+    attribute_of d gap x tail start n b sign.0 a quote.0 (value_end (length a.tail) a.head d a.tail (omega arith) quote.0 quote.1)
 
 -- ---- start tags
 
@@ -440,11 +442,9 @@ pub record StartTag (depth x : ℕ) (bytes : List ℕ) : Type 0 where
   pub text : tag_rest tag ++ (ending_text ending ++ rest) ≡ x ∷ bytes
   pub goes : ending_goes ending depth rest
 
-pub start_tag : (d x : ℕ) (tail : List ℕ) → is_name_start x ≡ true → accepts places.Name d tail ≡ true → StartTag d x tail
-start_tag d x tail start h =
-    let n = split places.Name d is_name_byte (λ b p. yes (is_name_byte b) (Some (places.Name, d)) (step_tag d b) p) refl tail h in
-    let goes_on = same_step places.Name places.Quoted d n.head n.tail (no (is_name_byte n.head) (Some (places.Name, d)) (step_tag d n.head) n.other) n.goes in
-    let t = tag_end (length (n.head ∷ n.tail)) d (n.head ∷ n.tail) (omega arith) goes_on in
+-- of its name and what follows that
+start_of : (d x : ℕ) (tail : List ℕ) → is_name_start x ≡ true → (n : Split places.Name d is_name_byte tail) → TagEnd d (n.head ∷ n.tail) → StartTag d x tail
+start_of d x tail start n t =
     let name = x ∷ n.front in
     record {
       tag = record { name = name; assignments = t.assignments; gap = t.gap };
@@ -455,6 +455,12 @@ start_tag d x tail start h =
       goes = t.goes;
     }
 
+pub start_tag : (d x : ℕ) (tail : List ℕ) → is_name_start x ≡ true → accepts places.Name d tail ≡ true → StartTag d x tail
+start_tag d x tail start h =
+    let n = split places.Name d is_name_byte (λ b p. yes (is_name_byte b) (Some (places.Name, d)) (step_tag d b) p) refl tail h in
+    let goes_on = same_step places.Name places.Quoted d n.head n.tail (no (is_name_byte n.head) (Some (places.Name, d)) (step_tag d n.head) n.other) n.goes in
+    start_of d x tail start n (tag_end (length (n.head ∷ n.tail)) d (n.head ∷ n.tail) (omega arith) goes_on)
+
 -- ---- end tags
 
 record EndTagEnd (depth : ℕ) (bytes : List ℕ) : Type 0 where
@@ -463,6 +469,17 @@ record EndTagEnd (depth : ℕ) (bytes : List ℕ) : Type 0 where
   is : IsEndTag tag
   text : tag.name ++ (tag.gap ++ (62 ∷ rest)) ≡ bytes
   goes : accepts (after_element depth) depth rest ≡ true
+
+-- of its name and the gap behind it
+end_of : (d x : ℕ) (tail : List ℕ) → is_name_start x ≡ true → (n : Split places.EndName (d + 1) is_name_byte tail) (g : Split places.EndGap (d + 1) is_blank (n.head ∷ n.tail))
+    → (g.head == 62) ≡ true → accepts (after_element d) d g.tail ≡ true → EndTagEnd d (x ∷ tail)
+end_of d x tail start n g sign goes = record {
+  tag = record { name = x ∷ n.front; gap = g.front };
+  rest = g.tail;
+  is = record { name = and_from (is_name_start x) (list_all is_name_byte n.front) start n.all; gap = g.all };
+  text = ap (λ y. (x ∷ n.front) ++ (g.front ++ (y ∷ g.tail))) (sym (eqb-true g.head 62 sign)) ∙ ap (λ l. (x ∷ n.front) ++ l) g.text ∙ ap (λ l. x ∷ l) n.text;
+  goes = goes;
+}
 
 end_tag : (d : ℕ) (bytes : List ℕ) → accepts places.Close (d + 1) bytes ≡ true → EndTagEnd d bytes
 end_tag d [] h = absurd (nothing places.Close (d + 1) refl h)
@@ -473,13 +490,7 @@ end_tag d (x ∷ tail) h =
     let g = split places.EndGap (d + 1) is_blank (λ y p. stay_blank places.EndGap (d + 1) y (cond (y == 62) (Some (after_element ((d + 1) - 1), (d + 1) - 1)) None) p) refl (n.head ∷ n.tail) goes_on in
     let o = only (g.head == 62) places.EndGap (after_element ((d + 1) - 1)) (d + 1) ((d + 1) - 1) g.head g.tail (no (is_blank g.head) (Some (places.EndGap, d + 1)) (to_if (g.head == 62) (after_element ((d + 1) - 1)) ((d + 1) - 1)) g.other) g.goes in
     let e : (d + 1) - 1 ≡ d = omega arith in
-    record {
-      tag = record { name = x ∷ n.front; gap = g.front };
-      rest = g.tail;
-      is = record { name = and_from (is_name_start x) (list_all is_name_byte n.front) s.0 n.all; gap = g.all };
-      text = ap (λ y. (x ∷ n.front) ++ (g.front ++ (y ∷ g.tail))) (sym (eqb-true g.head 62 o.0)) ∙ ap (λ l. (x ∷ n.front) ++ l) g.text ∙ ap (λ l. x ∷ l) n.text;
-      goes = subst (λ k. accepts (after_element k) k g.tail ≡ true) e o.1;
-    }
+    end_of d x tail s.0 n g o.0 (subst (λ k. accepts (after_element k) k g.tail ≡ true) e o.1)
 
 -- ---- content
 
@@ -565,6 +576,36 @@ opened d (y ∷ tail) h =
       ],
     )
 
+-- the bytes from a gap on, once the byte behind its `<` is known
+opened_text : (d : ℕ) (bytes : List ℕ) (g : Split places.Content (d + 1) is_blank bytes) (y : ℕ) (tail : List ℕ) → (g.head == 60) ≡ true → g.tail ≡ y ∷ tail → g.front ++ (60 ∷ y ∷ tail) ≡ bytes
+opened_text d bytes g y tail sign e = ap (λ l. g.front ++ (60 ∷ l)) (sym e) ∙ ap (λ z. g.front ++ (z ∷ g.tail)) (sym (eqb-true g.head 60 sign)) ∙ g.text
+
+closed_text : (gap bytes : List ℕ) (y : ℕ) (tail : List ℕ) → y ≡ 47 → gap ++ (60 ∷ y ∷ tail) ≡ bytes → gap ++ (60 ∷ 47 ∷ tail) ≡ bytes
+closed_text gap bytes y tail e text = ap (λ z. gap ++ (60 ∷ z ∷ tail)) (sym e) ∙ text
+
+rest_fits : (n d : ℕ) (gap bytes : List ℕ) (y : ℕ) (tail : List ℕ) (t : StartTag d y tail) → length bytes ≤ suc n → gap ++ (60 ∷ y ∷ tail) ≡ bytes → length t.rest ≤ n
+rest_fits n d gap bytes y tail t enough text =
+    omega (arith, ap length text, length-append gap (60 ∷ y ∷ tail), ap length t.text, length-append (tag_rest t.tag) (ending_text t.ending ++ t.rest), length-append (ending_text t.ending) t.rest)
+
+behind_fits : (n d : ℕ) (bytes : List ℕ) (c : ContentEnd d bytes) → length bytes ≤ n → length c.rest ≤ n
+behind_fits n d bytes c fits = omega (arith, fits, ap length c.text, length-append (content_text c.content) (end_text c.end ++ c.rest), length-append (end_text c.end) c.rest)
+
+-- the rest of an element whose start tag is read
+element_behind : (n d : ℕ) (gap bytes : List ℕ) (y : ℕ) (tail : List ℕ) (t : StartTag (d + 1) y tail)
+    → ((k : ℕ) (rest : List ℕ) → length rest ≤ n → accepts places.Content (k + 1) rest ≡ true → ContentEnd k rest)
+    → AreBlanks gap → length t.rest ≤ n → gap ++ (60 ∷ y ∷ tail) ≡ bytes → ContentEnd d bytes
+element_behind n d gap bytes y tail t read blanks fits text = elim (ending_is t.ending) [
+  | inr e ↦
+      let goes : accepts (after_element (d + 1)) (d + 1) t.rest ≡ true = subst (λ k. ending_goes k (d + 1) t.rest) e t.goes in
+      let goes_on : accepts places.Content (d + 1) t.rest ≡ true = subst (λ p. accepts p (d + 1) t.rest ≡ true) (inner d) goes in
+      empty_content d gap bytes y tail t e blanks text (read d t.rest fits goes_on)
+  | inl e ↦
+      let goes : accepts places.Content ((d + 1) + 1) t.rest ≡ true = subst (λ k. ending_goes k (d + 1) t.rest) e t.goes in
+      let i = read (d + 1) t.rest fits goes in
+      let goes_on : accepts places.Content (d + 1) i.rest ≡ true = subst (λ p. accepts p (d + 1) i.rest ≡ true) (inner d) i.goes in
+      full_content d gap bytes y tail t e blanks text i (read d i.rest (behind_fits n (d + 1) t.rest i fits) goes_on)
+]
+
 pub content_end : (n d : ℕ) (bytes : List ℕ) → length bytes ≤ n → accepts places.Content (d + 1) bytes ≡ true → ContentEnd d bytes
 content_end n d [] enough h = absurd (nothing places.Content (d + 1) refl h)
 content_end zero d (x ∷ xs) enough h = absurd (omega arith)
@@ -572,26 +613,11 @@ content_end (suc n) d (x ∷ xs) enough h =
     let bytes = x ∷ xs in
     let g = split places.Content (d + 1) is_blank (λ y p. stay_blank places.Content (d + 1) y (to_if (y == 60) places.Open (d + 1)) p) refl bytes h in
     let o = only (g.head == 60) places.Content places.Open (d + 1) (d + 1) g.head g.tail (no (is_blank g.head) (Some (places.Content, d + 1)) (to_if (g.head == 60) places.Open (d + 1)) g.other) g.goes in
-    let sign = eqb-true g.head 60 o.0 in
     let m = opened d g.tail o.1 in
-    let text : g.front ++ (60 ∷ m.0 ∷ m.1) ≡ bytes = ap (λ l. g.front ++ (60 ∷ l)) (sym m.2) ∙ ap (λ z. g.front ++ (z ∷ g.tail)) (sym sign) ∙ g.text in
+    let text = opened_text d bytes g m.0 m.1 o.0 m.2 in
     elim m.3 [
-      | inl close ↦
-          let here : g.front ++ (60 ∷ 47 ∷ m.1) ≡ bytes = ap (λ z. g.front ++ (60 ∷ z ∷ m.1)) (sym close.0) ∙ text in
-          last_content d g.front bytes m.1 g.all here (end_tag d m.1 close.1)
+      | inl close ↦ last_content d g.front bytes m.1 g.all (closed_text g.front bytes m.0 m.1 close.0 text) (end_tag d m.1 close.1)
       | inr open_tag ↦
           let t = start_tag (d + 1) m.0 m.1 open_tag.0 open_tag.1 in
-          let fits : length t.rest ≤ n = omega (arith, ap length text, length-append g.front (60 ∷ m.0 ∷ m.1), ap length t.text, length-append (tag_rest t.tag) (ending_text t.ending ++ t.rest), length-append (ending_text t.ending) t.rest) in
-          elim (ending_is t.ending) [
-            | inr e ↦
-                let goes : accepts (after_element (d + 1)) (d + 1) t.rest ≡ true = subst (λ k. ending_goes k (d + 1) t.rest) e t.goes in
-                let goes_on : accepts places.Content (d + 1) t.rest ≡ true = subst (λ p. accepts p (d + 1) t.rest ≡ true) (inner d) goes in
-                empty_content d g.front bytes m.0 m.1 t e g.all text (content_end n d t.rest fits goes_on)
-            | inl e ↦
-                let goes : accepts places.Content ((d + 1) + 1) t.rest ≡ true = subst (λ k. ending_goes k (d + 1) t.rest) e t.goes in
-                let i = content_end n (d + 1) t.rest fits goes in
-                let goes_on : accepts places.Content (d + 1) i.rest ≡ true = subst (λ p. accepts p (d + 1) i.rest ≡ true) (inner d) i.goes in
-                let less : length i.rest ≤ n = omega (arith, fits, ap length i.text, length-append (content_text i.content) (end_text i.end ++ i.rest), length-append (end_text i.end) i.rest) in
-                full_content d g.front bytes m.0 m.1 t e g.all text i (content_end n d i.rest less goes_on)
-          ]
+          element_behind n d g.front bytes m.0 m.1 t (λ k rest fits goes. content_end n k rest fits goes) g.all (rest_fits n (d + 1) g.front bytes m.0 m.1 t enough text) text
     ]
