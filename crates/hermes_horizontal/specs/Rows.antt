@@ -115,14 +115,17 @@ kind_text kinds.QueryBoardInfo = codes "QueryBoardInfo"
 kind_text kinds.SendBoardInfo = codes "SendBoardInfo"
 kind_text kinds.Other = codes "Other"
 
+-- the messages from StartTransport on
+abbrev pub later_kinds : List Kind
+later_kinds =
+    kinds.StartTransport ∷ kinds.StopTransport ∷ kinds.TransportFinished ∷ kinds.BoardForecast ∷
+    kinds.QueryBoardInfo ∷ kinds.SendBoardInfo ∷ []
+
 -- the thirteen messages that have a name of their own
 abbrev pub message_kinds : List Kind
 message_kinds =
     kinds.CheckAlive ∷ kinds.ServiceDescription ∷ kinds.Notification ∷ kinds.BoardAvailable ∷
-    kinds.RevokeBoardAvailable
-    ∷ kinds.MachineReady ∷ kinds.RevokeMachineReady ∷ kinds.StartTransport ∷ kinds.StopTransport ∷
-    kinds.TransportFinished
-    ∷ kinds.BoardForecast ∷ kinds.QueryBoardInfo ∷ kinds.SendBoardInfo ∷ []
+    kinds.RevokeBoardAvailable ∷ kinds.MachineReady ∷ kinds.RevokeMachineReady ∷ later_kinds
 
 abbrev pub kind_among : List ℕ → List Kind → Kind
 kind_among name [] = kinds.Other

@@ -1,5 +1,5 @@
 ghost use Rattle.std.specs.Prelude.{◌≡◌};
-ghost use Rattle.hermes_horizontal.specs.Rows.{kind_text, kind_named};
+ghost use Rattle.hermes_horizontal.specs.Rows.{kind_text, kind_among, kind_named, later_kinds};
 
 /// The messages by their names.
 #[derive(Clone, Copy, Debug, PartialEq, Eq, Hash)]
@@ -70,6 +70,13 @@ pub fn kind_named(name: &[u8]) -> Kind
     if name == &b"RevokeMachineReady"[..] {
         return Kind::RevokeMachineReady;
     }
+    later_kind_named(name)
+}
+
+/// The same among the messages from StartTransport on.
+fn later_kind_named(name: &[u8]) -> Kind
+    ensures { result ≡ kind_among name.now later_kinds }
+{
     if name == &b"StartTransport"[..] {
         return Kind::StartTransport;
     }
