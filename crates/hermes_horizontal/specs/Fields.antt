@@ -4,6 +4,7 @@ use Rattle.std.specs.List.{list_any, list_all}
 use Rattle.std.specs.Str.{bytes_eq}
 use Rattle.hermes_element.specs.declared.attribute.Attribute.{Attribute}
 use Rattle.hermes_horizontal.specs.declared.attr.Attr.{Attr}
+use Rattle.hermes_horizontal.specs.declared.attr.Attr.TheVariants as attrs
 use Rattle.hermes_horizontal.specs.declared.fault.Fault.TheVariants as faults
 use Rattle.hermes_horizontal.specs.declared.fault.Refusal.{Refusal}
 use Rattle.hermes_horizontal.specs.declared.field.Field.{Field}
@@ -79,6 +80,11 @@ head_columns whole id created_by quality_field flip_field =
 abbrev pub text_in : Field → Option Value
 text_in field = option_map (λ attribute. worded attribute.value) field.found
 
+-- a text that was read, or None where it is left out
+abbrev pub SaysText : ℕ → Field → Option (List ℕ) → Type 0
+SaysText at field words =
+    value_at at (optional field.attr text) field.found ≡ Ok (option_map worded words)
+
 -- beside the board's maker
 abbrev pub head_parts : Field → Head → List (Option Value)
 head_parts created_by head =
@@ -102,3 +108,9 @@ board_fields = map (λ column. fresh column.attr) (board_columns true)
 -- a field for each, with the first attribute of its name
 abbrev pub board_found : List Attribute → List Field
 board_found attributes = map (found_in attributes) board_fields
+
+-- the fields of a service description, each with the first attribute of its name
+abbrev pub service_found : List Attribute → List Field
+service_found attributes =
+    found_of attributes attrs.MachineId ∷ found_of attributes attrs.LaneId ∷ found_of attributes
+    attrs.InterfaceId ∷ found_of attributes attrs.Version ∷ []

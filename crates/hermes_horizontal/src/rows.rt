@@ -1,13 +1,15 @@
 //! The messages, read attribute by attribute in the order of their rows of the table.
 
-ghost use Rattle.std.specs.Prelude.{◌≡◌, ◌∷◌, [], List, ℕ, map};
+ghost use Rattle.std.specs.Prelude.{◌≡◌, ◌∷◌, [], List, Some, ℕ, IfOk, map};
 ghost use Rattle.hermes_element.specs.declared.attribute.Attribute.{Attribute};
 ghost use Rattle.hermes_element.specs.Element.{Forest, trees_of};
-ghost use Rattle.hermes_horizontal.specs.Fields.{Gives, said_by, head_columns, decimal_column, head_parts, sizes_parts, clearances_parts, board_found};
-ghost use Rattle.hermes_horizontal.specs.Parts.{info_of};
+ghost use Rattle.hermes_horizontal.specs.Fields.{Gives, said_by, head_columns, decimal_column, head_parts, sizes_parts, clearances_parts, board_found, service_found, SaysText};
+ghost use Rattle.hermes_horizontal.specs.Opened.{ReadsParts};
+ghost use Rattle.hermes_horizontal.specs.Parts.{info_of, of_transfer};
 ghost use Rattle.hermes_horizontal.specs.Reading.{ReadsRow, ReadsBody, ReadsInfo, IsWhole};
-ghost use Rattle.hermes_horizontal.specs.Rows.{board_columns};
+ghost use Rattle.hermes_horizontal.specs.Rows.{board_columns, transfer_columns};
 ghost use Rattle.hermes_horizontal.specs.Spelling.{values_of, has_child, features_listed, features_in};
+ghost use Rattle.hermes_horizontal.specs.Values.{identified};
 ghost use Rattle.hermes_horizontal.specs.declared.kind.Kind.TheVariants as kinds;
 
 use crate::alike::{Alive, Notice, read_alive, read_notice};
@@ -18,8 +20,8 @@ use crate::find::{find_board, find_four, find_one, find_two};
 use crate::kind::{Kind, kind_named};
 use crate::message::{Features, Horizontal, Info, Service};
 use board_record::{BoardId, Record};
-use hermes_element::{LentAttributes, LentChildren, LentElement};
-use line_base::{Decimal, Flip, Quality, Text};
+use hermes_element::{LentAttributes, LentChildren, LentElement, LentValue};
+use line_base::{Decimal, Flip, Memory, Quality, Text, Transfer};
 use std::alloc::Global;
 
 /// What the element of a message says.
@@ -75,17 +77,56 @@ fn service_description(
         Attr::InterfaceId,
         Attr::Version,
     );
-    let [machine, lane, interface, version] = &fields;
+    service_in(alloc, at, &fields, children)
+}
+
+/// What the fields of a service description tell. They are only lent here: where they are owned,
+/// each way out lets all four go.
+fn service_in(
+    alloc: Global,
+    at: usize,
+    fields: &[Field<'_>; 4],
+    children: &LentChildren<'_>,
+) -> Result<Horizontal, MessageError>
+    ensures { (attributes : List Attribute) → fields.now ≡ service_found attributes
+        → ReadsRow kinds.ServiceDescription at attributes children.now result }
+{
+    let [machine, lane, interface, version] = fields;
     let machine = machine.text(at)?;
     let lane = lane.number(at)?;
     let version = version.text(at)?;
-    Ok(Horizontal::ServiceDescription(Service {
+    let interface = interface.optional_text(alloc)?;
+    let features = features_in(children);
+    let service = service_of(alloc, machine, lane, interface, version, features)?;
+    Ok(Horizontal::ServiceDescription(service))
+}
+
+/// A service description of these values.
+fn service_of(
+    alloc: Global,
+    machine: &LentValue<'_>,
+    lane: u32,
+    interface: Option<Text>,
+    version: &LentValue<'_>,
+    features: Features,
+) -> Result<Service, Memory>
+    ensures { IfOk result
+        (λ service. service
+        ≡ record {
+          machine = machine.now;
+          lane = lane;
+          version = version.now;
+          interface = interface;
+          features = features;
+        }) }
+{
+    Ok(Service {
         machine: machine.text(alloc)?,
         lane,
         version: version.text(alloc)?,
-        interface: interface.optional_text(alloc)?,
-        features: features_in(children),
-    }))
+        interface,
+        features,
+    })
 }
 
 /// The features that the first SupportedFeatures of an element's children lists.
@@ -159,10 +200,7 @@ fn stop_transport(at: usize, attributes: LentAttributes<'_>) -> Result<Horizonta
     ensures { (children : Forest)
         → ReadsRow kinds.StopTransport at attributes.entry children result }
 {
-    let fields = find_two(attributes, Attr::TransferState, Attr::BoardId);
-    let [state, id] = &fields;
-    let state = state.transfer(at)?;
-    let id = id.id(at)?;
+    let (state, id) = read_transfer(at, attributes)?;
     Ok(Horizontal::StopTransport { state, id })
 }
 
@@ -170,11 +208,23 @@ fn transport_finished(at: usize, attributes: LentAttributes<'_>) -> Result<Horiz
     ensures { (children : Forest)
         → ReadsRow kinds.TransportFinished at attributes.entry children result }
 {
+    let (state, id) = read_transfer(at, attributes)?;
+    Ok(Horizontal::TransportFinished { state, id })
+}
+
+/// How far a board's transfer came, and which board it is of.
+fn read_transfer(
+    at: usize,
+    attributes: LentAttributes<'_>,
+) -> Result<(Transfer, BoardId), MessageError>
+    ensures { ReadsParts (λ told. Some (of_transfer told.0) ∷ Some (identified told.1) ∷ []) result
+        (values_of at attributes.entry transfer_columns) }
+{
     let fields = find_two(attributes, Attr::TransferState, Attr::BoardId);
     let [state, id] = &fields;
     let state = state.transfer(at)?;
     let id = id.id(at)?;
-    Ok(Horizontal::TransportFinished { state, id })
+    Ok((state, id))
 }
 
 fn query_board_info(
@@ -272,14 +322,16 @@ fn info_in(
     let head = read_head(at, required, id, created_by, quality, flip)?;
     let sizes = read_sizes(length, width, thickness, speed)?;
     let clearances = read_clearances(top_clearance, bottom_clearance, weight)?;
+    let (created_by, order, batch) = read_texts(alloc, created_by, order, batch)?;
+    let (product, top, bottom) = read_texts(alloc, product, top, bottom)?;
     Ok(Info {
         id: head.id,
-        created_by: created_by.optional_text(alloc)?,
+        created_by,
         quality: head.quality,
         flip: head.flip,
-        product: product.optional_text(alloc)?,
-        top: top.optional_text(alloc)?,
-        bottom: bottom.optional_text(alloc)?,
+        product,
+        top,
+        bottom,
         length: sizes.length,
         width: sizes.width,
         thickness: sizes.thickness,
@@ -287,9 +339,27 @@ fn info_in(
         top_clearance: clearances.top,
         bottom_clearance: clearances.bottom,
         weight: clearances.weight,
-        order: order.optional_text(alloc)?,
-        batch: batch.optional_text(alloc)?,
+        order,
+        batch,
     })
+}
+
+/// Three texts that may be left out.
+#[inline]
+fn read_texts(
+    alloc: Global,
+    first: &Field<'_>,
+    second: &Field<'_>,
+    third: &Field<'_>,
+) -> Result<(Option<Text>, Option<Text>, Option<Text>), Memory>
+    ensures first { (at : ℕ) → IfOk result (λ texts. SaysText at first.now texts.0) }
+    ensures second { (at : ℕ) → IfOk result (λ texts. SaysText at second.now texts.1) }
+    ensures third { (at : ℕ) → IfOk result (λ texts. SaysText at third.now texts.2) }
+{
+    let first = first.optional_text(alloc)?;
+    let second = second.optional_text(alloc)?;
+    let third = third.optional_text(alloc)?;
+    Ok((first, second, third))
 }
 
 /// What an available board must tell, but for its maker.

@@ -40,14 +40,14 @@ returns c attributes found =
     let head = rw found at c.in_ok-head.ensures in
     let sizes = rw found at (c.in_ok-sizes.ensures at) in
     let clearances = rw found at (c.in_ok-clearances.ensures at) in
-    let created_by = rw found at (c.in_ok-optional_text.ensures at) in
-    let product = rw found at (c.in_ok-optional_text-2.ensures at) in
-    let top = rw found at (c.in_ok-optional_text-3.ensures at) in
-    let bottom = rw found at (c.in_ok-optional_text-4.ensures at) in
-    let order = rw found at (c.in_ok-optional_text-5.ensures at) in
-    let batch = rw found at (c.in_ok-optional_text-6.ensures at) in
+    let created_by = rw found at (c.in_ok-created_by.ensures.first at) in
+    let order = rw found at (c.in_ok-created_by.ensures.second at) in
+    let batch = rw found at (c.in_ok-created_by.ensures.third at) in
+    let product = rw found at (c.in_ok-product.ensures.first at) in
+    let top = rw found at (c.in_ok-product.ensures.second at) in
+    let bottom = rw found at (c.in_ok-product.ensures.third at) in
     board_said at attributes c.args.required _ _ (sizes_parts c.in_ok-sizes.sizes) (clearances_parts c.in_ok-clearances.clearances) _
-    (head_told at attributes c.args.required c.in_ok-head.head c.in_ok-optional_text.field-0 head created_by)
-    (three_ok at attributes (optional attrs.ProductTypeId text) (optional attrs.TopBarcode text) (optional attrs.BottomBarcode text) (option_map worded c.in_ok-optional_text-2.field-0) (option_map worded c.in_ok-optional_text-3.field-0) (option_map worded c.in_ok-optional_text-4.field-0) product top bottom)
+    (head_told at attributes c.args.required c.in_ok-head.head c.in_ok-created_by.created_by head created_by)
+    (three_ok at attributes (optional attrs.ProductTypeId text) (optional attrs.TopBarcode text) (optional attrs.BottomBarcode text) (option_map worded c.in_ok-product.product) (option_map worded c.in_ok-product.top) (option_map worded c.in_ok-product.bottom) product top bottom)
     sizes clearances
-    (two_ok at attributes (optional attrs.WorkOrderId text) (optional attrs.BatchId text) (option_map worded c.in_ok-optional_text-5.field-0) (option_map worded c.in_ok-optional_text-6.field-0) order batch)
+    (two_ok at attributes (optional attrs.WorkOrderId text) (optional attrs.BatchId text) (option_map worded c.in_ok-created_by.order) (option_map worded c.in_ok-created_by.batch) order batch)
