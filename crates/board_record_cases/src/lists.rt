@@ -150,13 +150,9 @@ fn compared(alloc: Global, copy: &Record, board: &Record) -> Result<String, Allo
     if copy != board {
         return String::from_str(alloc, "another board");
     }
-    let barcode = barcode_of(copy);
-    format!(in alloc; "equal, {barcode}")
-}
-
-fn barcode_of(board: &Record) -> &str {
-    match &board.top {
+    let barcode = match &copy.top {
         Some(text) => str::from_utf8(text.bytes()).unwrap_or("no text"),
         None => "no barcode",
-    }
+    };
+    format!(in alloc; "equal, {barcode}")
 }

@@ -51,6 +51,7 @@ impl State {
     }
 
     /// Keeps the record of a board that is offered, or none.
+    #[inline(always)]
     pub(crate) fn put_offer(&mut self, offer: Option<Record>)
         ensures { self.new ≡ record self.old { offer = offer } }
     {

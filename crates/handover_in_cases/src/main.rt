@@ -24,6 +24,7 @@ fn main(rt: HostRuntime) -> io::Result<()> {
 fn tell_case(alloc: Global, case: &str, to: &mut Vec<u8>) -> io::Result<()> {
     let mut intake = Intake::new();
     let told = tell_after(alloc, &mut intake, case, to);
+    // by name, since at the end of a scope all its parts are let go in the goals of this function
     drop(intake);
     told
 }

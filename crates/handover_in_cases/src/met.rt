@@ -19,6 +19,7 @@ pub fn meet(alloc: Global, intake: &mut Intake, word: &str, to: &mut Vec<u8>) ->
         Some(input) => {
             let answer = intake.apply(input);
             let told = told::answer(&answer, to);
+            // by name, as in `tell_case`
             drop(answer);
             told
         }

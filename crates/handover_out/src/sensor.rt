@@ -9,6 +9,7 @@ use line_base::{SensorEvent, Transfer};
 use std::mem;
 
 impl State {
+    #[inline(never)]
     pub(crate) fn sense(&mut self, event: SensorEvent) -> OutAct
         ensures { sensed_row event self.old ≡ row self.new result }
     {

@@ -55,6 +55,7 @@ impl State {
 
     /// Goes over into a phase. The phase before is let go here alone, since each place that lets one go
     /// is dear to prove.
+    #[inline(always)]
     pub(crate) fn enter(&mut self, phase: Phase)
         ensures { self.new ≡ record self.old { phase = phase } }
     {
@@ -63,7 +64,8 @@ impl State {
 
     /// Does what the outlet table says of this input.
     // Inlined, it comes down to the row of an input that is known, and the input isn't moved. The rows
-    // that move records are not: each would clear room for its records wherever this is.
+    // that move records are not, but for the start, which is asked for in one place: each would clear
+    // room for its records wherever this is.
     #[inline(always)]
     pub(crate) fn meet(&mut self, input: OutInput) -> Result<OutAct, OutBreach>
         requires { IsGiven self.old input }

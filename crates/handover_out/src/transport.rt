@@ -11,7 +11,7 @@ use line_base::Transfer;
 use std::mem;
 
 impl State {
-    #[inline(never)]
+    #[inline(always)]
     pub(crate) fn start(&mut self, id: BoardId, board: Option<Record>) -> Result<OutAct, OutBreach>
         requires { IsSome board ↔ IsTrue (would_open self.old id) }
         ensures row { IfOk result (λ act. start_row self.old.phase self.old id board ≡ row self.new act) }

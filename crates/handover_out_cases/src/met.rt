@@ -19,6 +19,7 @@ pub fn meet(alloc: Global, outlet: &mut Outlet, word: &str, to: &mut Vec<u8>) ->
         Some(input) => {
             let answer = outlet.apply(input);
             let told = told::answer(&answer, to);
+            // by name, as in `tell_case`
             drop(answer);
             told
         }

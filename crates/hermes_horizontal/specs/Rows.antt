@@ -1,6 +1,6 @@
 -- THE TABLE of messages: the attributes of each in order, which of them are required, and what
 -- kind of value each has.
-use Rattle.std.specs.Prelude.{ℕ, Bool, true, false, if◌then◌else◌, List, [], ◌∷◌, codes}
+use Rattle.std.specs.Prelude.{ℕ, Bool, true, false, if◌then◌else◌, List, [], ◌∷◌, codes, drop}
 use Rattle.std.specs.Str.{bytes_eq}
 use Rattle.hermes_horizontal.specs.Values.{ValueKind, text, number, choice, identity, decimal, moment}
 use Rattle.hermes_horizontal.specs.declared.attr.Attr.{Attr}
@@ -115,17 +115,18 @@ kind_text kinds.QueryBoardInfo = codes "QueryBoardInfo"
 kind_text kinds.SendBoardInfo = codes "SendBoardInfo"
 kind_text kinds.Other = codes "Other"
 
--- the messages from StartTransport on
-abbrev pub later_kinds : List Kind
-later_kinds =
-    kinds.StartTransport ∷ kinds.StopTransport ∷ kinds.TransportFinished ∷ kinds.BoardForecast ∷
-    kinds.QueryBoardInfo ∷ kinds.SendBoardInfo ∷ []
-
 -- the thirteen messages that have a name of their own
 abbrev pub message_kinds : List Kind
 message_kinds =
     kinds.CheckAlive ∷ kinds.ServiceDescription ∷ kinds.Notification ∷ kinds.BoardAvailable ∷
-    kinds.RevokeBoardAvailable ∷ kinds.MachineReady ∷ kinds.RevokeMachineReady ∷ later_kinds
+    kinds.RevokeBoardAvailable
+    ∷ kinds.MachineReady ∷ kinds.RevokeMachineReady ∷ kinds.StartTransport ∷ kinds.StopTransport ∷
+    kinds.TransportFinished
+    ∷ kinds.BoardForecast ∷ kinds.QueryBoardInfo ∷ kinds.SendBoardInfo ∷ []
+
+-- those from StartTransport on
+abbrev pub later_kinds : List Kind
+later_kinds = drop 7 message_kinds
 
 abbrev pub kind_among : List ℕ → List Kind → Kind
 kind_among name [] = kinds.Other

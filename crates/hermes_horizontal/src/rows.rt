@@ -25,8 +25,7 @@ use line_base::{Decimal, Flip, Memory, Quality, Text, Transfer};
 use std::alloc::Global;
 
 /// What the element of a message says.
-// Inlined, it fills its caller's frame with the fields of every message.
-#[inline(never)]
+#[inline(always)]
 pub fn body_of(alloc: Global, child: LentElement<'_>) -> Result<Horizontal, MessageError>
     ensures { ReadsBody child.entry result }
 {

@@ -50,6 +50,7 @@ impl Index {
     }
 
     /// The marks of a board; none where it is not in the index.
+    #[inline(always)]
     pub fn marks(&self, id: BoardId) -> &[Mark]
         ensures { result.now ≡ marks_listed self.now id }
     {
@@ -87,6 +88,7 @@ impl Index {
         Ok(())
     }
 
+    #[inline(never)]
     fn follow_board(
         &mut self,
         machines: &[Node],

@@ -10,6 +10,7 @@ use board_record::BoardId;
 use line_base::Memory;
 
 /// Appends bytes to a text.
+#[inline(always)]
 pub fn append(bytes: &[u8], to: &mut Vec<u8>) -> Result<(), Memory>
     ensures kept { StillStands to.old.items to.new.items }
     ensures written { OnOk result (to.new.items ≡ to.old.items ++ bytes.now) }
@@ -45,6 +46,7 @@ pub fn append_line_end(to: &mut Vec<u8>) -> Result<(), Memory>
 
 /// Appends the digits of a number.
 #[tactic(auto, using(crate::proofs::Digits::one_digit))]
+#[inline(always)]
 pub fn append_digits(number: u64, to: &mut Vec<u8>) -> Result<(), Memory>
     ensures kept { StillStands to.old.items to.new.items }
     ensures written { OnOk result (to.new.items ≡ to.old.items ++ decimal number) }

@@ -145,6 +145,7 @@ fn write_gap(gap: u32, to: &mut Vec<u8>) -> Result<(), Memory>
 }
 
 /// A word and a number.
+#[inline(always)]
 fn write_numbered(word: &str, number: u32, to: &mut Vec<u8>) -> Result<(), Memory>
     ensures kept { StillStands to.old.items to.new.items }
     ensures written { OnOk result (to.new.items ≡ to.old.items ++ numbered word.now number) }

@@ -158,6 +158,7 @@ fn in_send(desk: &Desk, what: Option<InSend>, to: &mut Outputs) -> Result<(), Me
 
 impl Body {
     /// What an act of the outlet tells, and does to the kept records.
+    #[inline(always)]
     pub(crate) fn follow_out(
         &mut self,
         desk: &Desk,
@@ -178,6 +179,7 @@ impl Body {
     }
 
     /// What an act of the intake tells, and does to the kept records.
+    #[inline(always)]
     pub(crate) fn follow_in(
         &mut self,
         desk: &Desk,

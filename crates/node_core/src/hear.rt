@@ -221,6 +221,7 @@ impl Body {
         }
     }
 
+    #[inline(always)]
     fn side_hears(
         &mut self,
         desk: &Desk,
