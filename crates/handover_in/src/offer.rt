@@ -48,7 +48,7 @@ impl State {
         }
     }
 
-    #[inline(never)]
+    #[inline(always)]
     pub(crate) fn board_available(&mut self, board: Record) -> Result<InAct, InBreach>
         ensures row { IfOk result
             (λ act. board_available_row self.old.phase self.old board ≡ row self.new act) }

@@ -60,7 +60,8 @@ impl State {
 
     /// Does what the intake table says of this input.
     // Inlined, it comes down to the row of an input that is known, and the input isn't moved. The rows
-    // that move records are not: each would clear room for its records wherever this is.
+    // that move records are not, but for an offer, which is heard in one place: each would clear room
+    // for its records wherever this is.
     #[inline(always)]
     pub(crate) fn meet(&mut self, input: InInput) -> Result<InAct, InBreach>
         requires { IsGiven self.old input }

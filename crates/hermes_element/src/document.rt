@@ -213,6 +213,7 @@ fn read_close<'a>(
 }
 
 /// Adds an element as the last child of the innermost open one.
+#[inline(always)]
 fn add_last<'a>(
     root: &mut LentElement<'a>,
     stack: &mut Vec<LentElement<'a>>,

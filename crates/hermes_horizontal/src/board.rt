@@ -86,6 +86,7 @@ impl Board<'_> {
 }
 
 /// Appends the attributes that tell of a board.
+#[inline(always)]
 pub fn append_board(board: &Board<'_>, to: &mut Vec<u8>) -> Result<(), Memory>
     ensures kept { StillStands to.old.items to.new.items }
     ensures written { (whole : Bool)

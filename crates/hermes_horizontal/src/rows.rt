@@ -212,6 +212,7 @@ fn transport_finished(at: usize, attributes: LentAttributes<'_>) -> Result<Horiz
 }
 
 /// How far a board's transfer came, and which board it is of.
+#[inline(always)]
 fn read_transfer(
     at: usize,
     attributes: LentAttributes<'_>,

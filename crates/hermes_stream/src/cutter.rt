@@ -60,6 +60,7 @@ impl Cutter {
     }
 
     /// Drops the blanks that stand before a message, and answers what stands there then.
+    #[inline(always)]
     pub fn next(&mut self) -> Cut<'_>
         ensures* rests { sem 𝓛 (RestsAsLeft self.entry) }
         ensures bounded { length self.old ≤ most_bytes }

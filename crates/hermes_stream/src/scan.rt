@@ -86,6 +86,7 @@ fn close_behind(first: &[u8], second: &[u8], from: usize) -> Option<usize>
 }
 
 /// The place of the first `>` from a place on, in one part.
+#[inline(always)]
 fn close_in(bytes: &[u8], from: usize) -> Option<usize>
     requires { from ≤ length bytes.now }
     ensures { IsNextClose bytes.now from result }

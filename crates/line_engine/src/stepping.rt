@@ -42,6 +42,7 @@ fn met(connected: Connected) -> Input<'static>
 
 impl State {
     /// A machine makes a step, and what it did is told behind what was told before.
+    #[inline(always)]
     fn step_telling(
         &mut self,
         number: u64,

@@ -67,6 +67,7 @@ pub fn append_word(word: &str, to: &mut Vec<u8>) -> Result<(), Memory>
 }
 
 /// A space and a number.
+#[inline(always)]
 pub fn append_number(number: u64, to: &mut Vec<u8>) -> Result<(), Memory>
     ensures kept { StillStands to.old.items to.new.items }
     ensures written { OnOk result (to.new.items ≡ to.old.items ++ (codes " " ++ decimal number)) }

@@ -147,6 +147,7 @@ fn in_says(what: InSend) -> Horizontal
     }
 }
 
+#[inline(always)]
 fn in_send(desk: &Desk, what: Option<InSend>, to: &mut Outputs) -> Result<(), Memory>
     ensures { OnOk result (to.new ≡ to.old ++ in_sends desk.now what) }
 {

@@ -160,6 +160,7 @@ impl Node {
     /// `NotStanding`, `NotSupported`. `Supervise`: `Same`. `Ask`: `NotSupervised`, `QueriesFull`.
     /// `Answer`: `NotSupervised`, `UnknownQuery`, `Answered` with the number of the query. It
     /// takes no memory.
+    #[inline(always)]
     pub fn may(&self, input: &Input<'_>) -> Result<(), No>
         ensures { result ≡ may_of self.now input.now }
     {

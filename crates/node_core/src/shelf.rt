@@ -32,6 +32,7 @@ impl Shelf {
         }
     }
 
+    #[inline(always)]
     pub(crate) fn push_back(&mut self, board: Record) -> Result<(), Memory>
         ensures { OnOk result (self.new ≡ self.old ++ board ∷ []) }
     {

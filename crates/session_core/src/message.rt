@@ -20,6 +20,7 @@ impl Session {
     /// unchanged, and the machine has to close it by `on_closed`. Where a message is to be passed
     /// on, the session has a connection.
     #[tactic(auto, using(crate::proofs::States::pass_opens))]
+    #[inline(always)]
     pub fn on_message(&mut self, message: Said, unsettled: bool) -> Result<Actions, Breach>
         requires { self.old.state ≢ SessionState.NotConnected }
         ensures row { IfOk result
