@@ -2,7 +2,7 @@ ghost use Rattle.std.specs.Prelude.{◌≡◌, IfOk, OnOk};
 ghost use Rattle.board_record.specs.Record.{plain_record};
 
 use crate::id::BoardId;
-use line_base::{Decimal, Flip, Memory, Quality, Text};
+use line_base::{Decimal, Flip, Memory, Quality, Text, take_text};
 use std::alloc::Global;
 
 /// What is known of a board. It goes with the board down the line.
@@ -102,21 +102,4 @@ impl Record {
         take_text(alloc, &other.batch, &mut self.batch)?;
         Ok(())
     }
-}
-
-fn copied(alloc: Global, text: &Option<Text>) -> Result<Option<Text>, Memory>
-    ensures { IfOk result (λ copy. copy ≡ text.now) }
-{
-    match text {
-        Some(text) => Ok(Some(text.copy(alloc)?)),
-        None => Ok(None),
-    }
-}
-
-/// Puts an equal text, if there is one, in the place of another.
-fn take_text(alloc: Global, text: &Option<Text>, place: &mut Option<Text>) -> Result<(), Memory>
-    ensures { OnOk result (place.new ≡ text.now) }
-{
-    *place = copied(alloc, text)?;
-    Ok(())
 }

@@ -3,7 +3,7 @@ ghost use Rattle.forecast_query.specs.Info.{forecast_of, info_of};
 
 use board_record::Record;
 use hermes_horizontal::{Info, no_info};
-use line_base::{Memory, Text};
+use line_base::{Memory, copied_text};
 use std::alloc::Global;
 
 /// What is told of a board to a machine that asks for it: each field of its record.
@@ -15,9 +15,9 @@ pub fn info_of(alloc: Global, board: &Record) -> Result<Info, Memory>
         created_by: Some(board.created_by.copy(alloc)?),
         quality: Some(board.quality),
         flip: Some(board.flip),
-        product: copied(alloc, &board.product)?,
-        top: copied(alloc, &board.top)?,
-        bottom: copied(alloc, &board.bottom)?,
+        product: copied_text(alloc, &board.product)?,
+        top: copied_text(alloc, &board.top)?,
+        bottom: copied_text(alloc, &board.bottom)?,
         length: board.length,
         width: board.width,
         thickness: board.thickness,
@@ -25,8 +25,8 @@ pub fn info_of(alloc: Global, board: &Record) -> Result<Info, Memory>
         top_clearance: board.top_clearance,
         bottom_clearance: board.bottom_clearance,
         weight: board.weight,
-        order: copied(alloc, &board.order)?,
-        batch: copied(alloc, &board.batch)?,
+        order: copied_text(alloc, &board.order)?,
+        batch: copied_text(alloc, &board.batch)?,
     })
 }
 
@@ -38,18 +38,9 @@ pub fn forecast_of(alloc: Global, board: &Record) -> Result<Info, Memory>
     Ok(Info {
         quality: Some(board.quality),
         flip: Some(board.flip),
-        product: copied(alloc, &board.product)?,
-        top: copied(alloc, &board.top)?,
-        bottom: copied(alloc, &board.bottom)?,
+        product: copied_text(alloc, &board.product)?,
+        top: copied_text(alloc, &board.top)?,
+        bottom: copied_text(alloc, &board.bottom)?,
         ..no_info()
     })
-}
-
-fn copied(alloc: Global, text: &Option<Text>) -> Result<Option<Text>, Memory>
-    ensures { IfOk result (λ copy. copy ≡ text.now) }
-{
-    match text {
-        Some(text) => Ok(Some(text.copy(alloc)?)),
-        None => Ok(None),
-    }
 }

@@ -7,7 +7,7 @@ pub use crate::assign::{
     append_optional_text, append_text,
 };
 pub use crate::children::append_features;
-pub use crate::copies::{copied, name_copy};
+pub use crate::copies::name_copy;
 pub use crate::fault::Refusal;
 pub use crate::field::Field;
 pub use crate::find::{find_five, find_four, find_one, find_three, find_two};

@@ -5,7 +5,7 @@ ghost use Rattle.hermes_horizontal.specs.Parts.{no_info};
 
 use crate::message::{Horizontal, Info, Message, Service};
 use crate::said::Said;
-use line_base::{Memory, Name, Text};
+use line_base::{Memory, Name, copied_text, take_text};
 use std::alloc::Global;
 
 impl Message {
@@ -29,7 +29,7 @@ impl Horizontal {
     {
         match self {
             Horizontal::CheckAlive { ping, id } => {
-                let id = copied(alloc, id)?;
+                let id = copied_text(alloc, id)?;
                 Ok(Horizontal::CheckAlive { ping: *ping, id })
             }
             Horizontal::ServiceDescription(service) => {
@@ -71,8 +71,8 @@ impl Horizontal {
                 Ok(Horizontal::BoardForecast(info))
             }
             Horizontal::QueryBoardInfo { top, bottom } => {
-                let top = copied(alloc, top)?;
-                let bottom = copied(alloc, bottom)?;
+                let top = copied_text(alloc, top)?;
+                let bottom = copied_text(alloc, bottom)?;
                 Ok(Horizontal::QueryBoardInfo { top, bottom })
             }
             Horizontal::SendBoardInfo(info) => {
@@ -96,7 +96,7 @@ impl Service {
             machine: self.machine.copy(alloc)?,
             lane: self.lane,
             version: self.version.copy(alloc)?,
-            interface: copied(alloc, &self.interface)?,
+            interface: copied_text(alloc, &self.interface)?,
             features: self.features,
         })
     }
@@ -174,24 +174,6 @@ pub fn no_info() -> Info
         order: None,
         batch: None,
     }
-}
-
-/// An equal text of its own, if there is one.
-pub fn copied(alloc: Global, text: &Option<Text>) -> Result<Option<Text>, Memory>
-    ensures { IfOk result (λ copy. copy ≡ text.now) }
-{
-    match text {
-        Some(text) => Ok(Some(text.copy(alloc)?)),
-        None => Ok(None),
-    }
-}
-
-/// Puts an equal text, if there is one, in the place of another.
-fn take_text(alloc: Global, text: &Option<Text>, place: &mut Option<Text>) -> Result<(), Memory>
-    ensures { OnOk result (place.new ≡ text.now) }
-{
-    *place = copied(alloc, text)?;
-    Ok(())
 }
 
 /// An equal name of its own.

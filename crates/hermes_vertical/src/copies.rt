@@ -3,8 +3,8 @@
 ghost use Rattle.std.specs.Prelude.{◌≡◌, IfOk};
 
 use crate::message::{Passage, Question, System, Vertical, VerticalMessage};
-use hermes_horizontal::columns::{copied, name_copy};
-use line_base::Memory;
+use hermes_horizontal::columns::name_copy;
+use line_base::{Memory, copied_text};
 use std::alloc::Global;
 
 impl VerticalMessage {
@@ -52,8 +52,8 @@ impl Vertical {
                 product,
             } => {
                 let order = order.copy(alloc)?;
-                let batch = copied(alloc, batch)?;
-                let product = copied(alloc, product)?;
+                let batch = copied_text(alloc, batch)?;
+                let product = copied_text(alloc, product)?;
                 Ok(Vertical::SendWorkOrderInfo {
                     query: *query,
                     order,
@@ -62,7 +62,7 @@ impl Vertical {
                 })
             }
             Vertical::CheckAlive { ping, id } => {
-                let id = copied(alloc, id)?;
+                let id = copied_text(alloc, id)?;
                 Ok(Vertical::CheckAlive { ping: *ping, id })
             }
             Vertical::Notification {

@@ -22,5 +22,7 @@ pub use moment::{BadMoment, Moment};
 pub use name::{Name, NameError, is_name_byte, is_name_start};
 pub use number::{digits_value, is_digits, read_number};
 pub use states::{Code, Flip, Quality, Role, Seen, SensorEvent, Severity, Side, Transfer};
-pub use text::{MOST_TEXT_BYTES, Text, TextError, is_allowed_char, is_plain_text};
+pub use text::{
+    MOST_TEXT_BYTES, Text, TextError, copied_text, is_allowed_char, is_plain_text, take_text,
+};
 pub use word::{Word, Words};

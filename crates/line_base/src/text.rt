@@ -1,4 +1,4 @@
-ghost use Rattle.std.specs.Prelude.{◌≡◌, ◌↔◌, List, ℕ, IfOk, IsTrue, decimal, true};
+ghost use Rattle.std.specs.Prelude.{◌≡◌, ◌↔◌, List, ℕ, IfOk, IsTrue, OnOk, decimal, true};
 ghost use Rattle.std.specs.List.{list_all};
 ghost use Rattle.std.specs.Str.{bytes_eq, chars};
 ghost use Rattle.line_base.specs.Text.{IsAllowed, IsText, ReadsText, is_allowed_char};
@@ -149,6 +149,25 @@ impl Text {
     {
         self.bytes.as_slice()
     }
+}
+
+/// An equal text of its own, if there is one.
+pub fn copied_text(alloc: Global, text: &Option<Text>) -> Result<Option<Text>, Memory>
+    ensures { IfOk result (λ copy. copy ≡ text.now) }
+{
+    match text {
+        Some(text) => Ok(Some(text.copy(alloc)?)),
+        None => Ok(None),
+    }
+}
+
+/// Puts an equal text, if there is one, in the place of another. The text before is let go here
+/// alone, which a caller with many places needn't prove.
+pub fn take_text(alloc: Global, text: &Option<Text>, place: &mut Option<Text>) -> Result<(), Memory>
+    ensures { OnOk result (place.new ≡ text.now) }
+{
+    *place = copied_text(alloc, text)?;
+    Ok(())
 }
 
 /// Whether a character may stand in a text.

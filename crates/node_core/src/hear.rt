@@ -18,9 +18,8 @@ use crate::word::{EntryWord, ExitWord};
 use board_record::BoardId;
 use handover_in::InInput;
 use handover_out::OutInput;
-use hermes_horizontal::columns::copied;
 use hermes_horizontal::{Horizontal, Kind, Message, Said};
-use line_base::{Memory, Side, Text};
+use line_base::{Memory, Side, Text, copied_text};
 use session_core::{Action, Actions, Breach};
 use std::alloc::Global;
 
@@ -33,7 +32,7 @@ fn exit_word(alloc: Global, what: &Horizontal) -> Result<ExitWord, Memory>
         Horizontal::StartTransport { id } => Ok(ExitWord::Start(*id)),
         Horizontal::StopTransport { state, id } => Ok(ExitWord::Stop(*state, *id)),
         Horizontal::QueryBoardInfo { top, bottom } => {
-            Ok(ExitWord::Query(copied(alloc, top)?, copied(alloc, bottom)?))
+            Ok(ExitWord::Query(copied_text(alloc, top)?, copied_text(alloc, bottom)?))
         }
         _ => Ok(ExitWord::Nothing),
     }

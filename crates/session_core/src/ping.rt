@@ -1,9 +1,8 @@
 ghost use Rattle.std.specs.Prelude.{◌≡◌, IfOk};
 ghost use Rattle.session_core.specs.Ping.{ping_id};
 
-use hermes_horizontal::columns::copied;
 use hermes_horizontal::{Horizontal, Said};
-use line_base::{Memory, Text};
+use line_base::{Memory, Text, copied_text};
 use std::alloc::Global;
 use std::marker::Model;
 
@@ -37,7 +36,7 @@ impl PingId {
         ensures { IfOk result (λ id. id ≡ self.now) }
     {
         match self.ping.what() {
-            Horizontal::CheckAlive { id, .. } => copied(alloc, id),
+            Horizontal::CheckAlive { id, .. } => copied_text(alloc, id),
             _ => Ok(None),
         }
     }
