@@ -2,9 +2,7 @@
 //! at the end.
 #![tactic(auto)]
 
-mod spelled;
-
-use crate::spelled::spell;
+use case_text::spell;
 use line_check::{CheckError, Checker};
 use std::alloc::{AllocError, Global};
 use std::io;

@@ -1,7 +1,7 @@
 //! A case: a command line, what the program gets to read, and what it then writes.
 
 use crate::calls::{count_unread, tell_call, tell_call_in_pieces, words_of};
-use crate::spelled::spell;
+use case_text::spell;
 use line_base::{Memory, Words};
 use std::alloc::Global;
 use std::io::Write;

@@ -1,7 +1,7 @@
 //! A case: a name, the log that there is to read, and what is then written.
 
 use crate::calls::{tell_call, tell_call_in_pieces};
-use crate::spelled::spell;
+use case_text::spell;
 use line_base::Memory;
 use std::alloc::Global;
 

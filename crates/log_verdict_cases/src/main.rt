@@ -4,7 +4,6 @@
 mod calls;
 mod cases;
 mod pieces;
-mod spelled;
 
 use crate::cases::tell_case;
 use std::io;

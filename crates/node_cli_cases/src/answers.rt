@@ -1,4 +1,4 @@
-use crate::spelled::spell;
+use case_text::spell;
 use line_base::{Memory, Word};
 use line_outside::{GotBytes, PortAnswer, Way};
 use std::alloc::Global;

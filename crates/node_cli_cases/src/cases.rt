@@ -1,6 +1,6 @@
 use crate::answers::answer_of;
 use crate::calls::{tell_calls, written};
-use crate::spelled::spell;
+use case_text::spell;
 use line_base::{Memory, Moment, Word, Words};
 use line_outside::{FixedClock, MemoryPorts, MemorySink, MemorySource, PortAnswer};
 use node_cli::{NodeStatus, node_main};

@@ -5,7 +5,6 @@
 mod answers;
 mod calls;
 mod cases;
-mod spelled;
 
 use crate::cases::tell_case;
 use std::io;

@@ -2,11 +2,10 @@
 //! refused.
 #![tactic(auto)]
 
-mod spelled;
 mod told;
 
-use crate::spelled::spell;
 use crate::told::told_of;
+use case_text::spell;
 use node_panel::read_panel_line;
 use std::alloc::{AllocError, Global};
 use std::io;

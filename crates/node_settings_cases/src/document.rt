@@ -1,4 +1,4 @@
-use crate::spelled::spell;
+use case_text::spell;
 use std::alloc::{AllocError, Global};
 
 /// The lines of a file that is accepted.

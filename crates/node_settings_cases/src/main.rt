@@ -3,7 +3,6 @@
 #![tactic(auto)]
 
 mod document;
-mod spelled;
 mod told;
 
 use crate::document::document_of;

@@ -3,8 +3,6 @@
 
 mod intake;
 mod outlet;
-#[cfg(test)]
-mod tests;
 
 pub use intake::{InEnd, in_ends};
 pub use outlet::{OutEnd, out_ends};

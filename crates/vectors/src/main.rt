@@ -4,13 +4,12 @@
 
 mod channel;
 mod cut;
-mod spelled;
 mod vector;
 
 use crate::channel::Channel;
 use crate::cut::tell_cut;
-use crate::spelled::spell;
 use crate::vector::tell_vector;
+use case_text::spell;
 use line_base::Memory;
 use std::alloc::Global;
 use std::io;

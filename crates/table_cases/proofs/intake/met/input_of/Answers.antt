@@ -1,0 +1,4 @@
+use Rattle.table_cases.proofs.intake.met.input_of.Goals as goal
+
+pub returns : goal.returns
+returns c = c.plain_input.ensures c.args.intake.now

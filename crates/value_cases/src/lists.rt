@@ -1,0 +1,168 @@
+use board_record::{BoardId, Kept, Record};
+use line_base::{Memory, Quality, Text};
+use std::alloc::{AllocError, Global};
+use std::str;
+
+/// What the last of the words answers, done in order on an empty list, and the list after them.
+pub fn answer(alloc: Global, words: &str) -> Result<String, AllocError> {
+    let mut kept = Kept::new(alloc);
+    after(alloc, &mut kept, words)
+}
+
+fn after(alloc: Global, kept: &mut Kept, words: &str) -> Result<String, AllocError> {
+    let mut said = String::new(alloc);
+    for word in words.split(' ') {
+        said = step(alloc, kept, word)?;
+    }
+    listed(alloc, said.as_str(), kept.list())
+}
+
+fn listed(alloc: Global, said: &str, boards: &[Record]) -> Result<String, AllocError> {
+    let mut text = format!(in alloc; "{said};")?;
+    for board in boards {
+        text.push_str(" ")?;
+        text.push_str(told(alloc, board)?.as_str())?;
+    }
+    Ok(text)
+}
+
+/// A board by the number of its id, with a mark where it failed.
+fn told(alloc: Global, board: &Record) -> Result<String, AllocError> {
+    let number = board.id.number();
+    if board.quality == Quality::Failed {
+        return format!(in alloc; "{number}!");
+    }
+    format!(in alloc; "{number}")
+}
+
+fn step(alloc: Global, kept: &mut Kept, word: &str) -> Result<String, AllocError> {
+    match word.split_once(':') {
+        Some((what, numbers)) => numbered(alloc, kept, what, numbers),
+        None => popped(alloc, kept),
+    }
+}
+
+fn popped(alloc: Global, kept: &mut Kept) -> Result<String, AllocError> {
+    match kept.pop_front() {
+        Some(board) => told(alloc, &board),
+        None => String::from_str(alloc, "none"),
+    }
+}
+
+fn numbered(
+    alloc: Global,
+    kept: &mut Kept,
+    what: &str,
+    numbers: &str,
+) -> Result<String, AllocError> {
+    if what == "back" {
+        return pushed_back(alloc, kept, number_of(numbers));
+    }
+    if what == "front" {
+        return pushed_front(alloc, kept, number_of(numbers));
+    }
+    if what == "place" {
+        return found(alloc, kept.place_of(BoardId::of(number_of(numbers))));
+    }
+    if what == "replace" {
+        return match numbers.split_once(':') {
+            Some((place, number)) => replaced(alloc, kept, place_of(place), number_of(number)),
+            None => String::from_str(alloc, "no case"),
+        };
+    }
+    placed(alloc, kept, what, place_of(numbers))
+}
+
+/// The place at which a board was found.
+fn found(alloc: Global, place: Option<usize>) -> Result<String, AllocError> {
+    match place {
+        Some(place) => format!(in alloc; "at {place}"),
+        None => String::from_str(alloc, "nowhere"),
+    }
+}
+
+fn number_of(word: &str) -> u128 {
+    word.parse().unwrap_or(0)
+}
+
+fn place_of(word: &str) -> usize {
+    word.parse().unwrap_or(0)
+}
+
+fn placed(alloc: Global, kept: &mut Kept, what: &str, place: usize) -> Result<String, AllocError> {
+    if place >= kept.list().len() {
+        return String::from_str(alloc, "no place");
+    }
+    if what == "take" {
+        let board = kept.take(place);
+        return told(alloc, &board);
+    }
+    if what == "failed" {
+        kept.set_quality(place, Quality::Failed);
+        return String::from_str(alloc, "failed");
+    }
+    copied(alloc, &kept.list()[place])
+}
+
+fn pushed_back(alloc: Global, kept: &mut Kept, number: u128) -> Result<String, AllocError> {
+    let Ok(board) = board(alloc, number) else {
+        return Err(AllocError);
+    };
+    if kept.reserve_one().is_err() {
+        return Err(AllocError);
+    }
+    kept.push_back(board);
+    String::from_str(alloc, "pushed")
+}
+
+fn pushed_front(alloc: Global, kept: &mut Kept, number: u128) -> Result<String, AllocError> {
+    let Ok(board) = board(alloc, number) else {
+        return Err(AllocError);
+    };
+    if kept.reserve_one().is_err() {
+        return Err(AllocError);
+    }
+    kept.push_front(board);
+    String::from_str(alloc, "pushed")
+}
+
+fn replaced(
+    alloc: Global,
+    kept: &mut Kept,
+    place: usize,
+    number: u128,
+) -> Result<String, AllocError> {
+    if place >= kept.list().len() {
+        return String::from_str(alloc, "no place");
+    }
+    let Ok(board) = board(alloc, number) else {
+        return Err(AllocError);
+    };
+    let before = kept.replace(place, board);
+    told(alloc, &before)
+}
+
+fn board(alloc: Global, number: u128) -> Result<Record, Memory> {
+    let maker = Text::plain(alloc, b"M1")?;
+    let barcode = Text::plain(alloc, b"PCB-7")?;
+    Ok(Record::plain(BoardId::of(number), maker, Some(barcode)))
+}
+
+/// Tells whether a board's copy is equal to it, and the copy's barcode.
+fn copied(alloc: Global, board: &Record) -> Result<String, AllocError> {
+    match board.copy(alloc) {
+        Ok(copy) => compared(alloc, &copy, board),
+        Err(_) => Err(AllocError),
+    }
+}
+
+fn compared(alloc: Global, copy: &Record, board: &Record) -> Result<String, AllocError> {
+    if copy != board {
+        return String::from_str(alloc, "another board");
+    }
+    let barcode = match &copy.top {
+        Some(text) => str::from_utf8(text.bytes()).unwrap_or("no text"),
+        None => "no barcode",
+    };
+    format!(in alloc; "equal, {barcode}")
+}
