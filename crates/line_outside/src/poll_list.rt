@@ -125,12 +125,11 @@ fn own_answers(
 fn is_same_way(one: Way, other: Way) -> bool
     ensures { result ≡ is_same_way one other }
 {
-    match (one, other) {
-        (Way::Panel, Way::Panel) => true,
-        (Way::Upstream, Way::Upstream) => true,
-        (Way::Downstream, Way::Downstream) => true,
-        (Way::Supervisory, Way::Supervisory) => true,
-        _ => false,
+    match one {
+        Way::Panel => matches!(other, Way::Panel),
+        Way::Upstream => matches!(other, Way::Upstream),
+        Way::Downstream => matches!(other, Way::Downstream),
+        Way::Supervisory => matches!(other, Way::Supervisory),
     }
 }
 

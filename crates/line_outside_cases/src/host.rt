@@ -1,6 +1,6 @@
 ghost use Rattle.std.specs.Prelude.{◌≤◌, IfOk};
 
-use std::alloc::Global;
+use std::alloc::{AllocError, Global};
 use std::io::{self, ErrorKind, Read, Write};
 
 /// What the host does at one call.
@@ -50,6 +50,10 @@ impl Host {
             Turn::Fails(kind) => Err(io::Error::from(kind)),
         }
     }
+
+    fn append(&mut self, piece: &[u8]) -> Result<(), AllocError> {
+        self.bytes.extend_from_slice(piece)
+    }
 }
 
 impl Read for Host {
@@ -65,7 +69,7 @@ impl Read for Host {
 impl Write for Host {
     fn write(&mut self, buf: &[u8]) -> io::Result<usize> {
         let count = self.turn(buf.len())?;
-        self.bytes.extend_from_slice(&buf[..count])?;
+        self.append(&buf[..count])?;
         Ok(count)
     }
 

@@ -119,13 +119,17 @@ fn second<R: Net + rt::Clock + Drop>(
 
 /// What a way has, once it has something.
 fn found<R: Net + rt::Clock + Drop>(host: &R, ports: &mut SocketPorts<R>, way: Way) -> Got {
-    let mut room = [0u8; 64];
     for _ in 0..ASKS {
-        let got = ports.poll(way, &mut room);
+        let got = found_now(ports, way);
         if got != Got::NotYet {
             return got;
         }
         thread::sleep(host, Duration::from_millis(1));
     }
     Got::NotYet
+}
+
+fn found_now<R: Net + rt::Clock + Drop>(ports: &mut SocketPorts<R>, way: Way) -> Got {
+    let mut room = [0u8; 64];
+    ports.poll(way, &mut room)
 }

@@ -5,6 +5,7 @@
 mod host;
 mod host_side;
 mod numbers;
+mod parts;
 mod ports;
 mod sinks;
 mod sources;
@@ -34,7 +35,7 @@ fn said_of(rt: &HostRuntime, line: &str) -> Result<String, AllocError> {
 }
 
 fn answer(alloc: Global, line: &str) -> Result<String, AllocError> {
-    match line.split_once(' ') {
+    match parts::two_of(line) {
         Some((what, asked)) => answer_of(alloc, what, asked),
         None => String::from_str(alloc, "no case"),
     }

@@ -6,17 +6,25 @@ use std::alloc::{AllocError, Global};
 pub fn calls_of(alloc: Global, words: &str) -> Result<Vec<u64>, AllocError> {
     let mut calls = Vec::new(alloc);
     for word in words.split(',') {
-        if let Ok(call) = word.parse::<u64>() {
+        if let Some(call) = read(word) {
             calls.push(call)?;
         }
     }
     Ok(calls)
 }
 
+fn read(word: &str) -> Option<u64> {
+    word.parse().ok()
+}
+
+/// What is no number is 0.
+pub fn number_of(word: &str) -> usize {
+    read(word).unwrap_or(0) as usize
+}
+
 /// How many bytes a room has.
 pub fn room_of(word: &str) -> usize
     ensures { 0 < result }
 {
-    let room = word.parse::<u8>().unwrap_or(0);
-    usize::from(room).max(1)
+    number_of(word).max(1)
 }

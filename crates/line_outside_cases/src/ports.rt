@@ -1,4 +1,5 @@
-use crate::numbers::{calls_of, room_of};
+use crate::numbers::{calls_of, number_of, room_of};
+use crate::parts::{part, three_of, two_of};
 use line_base::Word;
 use line_outside::{
     Address, Got, GotBytes, MemoryPorts, Opened, PortAnswer, PortCall, Ports, Sent, Way,
@@ -23,9 +24,8 @@ pub fn memory(alloc: Global, asked: &str) -> Result<String, AllocError> {
 }
 
 fn parts_of(asked: &str) -> Option<(&str, &str, &str, &str)> {
-    let (failing, asked) = asked.split_once(' ')?;
-    let (rooms, asked) = asked.split_once(' ')?;
-    let (answers, asks) = asked.split_once(' ')?;
+    let (failing, asked) = two_of(asked)?;
+    let (rooms, answers, asks) = three_of(asked)?;
     Some((failing, rooms, answers, asks))
 }
 
@@ -33,10 +33,6 @@ fn parts_of(asked: &str) -> Option<(&str, &str, &str, &str)> {
 fn rooms_of(words: &str) -> (usize, usize) {
     let (calls, bytes) = words.split_once('/').unwrap_or((words, "0"));
     (number_of(calls), number_of(bytes))
-}
-
-fn number_of(word: &str) -> usize {
-    usize::from(word.parse::<u8>().unwrap_or(0))
 }
 
 fn answers_of(alloc: Global, words: &str) -> Result<Vec<PortAnswer>, AllocError> {
@@ -69,7 +65,11 @@ fn got_of(alloc: Global, what: &str) -> Result<GotBytes, AllocError> {
     if what == "!failed" {
         return Ok(GotBytes::Failed);
     }
-    match Word::of(alloc, what.as_bytes()) {
+    bytes_of(alloc, what)
+}
+
+fn bytes_of(alloc: Global, text: &str) -> Result<GotBytes, AllocError> {
+    match Word::of(alloc, text.as_bytes()) {
         Ok(word) => Ok(GotBytes::Bytes(word)),
         Err(_) => Err(AllocError),
     }
@@ -92,9 +92,7 @@ fn way_of(word: &str) -> Way {
 fn all_said(alloc: Global, ports: &mut MemoryPorts, asks: &str) -> Result<String, AllocError> {
     let mut said = String::new(alloc);
     for ask in asks.split(',') {
-        if !said.is_empty() {
-            said.push_str(", ")?;
-        }
+        part(&mut said)?;
         say(alloc, ports, ask, &mut said)?;
     }
     said.push_str("; ")?;
@@ -143,9 +141,14 @@ fn say_poll(
     said: &mut String,
 ) -> Result<(), AllocError> {
     let mut bytes = vec![in alloc; b'.'; room_of(room)]?;
-    match ports.poll(way, bytes.as_mut_slice()) {
+    let got = ports.poll(way, bytes.as_mut_slice());
+    say_got(got, bytes.as_slice(), said)
+}
+
+fn say_got(got: Got, room: &[u8], said: &mut String) -> Result<(), AllocError> {
+    match got {
         Got::Bytes(count) => {
-            let room = str::from_utf8(bytes.as_slice()).unwrap_or("no text");
+            let room = str::from_utf8(room).unwrap_or("no text");
             write!(said, "{count} {room}")
         }
         Got::Arrived => said.push_str("arrived"),

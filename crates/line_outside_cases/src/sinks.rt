@@ -1,12 +1,13 @@
 use crate::host::Host;
 use crate::numbers::{calls_of, room_of};
+use crate::parts::{part, three_of, two_of};
 use line_outside::{MemorySink, Push, Pushed, Sink, SteadySink, WriterSink, push_all};
 use std::alloc::{AllocError, Global};
 use std::str;
 
 /// The room, the calls that fail, and the pieces, each pushed once.
 pub fn memory(alloc: Global, asked: &str) -> Result<String, AllocError> {
-    let (room, failing, pieces) = match parts_of(asked) {
+    let (room, failing, pieces) = match three_of(asked) {
         Some(parts) => parts,
         None => return String::from_str(alloc, "no case"),
     };
@@ -18,7 +19,7 @@ pub fn memory(alloc: Global, asked: &str) -> Result<String, AllocError> {
 
 /// The room, the calls that fail, and the pieces, of which each is pushed whole.
 pub fn whole(alloc: Global, asked: &str) -> Result<String, AllocError> {
-    let (room, failing, pieces) = match parts_of(asked) {
+    let (room, failing, pieces) = match three_of(asked) {
         Some(parts) => parts,
         None => return String::from_str(alloc, "no case"),
     };
@@ -28,17 +29,11 @@ pub fn whole(alloc: Global, asked: &str) -> Result<String, AllocError> {
     }
 }
 
-fn parts_of(asked: &str) -> Option<(&str, &str, &str)> {
-    let (room, asked) = asked.split_once(' ')?;
-    let (failing, pieces) = asked.split_once(' ')?;
-    Some((room, failing, pieces))
-}
-
 fn whole_pushes(alloc: Global, sink: &mut MemorySink, pieces: &str) -> Result<String, AllocError> {
     let mut told = String::new(alloc);
     for piece in pieces.split(' ') {
         let pushed = pushed_text(push_all(sink, piece.as_bytes()));
-        append(alloc, &mut told, pushed, sink.contents())?;
+        append(&mut told, pushed, sink.contents())?;
     }
     Ok(told)
 }
@@ -47,8 +42,9 @@ fn pushes(alloc: Global, sink: &mut MemorySink, pieces: &str) -> Result<String, 
     let mut told = String::new(alloc);
     for piece in pieces.split(' ') {
         if !piece.is_empty() {
-            let pushed = push_text(alloc, sink.push(piece.as_bytes()))?;
-            append(alloc, &mut told, pushed.as_str(), sink.contents())?;
+            part(&mut told)?;
+            say_push(sink.push(piece.as_bytes()), &mut told)?;
+            say_contents(sink.contents(), &mut told)?;
         }
     }
     Ok(told)
@@ -56,7 +52,7 @@ fn pushes(alloc: Global, sink: &mut MemorySink, pieces: &str) -> Result<String, 
 
 /// The room, and the pieces, of which each is pushed whole.
 pub fn steady(alloc: Global, asked: &str) -> Result<String, AllocError> {
-    let (room, pieces) = match asked.split_once(' ') {
+    let (room, pieces) = match two_of(asked) {
         Some(parts) => parts,
         None => return String::from_str(alloc, "no case"),
     };
@@ -70,7 +66,7 @@ fn steady_pushes(alloc: Global, sink: &mut SteadySink, pieces: &str) -> Result<S
     let mut told = String::new(alloc);
     for piece in pieces.split(' ') {
         let pushed = pushed_text(push_all(sink, piece.as_bytes()));
-        append(alloc, &mut told, pushed, sink.contents())?;
+        append(&mut told, pushed, sink.contents())?;
     }
     Ok(told)
 }
@@ -82,9 +78,10 @@ pub fn writer(alloc: Global, pieces: &str) -> Result<String, AllocError> {
 }
 
 fn written(alloc: Global, host: &mut Host, pieces: &str) -> Result<String, AllocError> {
-    let told = writes(alloc, host, pieces)?;
-    let text = str::from_utf8(host.bytes()).unwrap_or("no text");
-    format!(in alloc; "{told}; {text}")
+    let mut told = writes(alloc, host, pieces)?;
+    told.push_str("; ")?;
+    told.push_str(str::from_utf8(host.bytes()).unwrap_or("no text"))?;
+    Ok(told)
 }
 
 fn writes(alloc: Global, host: &mut Host, pieces: &str) -> Result<String, AllocError> {
@@ -92,20 +89,17 @@ fn writes(alloc: Global, host: &mut Host, pieces: &str) -> Result<String, AllocE
     let mut told = String::new(alloc);
     for piece in pieces.split(' ') {
         if !piece.is_empty() {
-            let pushed = push_text(alloc, sink.push(piece.as_bytes()))?;
-            if !told.is_empty() {
-                told.push_str(", ")?;
-            }
-            told.push_str(pushed.as_str())?;
+            part(&mut told)?;
+            say_push(sink.push(piece.as_bytes()), &mut told)?;
         }
     }
     Ok(told)
 }
 
-fn push_text(alloc: Global, push: Push) -> Result<String, AllocError> {
+fn say_push(push: Push, told: &mut String) -> Result<(), AllocError> {
     match push {
-        Push::Took(count) => format!(in alloc; "{count}"),
-        Push::Failed => String::from_str(alloc, "failed"),
+        Push::Took(count) => write!(told, "{count}"),
+        Push::Failed => told.push_str("failed"),
     }
 }
 
@@ -116,21 +110,19 @@ fn pushed_text(pushed: Pushed) -> &'static str {
     }
 }
 
-/// Tells an answer with the contents after it, in brackets where they are told.
-fn append(
-    alloc: Global,
-    told: &mut String,
-    answer: &str,
-    contents: Option<&[u8]>,
-) -> Result<(), AllocError> {
-    if !told.is_empty() {
-        told.push_str(", ")?;
-    }
+/// Tells an answer with the contents after it.
+fn append(told: &mut String, answer: &str, contents: Option<&[u8]>) -> Result<(), AllocError> {
+    part(told)?;
     told.push_str(answer)?;
+    say_contents(contents, told)
+}
+
+/// Tells the contents in brackets, where they are told.
+fn say_contents(contents: Option<&[u8]>, told: &mut String) -> Result<(), AllocError> {
     match contents {
         Some(bytes) => {
             let text = str::from_utf8(bytes).unwrap_or("no text");
-            told.push_str(format!(in alloc; " [{text}]")?.as_str())
+            write!(told, " [{text}]")
         }
         None => told.push_str(" untold"),
     }

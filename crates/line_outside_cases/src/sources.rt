@@ -2,20 +2,21 @@ ghost use Rattle.std.specs.Prelude.{◌<◌};
 
 use crate::host::Host;
 use crate::numbers::{calls_of, room_of};
+use crate::parts::{part, two_of};
 use line_outside::{MemorySource, Pull, ReaderSource, Source, SteadySource};
 use std::alloc::{AllocError, Global};
 use std::str;
 
 /// The calls that fail, the bytes, and the rooms of the pulls.
 pub fn memory(alloc: Global, asked: &str) -> Result<String, AllocError> {
-    match asked.split_once(' ') {
+    match two_of(asked) {
         Some((failing, asked)) => failing_at(alloc, calls_of(alloc, failing)?.as_slice(), asked),
         None => String::from_str(alloc, "no case"),
     }
 }
 
 fn failing_at(alloc: Global, failing: &[u64], asked: &str) -> Result<String, AllocError> {
-    let (bytes, rooms) = match asked.split_once(' ') {
+    let (bytes, rooms) = match two_of(asked) {
         Some(parts) => parts,
         None => return String::from_str(alloc, "no case"),
     };
@@ -27,7 +28,7 @@ fn failing_at(alloc: Global, failing: &[u64], asked: &str) -> Result<String, All
 
 /// The bytes, and the rooms of the pulls.
 pub fn steady(alloc: Global, asked: &str) -> Result<String, AllocError> {
-    let (bytes, rooms) = match asked.split_once(' ') {
+    let (bytes, rooms) = match two_of(asked) {
         Some(parts) => parts,
         None => return String::from_str(alloc, "no case"),
     };
@@ -46,24 +47,32 @@ pub fn reader(alloc: Global, rooms: &str) -> Result<String, AllocError> {
 fn pulls<S: Source>(alloc: Global, source: &mut S, rooms: &str) -> Result<String, AllocError> {
     let mut told = String::new(alloc);
     for room in rooms.split(' ') {
-        if !told.is_empty() {
-            told.push_str(", ")?;
-        }
-        told.push_str(pulled(alloc, source, room_of(room))?.as_str())?;
+        part(&mut told)?;
+        say_pull(alloc, source, room_of(room), &mut told)?;
     }
     Ok(told)
 }
 
 /// What a pull answers, and the room after it, which was full of points.
-fn pulled<S: Source>(alloc: Global, source: &mut S, room: usize) -> Result<String, AllocError>
+fn say_pull<S: Source>(
+    alloc: Global,
+    source: &mut S,
+    room: usize,
+    told: &mut String,
+) -> Result<(), AllocError>
     requires { 0 < room }
 {
     let mut room = vec![in alloc; b'.'; room]?;
     let pull = source.pull(room.as_mut_slice());
-    let text = str::from_utf8(room.as_slice()).unwrap_or("no text");
+    say_pulled(pull, told)?;
+    told.push_str(" ")?;
+    told.push_str(str::from_utf8(room.as_slice()).unwrap_or("no text"))
+}
+
+fn say_pulled(pull: Pull, told: &mut String) -> Result<(), AllocError> {
     match pull {
-        Pull::Bytes(count) => format!(in alloc; "{count} {text}"),
-        Pull::End => format!(in alloc; "end {text}"),
-        Pull::Failed => format!(in alloc; "failed {text}"),
+        Pull::Bytes(count) => write!(told, "{count}"),
+        Pull::End => told.push_str("end"),
+        Pull::Failed => told.push_str("failed"),
     }
 }
