@@ -11,6 +11,7 @@ use crate::forms::{
     shutdown, signal, spoil, supervise, take, tick, unseen,
 };
 use crate::line::{LineError, LineWhy, ScriptLine};
+use crate::words::is_word;
 use std::alloc::Global;
 
 /// The line that a first word and its arguments ask for.
@@ -18,22 +19,22 @@ pub fn line_of(alloc: Global, first: &[u8], words: &[&[u8]]) -> Result<ScriptLin
     ensures answer { Reads (line_among forms first.now (map (λ word. word.now) words.now)) result }
     ensures within { IfOk result IsWithin }
 {
-    if first == &b"machine"[..] {
+    if is_word(first, b"machine") {
         return refused(machine(words));
     }
-    if first == &b"bridge"[..] {
+    if is_word(first, b"bridge") {
         return refused(bridge(words));
     }
-    if first == &b"insert"[..] {
+    if is_word(first, b"insert") {
         return insert(alloc, words);
     }
-    if first == &b"query"[..] {
+    if is_word(first, b"query") {
         return query(alloc, words);
     }
-    if first == &b"ask"[..] {
+    if is_word(first, b"ask") {
         return ask(alloc, words);
     }
-    if first == &b"answer"[..] {
+    if is_word(first, b"answer") {
         return answer(alloc, words);
     }
     refused(board_line(first, words))
@@ -43,22 +44,22 @@ fn board_line(first: &[u8], words: &[&[u8]]) -> Result<ScriptLine, LineWhy>
     ensures answer { result ≡ line_among board_forms first.now (map (λ word. word.now) words.now) }
     ensures within { IfOk result IsWithin }
 {
-    if first == &b"remove"[..] {
+    if is_word(first, b"remove") {
         return remove(words);
     }
-    if first == &b"replace"[..] {
+    if is_word(first, b"replace") {
         return replace(words);
     }
-    if first == &b"mark"[..] {
+    if is_word(first, b"mark") {
         return mark(words);
     }
-    if first == &b"hold"[..] {
+    if is_word(first, b"hold") {
         return hold(words);
     }
-    if first == &b"go"[..] {
+    if is_word(first, b"go") {
         return go(words);
     }
-    if first == &b"signal"[..] {
+    if is_word(first, b"signal") {
         return signal(words);
     }
     link_line(first, words)
@@ -68,25 +69,25 @@ fn link_line(first: &[u8], words: &[&[u8]]) -> Result<ScriptLine, LineWhy>
     ensures answer { result ≡ line_among link_forms first.now (map (λ word. word.now) words.now) }
     ensures within { IfOk result IsWithin }
 {
-    if first == &b"connect"[..] {
+    if is_word(first, b"connect") {
         return connect(words);
     }
-    if first == &b"flow"[..] {
+    if is_word(first, b"flow") {
         return flow(words);
     }
-    if first == &b"notice"[..] {
+    if is_word(first, b"notice") {
         return notice(words);
     }
-    if first == &b"cut"[..] {
+    if is_word(first, b"cut") {
         return cut(words);
     }
-    if first == &b"spoil"[..] {
+    if is_word(first, b"spoil") {
         return spoil(words);
     }
-    if first == &b"forecast"[..] {
+    if is_word(first, b"forecast") {
         return forecast(words);
     }
-    if first == &b"supervise"[..] {
+    if is_word(first, b"supervise") {
         return supervise(words);
     }
     machine_line(first, words)
@@ -96,19 +97,19 @@ fn machine_line(first: &[u8], words: &[&[u8]]) -> Result<ScriptLine, LineWhy>
     ensures answer { result ≡ line_among machine_forms first.now (map (λ word. word.now) words.now) }
     ensures within { IfOk result IsWithin }
 {
-    if first == &b"shutdown"[..] {
+    if is_word(first, b"shutdown") {
         return shutdown(words);
     }
-    if first == &b"tick"[..] {
+    if is_word(first, b"tick") {
         return tick(words);
     }
-    if first == &b"fault"[..] {
+    if is_word(first, b"fault") {
         return fault(words);
     }
-    if first == &b"lie"[..] {
+    if is_word(first, b"lie") {
         return lie(words);
     }
-    if first == &b"unseen"[..] {
+    if is_word(first, b"unseen") {
         return unseen(words);
     }
     floor_line(first, words)
@@ -118,25 +119,25 @@ fn floor_line(first: &[u8], words: &[&[u8]]) -> Result<ScriptLine, LineWhy>
     ensures answer { result ≡ line_among floor_forms first.now (map (λ word. word.now) words.now) }
     ensures within { IfOk result IsWithin }
 {
-    if first == &b"sense"[..] {
+    if is_word(first, b"sense") {
         return sense(words);
     }
-    if first == &b"begin"[..] {
+    if is_word(first, b"begin") {
         return begin(words);
     }
-    if first == &b"left"[..] {
+    if is_word(first, b"left") {
         return left(words);
     }
-    if first == &b"in"[..] {
+    if is_word(first, b"in") {
         return enter(words);
     }
-    if first == &b"back"[..] {
+    if is_word(first, b"back") {
         return back(words);
     }
-    if first == &b"hand-in"[..] {
+    if is_word(first, b"hand-in") {
         return hand_in(words);
     }
-    if first == &b"take"[..] {
+    if is_word(first, b"take") {
         return take(words);
     }
     report_line(first, words)
@@ -146,7 +147,7 @@ fn report_line(first: &[u8], words: &[&[u8]]) -> Result<ScriptLine, LineWhy>
     ensures answer { result ≡ line_among report_forms first.now (map (λ word. word.now) words.now) }
     ensures within { IfOk result IsWithin }
 {
-    if first == &b"show"[..] {
+    if is_word(first, b"show") {
         return show(words);
     }
     Err(LineWhy::UnknownWord)

@@ -49,7 +49,7 @@ pub fn refused(line: Result<ScriptLine, LineWhy>) -> Result<ScriptLine, LineErro
 }
 
 /// How many boards a machine has room for, and how many ids it has made.
-#[derive(Clone, Copy, Debug, PartialEq, Eq)]
+#[derive(Clone, Copy)]
 struct Room {
     capacity: u32,
     used: u64,
@@ -588,7 +588,7 @@ pub fn unseen(words: &[&[u8]]) -> Result<ScriptLine, LineWhy>
 }
 
 /// A machine, and one of its sides.
-#[derive(Clone, Copy, Debug, PartialEq, Eq)]
+#[derive(Clone, Copy)]
 struct AtSide {
     machine: u32,
     side: Side,

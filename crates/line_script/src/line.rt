@@ -1,3 +1,6 @@
+ghost use Rattle.std.specs.Prelude.{◌≡◌};
+ghost use Rattle.line_script.specs.Words.{why_text};
+
 use board_record::{BoardId, Sensed};
 use hermes_vertical::Question;
 use line_base::{Quality, Side, Text};
@@ -181,6 +184,24 @@ pub enum LineWhy {
     BadWord,
 }
 
+impl LineWhy {
+    fn text(self) -> &'static str
+        ensures { result.now ≡ why_text self }
+    {
+        match self {
+            LineWhy::LongLine => "long line",
+            LineWhy::TooManyLines => "too many lines",
+            LineWhy::NotText => "not text",
+            LineWhy::UnknownWord => "unknown word",
+            LineWhy::WrongCount => "wrong count",
+            LineWhy::BadNumber => "bad number",
+            LineWhy::BadSide => "bad side",
+            LineWhy::BadId => "bad id",
+            LineWhy::BadWord => "bad word",
+        }
+    }
+}
+
 impl fmt::Display for LineWhy {
     ghost use Rattle.std.specs.Prelude.{Some};
     ghost use Rattle.line_script.specs.Words.{why_text};
@@ -188,17 +209,7 @@ impl fmt::Display for LineWhy {
     ghost output = { λ why. Some (why_text why) };
 
     fn fmt<W: fmt::Write>(&self, f: &mut fmt::Formatter<W>) -> fmt::Result {
-        match self {
-            LineWhy::LongLine => f.write_str("long line"),
-            LineWhy::TooManyLines => f.write_str("too many lines"),
-            LineWhy::NotText => f.write_str("not text"),
-            LineWhy::UnknownWord => f.write_str("unknown word"),
-            LineWhy::WrongCount => f.write_str("wrong count"),
-            LineWhy::BadNumber => f.write_str("bad number"),
-            LineWhy::BadSide => f.write_str("bad side"),
-            LineWhy::BadId => f.write_str("bad id"),
-            LineWhy::BadWord => f.write_str("bad word"),
-        }
+        f.write_str(self.text())
     }
 }
 

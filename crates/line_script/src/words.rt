@@ -2,6 +2,7 @@
 
 ghost use Rattle.std.specs.Prelude.{◌≡◌, IfOk, map};
 ghost use Rattle.std.specs.List.{list_all};
+ghost use Rattle.std.specs.Str.{bytes_eq};
 ghost use Rattle.line_script.specs.Ranges.{IsBetween};
 ghost use Rattle.line_script.specs.Words.{is_blank, is_text_byte, number_in, words_of, ReadsToken, identity_of, literal_of, side_of, quality_of, event_of, segment_line_of, switch_of, asked_by_of, question_of};
 
@@ -19,7 +20,7 @@ const MOST_TOKEN_BYTES: usize = 64;
 const MOST_DIGITS: usize = 15;
 
 /// What a work order is asked for by, where a text is enough to say it.
-#[derive(Clone, Copy, Debug, PartialEq, Eq)]
+#[derive(Clone, Copy)]
 pub enum AskedBy {
     /// A board's barcode.
     Barcode,
@@ -78,11 +79,19 @@ pub fn number(word: &[u8], low: u64, high: u64) -> Result<u64, LineWhy>
     Ok(value)
 }
 
+/// Whether a word is this one.
+#[inline]
+pub fn is_word(word: &[u8], wanted: &[u8]) -> bool
+    ensures { result ≡ bytes_eq word.now wanted.now }
+{
+    word == wanted
+}
+
 /// This word and no other. `BadWord` else.
 pub fn literal(word: &[u8], wanted: &[u8]) -> Result<(), LineWhy>
     ensures { result ≡ literal_of wanted.now word.now }
 {
-    if word == wanted {
+    if is_word(word, wanted) {
         return Ok(());
     }
     Err(LineWhy::BadWord)
@@ -102,10 +111,10 @@ pub fn identity(word: &[u8]) -> Result<BoardId, LineWhy>
 pub fn side(word: &[u8]) -> Result<Side, LineWhy>
     ensures { result ≡ side_of word.now }
 {
-    if word == &b"in"[..] {
+    if is_word(word, b"in") {
         return Ok(Side::Entry);
     }
-    if word == &b"out"[..] {
+    if is_word(word, b"out") {
         return Ok(Side::Exit);
     }
     Err(LineWhy::BadSide)
@@ -115,13 +124,13 @@ pub fn side(word: &[u8]) -> Result<Side, LineWhy>
 pub fn quality(word: &[u8]) -> Result<Quality, LineWhy>
     ensures { result ≡ quality_of word.now }
 {
-    if word == &b"unknown"[..] {
+    if is_word(word, b"unknown") {
         return Ok(Quality::Unknown);
     }
-    if word == &b"good"[..] {
+    if is_word(word, b"good") {
         return Ok(Quality::Good);
     }
-    if word == &b"failed"[..] {
+    if is_word(word, b"failed") {
         return Ok(Quality::Failed);
     }
     Err(LineWhy::BadWord)
@@ -131,19 +140,19 @@ pub fn quality(word: &[u8]) -> Result<Quality, LineWhy>
 pub fn event(word: &[u8]) -> Result<SensorEvent, LineWhy>
     ensures { result ≡ event_of word.now }
 {
-    if word == &b"Begun"[..] {
+    if is_word(word, b"Begun") {
         return Ok(SensorEvent::Begun);
     }
-    if word == &b"Left"[..] {
+    if is_word(word, b"Left") {
         return Ok(SensorEvent::Left);
     }
-    if word == &b"Full"[..] {
+    if is_word(word, b"Full") {
         return Ok(SensorEvent::Full);
     }
-    if word == &b"Back"[..] {
+    if is_word(word, b"Back") {
         return Ok(SensorEvent::Back);
     }
-    if word == &b"Taken"[..] {
+    if is_word(word, b"Taken") {
         return Ok(SensorEvent::Taken);
     }
     Err(LineWhy::BadWord)
@@ -153,13 +162,13 @@ pub fn event(word: &[u8]) -> Result<SensorEvent, LineWhy>
 pub fn segment_line(word: &[u8]) -> Result<SegmentLine, LineWhy>
     ensures { result ≡ segment_line_of word.now }
 {
-    if word == &b"ready"[..] {
+    if is_word(word, b"ready") {
         return Ok(SegmentLine::Ready);
     }
-    if word == &b"available"[..] {
+    if is_word(word, b"available") {
         return Ok(SegmentLine::Available);
     }
-    if word == &b"failed"[..] {
+    if is_word(word, b"failed") {
         return Ok(SegmentLine::Failed);
     }
     Err(LineWhy::BadWord)
@@ -169,10 +178,10 @@ pub fn segment_line(word: &[u8]) -> Result<SegmentLine, LineWhy>
 pub fn switch(word: &[u8]) -> Result<bool, LineWhy>
     ensures { result ≡ switch_of word.now }
 {
-    if word == &b"on"[..] {
+    if is_word(word, b"on") {
         return Ok(true);
     }
-    if word == &b"off"[..] {
+    if is_word(word, b"off") {
         return Ok(false);
     }
     Err(LineWhy::BadWord)
@@ -182,10 +191,10 @@ pub fn switch(word: &[u8]) -> Result<bool, LineWhy>
 pub fn asked_by(word: &[u8]) -> Result<AskedBy, LineWhy>
     ensures { result ≡ asked_by_of word.now }
 {
-    if word == &b"barcode"[..] {
+    if is_word(word, b"barcode") {
         return Ok(AskedBy::Barcode);
     }
-    if word == &b"order"[..] {
+    if is_word(word, b"order") {
         return Ok(AskedBy::Order);
     }
     Err(LineWhy::BadWord)
