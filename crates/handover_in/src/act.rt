@@ -113,8 +113,10 @@ impl InAct {
     ) -> InAct
         ensures { result ≡ drops board own send drive }
     {
+        let id = board.id;
+        drop(board);
         InAct {
-            deed: Some(InDeed::Drops(board.id)),
+            deed: Some(InDeed::Drops(id)),
             send,
             drive,
             keep: None,

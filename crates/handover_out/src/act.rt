@@ -76,8 +76,10 @@ impl OutAct {
     pub(crate) fn leaves(board: Record, send: Option<OutSend>, drive: Option<bool>) -> OutAct
         ensures { result ≡ leaves board send drive }
     {
+        let id = board.id;
+        drop(board);
         OutAct {
-            deed: Some(OutDeed::Leaves(board.id)),
+            deed: Some(OutDeed::Leaves(id)),
             send,
             drive,
             back: None,
@@ -98,8 +100,10 @@ impl OutAct {
     pub(crate) fn loses(board: Record, send: Option<OutSend>, drive: Option<bool>) -> OutAct
         ensures { result ≡ loses board send drive }
     {
+        let id = board.id;
+        drop(board);
         OutAct {
-            deed: Some(OutDeed::Loses(board.id)),
+            deed: Some(OutDeed::Loses(id)),
             send,
             drive,
             back: None,
