@@ -6,7 +6,6 @@ use Rattle.log_verdict.specs.declared.checked.Checked.TheVariants as ends
 use Rattle.line_cli.specs.Checking.{Checks, status_by}
 use Rattle.line_cli.specs.Command.{HasCauses, IsCheckStatus}
 use Rattle.line_cli.specs.declared.status.Status.{Status}
-use Rattle.line_cli.specs.declared.status.Status.TheVariants as statuses
 
 checks_end : (left_old left_new old new : Option (List ℕ)) (checked : Checked) → verdicts.Checks left_old left_new old new checked → Checks left_old left_new old new (status_by checked)
 checks_end left_old left_new old new ends.Done checks = checks

@@ -1,10 +1,8 @@
 -- A number has one make text.
 use Rattle.std.proofs.Common.{◌≡◌, ◌++◌, ℕ, List, [], ◌∷◌, None, codes, decimal, length, take, refl, sym, ap, ◌∙◌, arith, length-append}
 use Rattle.std.proofs.Math.Seq.{take-append_seam}
-use Rattle.line_report.specs.Texts.{summary_text}
-use Rattle.line_step.specs.State.{LineState, no_line}
-use Rattle.line_step.specs.Runs.{Point, state_behind, told_text}
-use Rattle.line_step.specs.Views.{summary_of}
+use Rattle.line_step.specs.State.{no_line}
+use Rattle.line_step.specs.Runs.{state_behind, told_text}
 use Rattle.line_step.proofs.Once.{OneMeaning}
 use Rattle.line_step.proofs.LineOnce.{LinesAlike, run-once}
 use Rattle.made_script.specs.Fold.{fold_of}

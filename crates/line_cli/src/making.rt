@@ -74,8 +74,20 @@ fn make_text(alloc: Global, number: u32) -> Result<Vec<u8>, Memory>
     ensures { IfOk result (λ text. IsMakeText number text.items) }
 {
     let mut run = ScriptRun::new(alloc);
-    let fold = run_made(alloc, number, &mut run)?;
-    last_line(alloc, &run, fold)
+    let text = text_of_run(alloc, number, &mut run);
+    drop(run);
+    text
+}
+
+/// Runs a made script on a new run, and answers the last line of its report with the fold of the
+/// whole behind it.
+fn text_of_run(alloc: Global, number: u32, run: &mut ScriptRun) -> Result<Vec<u8>, Memory>
+    requires new { run.old ≡ no_line }
+    requires few { number ≤ 50000 }
+    ensures { IfOk result (λ text. IsMakeText number text.items) }
+{
+    let fold = run_made(alloc, number, run)?;
+    last_line(alloc, run, fold)
 }
 
 /// Runs a made script, and answers the fold of what its lines are told of.
@@ -102,7 +114,9 @@ fn do_made(run: &mut ScriptRun, line: ScriptLine, told: &mut Vec<u8>) -> Result<
     ensures does { OnOk result (DoesAsked line run.old run.new told.old.items told.new.items) }
     ensures unspent { OnOk result (run.new.spent ≡ false) }
 {
-    run.do_asked(&line, told)
+    let done = run.do_asked(&line, told);
+    drop(line);
+    done
 }
 
 /// Folds what was told and not folded yet, if there is a big piece of it.

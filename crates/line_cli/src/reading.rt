@@ -1,4 +1,4 @@
-ghost use Rattle.std.specs.Prelude.{◌≡◌, ◌≤◌, ◌<◌, ◌^◌, ◌++◌};
+ghost use Rattle.std.specs.Prelude.{◌≡◌, ◌≤◌, ◌<◌, ◌^◌, ◌++◌, [], length};
 ghost use Rattle.line_cli.specs.Command.{HasCauses, IsReadStatus};
 ghost use Rattle.line_cli.specs.Stream.{Reads, EndsRead};
 
@@ -29,29 +29,57 @@ pub fn read_stream<S: Source, K: Sink>(alloc: Global, stream: &mut S, text_to: &
         Err(_) => return Status::Memory,
     };
     let mut text = Vec::new(alloc);
+    read_pieces(
+        alloc,
+        stream,
+        room.as_mut_slice(),
+        &mut cutter,
+        &mut text,
+        text_to,
+    )
+}
+
+/// Reads the stream piece by piece, from its first byte on.
+fn read_pieces<S: Source, K: Sink>(
+    alloc: Global,
+    stream: &mut S,
+    room: &mut [u8],
+    cutter: &mut Cutter,
+    text: &mut Vec<u8>,
+    text_to: &mut K,
+) -> Status
+    requires new { cutter.old ≡ [] }
+    requires room { 0 < length room.old }
+    requires none { text.old.items ≡ [] }
+    ensures reads { Reads (S.left stream.old) (S.left stream.new) (K.contents text_to.old)
+        (K.contents text_to.new) result }
+    ensures fits { IsReadStatus result }
+    ensures causes { HasCauses result (S.faults stream.old) (S.faults stream.new)
+        (K.faults text_to.old) (K.faults text_to.new) }
+{
     let mut far = Progress::start();
     loop {
-        match stream.pull(room.as_mut_slice()) {
+        match stream.pull(room) {
             Pull::Bytes(count) => {
-                let piece = front(room.as_slice(), count);
+                let piece = front(room, count);
                 let space = MOST_READ - far.taken;
                 if count as u64 > space {
                     let part = front(piece, space as usize);
-                    let Ok(now) = take_some(alloc, &mut cutter, far, part, &mut text) else {
+                    let Ok(now) = take_some(alloc, cutter, far, part, text) else {
                         return Status::Memory;
                     };
-                    return end_read(now, cutter.waiting(), true, &mut text, text_to);
+                    return end_read(now, cutter.waiting(), true, text, text_to);
                 }
-                let Ok(now) = take_some(alloc, &mut cutter, far, piece, &mut text) else {
+                let Ok(now) = take_some(alloc, cutter, far, piece, text) else {
                     return Status::Memory;
                 };
                 far = now;
-                if let Pushed::Failed = push_full(&mut text, text_to) {
+                if let Pushed::Failed = push_full(text, text_to) {
                     return Status::WriteFault;
                 }
             }
             Pull::End => {
-                return end_read(far, cutter.waiting(), false, &mut text, text_to);
+                return end_read(far, cutter.waiting(), false, text, text_to);
             }
             Pull::Failed => {
                 let _pushed = push_all(text_to, text.as_slice());

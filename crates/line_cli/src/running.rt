@@ -1,4 +1,5 @@
-ghost use Rattle.std.specs.Prelude.{◌≡◌, ◌≤◌, length, take};
+ghost use Rattle.std.specs.Prelude.{◌≡◌, ◌<◌, ◌≤◌, [], length, take};
+ghost use Rattle.line_step.specs.State.{no_line};
 ghost use Rattle.line_cli.specs.Command.{Runs, HasCauses, IsRunStatus};
 ghost use Rattle.line_cli.specs.Reader.{IsNumbered};
 ghost use Rattle.line_cli.specs.Ending.{PushesFull, EndsWhole, EndsRefused};
@@ -26,18 +27,40 @@ pub fn run_script<S: Source, K: Sink>(alloc: Global, script: &mut S, report: &mu
     };
     let mut text = Vec::new(alloc);
     let mut reader = ScriptReader::new(alloc);
+    let status = run_pieces(&mut reader, script, room.as_mut_slice(), &mut text, report);
+    drop(reader);
+    status
+}
+
+/// Runs the script piece by piece, from a new reader on.
+fn run_pieces<S: Source, K: Sink>(
+    reader: &mut ScriptReader,
+    script: &mut S,
+    room: &mut [u8],
+    text: &mut Vec<u8>,
+    report: &mut K,
+) -> Status
+    requires new { reader.old ≡ record { state = no_line; pending = [] } }
+    requires room { 0 < length room.old }
+    requires none { text.old.items ≡ [] }
+    ensures runs { Runs (S.left script.old) (S.left script.new) (K.contents report.old)
+        (K.contents report.new) result }
+    ensures fits { IsRunStatus result }
+    ensures causes { HasCauses result (S.faults script.old) (S.faults script.new)
+        (K.faults report.old) (K.faults report.new) }
+{
     loop {
-        match script.pull(room.as_mut_slice()) {
+        match script.pull(room) {
             Pull::Bytes(count) => {
-                if let Err(error) = reader.take_piece(front(room.as_slice(), count), &mut text) {
+                if let Err(error) = reader.take_piece(front(room, count), text) {
                     return end_refused(error, text.as_slice(), report);
                 }
-                if let Pushed::Failed = push_full(&mut text, report) {
+                if let Pushed::Failed = push_full(text, report) {
                     return Status::WriteFault;
                 }
             }
             Pull::End => {
-                if let Err(error) = reader.finish(&mut text) {
+                if let Err(error) = reader.finish(text) {
                     return end_refused(error, text.as_slice(), report);
                 }
                 return end_whole(reader.is_unvouched(), text.as_slice(), report);

@@ -69,14 +69,17 @@ impl ScriptRun {
         if number > MOST_LINES {
             return refuse(number, LineWhy::TooManyLines, to);
         }
-        let asked = match read_line(self.alloc, line) {
-            Ok(asked) => asked,
-            Err(LineError::Refused(why)) => return refuse(number, why, to),
-            Err(LineError::Memory) => return Err(RunError::Memory),
-        };
-        match self.do_asked(&asked, to) {
-            Ok(()) => Ok(()),
-            Err(_) => Err(RunError::Memory),
+        match read_line(self.alloc, line) {
+            Ok(asked) => {
+                let done = self.do_asked(&asked, to);
+                drop(asked);
+                match done {
+                    Ok(()) => Ok(()),
+                    Err(_) => Err(RunError::Memory),
+                }
+            }
+            Err(LineError::Refused(why)) => refuse(number, why, to),
+            Err(LineError::Memory) => Err(RunError::Memory),
         }
     }
 

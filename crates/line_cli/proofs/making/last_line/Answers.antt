@@ -1,4 +1,4 @@
-use Rattle.std.proofs.Common.{◌≡◌, ◌<◌, refl, sym, ◌∙◌, arith}
+use Rattle.std.proofs.Common.{sym, ◌∙◌, arith}
 use Rattle.line_cli.proofs.Folding.{last-line, summed}
 use Rattle.line_cli.proofs.making.last_line.Goals as goal
 

@@ -1,7 +1,7 @@
-use Rattle.std.proofs.Common.{◌≡◌, ◌≤◌, ◌+◌, ◌-◌, length, vec_len}
+use Rattle.std.proofs.Common.{◌<◌, ◌≤◌, ◌+◌, ◌-◌, length}
 use Rattle.line_cli.specs.Stream.{ReadsOn}
 use Rattle.line_cli.specs.StreamReader.{IsOver}
-use Rattle.line_cli.proofs.reading.read_stream.Given as goal
+use Rattle.line_cli.proofs.reading.read_pieces.Given as goal
 
 abbrev pub invariant-loop-count : goal.invariant-loop-count
 invariant-loop-count g l = record {
@@ -11,7 +11,7 @@ invariant-loop-count g l = record {
   bounded : l.far.done + length l.cutter ≤ l.far.taken;
   reads : g.S.Source.faults l.fn.stream ≤ g.S.Source.faults l.stream;
   writes : g.K.Sink.faults l.fn.text_to ≤ g.K.Sink.faults l.text_to;
-  room : vec_len l.room ≡ 65536;
+  room : 0 < length l.room;
 }
 
 -- each piece has a byte at least

@@ -1,8 +1,7 @@
-use Rattle.std.proofs.Common.{◌≡◌}
 use Rattle.std.proofs.lemmas.Result.{IfOk-weaker}
 use Rattle.line_cli.specs.Making.{IsLastLine, IsMakeText}
 use Rattle.line_cli.proofs.Folding.{folds-end}
-use Rattle.line_cli.proofs.making.make_text.Goals as goal
+use Rattle.line_cli.proofs.making.text_of_run.Goals as goal
 
 pub returns : goal.returns
 returns c =

@@ -1,14 +1,14 @@
-use Rattle.std.proofs.Common.{◌≡◌, ◌≤◌, ◌-◌, false, vec_len}
+use Rattle.std.proofs.Common.{◌≡◌, ◌<◌, ◌≤◌, ◌-◌, false, length}
 use Rattle.line_cli.specs.Reader.{progress_of}
 use Rattle.line_cli.specs.Ending.{GoesOn}
-use Rattle.line_cli.proofs.running.run_script.Given as goal
+use Rattle.line_cli.proofs.running.run_pieces.Given as goal
 
 abbrev pub invariant-loop-count : goal.invariant-loop-count
 invariant-loop-count g l = record {
   going : GoesOn (g.S.Source.left l.fn.script) (g.S.Source.left l.script) (g.K.Sink.contents l.fn.report) (g.K.Sink.contents l.report) l.reader l.text.items;
   reads : g.S.Source.faults l.fn.script ≤ g.S.Source.faults l.script;
   writes : g.K.Sink.faults l.fn.report ≤ g.K.Sink.faults l.report;
-  room : vec_len l.room ≡ 65536;
+  room : 0 < length l.room;
   unspent : l.reader.state.spent ≡ false;
   bounded : progress_of l.reader ≤ 4099004097;
 }
