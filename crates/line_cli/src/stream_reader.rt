@@ -1,10 +1,10 @@
 //! Reads the messages of a stream, piece by piece, and writes a line for each.
 
-ghost use Rattle.std.specs.Prelude.{◌≡◌, ◌+◌, ◌≤◌, ◌<◌, ◌^◌, ◌++◌, IfOk, OnOk, codes, decimal, length, false, true};
+ghost use Rattle.std.specs.Prelude.{◌≡◌, ◌+◌, ◌≤◌, ◌<◌, ◌^◌, ◌++◌, IfOk, OnOk, codes, decimal, length, false};
 ghost use Rattle.hermes_horizontal.specs.Texts.{message_error_text};
 ghost use Rattle.line_cli.specs.Texts.{entry};
 ghost use Rattle.line_cli.specs.ReadText.{message_text};
-ghost use Rattle.line_cli.specs.ReadText.{ending_text, end_text, too_large_text};
+ghost use Rattle.line_cli.specs.ReadText.{ending_text, end_text};
 ghost use Rattle.line_cli.specs.StreamReader.{WritesLine, TakesPiece, TakesSome, IsOver};
 
 use hermes_horizontal::{Horizontal, Message, MessageError, read_horizontal, write_horizontal};
@@ -104,33 +104,13 @@ fn write_end(far: Progress, waiting: usize, large: bool, to: &mut Vec<u8>) -> Re
     ensures { OnOk result
         (to.new.items ≡ to.old.items ++ end_text far.done far.too_long waiting large) }
 {
-    match (large, far.too_long) {
-        (true, _) => write_too_large(to),
-        (false, true) => write_count(far.done, to),
-        (false, false) => write_count_and_rest(far.done, waiting, to),
-    }
-}
-
-fn write_too_large(to: &mut Vec<u8>) -> Result<(), Memory>
-    ensures { OnOk result (to.new.items ≡ to.old.items ++ too_large_text) }
-{
-    to.extend_from_slice(b"refused 0: too large\n")?;
-    Ok(())
-}
-
-fn write_count(done: u64, to: &mut Vec<u8>) -> Result<(), Memory>
-    ensures { OnOk result (to.new.items ≡ to.old.items ++ end_text done true 0 false) }
-{
-    match write!(to, "end messages={done}\n") {
-        Ok(()) => Ok(()),
-        Err(_) => Err(Memory),
-    }
-}
-
-fn write_count_and_rest(done: u64, waiting: usize, to: &mut Vec<u8>) -> Result<(), Memory>
-    ensures { OnOk result (to.new.items ≡ to.old.items ++ end_text done false waiting false) }
-{
-    match write!(to, "end messages={done} rest={waiting}\n") {
+    let done = far.done;
+    let written = match (large, far.too_long) {
+        (true, _) => write!(to, "refused 0: too large\n"),
+        (false, true) => write!(to, "end messages={done}\n"),
+        (false, false) => write!(to, "end messages={done} rest={waiting}\n"),
+    };
+    match written {
         Ok(()) => Ok(()),
         Err(_) => Err(Memory),
     }
