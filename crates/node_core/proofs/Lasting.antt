@@ -1,6 +1,7 @@
 -- What holds of a machine between its steps lasts.
 use Rattle.std.proofs.Common.{◌≡◌, ◌∙◌, ◌<◌, ◌++◌, ℕ, ℤ, pos, Bool, true, false, List, Option, Some, None, Result, Ok, Err, refl, sym, ap, subst, arith, not}
 use Rattle.std.specs.Prelude.{◌==◌, ◌||◌, ◌≢◌, length}
+use Rattle.line_base.specs.declared.states.Side.TheVariants.{Entry, Exit}
 use Rattle.board_record.specs.Maker.{Maker, next_id}
 use Rattle.board_record.specs.declared.maker.IdsUsedUp.{IdsUsedUp}
 use Rattle.board_record.specs.declared.sensed.Sensed.{Sensed}
@@ -27,14 +28,14 @@ use Rattle.supervisory_core.specs.Orders.{is_full, unanswered}
 use Rattle.supervisory_core.specs.declared.order.Order.{Order}
 use Rattle.node_core.specs.Event.{Event, Insert, Replace, Level, with_new, event_of, event_did}
 use Rattle.node_core.specs.Step.{StepsLane, Steps, machine_step}
-use Rattle.node_core.specs.Breaking.{BreaksOffAt, IsBrokenOff}
+use Rattle.node_core.specs.Breaking.{IsBrokenOff}
 use Rattle.node_core.specs.Node.{NodeState, desk_of, new_body, first_body, first_levels}
 use Rattle.node_core.specs.May.{no_if, may_do, may_of, is_used_up}
 use Rattle.node_core.specs.Own.{own_of, own_after}
 use Rattle.node_core.specs.Sound.{IsSound}
 use Rattle.node_core.proofs.Keeping.{SameWills, own_append}
 use Rattle.node_core.proofs.Sound.{HasPlaceFor, IsWilless, all_read_keeps, announces_keeps, event_wills, fails_wills, step_sound, step_owns, below_from}
-use Rattle.node_core.proofs.Breaking.{breaks_off}
+use Rattle.node_core.proofs.Breaking.{OneMeaning, breaks_off}
 use Rattle.node_core.proofs.Signalling.{signals_silent, told_signals}
 
 pub first_sound : (most : ℕ) (is_bridge : Bool) → IsSound most (first_body is_bridge)
@@ -153,17 +154,32 @@ owns_after s t unread input moment acts may steps =
     ∙ sym (own_append own steps.made (signalled s.bridge t.lane.body))
     ∙ ap (own_after own) (sym steps.told)
 
-breaks_at : (desk : Desk) (unread : List Sensed) (input : Input) (maker new_maker : Maker) (old new : Lane) (made own acts : List Act) → (steps : StepsLane desk unread input maker new_maker old new made) → acts ≡ made ++ own → BreaksOffAt desk unread input steps.words old.body new.body own acts
-breaks_at desk unread (inputs.Bytes side piece) maker new_maker old new made own acts steps behind = breaks_off desk unread side steps.words old.body new.body made own acts steps.body steps.told behind
-breaks_at desk unread inputs.Connect maker new_maker old new made own acts steps behind = tt
-breaks_at desk unread _ maker new_maker old new made own acts steps behind = tt
+breaks_at : OneMeaning → (s t : NodeState) (unread : List Sensed) (input : Input) (moment : ℤ) (new_maker : Maker) (made acts : List Act)
+    → StepsLane (desk_of s moment) unread input s.maker new_maker s.lane t.lane made → acts ≡ made ++ signalled s.bridge t.lane.body
+    → IsBrokenOff s unread input moment t acts
+breaks_at one s t unread (inputs.Bytes Entry piece) moment new_maker made acts steps behind =
+    breaks_off one (desk_of s moment) unread Entry s.lane.entry_bytes piece.now t.lane.entry_bytes steps.words s.lane.body t.lane.body made (signalled s.bridge t.lane.body) acts steps.brings.0 steps.body steps.told behind
+breaks_at one s t unread (inputs.Bytes Exit piece) moment new_maker made acts steps behind =
+    breaks_off one (desk_of s moment) unread Exit s.lane.exit_bytes piece.now t.lane.exit_bytes steps.words s.lane.body t.lane.body made (signalled s.bridge t.lane.body) acts steps.brings.0 steps.body steps.told behind
+breaks_at one s t unread inputs.Connect moment new_maker made acts steps behind = tt
+breaks_at one s t unread _ moment new_maker made acts steps behind = tt
 
-pub breaks_after : (s t : NodeState) (unread : List Sensed) (input : Input) (moment : ℤ) (acts : List Act) → Steps s unread input moment t acts → IsBrokenOff s unread input moment t acts
-breaks_after s t unread input moment acts steps = record {
-  words = steps.lane.words;
-  brings = steps.lane.brings;
-  breaks = breaks_at (desk_of s moment) unread input s.maker t.maker s.lane t.lane steps.made (signalled s.bridge t.lane.body) acts steps.lane steps.told;
-}
+-- a step of bytes, by the parts of the machine
+pub breaks_after : OneMeaning → (s t : NodeState) (spent : Bool) (desk timed : Desk) (maker new_maker : Maker) (old : Lane)
+    (forecasts : List Info) (orders : List Order) (unread : List Sensed) (input : Input) (moment : ℤ)
+    (told : Option BridgeLevels) (made acts : List Act)
+    → seen_as spent desk maker old forecasts orders ≡ s
+    → timed ≡ record desk { moment = moment; asked = length orders }
+    → told ≡ levels_told input timed.bridge → StepsLane timed unread input maker new_maker old t.lane made
+    → acts ≡ made ++ signalled told t.lane.body
+    → IsBrokenOff s unread input moment t acts
+breaks_after one s t spent desk timed maker new_maker old forecasts orders unread input moment told made acts view is_timed is_told lane is_acts =
+    let P : NodeState → Type 0 = λ n. IsBrokenOff n unread input moment t acts in
+    let told_before : told ≡ levels_told input desk.bridge = is_told ∙ ap (λ (d : Desk). levels_told input d.bridge) is_timed in
+    subst P view
+    (breaks_at one (seen_as spent desk maker old forecasts orders) t unread input moment new_maker made acts
+    (subst (λ (d : Desk). StepsLane d unread input maker new_maker old t.lane made) is_timed lane)
+    (is_acts ∙ ap (λ (b : Option BridgeLevels). made ++ signalled b t.lane.body) told_before ∙ ap (λ (xs : List Act). made ++ xs) (told_signals input desk.bridge t.lane.body)))
 
 -- ---- a bridge stays willing by the levels of its segment
 

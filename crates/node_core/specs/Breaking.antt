@@ -1,7 +1,9 @@
 -- WRONG BYTES: a word that is a breach, and what it does to the step that hears it.
-use Rattle.std.specs.Prelude.{◌≡◌, ℕ, ℤ, Bool, true, false, List, ◌∷◌, ◌++◌, Option, Some, None, is_some}
+use Rattle.std.specs.Prelude.{◌≡◌, ℕ, ℤ, Bool, true, false, List, [], ◌∷◌, ◌++◌, Option, Some, None, is_some}
 use Rattle.line_base.specs.declared.states.Side.{Side}
+use Rattle.line_base.specs.declared.states.Side.TheVariants.{Entry, Exit}
 use Rattle.board_record.specs.declared.sensed.Sensed.{Sensed}
+use Rattle.hermes_stream.specs.Frames.{frames_of}
 use Rattle.hermes_horizontal.specs.Parts.{kind_of}
 use Rattle.session_core.specs.declared.actions.Action.{Action}
 use Rattle.session_core.specs.declared.actions.Action.TheVariants as action
@@ -13,6 +15,7 @@ use Rattle.node_core.specs.declared.act.Act.{Act}
 use Rattle.node_core.specs.declared.input.Input.{Input}
 use Rattle.node_core.specs.declared.input.Input.TheVariants as inputs
 use Rattle.node_core.specs.declared.lane.Body.{Body}
+use Rattle.node_core.specs.declared.lane.Lane.{Lane}
 use Rattle.node_core.specs.declared.word.Word.{Word}
 use Rattle.node_core.specs.declared.word.Word.TheVariants as words
 use Rattle.node_core.specs.Desk.{Desk}
@@ -22,10 +25,9 @@ use Rattle.node_core.specs.Session.{breaches}
 use Rattle.node_core.specs.Hears.{side_took}
 use Rattle.node_core.specs.Reads.{all_read}
 use Rattle.node_core.specs.Announces.{announces}
-use Rattle.node_core.specs.Words.{all_heard}
+use Rattle.node_core.specs.Words.{AreFirst, all_heard}
 use Rattle.node_core.specs.Signals.{signalled}
 use Rattle.node_core.specs.Node.{NodeState, desk_of}
-use Rattle.node_core.specs.Step.{Brings}
 use Rattle.node_core.specs.Supervising.{telling}
 
 -- a message that the session passes on has a row in the table of the half
@@ -66,32 +68,38 @@ abbrev pub heard_before : Desk → List Sensed → Side → List Word → Body �
 heard_before desk unread side front body =
     (and_then (all_read desk unread body) (all_heard desk side front)).body
 
--- a step of bytes breaks off at its first word that is a breach, and the words behind it don't
--- count. A bridge's own signals follow as in any step
-pub record BreaksOff (desk : Desk) (unread : List Sensed) (side : Side) (all : List Word)
+-- the bytes begin with these words: so their first frames mean; and behind all frames the last word
+-- may be that too many bytes stand there without an end
+abbrev pub BeginWith : List ℕ → List Word → Type 0
+BeginWith bytes words = AreFirst (frames_of bytes).messages (frames_of bytes).rest words
+
+-- behind these words of the bytes the side still has its connection, and the next word is a breach
+-- with this text
+pub record IsBreach (desk : Desk) (unread : List Sensed) (side : Side) (bytes : List ℕ)
+    (before : Body) (front : List Word) (word : Word) (text : List ℕ) : Type 0 where
+  pub begins : BeginWith bytes (front ++ word ∷ [])
+  pub hears : is_open side (heard_before desk unread side front before) ≡ true
+  pub breaks : breach_of desk side word (heard_before desk unread side front before) ≡ Some text
+
+-- a step of bytes breaks off at a word that is a breach, and nothing behind it counts. A bridge's
+-- own signals follow as in any step
+pub record BreaksOff (desk : Desk) (unread : List Sensed) (side : Side) (bytes : List ℕ)
     (before after : Body) (own acts : List Act) : Type 0 where
-  pub body : (front : List Word) (word : Word) (others : List Word) (text : List ℕ)
-      → all ≡ front ++ word ∷ others
-      → is_open side (heard_before desk unread side front before) ≡ true
-      → breach_of desk side word (heard_before desk unread side front before) ≡ Some text
+  pub body : (front : List Word) (word : Word) (text : List ℕ)
+      → IsBreach desk unread side bytes before front word text
       → after ≡ (broken_step desk unread side front text before).body
-  pub told : (front : List Word) (word : Word) (others : List Word) (text : List ℕ)
-      → all ≡ front ++ word ∷ others
-      → is_open side (heard_before desk unread side front before) ≡ true
-      → breach_of desk side word (heard_before desk unread side front before) ≡ Some text
+  pub told : (front : List Word) (word : Word) (text : List ℕ)
+      → IsBreach desk unread side bytes before front word text
       → acts ≡ (broken_step desk unread side front text before).acts ++ own
 
-abbrev pub BreaksOffAt : Desk → List Sensed → Input → List Word → Body → Body → List Act → List Act
-    → Type 0
-BreaksOffAt desk unread (inputs.Bytes side piece) all before after own acts =
-    BreaksOff desk unread side all before after own acts
-BreaksOffAt desk unread _ all before after own acts = Unit {0}
+-- the bytes of a side that make no message yet
+abbrev pub waiting_at : Side → Lane → List ℕ
+waiting_at Entry lane = lane.entry_bytes
+waiting_at Exit lane = lane.exit_bytes
 
--- of the words that the input of a step brings
-pub record IsBrokenOff (s : NodeState) (unread : List Sensed) (input : Input) (moment : ℤ)
-    (t : NodeState) (acts : List Act) : Type 0 where
-  pub words : List Word
-  pub brings : Brings input s.lane t.lane words
-  pub breaks :
-      BreaksOffAt (desk_of s moment) unread input words s.lane.body t.lane.body
-      (signalled s.bridge t.lane.body) acts
+-- of all words that the undelivered bytes of the side and the piece behind them begin with
+abbrev pub IsBrokenOff : NodeState → List Sensed → Input → ℤ → NodeState → List Act → Type 0
+IsBrokenOff s unread (inputs.Bytes side piece) moment t acts =
+    BreaksOff (desk_of s moment) unread side (waiting_at side s.lane ++ piece.now) s.lane.body
+    t.lane.body (signalled s.bridge t.lane.body) acts
+IsBrokenOff s unread _ moment t acts = Unit {0}

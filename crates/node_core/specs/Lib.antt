@@ -24,3 +24,4 @@ pub mod May
 pub mod Hermes
 pub mod Own
 pub mod Sound
+pub mod Bounds

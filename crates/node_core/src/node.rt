@@ -1,7 +1,8 @@
 ghost use Rattle.std.specs.Prelude.{◌≡◌, ◌≤◌, ◌<◌, ◌^◌, true, false, Ok, IsErr, OnErr, IfOk, is_some, length};
 ghost use Rattle.std.specs.Option.{option_copied};
+ghost use Rattle.hermes_stream.specs.Frames.{most_bytes};
 ghost use Rattle.forecast_query.specs.Forecasts.{most_forecasts};
-ghost use Rattle.supervisory_core.specs.Orders.{answer_to};
+ghost use Rattle.supervisory_core.specs.Orders.{answer_to, most_open, unanswered};
 ghost use Rattle.node_core.specs.Bridge.{IsWilling};
 ghost use Rattle.node_core.specs.Sides.{session_at, is_open};
 ghost use Rattle.node_core.specs.Node.{NodeState, first_body, new_node};
@@ -11,6 +12,7 @@ ghost use Rattle.node_core.specs.Hermes.{hermes_state};
 ghost use Rattle.node_core.specs.Own.{own_of, own_after};
 ghost use Rattle.node_core.specs.Step.{Steps};
 ghost use Rattle.node_core.specs.Breaking.{IsBrokenOff};
+ghost use Rattle.node_core.specs.Bounds.{IsBounded};
 
 use crate::act::Outputs;
 use crate::bridge::{after_input, first_bridge, signal};
@@ -19,6 +21,7 @@ use crate::forecasts::note_forecasts;
 use crate::hermes::HermesState;
 use crate::input::Input;
 use crate::lane::{Body, End, Lane};
+use crate::laws::one_meaning;
 use crate::profile::NodeProfile;
 use crate::shelf::Shelf;
 use crate::supervising::{note_orders, supervised_after};
@@ -97,6 +100,20 @@ fn first_body(alloc: Global, is_bridge: bool) -> Body
     }
 }
 
+/// What is held beside the records is within what its types allow. It goes over these, and changes
+/// nothing.
+fn stand_within(lane: &Lane, forecasts: &Forecasts, orders: &OrderBook)
+    ensures entry { length lane.now.entry_bytes ≤ most_bytes }
+    ensures exit { length lane.now.exit_bytes ≤ most_bytes }
+    ensures forecasts { length forecasts.now ≤ most_forecasts }
+    ensures questions { unanswered orders.now ≤ most_open }
+{
+    let _entry = lane.entry_bytes.waiting();
+    let _exit = lane.exit_bytes.waiting();
+    let _forecasts = forecasts.list();
+    let _questions = orders.unanswered();
+}
+
 impl Node {
     /// A machine that keeps nothing, without connections, willing on both sides; or a bridge, with
     /// all levels off and so willing on none. It takes the memory of two cutters.
@@ -148,9 +165,11 @@ impl Node {
         ensures again { IfOk result (λ acts. self.new.spent ≡ false) }
         // what it did is the machine step
         ensures step { IfOk result (Steps self.old sensed.now input.entry moment self.new) }
-        // bytes that mean no message, and messages without a row, break the connection off and
-        // nothing else
+        // whatever words its bytes begin with, at the first that means no message, or one without a
+        // row, it breaks the connection off, and nothing behind it counts
         ensures wrong { IfOk result (IsBrokenOff self.old sensed.now input.entry moment self.new) }
+        // what it holds stays within its places and the limits
+        ensures bounded { IfOk result (λ acts. IsBounded self.new) }
         // a bridge is willing by the levels of its segment
         ensures willing { IfOk result (λ acts. IsWilling self.new.bridge self.new.lane.body) }
         // what it owns follows from its acts
@@ -171,6 +190,8 @@ impl Node {
         self.desk.set_bridge(bridge);
         self.desk.set_supervised(supervised);
         note_forecasts(self.desk.alloc(), acts.list(), &mut self.forecasts)?;
+        one_meaning();
+        stand_within(&self.lane, &self.forecasts, &self.orders);
         self.spent = false;
         Ok(acts)
     }

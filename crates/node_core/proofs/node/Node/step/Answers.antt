@@ -1,4 +1,4 @@
-use Rattle.std.proofs.Common.{◌≡◌, ◌∙◌, ℕ, Bool, ap, subst}
+use Rattle.std.proofs.Common.{◌≡◌, ◌∙◌, ℕ, Bool, false, ap, subst}
 use Rattle.std.specs.Prelude.{length}
 use Rattle.node_core.specs.Desk.{Desk}
 use Rattle.node_core.specs.Signals.{levels_told}
@@ -7,7 +7,7 @@ use Rattle.node_core.specs.Supervising.{supervised_after}
 use Rattle.node_core.specs.Node.{NodeState}
 use Rattle.node_core.specs.Bridge.{IsWilling}
 use Rattle.node_core.specs.Sound.{IsSound}
-use Rattle.node_core.proofs.Lasting.{steps_after, sound_after, willing_after, owns_after, breaks_after, numbered}
+use Rattle.node_core.proofs.Lasting.{seen_as, steps_after, sound_after, willing_after, owns_after, breaks_after, numbered}
 use Rattle.node_core.proofs.node.Node.step.Goals as goal
 
 -- the desk of the step, and the one after it
@@ -49,7 +49,30 @@ pub returns-clause-own : goal.returns-clause-own
 returns-clause-own c = owns_after _ _ _ _ _ _ c.requires (returns-clause-step c)
 
 pub returns-clause-wrong : goal.returns-clause-wrong
-returns-clause-wrong c = breaks_after _ _ _ _ _ _ (returns-clause-step c)
+returns-clause-wrong c =
+    let desk = c.self.inside.desk in
+    let timed : c.set_asked.new.self ≡ record desk { moment = c.args.moment; asked = length c.self.inside.orders } =
+    c.set_asked.ensures
+    ∙ ap (λ (d : Desk). record d { asked = c.asked.result }) c.set_moment.ensures
+    ∙ ap (λ (n : ℕ). record desk { moment = c.args.moment; asked = n }) c.asked.ensures in
+    let after : NodeState = seen_as false c.set_supervised.new.self c.step.new.maker c.step.new.self c.note_forecasts.new.kept c.note_orders.new.orders in
+    breaks_after c.one_meaning.ensures c.args.self.now after c.self.inside.spent desk c.set_asked.new.self c.self.inside.maker
+    c.step.new.maker c.self.inside.lane c.self.inside.forecasts c.self.inside.orders c.args.sensed.now c.args.input c.args.moment
+    c.after_input-told.result c.in_ok-acts.acts c.signal.new.to
+    c.self.view_is timed (c.after_input-told.ensures ∙ ap (levels_told c.args.input) c.bridge.ensures) c.in_ok-acts.ensures
+    c.in_ok-bridge.ensures.acts
+
+pub returns-clause-bounded : goal.returns-clause-bounded
+returns-clause-bounded c =
+    let P : NodeState → Type 0 = λ n. IsSound n.capacity n.lane.body × IsWilling n.bridge n.lane.body in
+    let was : P c.args.self.now = subst P c.self.view_is (c.self.invariant c.if-self.false) in
+    record {
+      places = (sound_after _ _ _ _ _ _ c.requires (returns-clause-step c) was.0).places;
+      forecasts = c.stand_within.ensures.forecasts;
+      questions = c.stand_within.ensures.questions;
+      entry = c.stand_within.ensures.entry;
+      exit = c.stand_within.ensures.exit;
+    }
 
 pub returns-clause-willing : goal.returns-clause-willing
 returns-clause-willing c =
