@@ -45,6 +45,8 @@ impl Forecasts {
         ensures added { OnOk result (self.new ≡ last most_forecasts (self.old ++ info ∷ [])) }
         ensures memory { OnErr result (self.new ≡ self.old) }
         ensures room { OnErr result (length self.old < most_forecasts) }
+        // on both outcomes
+        ensures bounded { length self.new ≤ most_forecasts }
 
         // what is kept are the last of all that were told
         ensures told { OnOk result ((told : List Told) → self.old ≡ last most_forecasts told
@@ -72,6 +74,7 @@ impl Forecasts {
         ensures added { OnOk result (self.new ≡ last most_forecasts (self.old ++ info ∷ [])) }
         ensures memory { OnErr result (self.new ≡ self.old) }
         ensures room { OnErr result (length self.old < most_forecasts) }
+        ensures bounded { length self.new ≤ most_forecasts }
     {
         if self.infos.len() < MOST_FORECASTS {
             return self.grow(info);

@@ -55,15 +55,20 @@ impl OrderBook {
         ensures number { IfOk result (λ number. number ≡ length self.new) }
         ensures full { (result ≡ Err AskError.QueriesFull) ↔ IsTrue (is_full self.old) }
         ensures unchanged { OnErr result (self.new ≡ self.old) }
+        // on both outcomes
+        ensures bounded { unanswered self.new ≤ most_open }
 
         // what was answered before stays answered so
         ensures kept { (query : ℕ) (text : List ℕ) → answer_to self.old query ≡ Some text
             → answer_to self.new query ≡ Some text }
     {
         if self.is_full() {
+            let _open = self.unanswered();
             return Err(AskError::QueriesFull);
         }
-        self.append(question)
+        let answer = self.append(question);
+        let _open = self.unanswered();
+        answer
     }
 
     /// Takes an answer to the question of this number, and keeps it for good.
