@@ -1,0 +1,191 @@
+"""One page that stands alone: the custody chart, the sequence chart, and the text, from the bytes of a text."""
+import os
+from collections import Counter
+from html import escape
+
+import links as meanings
+from custody import Custody, is_alarm
+from custody_chart import CustodyChart
+from forms import LOG, MERGED, MOST_LINES, REPORT, clean, machine_of, read_text
+from sequence import COLOURS, HIGH, ROWS, Sequence, short_ids
+
+HERE = os.path.dirname(os.path.abspath(__file__))
+KINDS = {REPORT: "report of a line", MERGED: "merged log of a line", LOG: "log of one node"}
+# of how many lines a note names the first ones
+MOST_NAMED = 30
+
+
+def part(name):
+    """A part of the page that stands in a file of its own."""
+    with open(os.path.join(HERE, name), encoding="utf-8") as file:
+        return file.read()
+
+
+def line_links(numbers):
+    """The numbers of lines, each leading to its line."""
+    numbers = list(numbers)
+    said = ", ".join(f'<a href="#L{number}">{number}</a>' for number in numbers[:MOST_NAMED])
+    return said + (f" and {len(numbers) - MOST_NAMED} more" if len(numbers) > MOST_NAMED else "")
+
+
+def many(count, what):
+    return f"{count} {what}" + ("" if count == 1 else "s")
+
+
+def lines_said(count):
+    return many(count, "line")
+
+
+def defs(heads):
+    """Stripes of two machines' colours, for a record that is in a handover between them; and the titles of the columns."""
+    patterns = []
+    for colour in range(COLOURS):
+        after = (colour + 1) % COLOURS
+        patterns.append(f'<pattern id="p{colour}" width="12" height="12" patternUnits="userSpaceOnUse" patternTransform="rotate(45)">'
+                        f'<rect width="6" height="12" style="fill:var(--m{colour})"/><rect x="6" width="6" height="12" style="fill:var(--m{after})"/></pattern>')
+    return f'<svg width="0" height="0" style="position:absolute" aria-hidden="true"><defs>{"".join(patterns)}<g id="heads">{heads}</g></defs></svg>'
+
+
+def sample(inner, text, wide=34):
+    return f'<span><svg width="{wide}" height="16" viewBox="0 0 {wide} 16" aria-hidden="true">{inner}</svg>{escape(text)}</span>'
+
+
+def custody_legend():
+    bar = lambda fill: f'<rect class="bar" x="1" y="1" width="32" height="14" {fill}/>'
+    return '<p class="legend">' + "".join((
+        sample(bar('style="fill:var(--m0)"'), "with a machine: it keeps the record"),
+        sample(bar('fill="url(#p0)"'), "in a handover between two: 1+2 both have it, 1\u2192 the upper alone, \u21922 the lower alone"),
+        sample('<rect class="bar alarm" x="1" y="1" width="32" height="14"/>', "no standing, or two"),
+        sample('<path class="end" d="M2 1v14"/>', "the last mark went", 12),
+        sample('<path class="rule" d="M4 0v16M8 0v16"/>', "from here on nobody vouches", 14),
+    )) + "</p>"
+
+
+def sequence_legend():
+    line, tip = "M2 8H26", '<path class="head" d="M33 8l-8 3.4v-6.8z"/>'
+    cross = '<path class="cross" d="M24 4l8 8m0 -8l-8 8"/>'
+    return '<p class="legend">' + "".join((
+        sample(f'<g class="a"><path d="{line}"/></g>{tip}', "sent, and heard"),
+        sample(f'<g class="a lost"><path d="{line}"/></g>{cross}', "never heard as it was sent: cut, lost at a close, refused"),
+        sample(f'<g class="a lost"><path d="{line}"/></g><circle class="ring" cx="29" cy="8" r="3"/>', "on its way at the end"),
+        sample(f'<g class="a stub"><path d="{line}"/></g>{tip}', "its other end isn't in the text"),
+        sample('<path class="conn" d="M7 0v16"/>', "this end has a connection", 14),
+        sample('<path class="board" d="M2 8h30"/><rect class="pcb" x="8" y="2" width="18" height="12" rx="2"/>', "where the board lies"),
+        sample('<path class="sensor" d="M2 8l5 -5l5 5l-5 5z"/>', "a sensor was read", 14),
+        sample('<circle class="deed" cx="7" cy="8" r="4"/>', "something is done to a record", 14),
+        sample('<path class="level" d="M5 0v16M9 0v16"/>', "a signal or a drive is on", 14),
+        sample('<path class="no" d="M0 8h34"/>', "refused, nothing done"),
+    )) + "</p>"
+
+
+def notes(read, custody, messages):
+    """What a reader has to know first: what isn't known, what isn't drawn, what doesn't agree."""
+    said = []
+    alarms = [row for row in custody.rows.values() if any(is_alarm(stay) for stay in row.stays)]
+    if alarms:
+        lines = sorted({custody.groups[stay.begins].first for row in alarms for stay in row.stays if is_alarm(stay)})
+        said.append(("bad1", f"{many(len(alarms), 'record')} of no standing, or of two, from line {line_links(lines)} on."))
+    lines = sorted({line.number for row in custody.rows.values() for _, _, line in row.alarms})
+    if lines:
+        said.append(("warn", f"A deed that the deeds before it don't allow: line {line_links(lines)}."))
+    if custody.differing:
+        lines = [custody.groups[number].first for number in custody.differing]
+        said.append(("warn", f"What the report tells of standings isn't what its deeds give, at line {line_links(lines)}."))
+    if read.unvouched is not None:
+        said.append(("warn", f'From line {line_links([read.unvouched])} on nobody vouches: a line of the script told what was not so.'))
+    backward = [message.heard.number for message in messages if message.fate == meanings.BACKWARD]
+    if backward:
+        said.append(("warn", f"Heard before it was sent, in the order of this text: line {line_links(backward)}."))
+    if read.unknown:
+        said.append(("warn", f"{lines_said(len(read.unknown))} of the text {'is' if len(read.unknown) == 1 else 'are'} not known and only shown as text: "
+                     + line_links(line.number for line in read.unknown) + "."))
+    if read.count > len(read.lines):
+        said.append(("warn", f"The text has {read.count} lines. The first {MOST_LINES} are drawn, and what comes behind them is not."))
+    if read.cut_short:
+        said.append(("note", f"{lines_said(read.cut_short)} too long to be shown whole; how much more there is stands at the end of each."))
+    if read.strange:
+        said.append(("note", f"{read.strange} characters that a page can't have are shown by others."))
+    if read.kind == REPORT and read.last is None:
+        said.append(("note", "The report has no last line: it may be cut off."))
+    elif read.last is not None and read.last.text.startswith("refused"):
+        said.append(("note", f'The script was refused at its end: {escape(read.last.text)}.'))
+    return "".join(f'<p class="{name}">{text}</p>' for name, text in said)
+
+
+def summary(read, custody, messages, sequence):
+    """The text in one sentence."""
+    fates = Counter(message.fate for message in messages)
+    told = {meanings.ARRIVED: "heard", meanings.REFUSED: "refused", meanings.CUT: "cut", meanings.VANISHED: "lost as a connection ended",
+            meanings.UNSENT: "gone without a connection", meanings.WAITING: "on their way at the end", meanings.ALONE: "of which the other end isn't here",
+            meanings.BACKWARD: "heard before they were sent"}
+    came = ", ".join(f"{fates[fate]} {text}" for fate, text in told.items() if fates[fate])
+    machines = len({machine_of(place) for place in sequence.columns.places})
+    return (f"{KINDS[read.kind].capitalize()}: {lines_said(read.count)}, {many(machines, 'machine')}, "
+            f"{many(len(custody.rows), 'board record')}, {many(len(messages), 'message')}{f' ({came})' if came else ''}.")
+
+
+def items(read, sequence, first, last):
+    """The text's lines of a piece."""
+    made = []
+    for line in read.lines[first:last]:
+        names = ("o" if line.number in sequence.odd else "") + (" u" if line.why else "") + (" n" if line.word in ("no:", "refused:") else "") \
+            + (" v" if line.number == read.unvouched else "")
+        mark = f' class="{names.strip()}"' if names.strip() else ""
+        arrow = sequence.arrow_of.get(line.number)
+        way = f' data-a="{arrow}"' if arrow is not None else ""
+        why = f' title="{escape(line.why)}"' if line.why else ""
+        made.append(f'<li id="L{line.number}"{mark}{way}{why}>{escape(line.text, quote=False)}</li>')
+    return "".join(made)
+
+
+def piece(read, sequence, number, parts):
+    """A piece of the text with its piece of the chart."""
+    first, last = number * ROWS, min((number + 1) * ROWS, len(read.lines))
+    high, wide = (last - first) * HIGH, sequence.columns.width
+    title = f"Sequence chart, lines {first + 1} to {last} of the text"
+    chart = "".join(parts["under"] + parts["arrows"] + parts["over"])
+    return (f'<div class="piece" style="contain-intrinsic-size:auto {high}px"><svg class="printhead" aria-hidden="true" width="{wide:g}" height="40"><use href="#heads"/></svg><ol id="P{number}" start="{first + 1}" aria-label="Lines {first + 1} to {last}">{items(read, sequence, first, last)}</ol>'
+            f'<svg class="chart" role="img" aria-label="{title}" aria-describedby="P{number}" data-f="{first + 1}" data-r="{last - first}" width="{wide:g}" height="{high}" viewBox="0 0 {wide:g} {high}">'
+            f"<title>{title}</title>{chart}</svg></div>")
+
+
+def page_of(data, title=None, kind=None):
+    """The page of the bytes of a text, as a text; `Refused` where nothing can be drawn."""
+    read = read_text(data, kind)
+    messages, bars = meanings.links_of(read)
+    custody = Custody(read)
+    ids = dict.fromkeys(custody.rows)
+    ids.update(dict.fromkeys(id for line in read.lines for id in line.ids))
+    short = short_ids(ids)
+    sequence = Sequence(read, messages, bars, short)
+    pieces = sequence.draw()
+    chart = CustodyChart(read, custody, short, sequence.columns)
+    staves = chart.draw()
+    title = clean(title)[0] if title else f"Picture of a {KINDS[read.kind]}"
+    what = {REPORT: "line of the script", LOG: "turn", MERGED: "machine and turn"}[read.kind]
+    columns = f"A column for each {what} that the text names" if chart.is_every else \
+        f"A column for each {what} at which something is done to a record; between two columns nothing changes"
+    words = "".join(f"<li><code>{id}</code> ({escape(short[id])}): {escape(said)}.</li>" for id, said in chart.in_words())
+    heads = (f'<svg width="{sequence.columns.width:g}" height="40" role="img" aria-label="The machines, the first one first"><use href="#heads"/></svg>')
+    zoom = min(1.0, 1040 / (440 + sequence.columns.width))
+    says = f"<style>/*<![CDATA[*/{part('page.css')}@media print{{.seq{{zoom:{max(zoom, 0.3):.2f}}}.stave{{zoom:.86}}}}/*]]>*/</style>"
+    return "".join((
+        '<!DOCTYPE html>\n<html xmlns="http://www.w3.org/1999/xhtml" lang="en" xml:lang="en"><head><meta charset="utf-8"/>',
+        '<meta name="viewport" content="width=device-width"/>',
+        """<meta http-equiv="Content-Security-Policy" content="default-src 'none'; style-src 'unsafe-inline'; script-src 'unsafe-inline'"/>""",
+        f"<title>{escape(title)}</title>{says}</head><body data-n=\"{len(read.lines)}\">",
+        defs(sequence.heads()), f"<h1>{escape(title)}</h1><p>{escape(summary(read, custody, messages, sequence))}</p>",
+        '<p class="soft">Drawn by bin/picture from this text alone. No proof stands behind the drawing: where it and the text differ, the text is right.</p>',
+        '<nav aria-label="Parts"><a href="#custody">Who has each record</a> \u00b7 <a href="#sequence">What was said and done</a> \u00b7 <a href="#words">In words</a></nav>',
+        notes(read, custody, messages),
+        f'<h2 id="custody">Who has each record</h2><p class="soft">{columns}; what is drawn in it is what holds behind it. '
+        "A board m#c is the c-th whose id machine m made; hover it for the id.</p>",
+        custody_legend(), "".join(staves) or '<p class="soft">No record comes up in this text.</p>',
+        '<h2 id="sequence">What was said and done</h2><p class="soft">Each line of the text with its row of the chart. <span class="keys">Click a line or an arrow, or use the keys: '
+        "<kbd>\u2193</kbd> <kbd>\u2191</kbd> next and last line, <kbd>Enter</kbd> the other end of its message, <kbd>b</kbd> next line of the same board, "
+        "<kbd>m</kbd> next message that was not heard, <kbd>u</kbd> next line that isn't known, with Shift backwards, <kbd>Esc</kbd> none.</span></p>",
+        sequence_legend(), '<div class="seq"><div class="heads"><div class="says">the text</div>', heads, "</div>",
+        "".join(piece(read, sequence, number, parts) for number, parts in enumerate(pieces)), "</div>",
+        f'<h2 id="words">In words</h2><details class="words"><summary>The way of each record</summary><ol id="ways">{words or "<li>none</li>"}</ol></details>',
+        '<div id="says" role="status" aria-live="polite">Choose a line: what became of its message, and who has each record behind it, stands here.</div>',
+        f"<script>/*<![CDATA[*/{part('page.js')}/*]]>*/</script></body></html>\n"))

@@ -1,0 +1,513 @@
+"""Tests of the pictures and of the merging of logs; `bin/test-pictures` runs them.
+
+The reports and logs are those of the programs of cases in crates/, of examples/ where `line` is built, and of the
+folders that are named. What is said of each page is checked against its text again, with a reader of XML.
+"""
+import glob
+import html
+import os
+import random
+import re
+import shutil
+import subprocess
+import sys
+import tempfile
+import time
+import xml.etree.ElementTree as xml
+
+import forms
+import links
+from custody import Custody, is_alarm
+from forms import MERGED, REPORT, Refused, read_text
+from merge import merged, read_log
+from page import page_of
+
+TOP = os.path.normpath(os.path.join(os.path.dirname(os.path.abspath(__file__)), "..", ".."))
+SVG = "{http://www.w3.org/2000/svg}"
+XHTML = "{http://www.w3.org/1999/xhtml}"
+
+
+class Failed(Exception):
+    pass
+
+
+def must(holds, why):
+    if not holds:
+        raise Failed(why)
+
+
+# the texts
+
+def unescaped(text):
+    """The bytes that a file of cases means: `\\0A`, `\\(12)78` for twelve times, and a line end that isn't there."""
+    text = text.removesuffix("\\\n") if text.endswith("\\\n") else text
+    parts = re.split(r"\\(?:\(([0-9]+)\))?([0-9A-F]{2})", text)
+    made = parts[0].encode()
+    for count, code, after in zip(parts[1::3], parts[2::3], parts[3::3]):
+        made += bytes([int(code, 16)]) * int(count or 1) + after.encode()
+    return made
+
+
+def sections(name):
+    """The sections of a file of cases: the title of each, and its text."""
+    with open(os.path.join(TOP, "crates", name), encoding="utf-8") as file:
+        for part in file.read().split("=== ")[1:]:
+            title, _, text = part.partition("\n")
+            yield title, text
+
+
+def case_reports():
+    for name in ("line_cli_cases", "line_replay_cases"):
+        for number, (title, text) in enumerate(sections(f"{name}/stdout")):
+            body = text.split("\n--- ")[0] + "\n"
+            if title == "line run" and re.search(r"^(end lines=|refused \d)", body, re.M):
+                yield f"{name} {number}", body.encode()
+
+
+def case_logs():
+    for number, (_, text) in enumerate(sections("node_cli_cases/stdout")):
+        lines = [line for line in text.split("\n") if re.match(r"[0-9]+ ", line)]
+        if lines:
+            yield f"node_cli_cases {number}", ("\n".join(lines) + "\n").encode()
+
+
+def folder_reports(folder):
+    for name in sorted(glob.glob(os.path.join(folder, "*.out"))):
+        word = name.removesuffix(".out") + ".word"
+        with open(name, "rb") as file:
+            data = file.read()
+        if not os.path.exists(word) or open(word, encoding="utf-8").read().strip() == "run":
+            yield os.path.basename(name), data
+
+
+def examples():
+    program = os.path.join(TOP, "crates", "line", "out", "line")
+    for name in sorted(glob.glob(os.path.join(TOP, "examples", "*.script"))) if os.path.exists(program) else ():
+        with open(name, "rb") as file:
+            yield os.path.basename(name), subprocess.run([program, "run"], stdin=file, capture_output=True).stdout
+    for name in sorted(glob.glob(os.path.join(TOP, "examples", "*.log"))):
+        with open(name, "rb") as file:
+            yield os.path.basename(name), file.read()
+    for name in sorted(glob.glob(os.path.join(TOP, "docs", "pictures", "*.report"))):
+        with open(name, "rb") as file:
+            yield os.path.basename(name), file.read()
+
+
+# a page against its text
+
+def shown_text(text):
+    """A line as the page has it."""
+    shown = forms.clean(text[:forms.MOST_SHOWN])[0]
+    return shown if len(text) <= forms.MOST_SHOWN else shown + f" .. and {len(text) - forms.MOST_SHOWN} characters more"
+
+
+def check_page(data, page):
+    """Each line once and in order, each arrow between lines of the text, nothing that loads, no two things of one id."""
+    root = xml.fromstring(page)
+    items = [item for item in root.iter(f"{XHTML}li") if item.get("id")]
+    lines = forms.split(data)[0]
+    must([item.get("id") for item in items] == [f"L{number}" for number in range(1, len(lines) + 1)], "the lines aren't there once and in order")
+    must([item.text or "" for item in items] == [shown_text(line) for line in lines], "a line isn't what the text has")
+    ids = [it.get("id") for it in root.iter() if it.get("id")]
+    must(len(ids) == len(set(ids)), "an id stands twice")
+    check_arrows(root, lines, items)
+    check_stays(root, len(lines))
+    for it in root.iter():
+        for name, value in it.attrib.items():
+            must(name not in ("src", "href") or value.startswith("#"), f"the page loads {value}")
+            must(not name.startswith("on"), f"an attribute runs a script: {name}")
+    must(len(list(root.iter(f"{XHTML}script"))) == 1, "there is a script that isn't the page's")
+    said = [it.text or "" for it in root.iter(f"{XHTML}style")] + [value for it in root.iter() for value in it.attrib.values()
+                                                              if not it.get("id") or it.tag != f"{XHTML}li"]
+    must(not any(re.search(r"url\((?!#)", it) for it in said), "a style loads something")
+    return root
+
+
+def check_arrows(root, lines, items):
+    ends = {}
+    for arrow in root.iter(f"{SVG}g"):
+        if "a" not in (arrow.get("class") or "").split():
+            continue
+        number = arrow.get("class").split()[-1]
+        for key, words in (("data-s", ("sends",)), ("data-h", ("hears", "breach"))):
+            if arrow.get(key) is not None:
+                line = int(arrow.get(key))
+                must(1 <= line <= len(lines), "an arrow ends at no line")
+                must(any(f" {word} " in lines[line - 1] for word in words), f"an arrow ends at a line that neither sends nor hears: {lines[line - 1]}")
+                ends.setdefault((key, line), number)
+                must(ends[key, line] == number, f"two arrows end at line {line}")
+                must(items[line - 1].get("data-a") == number[1:], f"line {line} doesn't know its arrow")
+
+
+def check_stays(root, count):
+    for stay in root.iter(f"{SVG}g"):
+        if stay.get("class") == "stay":
+            must(1 <= int(stay.get("data-l")) <= count and int(stay.get("data-e")) <= count, "a bar is of no line")
+
+
+def check_text(name, data, kind=None, is_true=False):
+    """A text's page, and of one that a program wrote also that all of it is known and agrees."""
+    page = page_of(data, name)
+    root = check_page(data, page)
+    read = read_text(data)
+    if kind is not None:
+        must(read.kind == kind, f"taken for a {read.kind}")
+    if is_true:
+        must(not read.unknown, f"not known: {read.unknown[:1]}")
+        messages, _ = links.links_of(read)
+        custody = Custody(read)
+        must(not custody.differing, f"what is told differs from the deeds in group {custody.differing[:1]}")
+        check_whole(read, messages)
+        if read.unvouched is None and read.kind == REPORT:
+            must(not any(is_alarm(stay) for row in custody.rows.values() for stay in row.stays), "a record without a standing")
+            must(not any(row.alarms for row in custody.rows.values()), "a deed that isn't legal")
+    return root
+
+
+def check_whole(read, messages):
+    """Each line that sends or hears is the end of one arrow, and of a report each that hears has one that sends."""
+    ends = [line.number for message in messages for line in (message.sent, message.heard) if line is not None]
+    wanted = [line.number for line in read.lines if line.word in ("sends", "hears", "breach")]
+    must(sorted(ends) == wanted, "a message has no arrow, or two")
+    if read.kind == REPORT:
+        must(all(message.sent is not None for message in messages), "a message was heard and not sent")
+
+
+def test_true_texts(folders):
+    count = 0
+    for name, data in list(case_reports()) + [it for folder in folders for it in folder_reports(folder)]:
+        count += 1
+        try:
+            check_text(name, data, REPORT, True)
+        except (Failed, Refused, xml.ParseError) as why:
+            raise Failed(f"{name}: {why}") from why
+    for name, data in case_logs():
+        count += 1
+        try:
+            check_text(name, data, None, True)
+        except (Failed, xml.ParseError) as why:
+            raise Failed(f"{name}: {why}") from why
+    for name, data in examples():
+        count += 1
+        try:
+            check_text(name, data, None, True)
+        except (Failed, xml.ParseError) as why:
+            raise Failed(f"{name}: {why}") from why
+    return f"{count} texts"
+
+
+def first_alarm(read):
+    """The first line at which the drawing says that a deed isn't legal, or that a record has no standing."""
+    custody = Custody(read)
+    lines = [line.number for row in custody.rows.values() for _, _, line in row.alarms]
+    lines += [custody.groups[stay.begins].last for row in custody.rows.values() for stay in row.stays if is_alarm(stay)]
+    return min(lines, default=None)
+
+
+def test_verdicts(_):
+    """The drawing of a merged log sees a bad record where `line check` does."""
+    count = 0
+    pairs = [pair for name in ("log_verdict_cases", "line_cli_cases") for pair in zip(sections(f"{name}/stdin"), sections(f"{name}/stdout"))]
+    for (title, text), (_, answer) in pairs:
+        if title.startswith("line ") and title != "line check":
+            continue
+        said = re.search(r"^(yes lines=[0-9]+|no ([0-9]+) (not legal|no standing))", answer, re.M)
+        if said is None or len(text) > 1_000_000:
+            continue
+        try:
+            read = read_text(unescaped(text), MERGED)
+        except Refused:
+            continue
+        count += 1
+        alarm, wanted = first_alarm(read), int(said.group(2)) if said.group(2) else None
+        must(alarm == wanted, f"{title}: the drawing's first bad line is {alarm}, the verdict's {wanted}")
+    return f"{count} logs"
+
+
+# hostile texts
+
+HOSTILE = """</li></ol><script>alert(1)</script>'"&<>]]>&#10;--> {{}} \\ url(http://x/) javascript:alert(1)"""
+
+
+def test_hostile(_):
+    report = f"1 machine 1 4\n2 supervise 1 on\n3 asks 1 1\n4 answered 1 1 {HOSTILE}\n5 no: answered {HOSTILE}\n" \
+             f"6 breach 1 in {HOSTILE}\n{HOSTILE}\n7 {HOSTILE}\nend lines=7 boards=0 opened=0 settled=0\n"
+    root = check_page(report.encode(), page_of(report.encode(), HOSTILE))
+    must(root.find(f".//{XHTML}h1").text == HOSTILE, "the title isn't what was given")
+    must(sum(HOSTILE in (item.text or "") for item in root.iter(f"{XHTML}li")) >= 5, "what was given isn't text")
+    odd = [b"\x00\x01\x1b[31m\xff\xfe 1 machine 1 4", b"1 machine 1 4\n\x00", b"1 machine 1 4\r\n2 machine 2 4\r\r\n", b"1 machine 1 4\n" + b"x" * 300_000,
+           "1 machine 1 4\n2 answered 1 1 \u202e\u2066\ufffe\ud7ff\U0001F600\u0085\u2028x\n".encode(), b"1 machine 64 4\n2 machine 1 4\n" + b"3 insert 64 " + b"f" * 32,
+           b"5 machine 1 4\n3 machine 2 4\n", b"1 hears 1 in X\n2 hears 99999999 in X\n", b"1 1 insert 1\n1 2 x\n1 1 insert 5 {00000007-0000-8000-8000-000000000001}\n",
+           b"64 1 leaves out 00000007-0000-8000-8000-000000000001\n1 1 settles in 00000007-0000-8000-8000-000000000001\n", b"1 move 63 begin\n1 move 1.4 left\nend lines=1 boards=0 opened=0 settled=0\nx\n"]
+    refused = 0
+    for data in odd:
+        try:
+            check_text("odd", data)
+        except Refused:
+            refused += 1
+    must(refused == 1, f"{refused} are refused, not the one that has no line of any kind")
+    return f"{len(odd) + 1} texts"
+
+
+def spoiled_texts(count, seed=52):
+    """Texts with a line lost, doubled, moved, cut off, or with a word of another line in it."""
+    dice = random.Random(seed)
+    whole = [data.split(b"\n") for _, data in list(case_reports()) + list(case_logs()) if 200 < len(data) < 20_000]
+    words = [word for lines in whole for line in lines for word in line.split(b" ")]
+    for _ in range(count):
+        lines = list(dice.choice(whole))
+        for _ in range(dice.randrange(1, 8)):
+            at = dice.randrange(len(lines))
+            how = dice.randrange(6)
+            if how == 0 and len(lines) > 1:
+                del lines[at]
+            elif how == 1:
+                lines.insert(at, lines[dice.randrange(len(lines))])
+            elif how == 2:
+                lines[at] = lines[at][:dice.randrange(len(lines[at]) + 1)]
+            elif how == 3:
+                parts = lines[at].split(b" ")
+                parts[dice.randrange(len(parts))] = dice.choice(words)
+                lines[at] = b" ".join(parts)
+            elif how == 4:
+                lines[at] += bytes([dice.randrange(256)])
+            else:
+                lines[at], lines[0] = lines[0], lines[at]
+        yield b"\n".join(lines)
+
+
+def test_spoiled(_):
+    drawn = refused = 0
+    for data in spoiled_texts(400):
+        try:
+            check_text("spoiled", data)
+            drawn += 1
+        except Refused:
+            refused += 1
+        except Failed as why:
+            raise Failed(f"{why}: {data[:3000]!r}") from why
+    return f"{drawn} drawn, {refused} refused by name"
+
+
+# the command lines
+
+def run(command, data=b"", **more):
+    return subprocess.run([sys.executable, os.path.join(TOP, "bin", command[0])] + command[1:], input=data, capture_output=True, **more)
+
+
+def says(command, status, text, data=b""):
+    done = run(command, data)
+    said = done.stderr.decode()
+    must(done.returncode == status and text in said and "Traceback" not in said, f"{command}: status {done.returncode}, {said!r}, not {status}, {text!r}")
+    must(status == 0 or not done.stdout, f"{command}: something was written beside the refusal")
+
+
+def test_words(_):
+    says(["picture"], 3, "line 1: there is nothing to draw")
+    says(["picture"], 3, "line 1: no line is one of a report", b"\x89PNG\r\n\x1a\n\x00")
+    says(["picture"], 3, "line 1: no line is one of a report", b"hello\n" * 9)
+    says(["picture", "/nothing/there"], 4, "/nothing/there: No such file")
+    says(["picture", TOP], 4, "Is a directory")
+    says(["picture", "--what"], 2, "what is --what?")
+    says(["picture", "a", "b"], 2, "more than one file")
+    must(run(["picture", "--help"]).stdout.startswith(b"Draws a report"), "--help says nothing")
+    must(run(["merge-logs", "--help"]).stdout.startswith(b"Makes one merged log"), "--help says nothing")
+    says(["merge-logs"], 2, "usage")
+    says(["merge-logs", "/nothing/there"], 4, "No such file")
+    return "as it should be"
+
+
+def test_long(_):
+    """A long text: what is beyond the first lines is told, and the time that it takes."""
+    lines = [b"1 machine 1 1024", b"2 machine 2 4"]
+    number = 2
+    while len(lines) < forms.MOST_LINES + 5:
+        number += 1
+        lines.append(b"%d insert 1 00000001-0000-8000-8000-%012x" % (number, number))
+        lines.append(b"%d with 1 00000001-0000-8000-8000-%012x" % (number, number))
+    begun = time.process_time()
+    page = page_of(b"\n".join(lines) + b"\n")
+    taken = time.process_time() - begun
+    must(f"The text has {len(lines)} lines. The first {forms.MOST_LINES} are drawn" in page, "it isn't told that a part is drawn")
+    must(len(list(xml.fromstring(page).iter(f"{XHTML}li"))) >= forms.MOST_LINES, "the first part isn't drawn")
+    return f"{len(page) / 1e6:.0f} MB of page in {taken:.1f} s of processor time"
+
+
+def hostile_long():
+    """Long texts in which something goes on and on."""
+    board, many = "00000001-0000-8000-8000-000000000001", 20_000
+    head = ["1 machine 1 4", "1 machine 2 4", "2 connects 2"]
+    yield "messages that nobody hears", head + [f"{number} sends 1 out MachineReady" for number in range(3, many)]
+    yield "connections without an end", head + [f"{number} connects 2" for number in range(3, many)]
+    yield "a board that is opened and returned", head + [f"3 insert 1 {board}"] + [
+        f"{number} {'opens' if number % 2 else 'returns'} 1 {board}" for number in range(5, many)]
+    yield "lines of sixty-four machines", [f"{number} machine {number} 4" for number in range(1, 65)] + [
+        f"{number} connects {number % 63 + 2}" for number in range(65, many)]
+    yield "a merged log of many connections", ["1 1 connects 7"] + [
+        f"{1 + number % 2} {number} {('hears 7 out', 'notices 7 out', 'connects 9', 'sends 9 in')[number // 2 % 4]}"
+        f"{(' MachineReady', '', '', ' MachineReady')[number // 2 % 4]}" for number in range(1, many)]
+    yield "words that nobody knows", ["1 machine 1 4"] + [f"{number} frobnicates {number}" for number in range(2, many)]
+
+
+def test_hostile_long(_):
+    """What goes on and on in a long text takes no more than any long text takes."""
+    most = 0
+    for name, lines in hostile_long():
+        begun = time.process_time()
+        page = page_of(("\n".join(lines) + "\n").encode())
+        taken = time.process_time() - begun
+        most = max(most, taken)
+        must(taken < 12 and len(page) < 30e6, f"{name}: {taken:.0f} s, {len(page) / 1e6:.0f} MB")
+    return f"at most {most:.1f} s of processor time"
+
+
+# merging
+
+def logs_of(read):
+    """The logs that the machines of a report would have written, with the script's lines as turns."""
+    logs = {}
+    for line in read.lines:
+        if line.word is None or line.place is None or line.word in ("machine", "bridge", "with", "between", "gone", "no:", "end", "spoils", "lie", "unseen", "show", "stop"):
+            continue
+        number, word, rest = line.text.split(" ", 2)
+        text = f"{number} {word} {rest}"
+        if word in forms.EXIT_DEEDS + forms.ENTRY_DEEDS:
+            text = f"{number} {word} {line.side} {line.ids[0]}"
+        logs.setdefault(int(line.place), []).append(text)
+    return [("\n".join(logs.get(machine, [])) + "\n").encode() if logs.get(machine) else b"" for machine in range(1, max(logs, default=0) + 1)]
+
+
+def check_merge(logs):
+    """The merged log keeps each log's order, hears nothing before it was sent, and has each line once."""
+    made = merged([read_log(f"log {number}", number, data) for number, data in enumerate(logs, 1)])
+    for machine, data in enumerate(logs, 1):
+        front = b"%d " % machine
+        own = b"".join(line[len(front):] for line in made if line.startswith(front))
+        must(own == data, f"the log of machine {machine} isn't what it was")
+    data = b"".join(made)
+    if not data:
+        return None
+    read = read_text(data)
+    must(read.kind == MERGED, "not taken for a merged log")
+    messages, _ = links.links_of(read)
+    must(not any(message.fate == links.BACKWARD for message in messages), "a message is heard before it was sent")
+    must(all(message.sent is not None or message.link is None for message in messages), "a message was heard and not sent")
+    return read
+
+
+def test_merge(folders):
+    """The logs of each report without a lie, parted and merged again: each has an order, and it is one that `line check` takes."""
+    count = 0
+    for name, data in list(case_reports()) + [it for folder in folders for it in folder_reports(folder)]:
+        read = read_text(data)
+        if read.unvouched is not None or re.search(rb"^\d+ (lanes|shift) ", data, re.M):
+            continue
+        try:
+            again = check_merge(logs_of(read))
+            must(again is None or first_alarm(again) is None, f"line {again and first_alarm(again)} of the merged log isn't legal")
+        except (Failed, Refused) as why:
+            raise Failed(f"{name}: {why}") from why
+        count += 1
+    return f"{count} lines of machines"
+
+
+def refused_merge(text, *logs):
+    try:
+        made = merged([read_log(f"log {number}", number, data.encode()) for number, data in enumerate(logs, 1)])
+    except Refused as why:
+        must(text in str(why), f"refused by: {why}")
+        return
+    raise Failed(f"merged, and not refused by {text!r}: {made}")
+
+
+def test_no_order(_):
+    board = "00000001-0000-8000-8000-000000000001"
+    first = ["1 hears 7 out ServiceDescription", "1 sends 7 out ServiceDescription", f"2 insert 7 {board}"]
+    then = ["1 connects 8", "1 sends 8 in ServiceDescription", "2 hears 8 in ServiceDescription", "2 sends 8 in MachineReady"]
+    whole = lambda lines: "\n".join(lines) + "\n"
+    must(check_merge([whole(first).encode(), whole(then).encode()]) is not None, "not merged")
+    refused_merge("log 1 line 1 (1 hears 7 out ServiceDescription): a message that log 2 doesn't send", whole(first), whole(then[:1]))
+    refused_merge("another message than the one that was sent then", whole(first), whole(["1 connects 8", "1 sends 8 in CheckAlive 1"]))
+    # each end says that it heard the other before it spoke
+    refused_merge("there is no order: log 1 line 1", whole(["1 hears 7 out ServiceDescription", "2 sends 7 out ServiceDescription"]),
+                  whole(["1 connects 8", "2 hears 8 in ServiceDescription", "3 sends 8 in ServiceDescription"]))
+    refused_merge("log 1 line 2: is of turn 1, behind one of turn 2", "2 hold 7 in\n1 go 7 in\n")
+    refused_merge("log 1 line 1: has no turn's number in front", "hold 7 in\n")
+    refused_merge("log 1 line 2: is of another machine than 7", "1 hold 7 in\n2 hold 8 out\n")
+    # a turn in which a message is heard and its answer's answer too has to be parted
+    parted = check_merge([b"1 hears 7 out ServiceDescription\n1 sends 7 out ServiceDescription\n1 hears 7 out MachineReady\n",
+                          b"1 connects 8\n1 sends 8 in ServiceDescription\n2 hears 8 in ServiceDescription\n2 sends 8 in MachineReady\n"])
+    must(parted is not None, "not merged line by line")
+    # a second connection, which is refused, and a third that is not
+    check_merge([b"1 hears 7 out ServiceDescription\n1 sends 7 out ServiceDescription\n4 sends 7 out Notification 2\n5 notices 7 out\n6 hears 7 out ServiceDescription\n6 sends 7 out ServiceDescription\n",
+                 b"1 connects 8\n1 sends 8 in ServiceDescription\n2 hears 8 in ServiceDescription\n3 notices 8 in\n4 connects 8\n4 sends 8 in ServiceDescription\n5 hears 8 in Notification 2\n"
+                 b"6 notices 8 in\n7 connects 8\n7 sends 8 in ServiceDescription\n8 hears 8 in ServiceDescription\n"])
+    return "as it should be"
+
+
+# a browser
+
+PLAY = """<script>/*<![CDATA[*/
+var told = [], row = function (n) { return document.getElementById("L" + n); };
+var state = function () { return Array.prototype.map.call(document.querySelectorAll("li.sel"), function (it) { return it.id; }).join() + "/" +
+  Array.prototype.map.call(document.querySelectorAll("li.oth"), function (it) { return it.id; }).join() + "/" +
+  Array.prototype.map.call(document.querySelectorAll("g.a.sel"), function (it) { return it.id; }).join(); };
+var key = function (name) { document.dispatchEvent(new KeyboardEvent("keydown", { key: name, bubbles: true, cancelable: true })); told.push(name + " " + state()); };
+row(SENT).click(); told.push("click " + state());
+key("Enter"); key("ArrowDown"); key("Home"); key("End"); key("Escape");
+document.getElementById("aNUMBER").dispatchEvent(new MouseEvent("click", { bubbles: true })); told.push("arrow " + state());
+row(LAST).click(); told.push("says " + document.getElementById("says").textContent);
+var pre = document.createElement("pre"); pre.id = "told"; pre.textContent = told.join("\\n"); document.body.appendChild(pre);
+/*]]>*/</script></body>"""
+
+
+def browser():
+    return next((it for it in map(shutil.which, ("chromium", "chromium-browser", "google-chrome")) if it), None)
+
+
+def dumped(page):
+    """The page as a browser has it once its scripts have run."""
+    with tempfile.TemporaryDirectory() as folder:
+        path = os.path.join(folder, "page.html")
+        with open(path, "w", encoding="utf-8") as file:
+            file.write(page)
+        command = [browser(), "--headless", "--no-sandbox", "--disable-gpu", f"--user-data-dir={folder}/data", "--dump-dom", f"file://{path}"]
+        return subprocess.run(command, capture_output=True, timeout=300).stdout.decode()
+
+
+def test_browser(_):
+    if browser() is None:
+        return "skipped: there is no chromium"
+    name, data = next(it for it in case_reports() if b" settles 1 " in it[1] and b"unvouched" not in it[1])
+    read = read_text(data)
+    messages, _ = links.links_of(read)
+    number, message = next(it for it in enumerate(messages) if it[1].sent and it[1].heard and it[1].heard.number > it[1].sent.number + 2)
+    sent, heard, last = message.sent.number, message.heard.number, max(line.number for line in read.lines if line.word == "settles")
+    play = PLAY.replace("SENT", str(sent)).replace("NUMBER", str(number)).replace("LAST", str(last))
+    told = re.search(r'<pre id="told">(.*?)</pre>', dumped(page_of(data, name).replace("</body>", play)), re.S)
+    must(told is not None, "the script of the page didn't run")
+    said = html.unescape(told.group(1)).split("\n")
+    both = lambda one, two: f"L{one}/L{two}/a{number}"
+    must(said[0] == "click " + both(sent, heard), f"a click on a line: {said[0]}")
+    must(said[1] == "Enter " + both(heard, sent), f"Enter: {said[1]}")
+    must(said[2].startswith(f"ArrowDown L{heard + 1}/"), f"a key: {said[2]}")
+    must(said[3].startswith("Home L1/") and said[4].startswith(f"End L{len(read.lines)}/") and said[5] == "Escape //", f"keys: {said[3:6]}")
+    must(said[6] == "arrow " + both(sent, heard), f"a click on an arrow: {said[6]}")
+    must(re.match(rf"says Line {last} of the text: .* settles .*with \d", said[7]) is not None, f"what is said of a line: {said[7]}")
+    return f"clicks and keys on the page of {name}"
+
+
+TESTS = (test_true_texts, test_verdicts, test_hostile, test_spoiled, test_words, test_long, test_hostile_long, test_merge, test_no_order, test_browser)
+
+
+def main(folders):
+    failed = 0
+    for test in TESTS:
+        begun = time.time()
+        try:
+            said = test(folders)
+            print(f"{test.__name__[5:]}: passed, {said} ({time.time() - begun:.1f} s)", flush=True)
+        except Failed as why:
+            failed += 1
+            print(f"{test.__name__[5:]}: FAILED, {why}", flush=True)
+    return 1 if failed else 0
