@@ -1,5 +1,5 @@
 -- What a line of the script changes of standings: those of the ids that its acts name, and no others.
-use Rattle.std.proofs.Common.{◌≡◌, ◌∙◌, ◌+◌, ◌-◌, ◌++◌, ◌==◌, ℕ, zero, suc, Bool, true, false, List, [], ◌∷◌, Option, Some, None, Result, Ok, Err, refl, sym, ap, subst, eq-eqb, append-nil}
+use Rattle.std.proofs.Common.{◌≡◌, ◌∙◌, ◌+◌, ◌-◌, ◌++◌, ◌==◌, ℕ, zero, suc, Bool, true, false, List, ◌∷◌, Option, Some, None, refl, sym, ap, subst, eq-eqb, append-nil, []}
 use Rattle.std.specs.Prelude.{ℤ, map, slice_get, slice_set}
 use Rattle.std.specs.List.{flat_map}
 use Rattle.std.proofs.lemmas.Grind.{flat_map-append}
@@ -10,12 +10,6 @@ use Rattle.hermes_horizontal.specs.declared.message.Message.{Message}
 use Rattle.line_link.specs.declared.link.Sent.{Sent}
 use Rattle.line_link.specs.declared.link.Sent.TheVariants as sent
 use Rattle.line_script.specs.declared.line.ScriptLine.{ScriptLine}
-use Rattle.line_script.specs.declared.line.ScriptLine.TheVariants as lines
-use Rattle.line_world.specs.FloorPlan.{FloorPlan}
-use Rattle.line_world.specs.Moves.{floor_move}
-use Rattle.line_world.specs.declared.moves.Move.{Move}
-use Rattle.line_world.specs.declared.moves.Move.TheVariants as moves
-use Rattle.line_world.specs.declared.moves.MoveNo.{MoveNo}
 use Rattle.node_core.specs.declared.act.Act.{Act}
 use Rattle.node_core.specs.declared.act.Act.TheVariants as acts
 use Rattle.node_core.specs.declared.input.Input.{Input}
@@ -38,14 +32,16 @@ use Rattle.line_step.specs.World.{WorldParts, link_of}
 use Rattle.line_step.specs.State.{LineState, machine_in, marks_in, one_more, owned, owned_by}
 use Rattle.line_step.specs.Acts.{act_did, acts_did, cut_told, sent_by}
 use Rattle.line_step.specs.Steps.{MachineSteps, StepsTwice, is_second, moment_of, read_by, unread_by}
-use Rattle.line_step.specs.Reasons.{May, may_add}
 use Rattle.line_step.specs.Shown.{ascending, ids_marked, ids_owned, one_id, standing_told, standings_told}
 use Rattle.line_step.specs.Named.{ids_named, ids_of_act, ids_of_happening}
-use Rattle.line_step.specs.Lines.{Becomes, Connects, Flows, LineDoes, Moves, Unless, arrived, connecting, cut_in, lied, moved, spoiled, unseen}
+use Rattle.line_step.specs.Lines.{Becomes, Connects, Flows, LineDoes, arrived, connecting}
 use Rattle.node_core.proofs.Signalling.{signals_pass}
 use Rattle.line_step.proofs.Ascending.{ascending_same}
 use Rattle.line_step.proofs.Unnamed.{SameAt, apart_ids, apart_is, or_false, step_spares}
 use Rattle.line_report.specs.declared.happening.Happening.{Happening}
+use Rattle.line_step.proofs.Requests.{Request, request_of}
+use Rattle.line_step.proofs.Turns.{LineTurns, line_turns}
+use Rattle.line_step.proofs.Turns as turns
 
 -- ---- what is told names the ids that the acts name
 
@@ -137,17 +133,6 @@ twice_stays id First Second before after told one two t none =
 becomes_stays : (id : ℕ) (before next after : LineState) (what told : List Happening) → marks_in before id ≡ marks_in next id → Becomes next what after told → Stays id before after told
 becomes_stays id before next after what told same b none = same ∙ ap (λ (s : LineState). marks_in s id) (sym b.after_is)
 
-unless_stays : (id : ℕ) (may : May) (before after : LineState) (told : List Happening) (Done : Type 0) → (Done → Stays id before after told) → Unless may before after told Done → Stays id before after told
-unless_stays id (Err reason) before after told Done stays u = becomes_stays id before before after _ told refl u
-unless_stays id (Ok _) before after told Done stays u = stays u
-
-moved_marks : (id : ℕ) (answer : Result FloorPlan MoveNo) (s : LineState) → marks_in s id ≡ marks_in (moved answer s) id
-moved_marks id (Ok floor) s = refl
-moved_marks id (Err why) s = refl
-
-moves_stays : (id gap : ℕ) (step : Move) (before after : LineState) (told : List Happening) → Moves gap step before after told → Stays id before after told
-moves_stays id gap step before after told b = becomes_stays id before (moved (floor_move gap step before.world.floor) before) after _ told (moved_marks id (floor_move gap step before.world.floor) before) b
-
 connects_stays : (id number machine : ℕ) (before after : LineState) (told : List Happening) → Connects number machine before after told → Stays id before after told
 connects_stays id number machine before after told t =
     twice_stays id _ _ (connecting machine before) after told (machine_stays id number machine inputs.Connect) (machine_stays id number (machine - 1) _) t
@@ -156,45 +141,16 @@ flows_stays : (id number machine : ℕ) (side : Side) (count : Option ℕ) (befo
 flows_stays id number machine side count before after told f = machine_stays id number machine (inputs.Bytes side f.piece) (arrived machine side count before) after told f.steps
 
 -- the marks of an id change only where a line's acts name it
+turn_stays : (id number : ℕ) (request : Request) (before after : LineState) (told : List Happening) → LineTurns number before after told request → Stays id before after told
+turn_stays id number request before after told (turns.stays _ same none) named = ap (λ (nodes : List NodeState). marks_of (map owned_by nodes) id) (sym same)
+turn_stays id number request before after told (turns.adds is_bridge capacity used may b) named =
+    becomes_stays id before (one_more is_bridge capacity used before) after _ told (sym (marks_more 1 id before.machines _ refl)) b named
+turn_stays id number request before after told (turns.steps machine input given may did) named = machine_stays id number machine input before after told did named
+turn_stays id number request before after told (turns.connects machine may did) named = connects_stays id number machine before after told did named
+turn_stays id number request before after told (turns.flows machine side count may did) named = flows_stays id number machine side count before after told did named
+
 pub line_stays : (id number : ℕ) (line : ScriptLine) (before after : LineState) (told : List Happening) → LineDoes number line before after told → Stays id before after told
-line_stays id number lines.Blank before after told d = becomes_stays id before before after _ told refl d
-line_stays id number (lines.Machine capacity used) before after told d =
-    unless_stays id (may_add before) before after told _ (becomes_stays id before (one_more false capacity used before) after _ told (sym (marks_more 1 id before.machines _ refl))) d
-line_stays id number (lines.Bridge capacity used) before after told d =
-    unless_stays id (may_add before) before after told _ (becomes_stays id before (one_more true capacity used before) after _ told (sym (marks_more 1 id before.machines _ refl))) d
-line_stays id number (lines.Insert machine barcode) before after told d = unless_stays id _ before after told _ (machine_stays id number machine _ before after told) d
-line_stays id number (lines.Remove machine _) before after told d = unless_stays id _ before after told _ (machine_stays id number machine _ before after told) d
-line_stays id number (lines.Replace machine _) before after told d = unless_stays id _ before after told _ (machine_stays id number machine _ before after told) d
-line_stays id number (lines.Mark machine _ quality) before after told d = unless_stays id _ before after told _ (machine_stays id number machine _ before after told) d
-line_stays id number (lines.Hold machine side) before after told d = unless_stays id _ before after told _ (machine_stays id number machine _ before after told) d
-line_stays id number (lines.Go machine side) before after told d = unless_stays id _ before after told _ (machine_stays id number machine _ before after told) d
-line_stays id number (lines.Signal machine line on) before after told d = unless_stays id _ before after told _ (machine_stays id number machine _ before after told) d
-line_stays id number (lines.Connect machine) before after told d = unless_stays id _ before after told _ (connects_stays id number machine before after told) d
-line_stays id number (lines.Flow machine side count) before after told d = unless_stays id _ before after told _ (flows_stays id number machine side count before after told) d
-line_stays id number (lines.Notice machine side) before after told d = unless_stays id _ before after told _ (machine_stays id number machine _ before after told) d
-line_stays id number (lines.Cut gap) before after told d = unless_stays id _ before after told _ (becomes_stays id before (cut_in gap before) after _ told refl) d
-line_stays id number (lines.Spoil machine side) before after told d = unless_stays id _ before after told _ (becomes_stays id before (spoiled machine side before) after _ told refl) d
-line_stays id number (lines.Shutdown machine) before after told d = unless_stays id _ before after told _ (machine_stays id number machine _ before after told) d
-line_stays id number (lines.Tick machine) before after told d = unless_stays id _ before after told _ (machine_stays id number machine _ before after told) d
-line_stays id number (lines.Fault machine side) before after told d = unless_stays id _ before after told _ (machine_stays id number machine _ before after told) d
-line_stays id number (lines.Sense machine) before after told d = unless_stays id _ before after told _ (machine_stays id number machine _ before after told) d
-line_stays id number (lines.Begin gap) before after told d = moves_stays id gap moves.Begin before after told d
-line_stays id number (lines.Left gap) before after told d = moves_stays id gap moves.Left before after told d
-line_stays id number (lines.Enter gap) before after told d = moves_stays id gap moves.Enter before after told d
-line_stays id number (lines.Back gap) before after told d = moves_stays id gap moves.Back before after told d
-line_stays id number (lines.HandIn gap) before after told d = moves_stays id gap moves.HandIn before after told d
-line_stays id number (lines.Take gap) before after told d = moves_stays id gap moves.Take before after told d
-line_stays id number (lines.Lie machine sensed) before after told d = unless_stays id _ before after told _ (becomes_stays id before (lied number machine sensed before) after _ told refl) d
-line_stays id number (lines.Unseen machine side) before after told d = unless_stays id _ before after told _ (becomes_stays id before (unseen number machine side before) after _ told refl) d
-line_stays id number lines.Show before after told d = becomes_stays id before before after _ told refl d
-line_stays id number (lines.Forecast machine) before after told d = unless_stays id _ before after told _ (machine_stays id number machine _ before after told) d
-line_stays id number (lines.Query machine barcode) before after told d = unless_stays id _ before after told _ (machine_stays id number machine _ before after told) d
-line_stays id number (lines.Supervise machine) before after told d =
-    unless_stays id _ before after told _ (machine_stays id number machine _ before after told) d
-line_stays id number (lines.Ask machine question) before after told d =
-    unless_stays id _ before after told _ (machine_stays id number machine _ before after told) d
-line_stays id number (lines.Answer machine query order) before after told d =
-    unless_stays id _ before after told _ (machine_stays id number machine _ before after told) d
+line_stays id number line before after told does = turn_stays id number (request_of line) before after told (line_turns number line before after told does)
 
 -- ---- standings
 

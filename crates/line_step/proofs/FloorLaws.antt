@@ -1,25 +1,22 @@
 -- Unique ids, and ids that stay: what each line of the script does to the ids of the boards on the floor.
-use Rattle.std.proofs.Common.{◌≡◌, ◌≢◌, ◌+◌, ◌-◌, ◌<◌, ◌≤◌, ◌++◌, ℕ, zero, suc, Bool, true, false, List, [], ◌∷◌, Option, Some, None, Result, Ok, Err, length, filter, refl, sym, ap, subst, ◌∙◌, append-nil, arith, eqb-true, length-append, append_assoc}
-use Rattle.std.specs.Prelude.{◌==◌, if◌then◌else◌, nat_le, not, slice_get, slice_set, drop, is_none}
-use Rattle.std.specs.List.{AllByRecursion, flat_map}
+use Rattle.std.proofs.Common.{◌≡◌, ◌≢◌, ◌+◌, ◌-◌, ◌<◌, ◌≤◌, ◌++◌, ℕ, zero, suc, Bool, true, false, List, ◌∷◌, Option, Some, None, Result, Ok, Err, length, filter, refl, sym, ap, subst, ◌∙◌, append-nil, arith, eqb-true, length-append, append_assoc, []}
+use Rattle.std.specs.Prelude.{nat_le, slice_get, slice_set, drop, is_none, not}
+use Rattle.std.specs.List.{AllByRecursion}
 use Rattle.std.proofs.lemmas.Bool.{leb-false}
 use Rattle.std.proofs.lemmas.List.{length-set}
 use Rattle.std.proofs.lemmas.Option.{slice_get_within}
 use Rattle.line_step.proofs.Numbers.{floor_stays}
 use Rattle.line_base.specs.declared.states.Side.{Side}
 use Rattle.line_base.specs.declared.states.Side.TheVariants.{Entry, Exit}
-use Rattle.board_record.specs.declared.record.Record.{Record}
 use Rattle.board_record.specs.Record.{plain_record}
 use Rattle.board_record.specs.declared.sensed.Sensed.{Sensed}
 use Rattle.board_record.specs.declared.maker.IdsUsedUp.{IdsUsedUp}
 use Rattle.board_record.specs.Maker.{Maker, after_next, made_id, next_id}
 use Rattle.line_script.specs.declared.line.ScriptLine.{ScriptLine}
-use Rattle.line_script.specs.declared.line.ScriptLine.TheVariants as lines
 use Rattle.line_world.specs.declared.board.Board.{Board}
 use Rattle.line_world.specs.declared.gap.AtGap.{AtGap}
 use Rattle.line_world.specs.declared.moves.Move.{Move}
 use Rattle.line_world.specs.declared.moves.Move.TheVariants as moves
-use Rattle.line_world.specs.declared.moves.MoveNo.{MoveNo}
 use Rattle.line_world.specs.declared.moves.MoveNo.TheVariants as nos
 use Rattle.node_core.specs.declared.input.No.TheVariants as node_nos
 use Rattle.line_world.specs.FloorPlan.{AtMachine, FloorPlan, IsWhole, empty_machine, has_id, machine_at, one_machine_more, place_of, with_new_id, without_board, with_machine as floor_machine}
@@ -34,7 +31,6 @@ use Rattle.node_core.specs.declared.act.Act.{Act}
 use Rattle.node_core.specs.declared.act.Act.TheVariants as acts
 use Rattle.node_core.specs.declared.input.Input.{Input}
 use Rattle.node_core.specs.declared.input.Input.TheVariants as inputs
-use Rattle.node_core.specs.declared.input.No.{No}
 use Rattle.node_core.specs.declared.lane.Body.{Body}
 use Rattle.node_core.specs.declared.word.Word.{Word}
 use Rattle.node_core.specs.Announces.{announces}
@@ -43,26 +39,21 @@ use Rattle.node_core.specs.Desk.{Desk}
 use Rattle.node_core.specs.Event.{Insert, Replace, event_did, event_of, maker_after, with_new}
 use Rattle.node_core.specs.Node.{NodeState, desk_of, new_node}
 use Rattle.node_core.specs.Reads.{all_read}
-use Rattle.node_core.specs.May.{may_of}
-use Rattle.standings.specs.declared.told.Told.{Told}
-use Rattle.standings.specs.declared.told.Told.TheVariants as tolds
-use Rattle.standings.specs.Told.{told_of}
-use Rattle.line_link.specs.Link.{after_connect, after_spoil, connected_of, cut, spoil_sent}
+use Rattle.line_link.specs.Link.{after_connect, after_spoil, connected_of, cut}
 use Rattle.line_link.specs.declared.link.Connected.{Connected}
 use Rattle.line_link.specs.declared.link.Connected.TheVariants as connections
 use Rattle.line_report.specs.declared.happening.Happening.{Happening}
 use Rattle.line_report.specs.declared.happening.Happening.TheVariants as happenings
-use Rattle.line_report.specs.declared.happening.Reason.{Reason}
 use Rattle.line_report.specs.declared.happening.Reason.TheVariants as reasons
+use Rattle.node_core.specs.declared.input.No.{No}
 use Rattle.line_step.specs.World.{WorldParts, end_of, link_at, link_of}
-use Rattle.line_step.specs.State.{LineState, machine_in, marks_in, no_line, one_more, profile_of, with_machine, with_world}
-use Rattle.line_step.specs.Acts.{act_did, acts_did, changes, cut_told, lays, takes_off}
+use Rattle.line_step.specs.State.{LineState, machine_in, no_line, one_more, profile_of, with_machine, with_world}
+use Rattle.line_step.specs.Acts.{act_did, acts_did, changes, lays, takes_off}
 use Rattle.line_step.specs.Steps.{MachineSteps, is_second, moment_of, read_by, unread_by}
-use Rattle.line_step.specs.Reasons.{May, behind_own, if_there, is_here, may_add, may_connect, may_cut, may_do, may_flow, may_give, may_lie, may_remove, may_replace, may_spoil, may_unseen, is_bare, no_if}
-use Rattle.line_step.specs.Shown.{ascending, between_shown, ids_marked, kept_shown, shown, shown_from, standing_told, standings_told, taken_below}
-use Rattle.line_step.specs.Lines.{Becomes, Connects, Flows, LineDoes, LineSteps, Unless, arrived, connecting, cut_in, lied, met, move_told, moved, spoil_told, spoiled, unseen, unseen_on, unvouched_told}
+use Rattle.line_step.specs.Reasons.{if_there, is_here, may_do, is_bare, no_if, May, behind_own}
+use Rattle.line_step.specs.Shown.{standings_told}
+use Rattle.line_step.specs.Lines.{Connects, Flows, LineSteps, arrived, connecting, cut_in, lied, met, moved, spoil_told, spoiled, unseen, unseen_on, unvouched_told}
 use Rattle.line_step.specs.Runs.{Point, IsRun}
-use Rattle.node_core.specs.Own.{own_of}
 use Rattle.node_core.specs.Signals.{signalled}
 use Rattle.node_core.specs.Step.{plain_step}
 use Rattle.node_core.specs.declared.supervising.Watch.{Watch}
@@ -80,7 +71,12 @@ use Rattle.line_step.specs.FloorIds.{AllChange, ChangesBoards, IdsStay, IsFresh,
 use Rattle.line_step.proofs.Hands.{AreQuiet, announces-quiet, both_shut-quiet, both_tick-quiet, faults-quiet, heard-quiet, marks-quiet, notices-quiet, opens-quiet, quiet-join, read-quiet, second-quiet, signals-quiet, levels-quiet, forecasts-quiet, hands_with_tells, supervises-quiet, tells_behind-quiet}
 use Rattle.line_step.proofs.WithTells.{tells_append}
 use Rattle.line_step.proofs.Makers.{AreNumbered, IsOld, numbered-at, numbered-last, numbered-set, old-apart, old-last, old-new, old-set}
-use Rattle.line_step.proofs.OnFloor.{Handles, IsPlain, IsStill, LiesThere, SameBoards, acts-still, all-join, as_many_gaps, changes-changes, cut-still, handled-join, handles, lays-gains, lies-there_by, made-join, quiet-acts, read-list, same-list, still-join, still-none, takes_off-loses, board-gains, front-loses}
+use Rattle.line_step.proofs.OnFloor.{Handles, IsPlain, IsStill, LiesThere, SameBoards, acts-still, all-join, as_many_gaps, changes-changes, handled-join, handles, lays-gains, lies-there_by, made-join, quiet-acts, read-list, same-list, still-join, still-none, takes_off-loses, board-gains, front-loses}
+use Rattle.line_step.proofs.Remarks.{IsRemark, Passes, all_pass, standings_remarks, unvouched_remarks}
+use Rattle.line_step.proofs.Requests.{Request, added_told, may_get, request_of}
+use Rattle.line_step.proofs.Effects.{Effect, added_remarks, becomes_by, line_effect, spoil_remarks}
+use Rattle.line_step.proofs.Getting.{removes_here, replaces_here}
+use Rattle.line_step.proofs.Effects as effects
 
 -- ---- lists
 
@@ -240,14 +236,13 @@ moved-goes : (gap : ℕ) (step : Move) (s : LineState) (floor : FloorPlan) → f
 moved-goes gap step s floor is h same still =
     still-goes s (moved (Ok floor) s) (happenings.Moved gap step ∷ []) h (follows-same s.machines s.machines refl) (machines_kept gap step s.world.floor floor is ∙ h.many) (whole_after gap step s.world.floor floor h.whole is) same still
 
-move-goes : (gap : ℕ) (step : Move) (s : LineState) (answer : Result FloorPlan MoveNo) → floor_move gap step s.world.floor ≡ answer → Holds s → Goes s (moved answer s) (move_told gap step answer)
-move-goes gap step s (Err why) is h = stays-goes s s (happenings.No (reasons.Move why) ∷ []) h refl refl (one-still (happenings.No (reasons.Move why)) (λ boards. refl) refl refl)
-move-goes gap moves.Begin s (Ok floor) is h = moved-goes gap moves.Begin s floor is h (keeps_boards gap moves.Begin s.world.floor floor h.whole is) (one-still (happenings.Moved gap moves.Begin) (λ boards. refl) refl refl)
-move-goes gap moves.Left s (Ok floor) is h = moved-goes gap moves.Left s floor is h (keeps_boards gap moves.Left s.world.floor floor h.whole is) (one-still (happenings.Moved gap moves.Left) (λ boards. refl) refl refl)
-move-goes gap moves.Enter s (Ok floor) is h = moved-goes gap moves.Enter s floor is h (keeps_boards gap moves.Enter s.world.floor floor h.whole is) (one-still (happenings.Moved gap moves.Enter) (λ boards. refl) refl refl)
-move-goes gap moves.Back s (Ok floor) is h = moved-goes gap moves.Back s floor is h (keeps_boards gap moves.Back s.world.floor floor h.whole is) (one-still (happenings.Moved gap moves.Back) (λ boards. refl) refl refl)
-move-goes gap moves.HandIn s (Ok floor) is h = moved-goes gap moves.HandIn s floor is h (keeps_boards gap moves.HandIn s.world.floor floor h.whole is) (one-still (happenings.Moved gap moves.HandIn) (λ boards. refl) refl refl)
-move-goes gap moves.Take s (Ok floor) is h =
+move-goes : (gap : ℕ) (step : Move) (s : LineState) (floor : FloorPlan) → floor_move gap step s.world.floor ≡ Ok floor → Holds s → Goes s (moved (Ok floor) s) (happenings.Moved gap step ∷ [])
+move-goes gap moves.Begin s floor is h = moved-goes gap moves.Begin s floor is h (keeps_boards gap moves.Begin s.world.floor floor h.whole is) (one-still (happenings.Moved gap moves.Begin) (λ boards. refl) refl refl)
+move-goes gap moves.Left s floor is h = moved-goes gap moves.Left s floor is h (keeps_boards gap moves.Left s.world.floor floor h.whole is) (one-still (happenings.Moved gap moves.Left) (λ boards. refl) refl refl)
+move-goes gap moves.Enter s floor is h = moved-goes gap moves.Enter s floor is h (keeps_boards gap moves.Enter s.world.floor floor h.whole is) (one-still (happenings.Moved gap moves.Enter) (λ boards. refl) refl refl)
+move-goes gap moves.Back s floor is h = moved-goes gap moves.Back s floor is h (keeps_boards gap moves.Back s.world.floor floor h.whole is) (one-still (happenings.Moved gap moves.Back) (λ boards. refl) refl refl)
+move-goes gap moves.HandIn s floor is h = moved-goes gap moves.HandIn s floor is h (keeps_boards gap moves.HandIn s.world.floor floor h.whole is) (one-still (happenings.Moved gap moves.HandIn) (λ boards. refl) refl refl)
+move-goes gap moves.Take s floor is h =
     let kept = keeps_boards gap moves.Take s.world.floor floor h.whole is in
     record {
       holds = record {
@@ -782,23 +777,23 @@ replace-goes (Ok now) true number machine was before after told steps is stays h
 
 -- ---- the forms
 
-becomes-goes : (s next after : LineState) (what told : List Happening) → Goes s next what → Becomes next what after told → Goes s after told
-becomes-goes s next after what told goes becomes =
-    let P : LineState → Type 0 = λ t. Goes s t what in
-    let Q : List Happening → Type 0 = λ list. Goes s after list in
-    subst Q (sym becomes.told_is) (subst P (sym becomes.after_is) goes)
+remark-still : (h : Happening) → IsRemark h → IsStill (h ∷ [])
+remark-still (happenings.Done machine act) is = absurd is
+remark-still (happenings.Moved gap step) is = absurd is
+remark-still (happenings.Lie machine sensed) is = absurd is
+remark-still (happenings.Unseen machine side) is = absurd is
+remark-still h is = one-still h (λ boards. refl) refl refl
 
-refused-goes : (reason : Reason) (s after : LineState) (told : List Happening) → Holds s → Becomes s (happenings.No reason ∷ []) after told → Goes s after told
-refused-goes reason s after told h becomes =
-    becomes-goes s s after (happenings.No reason ∷ []) told (stays-goes s s (happenings.No reason ∷ []) h refl refl (one-still (happenings.No reason) (λ boards. refl) refl refl)) becomes
+remarks-still : Passes IsRemark IsStill
+remarks-still = record { none = still-none; both = still-join; one = remark-still }
 
-unless-goes : (may : May) (s after : LineState) (told : List Happening) (Done : Type 0) → Holds s → (Done → Goes s after told) → Unless may s after told Done → Goes s after told
-unless-goes (Ok _) s after told Done h goes does = goes does
-unless-goes (Err reason) s after told Done h goes does = refused-goes reason s after told h does
-
-given-goes : (may : May) (number machine : ℕ) (input : Input) (s after : LineState) (told : List Happening) → IsHandless input → Holds s → Unless may s after told (MachineSteps number machine input s after told) → Goes s after told
-given-goes may number machine input s after told handless h does =
-    unless-goes may s after told (MachineSteps number machine input s after told) h (handless-goes number machine input s after told handless h) does
+given-goes : (number machine : ℕ) (input : Input) (s after : LineState) (told : List Happening) → Holds s → may_get machine input s ≡ may_do → MachineSteps number machine input s after told → Goes s after told
+given-goes number machine (inputs.Insert barcode) s after told h may did = insert-goes (next_id did.node.maker) number machine barcode s after told did refl h
+given-goes number machine (inputs.Remove id) s after told h may did =
+    remove-goes (is_kept id (body_read number machine (inputs.Remove id) s after told did).kept) number machine id s after told did refl (removes_here machine id s did.node did.there may) h
+given-goes number machine (inputs.Replace was) s after told h may did =
+    replace-goes (next_id did.node.maker) (is_kept was (body_read number machine (inputs.Replace was) s after told did).kept) number machine was s after told did refl refl (replaces_here machine was s did.node did.there may) h
+given-goes number machine input s after told h may did = handless-goes number machine input s after told tt h did
 
 -- a board that may be taken out, or replaced, is here
 here-behind : (own : Result (Unit {0}) No) (here : Bool) (next : May) (done : Unit {0}) → behind_own own (no_if (not here) reasons.NotHere next) ≡ Ok done → here ≡ true
@@ -809,22 +804,6 @@ here-behind (Ok _) false next done is = cc
 pub here-if : (there : Option NodeState) (own : NodeState → Result (Unit {0}) No) (here : Bool) (next : NodeState → May) (done : Unit {0}) → if_there there (λ node. behind_own (own node) (no_if (not here) reasons.NotHere (next node))) ≡ Ok done → here ≡ true
 here-if None own here next done is = cc
 here-if (Some node) own here next done is = here-behind (own node) here (next node) done is
-
-removed-goes : (may : May) (number machine id : ℕ) (s after : LineState) (told : List Happening) → may_remove machine id s ≡ may → Holds s → Unless may s after told (MachineSteps number machine (inputs.Remove id) s after told) → Goes s after told
-removed-goes (Ok done) number machine id s after told is h steps =
-    let here = here-if (machine_in machine s) (λ node. may_of node (inputs.Remove id)) (is_here machine id s.world) (λ node. may_do) done is in
-    remove-goes (is_kept id (body_read number machine (inputs.Remove id) s after told steps).kept) number machine id s after told steps refl here h
-removed-goes (Err reason) number machine id s after told is h does = refused-goes reason s after told h does
-
-replaced-goes : (may : May) (number machine was : ℕ) (s after : LineState) (told : List Happening) → may_replace machine was s ≡ may → Holds s → Unless may s after told (MachineSteps number machine (inputs.Replace was) s after told) → Goes s after told
-replaced-goes (Ok done) number machine was s after told is h steps =
-    let here = here-if (machine_in machine s) (λ node. may_of node (inputs.Remove was)) (is_here machine was s.world) (λ node. behind_own (may_of node (inputs.Replace was)) may_do) done is in
-    replace-goes (next_id steps.node.maker) (is_kept was (body_read number machine (inputs.Replace was) s after told steps).kept) number machine was s after told steps refl refl here h
-replaced-goes (Err reason) number machine was s after told is h does = refused-goes reason s after told h does
-
-inserted-goes : (may : May) (number machine : ℕ) (barcode : Option (List ℕ)) (s after : LineState) (told : List Happening) → Holds s → Unless may s after told (MachineSteps number machine (inputs.Insert barcode) s after told) → Goes s after told
-inserted-goes may number machine barcode s after told h does =
-    unless-goes may s after told (MachineSteps number machine (inputs.Insert barcode) s after told) h (λ steps. insert-goes (next_id steps.node.maker) number machine barcode s after told steps refl h) does
 
 met-handless : (on : Connected) → IsHandless (met on)
 met-handless connections.Accepted = tt
@@ -844,10 +823,6 @@ flows-goes number machine side count s after told h flows =
     let begin = stays-goes s (arrived machine side count s) [] h refl (floor_stays (link_of machine side) _ s.world) still-none in
     goes-both s (arrived machine side count s) after [] told begin (handless-goes number machine (inputs.Bytes side flows.piece) (arrived machine side count s) after told tt begin.holds flows.steps)
 
-unvouched-still : (unvouched : Option ℕ) → IsStill (unvouched_told unvouched)
-unvouched-still None = one-still happenings.Unvouched (λ boards. refl) refl refl
-unvouched-still (Some line) = still-none
-
 lie-goes : (number machine : ℕ) (sensed : Sensed) (s : LineState) → Holds s → Goes s (lied number machine sensed s) (happenings.Lie machine sensed ∷ unvouched_told s.unvouched)
 lie-goes number machine sensed s h =
     let plan = s.world.floor in
@@ -856,7 +831,7 @@ lie-goes number machine sensed s h =
     let many = as_many_machines plan machine now in
     let gaps = as_many_gaps plan machine now in
     still-goes s (lied number machine sensed s) (happenings.Lie machine sensed ∷ unvouched_told s.unvouched) h (follows-same s.machines s.machines refl) (many ∙ h.many) (ap length gaps ∙ h.whole ∙ ap (λ n. n - 1) (sym many)) (boards_unread plan machine unread)
-    (still-join (happenings.Lie machine sensed ∷ []) (unvouched_told s.unvouched) (one-still (happenings.Lie machine sensed) (λ boards. refl) refl refl) (unvouched-still s.unvouched))
+    (still-join (happenings.Lie machine sensed ∷ []) (unvouched_told s.unvouched) (one-still (happenings.Lie machine sensed) (λ boards. refl) refl refl) (all_pass (unvouched_told s.unvouched) remarks-still (unvouched_remarks s.unvouched)))
 
 -- a board that may come or go unseen: its machine is there, and the board that is to go lies there
 record MayUnseen (machine : ℕ) (side : Side) (s : LineState) : Type 0 where
@@ -891,7 +866,7 @@ unseen-told-goes number machine side s now h is change old differ =
     let t = unseen number machine side s in
     let many = ap (λ (p : FloorPlan). length p.machines) is ∙ as_many_machines plan machine now in
     let gaps = ap (λ (p : FloorPlan). length p.gaps) is ∙ ap length (as_many_gaps plan machine now) in
-    let still = unvouched-still s.unvouched in
+    let still = all_pass (unvouched_told s.unvouched) remarks-still (unvouched_remarks s.unvouched) in
     record {
       holds = record { own = h.own; many = many ∙ h.many; whole = gaps ∙ h.whole ∙ ap (λ n. n - 1) (sym many); old = old; differ = differ };
       change = (boards_of t, change, still.change (boards_of t));
@@ -922,115 +897,32 @@ unseen-goes number machine Exit s h may =
     (each-lost (IsOldBoard s.machines) (boards_of s) (boards_of (unseen number machine Exit s)) front.0 loss h.old)
     (loses_differ plan (unseen number machine Exit s).world.floor front.0 loss h.differ)
 
-seen-goes : (may : May) (number machine : ℕ) (side : Side) (s after : LineState) (told : List Happening) → may_unseen machine side s ≡ may → Holds s
-    → Unless may s after told (Becomes (unseen number machine side s) (happenings.Unseen machine side ∷ unvouched_told s.unvouched) after told) → Goes s after told
-seen-goes (Ok done) number machine side s after told is h does =
-    becomes-goes s (unseen number machine side s) after (happenings.Unseen machine side ∷ unvouched_told s.unvouched) told
-    (unseen-goes number machine side s h (unseen-if (machine_in machine s) machine side s done refl is)) does
-seen-goes (Err reason) number machine side s after told is h does = refused-goes reason s after told h does
+-- ---- each effect
 
--- ---- what is shown, and the standings
-
-kept-still : (machine : ℕ) (boards : List Record) → IsStill (kept_shown machine boards)
-kept-still machine [] = still-none
-kept-still machine (board ∷ boards) = still-join (happenings.Shown machine board.id board.quality ∷ []) (kept_shown machine boards) (one-still (happenings.Shown machine board.id board.quality) (λ b. refl) refl refl) (kept-still machine boards)
-
-between-one : (gap id : ℕ) → IsStill (happenings.ShownBetween gap id ∷ [])
-between-one gap id = one-still (happenings.ShownBetween gap id) (λ boards. refl) refl refl
-
-between-two : (same : Bool) (gap above below : ℕ) → IsStill (happenings.ShownBetween gap above ∷ (if same then [] else happenings.ShownBetween gap below ∷ []))
-between-two true gap above below = between-one gap above
-between-two false gap above below = still-join (happenings.ShownBetween gap above ∷ []) (happenings.ShownBetween gap below ∷ []) (between-one gap above) (between-one gap below)
-
-between-still : (gap : ℕ) (above below : Option ℕ) → IsStill (between_shown gap above below)
-between-still gap None None = still-none
-between-still gap None (Some below) = between-one gap below
-between-still gap (Some above) None = between-one gap above
-between-still gap (Some above) (Some below) = between-two (above == below) gap above below
-
-shown-still : (machine : ℕ) (nodes : List NodeState) → IsStill (shown_from machine nodes)
-shown-still machine [] = still-none
-shown-still machine (node ∷ nodes) =
-    let between = between_shown machine (own_of node.lane.body).held (taken_below nodes) in
-    still-join (kept_shown machine node.lane.body.kept) (between ++ shown_from (machine + 1) nodes) (kept-still machine node.lane.body.kept)
-    (still-join between (shown_from (machine + 1) nodes) (between-still machine (own_of node.lane.body).held (taken_below nodes)) (shown-still (machine + 1) nodes))
-
-standing-still : (id : ℕ) (told : Option Told) → IsStill (standing_told id told)
-standing-still id None = still-none
-standing-still id (Some (tolds.With machine)) = one-still (happenings.With machine id) (λ boards. refl) refl refl
-standing-still id (Some (tolds.Between gap)) = one-still (happenings.Between gap id) (λ boards. refl) refl refl
-standing-still id (Some tolds.Gone) = one-still (happenings.Gone id) (λ boards. refl) refl refl
-
-flat-still : (f : ℕ → List Happening) (ids : List ℕ) → ((id : ℕ) → IsStill (f id)) → IsStill (flat_map f ids)
-flat-still f [] every = still-none
-flat-still f (id ∷ ids) every = still-join (f id) (flat_map f ids) (every id) (flat-still f ids every)
-
-standings-still : (before next : LineState) → IsStill (standings_told before next)
-standings-still before next =
-    flat-still (λ id. standing_told id (told_of (marks_in before id) (marks_in next id))) (ascending (ids_marked before ++ ids_marked next)) (λ id. standing-still id (told_of (marks_in before id) (marks_in next id)))
-
--- ---- each form
-
-does-goes : (number : ℕ) (line : ScriptLine) (s after : LineState) (told : List Happening) → Holds s → LineDoes number line s after told → Goes s after told
-does-goes number lines.Blank s after told h does = becomes-goes s s after [] told (stays-goes s s [] h refl refl still-none) does
-does-goes number (lines.Machine capacity used) s after told h does =
-    let what = happenings.Machine (length s.machines + 1) capacity ∷ [] in
-    unless-goes (may_add s) s after told (Becomes (one_more false capacity used s) what after told) h (becomes-goes s (one_more false capacity used s) after what told (more-goes false capacity used s what h (one-still (happenings.Machine (length s.machines + 1) capacity) (λ boards. refl) refl refl))) does
-does-goes number (lines.Bridge capacity used) s after told h does =
-    let what = happenings.Bridge (length s.machines + 1) capacity ∷ [] in
-    unless-goes (may_add s) s after told (Becomes (one_more true capacity used s) what after told) h (becomes-goes s (one_more true capacity used s) after what told (more-goes true capacity used s what h (one-still (happenings.Bridge (length s.machines + 1) capacity) (λ boards. refl) refl refl))) does
-does-goes number (lines.Insert machine barcode) s after told h does = inserted-goes (may_give machine (inputs.Insert barcode) s) number machine barcode s after told h does
-does-goes number (lines.Remove machine id) s after told h does = removed-goes (may_remove machine id s) number machine id s after told refl h does
-does-goes number (lines.Replace machine id) s after told h does = replaced-goes (may_replace machine id s) number machine id s after told refl h does
-does-goes number (lines.Mark machine id quality) s after told h does = given-goes _ number machine (inputs.Mark id quality) s after told tt h does
-does-goes number (lines.Hold machine side) s after told h does = given-goes _ number machine (inputs.Will side false) s after told tt h does
-does-goes number (lines.Go machine side) s after told h does = given-goes _ number machine (inputs.Will side true) s after told tt h does
-does-goes number (lines.Signal machine line on) s after told h does = given-goes _ number machine (inputs.Level line on) s after told tt h does
-does-goes number (lines.Connect machine) s after told h does = unless-goes (may_connect machine s) s after told (Connects number machine s after told) h (connects-goes number machine s after told h) does
-does-goes number (lines.Flow machine side count) s after told h does = unless-goes (may_flow machine side s) s after told (Flows number machine side count s after told) h (flows-goes number machine side count s after told h) does
-does-goes number (lines.Notice machine side) s after told h does = given-goes _ number machine (inputs.Notice side) s after told tt h does
-does-goes number (lines.Cut gap) s after told h does =
-    let what = happenings.Cut gap ∷ [] in
-    let floor = floor_stays gap (cut (link_at gap s.world)) s.world in
-    unless-goes (may_cut gap s) s after told (Becomes (cut_in gap s) what after told) h (becomes-goes s (cut_in gap s) after what told (stays-goes s (cut_in gap s) what h refl floor (one-still (happenings.Cut gap) (λ boards. refl) refl refl))) does
-does-goes number (lines.Spoil machine side) s after told h does =
+effect-goes : (number : ℕ) (request : Request) (s after : LineState) (told : List Happening) → Holds s → Effect number s after told request → Goes s after told
+effect-goes number request s after told h (effects.rests _ what remarks b) = becomes_by (Goes s) b (stays-goes s s what h refl refl (all_pass what remarks-still remarks))
+effect-goes number request s after told h (effects.adds is_bridge capacity used may b) =
+    becomes_by (Goes s) b (more-goes is_bridge capacity used s (added_told is_bridge capacity s) h (all_pass (added_told is_bridge capacity s) remarks-still (added_remarks is_bridge capacity s)))
+effect-goes number request s after told h (effects.steps machine input given may did) = given-goes number machine input s after told h may did
+effect-goes number request s after told h (effects.connects machine may did) = connects-goes number machine s after told h did
+effect-goes number request s after told h (effects.flows machine side count may did) = flows-goes number machine side count s after told h did
+effect-goes number request s after told h (effects.cuts gap may b) =
+    becomes_by (Goes s) b (stays-goes s (cut_in gap s) (happenings.Cut gap ∷ []) h refl (floor_stays gap (cut (link_at gap s.world)) s.world) (remark-still (happenings.Cut gap) tt))
+effect-goes number request s after told h (effects.spoils machine side may b) =
     let link = link_of machine side in
-    let on = spoil_sent (end_of side) (link_at link s.world) in
-    let what = spoil_told machine side s in
-    let still = still-join (happenings.Spoils machine side ∷ []) (cut_told link on) (one-still (happenings.Spoils machine side) (λ boards. refl) refl refl) (cut-still link on) in
     let floor = floor_stays link (after_spoil (end_of side) (link_at link s.world)) s.world in
-    unless-goes (may_spoil machine side s) s after told (Becomes (spoiled machine side s) what after told) h (becomes-goes s (spoiled machine side s) after what told (stays-goes s (spoiled machine side s) what h refl floor still)) does
-does-goes number (lines.Shutdown machine) s after told h does = given-goes _ number machine inputs.Shutdown s after told tt h does
-does-goes number (lines.Tick machine) s after told h does = given-goes _ number machine inputs.Tick s after told tt h does
-does-goes number (lines.Fault machine side) s after told h does = given-goes _ number machine (inputs.Fault side) s after told tt h does
-does-goes number (lines.Lie machine sensed) s after told h does =
-    let what = happenings.Lie machine sensed ∷ unvouched_told s.unvouched in
-    unless-goes (may_lie machine sensed.side s) s after told (Becomes (lied number machine sensed s) what after told) h (becomes-goes s (lied number machine sensed s) after what told (lie-goes number machine sensed s h)) does
-does-goes number (lines.Unseen machine side) s after told h does = seen-goes (may_unseen machine side s) number machine side s after told refl h does
-does-goes number (lines.Sense machine) s after told h does = given-goes _ number machine inputs.Nothing s after told tt h does
-does-goes number (lines.Begin gap) s after told h does = becomes-goes s _ after _ told (move-goes gap moves.Begin s (floor_move gap moves.Begin s.world.floor) refl h) does
-does-goes number (lines.Left gap) s after told h does = becomes-goes s _ after _ told (move-goes gap moves.Left s (floor_move gap moves.Left s.world.floor) refl h) does
-does-goes number (lines.Enter gap) s after told h does = becomes-goes s _ after _ told (move-goes gap moves.Enter s (floor_move gap moves.Enter s.world.floor) refl h) does
-does-goes number (lines.Back gap) s after told h does = becomes-goes s _ after _ told (move-goes gap moves.Back s (floor_move gap moves.Back s.world.floor) refl h) does
-does-goes number (lines.HandIn gap) s after told h does = becomes-goes s _ after _ told (move-goes gap moves.HandIn s (floor_move gap moves.HandIn s.world.floor) refl h) does
-does-goes number (lines.Take gap) s after told h does = becomes-goes s _ after _ told (move-goes gap moves.Take s (floor_move gap moves.Take s.world.floor) refl h) does
-does-goes number lines.Show s after told h does = becomes-goes s s after (shown s) told (stays-goes s s (shown s) h refl refl (shown-still 1 s.machines)) does
-does-goes number (lines.Forecast machine) s after told h does = given-goes _ number machine inputs.Forecast s after told tt h does
-does-goes number (lines.Query machine barcode) s after told h does = given-goes _ number machine (inputs.Query barcode) s after told tt h does
-does-goes number (lines.Supervise machine) s after told h does =
-    given-goes _ number machine (inputs.Supervise true) s after told tt h does
-does-goes number (lines.Ask machine question) s after told h does =
-    given-goes _ number machine (inputs.Ask question) s after told tt h does
-does-goes number (lines.Answer machine query order) s after told h does =
-    given-goes _ number machine (inputs.Answer query order) s after told tt h does
+    becomes_by (Goes s) b (stays-goes s (spoiled machine side s) (spoil_told machine side s) h refl floor (all_pass (spoil_told machine side s) remarks-still (spoil_remarks machine side s)))
+effect-goes number request s after told h (effects.moves gap step floor is b) = becomes_by (Goes s) b (move-goes gap step s floor is h)
+effect-goes number request s after told h (effects.lies machine sensed may b) = becomes_by (Goes s) b (lie-goes number machine sensed s h)
+effect-goes number request s after told h (effects.unsees machine side may b) = becomes_by (Goes s) b (unseen-goes number machine side s h (unseen-if (machine_in machine s) machine side s tt refl may))
 
 -- EACH LINE STEP
 pub steps-goes : (number : ℕ) (line : ScriptLine) (s after : LineState) (told : List Happening) → Holds s → LineSteps number line s after told → Goes s after told
 steps-goes number line s after told h steps =
     let next = steps.next in
     let count : LineState = record next { lines = next.lines + 1 } in
-    let one = does-goes number line s next steps.done h steps.does in
-    let two = stays-goes next count (standings_told s next) one.holds refl refl (standings-still s next) in
+    let one = effect-goes number (request_of line) s next steps.done h (line_effect number line s next steps.done steps.does) in
+    let two = stays-goes next count (standings_told s next) one.holds refl refl (all_pass (standings_told s next) remarks-still (standings_remarks s next)) in
     let P : LineState → Type 0 = λ t. Goes s t (steps.done ++ standings_told s next) in
     let Q : List Happening → Type 0 = λ list. Goes s after list in
     subst Q (sym steps.told_is) (subst P (sym steps.after_is) (goes-both s next count steps.done (standings_told s next) one two))

@@ -1,5 +1,5 @@
 -- What stands together in a line still does after a line of the script.
-use Rattle.std.proofs.Common.{◌≡◌, ◌≢◌, ◌⊎◌, ◌∙◌, inl, inr, ℕ, zero, suc, ◌+◌, ◌-◌, ◌<◌, ◌≤◌, ◌++◌, Bool, true, false, List, [], ◌∷◌, Option, Some, Result, Ok, Err, length, refl, sym, ap, subst, arith, length-append}
+use Rattle.std.proofs.Common.{◌≡◌, ◌≢◌, ◌⊎◌, ◌∙◌, inl, inr, ℕ, zero, suc, ◌+◌, ◌-◌, ◌<◌, ◌≤◌, ◌++◌, Bool, true, false, List, ◌∷◌, Option, Some, Result, Ok, Err, length, refl, sym, ap, subst, arith, length-append, []}
 use Rattle.std.specs.Prelude.{cond, is_some, nat_le, slice_get}
 use Rattle.board_record.specs.declared.sensed.Sensed.{Sensed}
 use Rattle.line_base.specs.declared.states.Side.{Side}
@@ -8,12 +8,10 @@ use Rattle.line_base.specs.declared.states.Role.{Role}
 use Rattle.line_base.specs.declared.states.Role.TheVariants.{Upstream, Downstream}
 use Rattle.line_link.specs.Link.{LinkParts, after_connect, after_flow, after_spoil, connected_of, cut, no_link, number_of}
 use Rattle.line_script.specs.declared.line.ScriptLine.{ScriptLine}
-use Rattle.line_script.specs.declared.line.ScriptLine.TheVariants as lines
 use Rattle.line_world.specs.FloorPlan.{AtMachine, FloorPlan, IsWhole, empty_machine, free_gap, gaps_before, one_machine_more}
 use Rattle.line_world.specs.declared.gap.AtGap.{AtGap}
 use Rattle.line_world.specs.Moves.{Around, around_move, around_of, floor_after, floor_move, has_gap}
 use Rattle.line_world.specs.declared.moves.Move.{Move}
-use Rattle.line_world.specs.declared.moves.Move.TheVariants as move
 use Rattle.line_world.specs.declared.moves.MoveNo.{MoveNo}
 use Rattle.line_world.specs.declared.moves.MoveNo.TheVariants as nos
 use Rattle.node_core.specs.declared.input.Input.{Input}
@@ -24,8 +22,8 @@ use Rattle.node_core.specs.Sides.{is_open}
 use Rattle.line_step.specs.World.{WorldParts, end_of, link_at, link_of, links_more, with_link}
 use Rattle.line_step.specs.State.{LineState, machine_in, most_machines, no_line, one_more, profile_of, with_world}
 use Rattle.line_step.specs.Steps.{MachineSteps}
-use Rattle.line_step.specs.Lines.{Becomes, Connects, Flows, LineDoes, LineSteps, Moves, Unless, arrived, connecting, cut_in, lied, met, moved, spoiled, unseen}
-use Rattle.line_step.specs.Reasons.{May, may_add, may_connect, may_do, no_if}
+use Rattle.line_step.specs.Lines.{Connects, Flows, LineDoes, LineSteps, arrived, connecting, lied, met, moved, unseen}
+use Rattle.line_step.specs.Reasons.{may_add, may_connect, may_do, no_if}
 use Rattle.line_step.specs.Opened.{opened_by}
 use Rattle.line_step.specs.Together.{IsLineTogether, is_linked}
 use Rattle.line_step.proofs.Numbers.{at_number, link_beyond, none_or_one, number_more, same_or_not}
@@ -36,6 +34,9 @@ use Rattle.line_step.proofs.Connecting.{can_connect, link_before}
 use Rattle.line_report.specs.declared.happening.Happening.{Happening}
 use Rattle.line_report.specs.declared.happening.Reason.{Reason}
 use Rattle.line_report.specs.declared.happening.Reason.TheVariants as reasons
+use Rattle.line_step.proofs.Requests.{IsGiven, Request, request_of}
+use Rattle.line_step.proofs.Effects.{Effect, becomes_by, line_effect}
+use Rattle.line_step.proofs.Effects as effects
 
 -- a line without a machine
 nobody : (machine : ℕ) (node : NodeState) → machine_in machine no_line ≡ Some node → ⊥
@@ -262,62 +263,34 @@ does before after keeps =
     let world = keeps.counts.world in
     record { lines = keeps.counts.lines; whole = λ whole. world.gaps ∙ whole ∙ ap (λ n. n - 1) (sym world.floor); together = kept before after keeps }
 
-made : (before next after : LineState) (what told : List Happening) → Becomes next what after told → Does before next → Does before after
-made before next after what told is did = let P : LineState → Type 0 = λ (s : LineState). Does before s in subst P (sym is.after_is) did
+steps_do : (number machine : ℕ) (input : Input) (before after : LineState) (told : List Happening) → MakesNone input → MachineSteps number machine input before after told → Does before after
+steps_do number machine input before after told none did = does before after (keeps_step number machine input before after told none did)
 
-unless : (may : May) (before after : LineState) (told : List Happening) (Done : Type 0) → Unless may before after told Done → (may ≡ may_do → Done → Does before after) → Does before after
-unless (Ok _) before after told Done what then = then refl what
-unless (Err reason) before after told Done what then = made before before after _ told what (does before before (keeps_still before))
+-- no input that a line gives makes a connection
+given_none : (input : Input) → IsGiven input → MakesNone input
+given_none inputs.Connect given = absurd given
+given_none inputs.Accepted given = absurd given
+given_none _ given = λ side opened. refl
 
-steps : (number machine : ℕ) (input : Input) (before after : LineState) (told : List Happening) → MakesNone input → MachineSteps number machine input before after told → Does before after
-steps number machine input before after told none did = does before after (keeps_step number machine input before after told none did)
-
-moves : (gap : ℕ) (step : Move) (before after : LineState) (told : List Happening) → Moves gap step before after told → Does before after
-moves gap step before after told is = made before (moved (floor_move gap step before.world.floor) before) after _ told is (does before _ (moved_keeps gap step before))
+effect_does : (number : ℕ) (request : Request) (before after : LineState) (told : List Happening) → Effect number before after told request → Does before after
+effect_does number request before after told (effects.rests _ what remarks b) = becomes_by (λ s ts. Does before s) b (does before before (keeps_still before))
+effect_does number request before after told (effects.adds is_bridge capacity used may b) =
+    becomes_by (λ s ts. Does before s) b (record { lines = refl; whole = more_whole before.world.floor; together = more_together is_bridge capacity used before may })
+effect_does number request before after told (effects.steps machine input given may did) = steps_do number machine input before after told (given_none input given) did
+effect_does number request before after told (effects.connects machine may did) = does before after (connects_keep number machine before after told may did)
+effect_does number request before after told (effects.flows machine side count may did) = does before after (flows_keep number machine side count before after told did)
+effect_does number request before after told (effects.cuts gap may b) =
+    becomes_by (λ s ts. Does before s) b (does before _ (keeps_link before gap (cut (link_at gap before.world)) (same_cut_off (link_at gap before.world))))
+effect_does number request before after told (effects.spoils machine side may b) =
+    let link = link_at (link_of machine side) before.world in
+    becomes_by (λ s ts. Does before s) b (does before _ (keeps_link before (link_of machine side) (after_spoil (end_of side) link) (same_spoil (end_of side) link)))
+effect_does number request before after told (effects.moves gap step floor is b) =
+    becomes_by (λ s ts. Does before s) b (does before (moved (Ok floor) before) (subst (λ (answer : Result FloorPlan MoveNo). Keeps before (moved answer before)) is (moved_keeps gap step before)))
+effect_does number request before after told (effects.lies machine sensed may b) = becomes_by (λ s ts. Does before s) b (does before _ (lied_keeps number machine sensed before))
+effect_does number request before after told (effects.unsees machine side may b) = becomes_by (λ s ts. Does before s) b (does before _ (unseen_keeps number machine side before))
 
 line_does : (number : ℕ) (line : ScriptLine) (before next : LineState) (told : List Happening) → LineDoes number line before next told → Does before next
-line_does number lines.Blank before next told is = made before before next [] told is (does before before (keeps_still before))
-line_does number (lines.Machine capacity used) before next told is = unless (may_add before) before next told _ is (λ may done. made before (one_more false capacity used before) next _ told done (record { lines = refl; whole = more_whole before.world.floor; together = more_together false capacity used before may }))
-line_does number (lines.Bridge capacity used) before next told is = unless (may_add before) before next told _ is (λ may done. made before (one_more true capacity used before) next _ told done (record { lines = refl; whole = more_whole before.world.floor; together = more_together true capacity used before may }))
-line_does number (lines.Insert machine barcode) before next told is = unless _ before next told _ is (λ may done. steps number machine (inputs.Insert barcode) before next told (λ side opened. refl) done)
-line_does number (lines.Remove machine id) before next told is = unless _ before next told _ is (λ may done. steps number machine (inputs.Remove id) before next told (λ side opened. refl) done)
-line_does number (lines.Replace machine id) before next told is = unless _ before next told _ is (λ may done. steps number machine (inputs.Replace id) before next told (λ side opened. refl) done)
-line_does number (lines.Mark machine id quality) before next told is = unless _ before next told _ is (λ may done. steps number machine (inputs.Mark id quality) before next told (λ side opened. refl) done)
-line_does number (lines.Hold machine side) before next told is = unless _ before next told _ is (λ may done. steps number machine (inputs.Will side false) before next told (λ at opened. refl) done)
-line_does number (lines.Go machine side) before next told is = unless _ before next told _ is (λ may done. steps number machine (inputs.Will side true) before next told (λ at opened. refl) done)
-line_does number (lines.Signal machine line on) before next told is = unless _ before next told _ is (λ may done. steps number machine (inputs.Level line on) before next told (λ at opened. refl) done)
-line_does number (lines.Connect machine) before next told is = unless (may_connect machine before) before next told _ is (λ may done. does before next (connects_keep number machine before next told may done))
-line_does number (lines.Flow machine side count) before next told is = unless _ before next told _ is (λ may done. does before next (flows_keep number machine side count before next told done))
-line_does number (lines.Notice machine side) before next told is = unless _ before next told _ is (λ may done. steps number machine (inputs.Notice side) before next told (λ at opened. refl) done)
-line_does number (lines.Cut gap) before next told is =
-    unless _ before next told _ is (λ may done. made before (cut_in gap before) next _ told done (does before _ (keeps_link before gap (cut (link_at gap before.world)) (same_cut_off (link_at gap before.world)))))
-line_does number (lines.Spoil machine side) before next told is =
-    let link = link_at (link_of machine side) before.world in
-    unless _ before next told _ is (λ may done. made before (spoiled machine side before) next _ told done (does before _ (keeps_link before (link_of machine side) (after_spoil (end_of side) link) (same_spoil (end_of side) link))))
-line_does number (lines.Shutdown machine) before next told is = unless _ before next told _ is (λ may done. steps number machine inputs.Shutdown before next told (λ side opened. refl) done)
-line_does number (lines.Tick machine) before next told is = unless _ before next told _ is (λ may done. steps number machine inputs.Tick before next told (λ side opened. refl) done)
-line_does number (lines.Fault machine side) before next told is = unless _ before next told _ is (λ may done. steps number machine (inputs.Fault side) before next told (λ at opened. refl) done)
-line_does number (lines.Sense machine) before next told is = unless _ before next told _ is (λ may done. steps number machine inputs.Nothing before next told (λ side opened. refl) done)
-line_does number (lines.Begin gap) before next told is = moves gap move.Begin before next told is
-line_does number (lines.Left gap) before next told is = moves gap move.Left before next told is
-line_does number (lines.Enter gap) before next told is = moves gap move.Enter before next told is
-line_does number (lines.Back gap) before next told is = moves gap move.Back before next told is
-line_does number (lines.HandIn gap) before next told is = moves gap move.HandIn before next told is
-line_does number (lines.Take gap) before next told is = moves gap move.Take before next told is
-line_does number (lines.Lie machine sensed) before next told is = unless _ before next told _ is (λ may done. made before (lied number machine sensed before) next _ told done (does before _ (lied_keeps number machine sensed before)))
-line_does number (lines.Unseen machine side) before next told is = unless _ before next told _ is (λ may done. made before (unseen number machine side before) next _ told done (does before _ (unseen_keeps number machine side before)))
-line_does number lines.Show before next told is = made before before next _ told is (does before before (keeps_still before))
-line_does number (lines.Forecast machine) before next told is = unless _ before next told _ is (λ may done. steps number machine inputs.Forecast before next told (λ at opened. refl) done)
-line_does number (lines.Query machine barcode) before next told is = unless _ before next told _ is (λ may done. steps number machine (inputs.Query barcode) before next told (λ at opened. refl) done)
-line_does number (lines.Supervise machine) before next told is =
-    unless _ before next told _ is (λ may done.
-    steps number machine (inputs.Supervise true) before next told (λ at opened. refl) done)
-line_does number (lines.Ask machine question) before next told is =
-    unless _ before next told _ is (λ may done.
-    steps number machine (inputs.Ask question) before next told (λ at opened. refl) done)
-line_does number (lines.Answer machine query order) before next told is =
-    unless _ before next told _ is (λ may done.
-    steps number machine (inputs.Answer query order) before next told (λ at opened. refl) done)
+line_does number line before next told is = effect_does number (request_of line) before next told (line_effect number line before next told is)
 
 pub lines_stay : (number : ℕ) (line : ScriptLine) (before next : LineState) (told : List Happening) → LineDoes number line before next told → next.lines ≡ before.lines
 lines_stay number line before next told is = (line_does number line before next told is).lines

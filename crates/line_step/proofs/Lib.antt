@@ -2,6 +2,11 @@ pub mod Changing
 pub mod Nearby
 pub mod WithTells
 pub mod Answering
+pub mod Remarks
+pub mod Requests
+pub mod Effects
+pub mod Turns
+pub mod Getting
 pub mod Quiet
 pub mod Opening
 pub mod Numbers

@@ -1,19 +1,17 @@
 -- A line of a script does one thing, and so does a run.
-use Rattle.std.proofs.Common.{◌≡◌, ◌+◌, ◌-◌, ◌++◌, ℕ, zero, suc, Bool, true, false, List, [], ◌∷◌, Option, Some, None, Result, Ok, Err, length, map, refl, sym, ap, subst, ◌∙◌}
+use Rattle.std.proofs.Common.{◌≡◌, ◌+◌, ◌-◌, ◌++◌, ℕ, zero, suc, Bool, true, false, List, ◌∷◌, Option, Some, None, Result, Ok, Err, length, map, refl, sym, ap, subst, ◌∙◌, []}
 use Rattle.std.specs.Prelude.{pos, slice_get, slice_set, not, is_none, is_some}
 use Rattle.std.specs.List.{flat_map}
 use Rattle.line_base.specs.declared.states.Side.{Side}
 use Rattle.line_base.specs.declared.states.Side.TheVariants.{Entry, Exit}
 use Rattle.board_record.specs.Maker.{Maker}
 use Rattle.line_script.specs.declared.line.ScriptLine.{ScriptLine}
-use Rattle.line_script.specs.declared.line.ScriptLine.TheVariants as lines
 use Rattle.line_link.specs.Link.{connected_of}
 use Rattle.line_link.specs.declared.link.Connected.{Connected}
 use Rattle.line_link.specs.declared.link.Connected.TheVariants as connections
 use Rattle.line_world.specs.FloorPlan.{FloorPlan}
 use Rattle.line_world.specs.Moves.{floor_move}
 use Rattle.line_world.specs.declared.moves.Move.{Move}
-use Rattle.line_world.specs.declared.moves.Move.TheVariants as moves
 use Rattle.line_world.specs.declared.moves.MoveNo.{MoveNo}
 use Rattle.line_world.specs.declared.moves.MoveNo.TheVariants as move_no
 use Rattle.node_core.specs.declared.act.Act.{Act}
@@ -49,6 +47,8 @@ use Rattle.line_step.specs.Shown.{ascending, between_shown, ids_owned, kept_show
 use Rattle.line_step.specs.Lines.{Becomes, Connects, Flows, LineDoes, LineSteps, Moves, Unless, arrived, connecting, cut_in, lied, met, move_told, moved, spoiled, unseen}
 use Rattle.line_step.specs.Runs.{Point, IsRun, state_behind, told_text}
 use Rattle.line_step.proofs.Once.{AreAlike, IsDry, OneMeaning, StepsOnce, desk-same, steps-bytes, steps-dry}
+use Rattle.line_step.proofs.Requests.{GivesInput, IsGiven, Request, RequestDoes, added_told, line_gives, line_requests, may_get, request_of}
+use Rattle.line_step.proofs.Requests as requests
 
 -- ---- lines of machines that are alike
 
@@ -324,11 +324,6 @@ dry-once number machine input s after nodes after' told other dry all one two =
     stepped-once number machine input input s after nodes after' told other all refl one two
     (λ alike. steps-dry one.node two.node one.next two.next (unread_by machine s.world) input (moment_of number) one.acts two.acts alike dry one.steps two.steps one.unspent two.unspent)
 
-given-once : (number machine : ℕ) (input : Input) (s after : LineState) (nodes : List NodeState) (after' : LineState) (told other : List Happening) (may may' : May) → IsDry input → AreAllAlike s.machines nodes → may' ≡ may
-    → Unless may s after told (MachineSteps number machine input s after told) → Unless may' (like s nodes) after' other (MachineSteps number machine input (like s nodes) after' other) → DoesOnce after after' told other
-given-once number machine input s after nodes after' told other may may' dry all same one two =
-    unless-once may may' s after nodes after' told other (MachineSteps number machine input s after told) (MachineSteps number machine input (like s nodes) after' other) all same (dry-once number machine input s after nodes after' told other dry all) one two
-
 flows-once : OneMeaning → (number machine : ℕ) (side : Side) (count : Option ℕ) (s after : LineState) (nodes : List NodeState) (after' : LineState) (told other : List Happening) → AreAllAlike s.machines nodes
     → Flows number machine side count s after told → Flows number machine side count (like s nodes) after' other → DoesOnce after after' told other
 flows-once law number machine side count s after nodes after' told other all one two =
@@ -368,66 +363,52 @@ more-alike is_bridge capacity used s nodes all =
       same = ap f many;
     }
 
-does-once : OneMeaning → (number : ℕ) (line : ScriptLine) (s after : LineState) (nodes : List NodeState) (after' : LineState) (told other : List Happening) → AreAllAlike s.machines nodes → LineDoes number line s after told → LineDoes number line (like s nodes) after' other → DoesOnce after after' told other
-does-once law number lines.Blank s after nodes after' told other all one two = becomes-once s (like s nodes) after after' [] [] told other (stays-alike s nodes all) refl one two
-does-once law number (lines.Machine capacity used) s after nodes after' told other all one two =
-    let what : ℕ → List Happening = λ n. happenings.Machine (n + 1) capacity ∷ [] in
-    unless-once (may_add s) (may_add (like s nodes)) s after nodes after' told other (Becomes (one_more false capacity used s) (what (length s.machines)) after told) (Becomes (one_more false capacity used (like s nodes)) (what (length nodes)) after' other) all (add-alike s nodes all)
-    (becomes-once (one_more false capacity used s) (one_more false capacity used (like s nodes)) after after' (what (length s.machines)) (what (length nodes)) told other (more-alike false capacity used s nodes all) (ap what (length-alike s.machines nodes all))) one two
-does-once law number (lines.Bridge capacity used) s after nodes after' told other all one two =
-    let what : ℕ → List Happening = λ n. happenings.Bridge (n + 1) capacity ∷ [] in
-    unless-once (may_add s) (may_add (like s nodes)) s after nodes after' told other (Becomes (one_more true capacity used s) (what (length s.machines)) after told) (Becomes (one_more true capacity used (like s nodes)) (what (length nodes)) after' other) all (add-alike s nodes all)
-    (becomes-once (one_more true capacity used s) (one_more true capacity used (like s nodes)) after after' (what (length s.machines)) (what (length nodes)) told other (more-alike true capacity used s nodes all) (ap what (length-alike s.machines nodes all))) one two
-does-once law number (lines.Insert machine barcode) s after nodes after' told other all one two = given-once number machine (inputs.Insert barcode) s after nodes after' told other _ _ tt all (give-alike machine (inputs.Insert barcode) s nodes all) one two
-does-once law number (lines.Remove machine id) s after nodes after' told other all one two = given-once number machine (inputs.Remove id) s after nodes after' told other _ _ tt all (remove-alike machine id s nodes all) one two
-does-once law number (lines.Replace machine id) s after nodes after' told other all one two = given-once number machine (inputs.Replace id) s after nodes after' told other _ _ tt all (replace-alike machine id s nodes all) one two
-does-once law number (lines.Mark machine id quality) s after nodes after' told other all one two = given-once number machine (inputs.Mark id quality) s after nodes after' told other _ _ tt all (give-alike machine (inputs.Mark id quality) s nodes all) one two
-does-once law number (lines.Hold machine side) s after nodes after' told other all one two = given-once number machine (inputs.Will side false) s after nodes after' told other _ _ tt all (give-alike machine (inputs.Will side false) s nodes all) one two
-does-once law number (lines.Go machine side) s after nodes after' told other all one two = given-once number machine (inputs.Will side true) s after nodes after' told other _ _ tt all (give-alike machine (inputs.Will side true) s nodes all) one two
-does-once law number (lines.Signal machine line on) s after nodes after' told other all one two = given-once number machine (inputs.Level line on) s after nodes after' told other _ _ tt all (give-alike machine (inputs.Level line on) s nodes all) one two
-does-once law number (lines.Connect machine) s after nodes after' told other all one two =
-    unless-once (may_connect machine s) (may_connect machine (like s nodes)) s after nodes after' told other (Connects number machine s after told) (Connects number machine (like s nodes) after' other) all (connect-alike machine s nodes all) (connects-once number machine s after nodes after' told other all) one two
-does-once law number (lines.Flow machine side count) s after nodes after' told other all one two =
-    unless-once (may_flow machine side s) (may_flow machine side (like s nodes)) s after nodes after' told other (Flows number machine side count s after told) (Flows number machine side count (like s nodes) after' other) all (flow-alike machine side s nodes all) (flows-once law number machine side count s after nodes after' told other all) one two
-does-once law number (lines.Notice machine side) s after nodes after' told other all one two = given-once number machine (inputs.Notice side) s after nodes after' told other _ _ tt all (notice-alike machine side s nodes all) one two
-does-once law number (lines.Cut gap) s after nodes after' told other all one two =
-    unless-once (may_cut gap s) (may_cut gap (like s nodes)) s after nodes after' told other (Becomes (cut_in gap s) (happenings.Cut gap ∷ []) after told) (Becomes (cut_in gap (like s nodes)) (happenings.Cut gap ∷ []) after' other) all (cut-alike gap s nodes all)
+added-alike : (is_bridge : Bool) (capacity : ℕ) (s : LineState) (nodes : List NodeState) → AreAllAlike s.machines nodes → added_told is_bridge capacity (like s nodes) ≡ added_told is_bridge capacity s
+added-alike true capacity s nodes all = ap (λ n. happenings.Bridge (n + 1) capacity ∷ []) (length-alike s.machines nodes all)
+added-alike false capacity s nodes all = ap (λ n. happenings.Machine (n + 1) capacity ∷ []) (length-alike s.machines nodes all)
+
+unseen-once : (number machine : ℕ) (side : Side) (s : LineState) (nodes : List NodeState) → AreAllAlike s.machines nodes → LinesAlike (unseen number machine side s) (unseen number machine side (like s nodes))
+unseen-once number machine Entry s nodes all = record { machines = all; same = refl }
+unseen-once number machine Exit s nodes all = record { machines = all; same = refl }
+
+getting-alike : (machine : ℕ) (input : Input) (s : LineState) (nodes : List NodeState) → AreAllAlike s.machines nodes → may_get machine input (like s nodes) ≡ may_get machine input s
+getting-alike machine (inputs.Remove id) s nodes all = remove-alike machine id s nodes all
+getting-alike machine (inputs.Replace id) s nodes all = replace-alike machine id s nodes all
+getting-alike machine (inputs.Notice side) s nodes all = notice-alike machine side s nodes all
+getting-alike machine inputs.Nothing s nodes all = sense-alike machine s nodes all
+getting-alike machine (inputs.Answer query order) s nodes all = answer-alike machine query order s nodes all
+getting-alike machine input s nodes all = give-alike machine input s nodes all
+
+given-dry : (input : Input) → IsGiven input → IsDry input
+given-dry (inputs.Bytes side piece) given = absurd given
+given-dry _ given = tt
+
+does-once : OneMeaning → (number : ℕ) (request : Request) (s after : LineState) (nodes : List NodeState) (after' : LineState) (told other : List Happening) → GivesInput request → AreAllAlike s.machines nodes → RequestDoes number request s after told → RequestDoes number request (like s nodes) after' other → DoesOnce after after' told other
+does-once law number requests.nothing s after nodes after' told other given all one two = becomes-once s (like s nodes) after after' [] [] told other (stays-alike s nodes all) refl one two
+does-once law number requests.shows s after nodes after' told other given all one two = becomes-once s (like s nodes) after after' (shown s) (shown (like s nodes)) told other (stays-alike s nodes all) (shown-alike 1 s.machines nodes all) one two
+does-once law number (requests.adds is_bridge capacity used) s after nodes after' told other given all one two =
+    unless-once (may_add s) (may_add (like s nodes)) s after nodes after' told other _ _ all (add-alike s nodes all)
+    (becomes-once (one_more is_bridge capacity used s) (one_more is_bridge capacity used (like s nodes)) after after' (added_told is_bridge capacity s) (added_told is_bridge capacity (like s nodes)) told other (more-alike is_bridge capacity used s nodes all) (added-alike is_bridge capacity s nodes all)) one two
+does-once law number (requests.gives machine input) s after nodes after' told other given all one two =
+    unless-once (may_get machine input s) (may_get machine input (like s nodes)) s after nodes after' told other _ _ all (getting-alike machine input s nodes all)
+    (dry-once number machine input s after nodes after' told other (given-dry input given) all) one two
+does-once law number (requests.connects machine) s after nodes after' told other given all one two =
+    unless-once (may_connect machine s) (may_connect machine (like s nodes)) s after nodes after' told other _ _ all (connect-alike machine s nodes all) (connects-once number machine s after nodes after' told other all) one two
+does-once law number (requests.flows machine side count) s after nodes after' told other given all one two =
+    unless-once (may_flow machine side s) (may_flow machine side (like s nodes)) s after nodes after' told other _ _ all (flow-alike machine side s nodes all) (flows-once law number machine side count s after nodes after' told other all) one two
+does-once law number (requests.cuts gap) s after nodes after' told other given all one two =
+    unless-once (may_cut gap s) (may_cut gap (like s nodes)) s after nodes after' told other _ _ all (cut-alike gap s nodes all)
     (becomes-once (cut_in gap s) (cut_in gap (like s nodes)) after after' (happenings.Cut gap ∷ []) (happenings.Cut gap ∷ []) told other (record { machines = all; same = refl }) refl) one two
-does-once law number (lines.Spoil machine side) s after nodes after' told other all one two =
+does-once law number (requests.spoils machine side) s after nodes after' told other given all one two =
     unless-once (may_spoil machine side s) (may_spoil machine side (like s nodes)) s after nodes after' told other _ _ all (spoil-alike machine side s nodes all)
     (becomes-once (spoiled machine side s) (spoiled machine side (like s nodes)) after after' _ _ told other (record { machines = all; same = refl }) refl) one two
-does-once law number (lines.Shutdown machine) s after nodes after' told other all one two = given-once number machine inputs.Shutdown s after nodes after' told other _ _ tt all (give-alike machine inputs.Shutdown s nodes all) one two
-does-once law number (lines.Tick machine) s after nodes after' told other all one two = given-once number machine inputs.Tick s after nodes after' told other _ _ tt all (give-alike machine inputs.Tick s nodes all) one two
-does-once law number (lines.Fault machine side) s after nodes after' told other all one two = given-once number machine (inputs.Fault side) s after nodes after' told other _ _ tt all (give-alike machine (inputs.Fault side) s nodes all) one two
-does-once law number (lines.Lie machine sensed) s after nodes after' told other all one two =
+does-once law number (requests.moves_on gap step) s after nodes after' told other given all one two = moves-once gap step s after nodes after' told other all one two
+does-once law number (requests.lies machine sensed) s after nodes after' told other given all one two =
     unless-once (may_lie machine sensed.side s) (may_lie machine sensed.side (like s nodes)) s after nodes after' told other _ _ all (lie-alike machine sensed.side s nodes all)
     (becomes-once (lied number machine sensed s) (lied number machine sensed (like s nodes)) after after' _ _ told other (record { machines = all; same = refl }) refl) one two
-does-once law number (lines.Unseen machine Entry) s after nodes after' told other all one two =
-    unless-once (may_unseen machine Entry s) (may_unseen machine Entry (like s nodes)) s after nodes after' told other _ _ all (unseen-alike machine Entry s nodes all)
-    (becomes-once (unseen number machine Entry s) (unseen number machine Entry (like s nodes)) after after' _ _ told other (record { machines = all; same = refl }) refl) one two
-does-once law number (lines.Unseen machine Exit) s after nodes after' told other all one two =
-    unless-once (may_unseen machine Exit s) (may_unseen machine Exit (like s nodes)) s after nodes after' told other _ _ all (unseen-alike machine Exit s nodes all)
-    (becomes-once (unseen number machine Exit s) (unseen number machine Exit (like s nodes)) after after' _ _ told other (record { machines = all; same = refl }) refl) one two
-does-once law number (lines.Sense machine) s after nodes after' told other all one two = given-once number machine inputs.Nothing s after nodes after' told other _ _ tt all (sense-alike machine s nodes all) one two
-does-once law number (lines.Begin gap) s after nodes after' told other all one two = moves-once gap moves.Begin s after nodes after' told other all one two
-does-once law number (lines.Left gap) s after nodes after' told other all one two = moves-once gap moves.Left s after nodes after' told other all one two
-does-once law number (lines.Enter gap) s after nodes after' told other all one two = moves-once gap moves.Enter s after nodes after' told other all one two
-does-once law number (lines.Back gap) s after nodes after' told other all one two = moves-once gap moves.Back s after nodes after' told other all one two
-does-once law number (lines.HandIn gap) s after nodes after' told other all one two = moves-once gap moves.HandIn s after nodes after' told other all one two
-does-once law number (lines.Take gap) s after nodes after' told other all one two = moves-once gap moves.Take s after nodes after' told other all one two
-does-once law number lines.Show s after nodes after' told other all one two = becomes-once s (like s nodes) after after' (shown s) (shown (like s nodes)) told other (stays-alike s nodes all) (shown-alike 1 s.machines nodes all) one two
-does-once law number (lines.Forecast machine) s after nodes after' told other all one two = given-once number machine inputs.Forecast s after nodes after' told other _ _ tt all (give-alike machine inputs.Forecast s nodes all) one two
-does-once law number (lines.Query machine barcode) s after nodes after' told other all one two = given-once number machine (inputs.Query barcode) s after nodes after' told other _ _ tt all (give-alike machine (inputs.Query barcode) s nodes all) one two
-does-once law number (lines.Supervise machine) s after nodes after' told other all one two =
-    given-once number machine (inputs.Supervise true) s after nodes after' told other _ _ tt all
-    (give-alike machine (inputs.Supervise true) s nodes all) one two
-does-once law number (lines.Ask machine question) s after nodes after' told other all one two =
-    given-once number machine (inputs.Ask question) s after nodes after' told other _ _ tt all
-    (give-alike machine (inputs.Ask question) s nodes all) one two
-does-once law number (lines.Answer machine query order) s after nodes after' told other all one two =
-    given-once number machine (inputs.Answer query order) s after nodes after' told other _ _ tt
-    all
-    (answer-alike machine query order s nodes all) one two
+does-once law number (requests.unsees machine side) s after nodes after' told other given all one two =
+    unless-once (may_unseen machine side s) (may_unseen machine side (like s nodes)) s after nodes after' told other _ _ all (unseen-alike machine side s nodes all)
+    (becomes-once (unseen number machine side s) (unseen number machine side (like s nodes)) after after' _ _ told other (unseen-once number machine side s nodes all) refl) one two
 
 -- the standings
 standings-once : (before before' next next' : LineState) → owned before' ≡ owned before → owned next' ≡ owned next → standings_told before' next' ≡ standings_told before next
@@ -439,7 +420,7 @@ standings-once before before' next next' same later =
 pub line-once : OneMeaning → (number : ℕ) (line : ScriptLine) (s after t after' : LineState) (told other : List Happening) → LinesAlike s t → LineSteps number line s after told → LineSteps number line t after' other → DoesOnce after after' told other
 line-once law number line s after t after' told other alike one two =
     let P : LineState → Type 0 = λ b. LineDoes number line b two.next two.done in
-    let once = does-once law number line s one.next t.machines two.next one.done two.done alike.machines one.does (subst P alike.same two.does) in
+    let once = does-once law number (request_of line) s one.next t.machines two.next one.done two.done (line_gives line) alike.machines (line_requests number line s one.next one.done one.does) (line_requests number line (like s t.machines) two.next two.done (subst P alike.same two.does)) in
     let count : LineState → LineState = λ next. record next { lines = next.lines + 1 } in
     let Q : LineState → Type 0 = λ a. LinesAlike a (count two.next) in
     let R : LineState → Type 0 = λ b. LinesAlike after b in
