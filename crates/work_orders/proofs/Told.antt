@@ -12,12 +12,6 @@ use Rattle.std.proofs.Common.{
   List,
   [],
   ◌∷◌,
-  Option,
-  Some,
-  None,
-  Result,
-  Ok,
-  Err,
   refl,
   sym,
   ap,
@@ -27,39 +21,17 @@ use Rattle.std.proofs.Common.{
 }
 use Rattle.std.specs.List.{flat_map}
 use Rattle.line_base.specs.declared.states.Side.{Side}
-use Rattle.board_record.specs.declared.record.Record.{Record}
 use Rattle.hermes_horizontal.specs.Canonical.{canonical}
 use Rattle.hermes_horizontal.specs.declared.message.Message.{Message}
 use Rattle.line_link.specs.Link.{answer_sent, sent_of}
-use Rattle.line_link.specs.declared.link.Sent.{Sent}
-use Rattle.line_link.specs.declared.link.Sent.TheVariants as sent
-use Rattle.line_world.specs.FloorPlan.{FloorPlan}
-use Rattle.line_world.specs.declared.moves.Move.{Move}
-use Rattle.line_world.specs.declared.moves.MoveNo.{MoveNo}
-use Rattle.node_core.specs.Node.{NodeState}
-use Rattle.node_core.specs.Own.{own_of}
 use Rattle.node_core.specs.declared.act.Act.{Act}
 use Rattle.node_core.specs.declared.act.Act.TheVariants as acts
-use Rattle.standings.specs.Told.{told_of}
-use Rattle.standings.specs.declared.told.Told.{Told}
-use Rattle.standings.specs.declared.told.Told.TheVariants as tolds
 use Rattle.line_report.specs.declared.happening.Happening.{Happening}
 use Rattle.line_report.specs.declared.happening.Happening.TheVariants as happenings
 use Rattle.line_step.specs.Acts.{act_did, acts_did, answers, cut_told, sent_by}
-use Rattle.line_step.specs.Lines.{move_told, unvouched_told}
-use Rattle.line_step.specs.Shown.{
-  ascending,
-  between_shown,
-  ids_marked,
-  kept_shown,
-  shown_from,
-  standing_told,
-  standings_told,
-  taken_below,
-}
-use Rattle.line_step.specs.State.{LineState, marks_in}
 use Rattle.line_step.specs.World.{WorldParts, end_of, link_at, link_of}
 use Rattle.work_orders.specs.Answers.{answers_of, word_in, word_of}
+use Rattle.line_step.proofs.Remarks.{AreRemarks, IsNoAct, Passes, all_pass, cut_remarks, no_acts}
 
 pub answers_join : (machine query : ℕ) (a b : List Happening)
     → answers_of machine query (a ++ b) ≡ answers_of machine query a ++ answers_of machine query b
@@ -81,65 +53,19 @@ both_silent a b one two machine query =
     ∙ ap (λ (words : List (List ℕ)). words ++ answers_of machine query b) (one machine query)
     ∙ two machine query
 
-pub cut_silent : (link : ℕ) (on : Sent) → Silent (cut_told link on)
-cut_silent link sent.Cuts machine query = refl
-cut_silent link sent.Flows machine query = refl
-cut_silent link sent.Vanishes machine query = refl
+no_act_silent : (h : Happening) → IsNoAct h → Silent (h ∷ [])
+no_act_silent (happenings.Done machine act) is = absurd is
+no_act_silent _ is = λ machine query. refl
 
-pub move_silent : (gap : ℕ) (step : Move) (answer : Result FloorPlan MoveNo)
-    → Silent (move_told gap step answer)
-move_silent gap step (Ok floor) machine query = refl
-move_silent gap step (Err why) machine query = refl
+pub no_acts_silent : Passes IsNoAct Silent
+no_acts_silent = record {
+  none = λ machine query. refl;
+  both = both_silent;
+  one = no_act_silent;
+}
 
-pub unvouched_silent : (line : Option ℕ) → Silent (unvouched_told line)
-unvouched_silent None machine query = refl
-unvouched_silent (Some line) machine query = refl
-
-kept_silent : (at : ℕ) (boards : List Record) → Silent (kept_shown at boards)
-kept_silent at [] machine query = refl
-kept_silent at (board ∷ boards) machine query = kept_silent at boards machine query
-
-two_silent : (same : Bool) (gap above below : ℕ)
-    → Silent (happenings.ShownBetween gap above ∷
-    (if same then [] else happenings.ShownBetween gap below ∷ []))
-two_silent true gap above below machine query = refl
-two_silent false gap above below machine query = refl
-
-between_silent : (gap : ℕ) (above below : Option ℕ) → Silent (between_shown gap above below)
-between_silent gap None None machine query = refl
-between_silent gap None (Some below) machine query = refl
-between_silent gap (Some above) None machine query = refl
-between_silent gap (Some above) (Some below) machine query =
-    two_silent (above == below) gap above below machine query
-
-pub shown_silent : (at : ℕ) (nodes : List NodeState) → Silent (shown_from at nodes)
-shown_silent at [] machine query = refl
-shown_silent at (node ∷ nodes) machine query =
-    let between = between_shown at (own_of node.lane.body).held (taken_below nodes) in
-    both_silent (kept_shown at node.lane.body.kept) (between ++ shown_from (at + 1) nodes)
-    (kept_silent at node.lane.body.kept)
-    (both_silent between (shown_from (at + 1) nodes)
-    (between_silent at (own_of node.lane.body).held (taken_below nodes))
-    (shown_silent (at + 1) nodes))
-    machine query
-
-standing_silent : (id : ℕ) (told : Option Told) → Silent (standing_told id told)
-standing_silent id None machine query = refl
-standing_silent id (Some (tolds.With at)) machine query = refl
-standing_silent id (Some (tolds.Between gap)) machine query = refl
-standing_silent id (Some tolds.Gone) machine query = refl
-
-each_silent : (f : ℕ → List Happening) (ids : List ℕ) → ((id : ℕ) → Silent (f id))
-    → Silent (flat_map f ids)
-each_silent f [] every machine query = refl
-each_silent f (id ∷ ids) every machine query =
-    both_silent (f id) (flat_map f ids) (every id) (each_silent f ids every) machine query
-
-pub standings_silent : (before next : LineState) → Silent (standings_told before next)
-standings_silent before next =
-    each_silent (λ id. standing_told id (told_of (marks_in before id) (marks_in next id)))
-    (ascending (ids_marked before ++ ids_marked next))
-    (λ id. standing_silent id (told_of (marks_in before id) (marks_in next id)))
+pub remarks_silent : (told : List Happening) → AreRemarks told → Silent told
+remarks_silent told remarks = all_pass told no_acts_silent (no_acts told remarks)
 
 -- ---- acts
 
@@ -168,11 +94,11 @@ sent_words : (second : Bool) (machine query by : ℕ) (side : Side) (message : M
     ≡ if_own (by == machine) []
 sent_words true machine query by side message world =
     let on = answer_sent (canonical message) (link_at by world) in
-    sends_none (by == machine) machine query (cut_told by on) (cut_silent by on)
+    sends_none (by == machine) machine query (cut_told by on) (remarks_silent (cut_told by on) (cut_remarks by on))
 sent_words false machine query by side message world =
     let on = sent_of (end_of side) (canonical message) (link_at (link_of by side) world) in
     sends_none (by == machine) machine query (cut_told (link_of by side) on)
-    (cut_silent (link_of by side) on)
+    (remarks_silent (cut_told (link_of by side) on) (cut_remarks (link_of by side) on))
 
 act_words : (machine query : ℕ) (second : Bool) (by : ℕ) (act : Act) (world : WorldParts)
     → answers_of machine query (act_did second by act world).told
