@@ -1,49 +1,33 @@
 -- A machine opens exactly when board and place are announced, over each line of a script and over its run.
-use Rattle.std.proofs.Common.{◌≡◌, ◌≢◌, ◌⊎◌, inl, inr, ◌∙◌, ◌+◌, ◌-◌, ◌++◌, ◌==◌, ℕ, zero, suc, Bool, true, false, List, [], ◌∷◌, Option, Some, None, Result, Ok, Err, length, refl, sym, ap, subst}
-use Rattle.std.specs.Prelude.{slice_get, if◌then◌else◌}
-use Rattle.std.specs.List.{flat_map}
+use Rattle.std.proofs.Common.{◌≡◌, ◌≢◌, ◌⊎◌, inl, inr, ◌∙◌, ◌+◌, ◌-◌, ◌++◌, ℕ, zero, suc, Bool, false, List, ◌∷◌, Option, Some, None, length, refl, sym, ap, subst, []}
+use Rattle.std.specs.Prelude.{slice_get}
 use Rattle.line_base.specs.declared.states.Side.{Side}
-use Rattle.board_record.specs.declared.record.Record.{Record}
 use Rattle.board_record.specs.Maker.{Maker, next_id}
 use Rattle.smema_bridge.specs.Levels.{BridgeLevels}
 use Rattle.line_script.specs.declared.line.ScriptLine.{ScriptLine}
-use Rattle.line_script.specs.declared.line.ScriptLine.TheVariants as lines
-use Rattle.line_link.specs.Link.{connected_of, spoil_sent}
+use Rattle.line_link.specs.Link.{connected_of}
 use Rattle.line_link.specs.declared.link.Connected.{Connected}
 use Rattle.line_link.specs.declared.link.Connected.TheVariants as connections
-use Rattle.line_world.specs.FloorPlan.{FloorPlan}
-use Rattle.line_world.specs.Moves.{floor_move}
-use Rattle.line_world.specs.declared.moves.Move.{Move}
-use Rattle.line_world.specs.declared.moves.Move.TheVariants as moves
-use Rattle.line_world.specs.declared.moves.MoveNo.{MoveNo}
 use Rattle.node_core.specs.declared.act.Act.{Act}
 use Rattle.node_core.specs.declared.input.Input.{Input}
 use Rattle.node_core.specs.declared.input.Input.TheVariants as inputs
-use Rattle.node_core.specs.declared.input.No.{No}
 use Rattle.node_core.specs.declared.lane.Body.{Body}
 use Rattle.node_core.specs.declared.word.Word.{Word}
 use Rattle.node_core.specs.Event.{Replace, event_of}
-use Rattle.node_core.specs.May.{may_of, may_do as own_do}
 use Rattle.node_core.specs.Node.{NodeState, desk_of, new_node}
-use Rattle.node_core.specs.Own.{own_of}
 use Rattle.node_core.specs.Signals.{signalled}
 use Rattle.node_core.specs.Sound.{IsSound}
 use Rattle.node_core.specs.Step.{machine_step}
 use Rattle.node_core.proofs.Sound.{HasPlaceFor, step_sound}
 use Rattle.node_core.proofs.Lasting.{first_sound, may_fits, other_fits}
 use Rattle.node_core.proofs.Signalling.{signals_all}
-use Rattle.standings.specs.Told.{told_of}
-use Rattle.standings.specs.declared.told.Told.{Told as Standing}
-use Rattle.standings.specs.declared.told.Told.TheVariants as tolds
 use Rattle.line_report.specs.declared.happening.Happening.{Happening}
-use Rattle.line_report.specs.declared.happening.Happening.TheVariants as happenings
-use Rattle.line_step.specs.World.{end_of, link_at, link_of}
-use Rattle.line_step.specs.State.{LineState, machine_in, marks_in, no_line, one_more, profile_of}
+use Rattle.line_step.specs.World.{link_at}
+use Rattle.line_step.specs.State.{LineState, machine_in, no_line, one_more, profile_of}
 use Rattle.line_step.specs.Acts.{acts_did}
 use Rattle.line_step.specs.Steps.{MachineSteps, is_second, moment_of, read_by, unread_by}
-use Rattle.line_step.specs.Reasons.{May, behind_own, if_there, may_add, may_connect, may_cut, may_do, may_flow, may_give, may_lie, may_spoil, may_unseen}
-use Rattle.line_step.specs.Shown.{ascending, between_shown, ids_marked, kept_shown, shown, shown_from, standing_told, standings_told, taken_below}
-use Rattle.line_step.specs.Lines.{Becomes, Connects, Flows, LineDoes, LineSteps, Moves, Unless, arrived, connecting, cut_in, lied, met, move_told, moved, spoil_told, spoiled, unseen, unvouched_told}
+use Rattle.line_step.specs.Shown.{standings_told}
+use Rattle.line_step.specs.Lines.{Connects, Flows, LineSteps, arrived, connecting, met}
 use Rattle.line_step.specs.Runs.{Point, IsRun, all_told}
 use Rattle.line_step.proofs.Numbers.{machine_set_other, machine_set_own, machine_within, same_or_not}
 use Rattle.line_openings.specs.Announced.{OpensWhenAnnounced, exit_acts}
@@ -54,7 +38,13 @@ use Rattle.line_openings.proofs.Halves.{Tells}
 use Rattle.line_openings.proofs.Linked.{Linked, step_linked}
 use Rattle.line_openings.proofs.WrongWords.{good_event}
 use Rattle.line_openings.proofs.Telling.{step_tells}
-use Rattle.line_openings.proofs.Steps.{acts_offered, acts_ready, acts_told, cut_none, none_join, other_acts}
+use Rattle.line_openings.proofs.Steps.{acts_offered, acts_ready, acts_told, no_acts_none, other_acts, remarks_none}
+use Rattle.line_step.proofs.Remarks.{all_pass, standings_remarks}
+use Rattle.line_step.proofs.Requests.{Request, added_told, request_of}
+use Rattle.line_step.proofs.Effects.{added_remarks, becomes_by}
+use Rattle.line_step.proofs.Turns.{LineTurns, line_turns}
+use Rattle.line_step.proofs.Getting.{get_may}
+use Rattle.line_step.proofs.Turns as turns
 
 -- ---- machine k between two lines: what its outlet has is what was told
 
@@ -167,32 +157,6 @@ plain_goes : (number k machine : ℕ) (input : Input) (o : Option ℕ) (r : Bool
 plain_goes number k machine input o r before after told none steps h =
     step_goes number k machine input o r before after told (same_or_not k machine) steps (λ words. plain_fits steps.node.capacity steps.node.maker input words steps.node.lane.body none) h
 
--- ---- what a line becomes
-
-becomes : (k : ℕ) (o : Option ℕ) (r : Bool) (next after : LineState) (what told : List Happening) → Goes k o r next what → Becomes next what after told → Goes k o r after told
-becomes k o r next after what told goes b = subst (λ (s : LineState). Goes k o r s told) (sym b.after_is) (subst (λ (x : List Happening). Goes k o r next x) (sym b.told_is) goes)
-
-unless : (may : May) (k : ℕ) (o : Option ℕ) (r : Bool) (before after : LineState) (told : List Happening) (Done : Type 0) → Holds o r (machine_in k before) → (Done → Goes k o r after told) → Unless may before after told Done → Goes k o r after told
-unless (Ok _) k o r before after told Done h does it = does it
-unless (Err reason) k o r before after told Done h does it = becomes k o r before after (happenings.No reason ∷ []) told (still k o r before before (happenings.No reason ∷ []) refl refl h) it
-
-given : (may : May) (number k machine : ℕ) (input : Input) (o : Option ℕ) (r : Bool) (before after : LineState) (told : List Happening) → IsNoInsert input → Holds o r (machine_in k before) → Unless may before after told (MachineSteps number machine input before after told) → Goes k o r after told
-given may number k machine input o r before after told none h does =
-    unless may k o r before after told (MachineSteps number machine input before after told) h (λ steps. plain_goes number k machine input o r before after told none steps h) does
-
--- a board is put in only where there is a place
-own_may : (found : Result (Unit {0}) No) → behind_own found may_do ≡ may_do → found ≡ own_do
-own_may (Ok tt) is = refl
-own_may (Err why) is = cc
-
-inserted : (may : May) (number k machine : ℕ) (barcode : Option (List ℕ)) (o : Option ℕ) (r : Bool) (before after : LineState) (told : List Happening) → may_give machine (inputs.Insert barcode) before ≡ may → Holds o r (machine_in k before)
-    → Unless may before after told (MachineSteps number machine (inputs.Insert barcode) before after told) → Goes k o r after told
-inserted (Ok tt) number k machine barcode o r before after told may h steps =
-    let input = inputs.Insert barcode in
-    let own : behind_own (may_of steps.node input) may_do ≡ may_do = sym (ap (λ (n : Option NodeState). if_there n (λ node. behind_own (may_of node input) may_do)) steps.there) ∙ may in
-    step_goes number k machine input o r before after told (same_or_not k machine) steps (λ words. may_fits steps.node input words (own_may (may_of steps.node input) own)) h
-inserted (Err reason) number k machine barcode o r before after told may h it = becomes k o r before after (happenings.No reason ∷ []) told (still k o r before before (happenings.No reason ∷ []) refl refl h) it
-
 -- one machine more
 data Added (old new : Option NodeState) (node : NodeState) : Type 0 where
   added_none : new ≡ old → Added old new node
@@ -220,44 +184,7 @@ more_holds : (k : ℕ) (is_bridge : Bool) (capacity used : ℕ) (o : Option ℕ)
 more_holds k is_bridge capacity used o r s h =
     holds_more o r (machine_in k s) (machine_in k (one_more is_bridge capacity used s)) (new_node (profile_of is_bridge (length s.machines + 1) capacity used)) (new_has (length s.machines + 1) is_bridge capacity used) (added k is_bridge capacity used s) h
 
--- ---- what is shown, and the standings
-
-kept_none : (k machine : ℕ) (boards : List Record) → exit_acts k (kept_shown machine boards) ≡ []
-kept_none k machine [] = refl
-kept_none k machine (board ∷ boards) = kept_none k machine boards
-
-two_none : (k : ℕ) (same : Bool) (gap below : ℕ) → exit_acts k (if same then [] else happenings.ShownBetween gap below ∷ []) ≡ []
-two_none k true gap below = refl
-two_none k false gap below = refl
-
-between_none : (k gap : ℕ) (above below : Option ℕ) → exit_acts k (between_shown gap above below) ≡ []
-between_none k gap None None = refl
-between_none k gap None (Some below) = refl
-between_none k gap (Some above) None = refl
-between_none k gap (Some above) (Some below) = two_none k (above == below) gap below
-
-shown_none : (k machine : ℕ) (nodes : List NodeState) → exit_acts k (shown_from machine nodes) ≡ []
-shown_none k machine [] = refl
-shown_none k machine (node ∷ nodes) =
-    let between = between_shown machine (own_of node.lane.body).held (taken_below nodes) in
-    none_join k (kept_shown machine node.lane.body.kept) (between ++ shown_from (machine + 1) nodes) (kept_none k machine node.lane.body.kept)
-    (none_join k between (shown_from (machine + 1) nodes) (between_none k machine (own_of node.lane.body).held (taken_below nodes)) (shown_none k (machine + 1) nodes))
-
-standing_none : (k id : ℕ) (told : Option Standing) → exit_acts k (standing_told id told) ≡ []
-standing_none k id None = refl
-standing_none k id (Some (tolds.With machine)) = refl
-standing_none k id (Some (tolds.Between gap)) = refl
-standing_none k id (Some tolds.Gone) = refl
-
-flat_none : (k : ℕ) (f : ℕ → List Happening) (ids : List ℕ) → ((id : ℕ) → exit_acts k (f id) ≡ []) → exit_acts k (flat_map f ids) ≡ []
-flat_none k f [] every = refl
-flat_none k f (id ∷ ids) every = none_join k (f id) (flat_map f ids) (every id) (flat_none k f ids every)
-
-standings_none : (k : ℕ) (before next : LineState) → exit_acts k (standings_told before next) ≡ []
-standings_none k before next =
-    flat_none k (λ id. standing_told id (told_of (marks_in before id) (marks_in next id))) (ascending (ids_marked before ++ ids_marked next)) (λ id. standing_none k id (told_of (marks_in before id) (marks_in next id)))
-
--- ---- each form of line
+-- ---- each turn
 
 no_board : (on : Connected) → IsNoInsert (met on)
 no_board connections.Accepted = tt
@@ -280,78 +207,29 @@ flows_goes number k machine side count o r before after told h flows =
     let begin : Holds o r (machine_in k (arrived machine side count before)) = subst (λ (n : Option NodeState). Holds o r n) (sym (same_in k before (arrived machine side count before) refl)) h in
     plain_goes number k machine (inputs.Bytes side flows.piece) o r (arrived machine side count before) after told tt flows.steps begin
 
-move_still : (k gap : ℕ) (step : Move) (o : Option ℕ) (r : Bool) (before : LineState) (answer : Result FloorPlan MoveNo) → Holds o r (machine_in k before) → Goes k o r (moved answer before) (move_told gap step answer)
-move_still k gap step o r before (Ok floor) h = still k o r before (moved (Ok floor) before) (happenings.Moved gap step ∷ []) refl (same_in k before (moved (Ok floor) before) refl) h
-move_still k gap step o r before (Err why) h = still k o r before before (move_told gap step (Err why)) refl refl h
-
-moves_goes : (k gap : ℕ) (step : Move) (o : Option ℕ) (r : Bool) (before after : LineState) (told : List Happening) → Holds o r (machine_in k before) → Moves gap step before after told → Goes k o r after told
-moves_goes k gap step o r before after told h does =
-    let answer = floor_move gap step before.world.floor in
-    becomes k o r (moved answer before) after (move_told gap step answer) told (move_still k gap step o r before answer h) does
-
-unvouched_none : (k : ℕ) (unvouched : Option ℕ) → exit_acts k (unvouched_told unvouched) ≡ []
-unvouched_none k None = refl
-unvouched_none k (Some line) = refl
-
-does_goes : (number k : ℕ) (line : ScriptLine) (o : Option ℕ) (r : Bool) (before after : LineState) (told : List Happening) → Holds o r (machine_in k before) → LineDoes number line before after told → Goes k o r after told
-does_goes number k lines.Blank o r before after told h does = becomes k o r before after [] told (still k o r before before [] refl refl h) does
-does_goes number k (lines.Machine capacity used) o r before after told h does =
-    let what = happenings.Machine (length before.machines + 1) capacity ∷ [] in
-    unless (may_add before) k o r before after told (Becomes (one_more false capacity used before) what after told) h (becomes k o r (one_more false capacity used before) after what told (record { tells = told_apart k o r what refl; holds = more_holds k false capacity used o r before h })) does
-does_goes number k (lines.Bridge capacity used) o r before after told h does =
-    let what = happenings.Bridge (length before.machines + 1) capacity ∷ [] in
-    unless (may_add before) k o r before after told (Becomes (one_more true capacity used before) what after told) h (becomes k o r (one_more true capacity used before) after what told (record { tells = told_apart k o r what refl; holds = more_holds k true capacity used o r before h })) does
-does_goes number k (lines.Insert machine barcode) o r before after told h does = inserted (may_give machine (inputs.Insert barcode) before) number k machine barcode o r before after told refl h does
-does_goes number k (lines.Remove machine id) o r before after told h does = given _ number k machine (inputs.Remove id) o r before after told tt h does
-does_goes number k (lines.Replace machine id) o r before after told h does = given _ number k machine (inputs.Replace id) o r before after told tt h does
-does_goes number k (lines.Mark machine id quality) o r before after told h does = given _ number k machine (inputs.Mark id quality) o r before after told tt h does
-does_goes number k (lines.Hold machine side) o r before after told h does = given _ number k machine (inputs.Will side false) o r before after told tt h does
-does_goes number k (lines.Go machine side) o r before after told h does = given _ number k machine (inputs.Will side true) o r before after told tt h does
-does_goes number k (lines.Signal machine line on) o r before after told h does = given _ number k machine (inputs.Level line on) o r before after told tt h does
-does_goes number k (lines.Forecast machine) o r before after told h does = given _ number k machine (inputs.Forecast) o r before after told tt h does
-does_goes number k (lines.Query machine barcode) o r before after told h does = given _ number k machine (inputs.Query barcode) o r before after told tt h does
-does_goes number k (lines.Supervise machine) o r before after told h does = given _ number k machine (inputs.Supervise true) o r before after told tt h does
-does_goes number k (lines.Ask machine question) o r before after told h does = given _ number k machine (inputs.Ask question) o r before after told tt h does
-does_goes number k (lines.Answer machine query order) o r before after told h does = given _ number k machine (inputs.Answer query order) o r before after told tt h does
-does_goes number k (lines.Connect machine) o r before after told h does = unless (may_connect machine before) k o r before after told (Connects number machine before after told) h (connects_goes number k machine o r before after told h) does
-does_goes number k (lines.Flow machine side count) o r before after told h does = unless (may_flow machine side before) k o r before after told (Flows number machine side count before after told) h (flows_goes number k machine side count o r before after told h) does
-does_goes number k (lines.Notice machine side) o r before after told h does = given _ number k machine (inputs.Notice side) o r before after told tt h does
-does_goes number k (lines.Cut gap) o r before after told h does =
-    unless (may_cut gap before) k o r before after told (Becomes (cut_in gap before) (happenings.Cut gap ∷ []) after told) h
-    (becomes k o r (cut_in gap before) after (happenings.Cut gap ∷ []) told (still k o r before (cut_in gap before) (happenings.Cut gap ∷ []) refl (same_in k before (cut_in gap before) refl) h)) does
-does_goes number k (lines.Spoil machine side) o r before after told h does =
-    let what = spoil_told machine side before in
-    let none = cut_none k (link_of machine side) (spoil_sent (end_of side) (link_at (link_of machine side) before.world)) in
-    unless (may_spoil machine side before) k o r before after told (Becomes (spoiled machine side before) what after told) h
-    (becomes k o r (spoiled machine side before) after what told (still k o r before (spoiled machine side before) what none (same_in k before (spoiled machine side before) refl) h)) does
-does_goes number k (lines.Shutdown machine) o r before after told h does = given _ number k machine inputs.Shutdown o r before after told tt h does
-does_goes number k (lines.Tick machine) o r before after told h does = given _ number k machine inputs.Tick o r before after told tt h does
-does_goes number k (lines.Fault machine side) o r before after told h does = given _ number k machine (inputs.Fault side) o r before after told tt h does
-does_goes number k (lines.Lie machine sensed) o r before after told h does =
-    let what = happenings.Lie machine sensed ∷ unvouched_told before.unvouched in
-    unless (may_lie machine sensed.side before) k o r before after told (Becomes (lied number machine sensed before) what after told) h
-    (becomes k o r (lied number machine sensed before) after what told (still k o r before (lied number machine sensed before) what (unvouched_none k before.unvouched) (same_in k before (lied number machine sensed before) refl) h)) does
-does_goes number k (lines.Unseen machine side) o r before after told h does =
-    let what = happenings.Unseen machine side ∷ unvouched_told before.unvouched in
-    unless (may_unseen machine side before) k o r before after told (Becomes (unseen number machine side before) what after told) h
-    (becomes k o r (unseen number machine side before) after what told (still k o r before (unseen number machine side before) what (unvouched_none k before.unvouched) (same_in k before (unseen number machine side before) refl) h)) does
-does_goes number k (lines.Sense machine) o r before after told h does = given _ number k machine inputs.Nothing o r before after told tt h does
-does_goes number k (lines.Begin gap) o r before after told h does = moves_goes k gap moves.Begin o r before after told h does
-does_goes number k (lines.Left gap) o r before after told h does = moves_goes k gap moves.Left o r before after told h does
-does_goes number k (lines.Enter gap) o r before after told h does = moves_goes k gap moves.Enter o r before after told h does
-does_goes number k (lines.Back gap) o r before after told h does = moves_goes k gap moves.Back o r before after told h does
-does_goes number k (lines.HandIn gap) o r before after told h does = moves_goes k gap moves.HandIn o r before after told h does
-does_goes number k (lines.Take gap) o r before after told h does = moves_goes k gap moves.Take o r before after told h does
-does_goes number k lines.Show o r before after told h does = becomes k o r before after (shown before) told (still k o r before before (shown before) (shown_none k 1 before.machines) refl h) does
+turn_goes : (number k : ℕ) (request : Request) (o : Option ℕ) (r : Bool) (before after : LineState) (told : List Happening) → Holds o r (machine_in k before) → LineTurns number before after told request → Goes k o r after told
+turn_goes number k request o r before after told h (turns.stays _ same none) = still k o r before after told (all_pass told (no_acts_none k) none) (same_in k before after same) h
+turn_goes number k request o r before after told h (turns.adds is_bridge capacity used may b) =
+    let now : LineState = one_more is_bridge capacity used before in
+    let what : List Happening = added_told is_bridge capacity before in
+    let none : exit_acts k what ≡ [] = remarks_none k what (added_remarks is_bridge capacity before) in
+    becomes_by (Goes k o r) b (record {
+      tells = told_apart k o r what none;
+      holds = subst (λ (a : List Act). Holds (offered_from o a) (ready_from r a) (machine_in k now)) (sym none) (more_holds k is_bridge capacity used o r before h);
+    })
+turn_goes number k request o r before after told h (turns.steps machine input given may did) =
+    step_goes number k machine input o r before after told (same_or_not k machine) did (λ words. may_fits did.node input words (get_may machine input before did.node did.there may)) h
+turn_goes number k request o r before after told h (turns.connects machine may did) = connects_goes number k machine o r before after told h did
+turn_goes number k request o r before after told h (turns.flows machine side count may did) = flows_goes number k machine side count o r before after told h did
 
 -- EACH LINE STEP
 steps_goes : (number k : ℕ) (line : ScriptLine) (o : Option ℕ) (r : Bool) (before after : LineState) (told : List Happening) → Holds o r (machine_in k before) → LineSteps number line before after told → Goes k o r after told
 steps_goes number k line o r before after told h steps =
     let next = steps.next in
     let count : LineState = record next { lines = next.lines + 1 } in
-    let one = does_goes number k line o r before next steps.done h steps.does in
+    let one = turn_goes number k (request_of line) o r before next steps.done h (line_turns number line before next steps.done steps.does) in
     subst (λ (s : LineState). Goes k o r s told) (sym steps.after_is) (subst (λ (x : List Happening). Goes k o r count x) (sym steps.told_is)
-    (goes_both k o r next count steps.done (standings_told before next) one (λ held. still k _ _ next count (standings_told before next) (standings_none k before next) (same_in k next count refl) held)))
+    (goes_both k o r next count steps.done (standings_told before next) one (λ held. still k _ _ next count (standings_told before next) (remarks_none k (standings_told before next) (standings_remarks before next)) (same_in k next count refl) held)))
 
 -- ---- over a run
 

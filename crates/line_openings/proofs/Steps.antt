@@ -1,5 +1,5 @@
 -- What a step of a machine tells in the line: its acts, with what they do to the links among them.
-use Rattle.std.proofs.Common.{◌≡◌, ◌≢◌, inl, inr, ◌∙◌, ◌++◌, ◌==◌, ◌&&◌, ℕ, Bool, true, false, List, [], ◌∷◌, Option, Some, refl, sym, ap, subst}
+use Rattle.std.proofs.Common.{◌≡◌, ◌≢◌, inl, inr, ◌∙◌, ◌++◌, ◌==◌, ◌&&◌, ℕ, Bool, true, false, List, ◌∷◌, Option, Some, refl, sym, ap, subst, []}
 use Rattle.std.specs.Prelude.{cond}
 use Rattle.std.proofs.lemmas.Bool.{false≢true}
 use Rattle.std.proofs.lemmas.Bool.Decides.{eqb_tells}
@@ -21,6 +21,7 @@ use Rattle.line_openings.specs.Announced.{bears_on_offer, bears_on_place, exit_a
 use Rattle.line_openings.proofs.Folds.{exit_append, offered_act, offered_append, offered_from, ready_act, ready_append, ready_from}
 use Rattle.line_openings.proofs.Orderly.{Orderly, are_plain, ends, goes_on, is_opened, is_plain, is_refused, is_broken}
 use Rattle.line_openings.proofs.Happenings.{Told, all_told, own_act, told_apart, told_both, told_on, told_opened, told_refused, told_broken}
+use Rattle.line_step.proofs.Remarks.{AreRemarks, IsNoAct, IsRemark, Passes, acts_pass, all_pass, no_acts}
 
 -- ---- an act of machine k
 
@@ -82,21 +83,7 @@ said_sent false k side message world = said_first k (acts.Sends side message) (c
 said_act : (second : Bool) (k : ℕ) (act : Act) (world : WorldParts) → IsSaid k act (act_did second k act world).told
 said_act second k (acts.Sends side message) world = said_sent (second && (is_exit side && is_answer message.body)) k side message world
 said_act second k (acts.Drive side on) world = record { offered = λ o. refl; ready = λ r. refl; goes = λ o r plain. all_told }
-said_act second k (acts.Reads side event) world = said_first k (acts.Reads side event) [] refl
-said_act second k (acts.Hears side message) world = said_first k (acts.Hears side message) [] refl
-said_act second k (acts.Breaches side text) world = said_first k (acts.Breaches side text) [] refl
-said_act second k (acts.Closes side) world = said_first k (acts.Closes side) [] refl
-said_act second k (acts.Notices side) world = said_first k (acts.Notices side) [] refl
-said_act second k acts.Connects world = said_first k acts.Connects [] refl
-said_act second k (acts.Deed deed) world = said_first k (acts.Deed deed) [] refl
-said_act second k (acts.Marks id quality) world = said_first k (acts.Marks id quality) [] refl
-said_act second k (acts.Inserts id) world = said_first k (acts.Inserts id) [] refl
-said_act second k (acts.Removes id) world = said_first k (acts.Removes id) [] refl
-said_act second k (acts.Replaces was now) world = said_first k (acts.Replaces was now) [] refl
-said_act second k (acts.Signals signal on) world = said_first k (acts.Signals signal on) [] refl
-said_act second k (acts.Tells message) world = said_first k (acts.Tells message) [] refl
-said_act second k (acts.Answered query order) world = said_first k (acts.Answered query order) [] refl
-said_act second k (acts.Sets setting) world = said_first k (acts.Sets setting) [] refl
+said_act second k act world = said_first k act [] refl
 
 -- ---- the acts of a step of machine k
 
@@ -135,34 +122,22 @@ other_number k machine apart = elim (eqb_tells machine k) [ inl same ↦ absurd 
 pub none_join : (k : ℕ) (a b : List Happening) → exit_acts k a ≡ [] → exit_acts k b ≡ [] → exit_acts k (a ++ b) ≡ []
 none_join k a b one two = exit_append k a b ∙ ap (λ (x : List Act). x ++ exit_acts k b) one ∙ two
 
-other_first : (k machine : ℕ) (act : Act) (rest : List Happening) → k ≢ machine → exit_acts k rest ≡ [] → exit_acts k (happenings.Done machine act ∷ rest) ≡ []
-other_first k machine act rest apart none = rw (other_number k machine apart) none
+no_act_none : (k : ℕ) (h : Happening) → IsNoAct h → exit_acts k (h ∷ []) ≡ []
+no_act_none k (happenings.Done machine act) is = absurd is
+no_act_none k _ is = refl
 
-other_sent : (answers : Bool) (k machine : ℕ) (side : Side) (message : Message) (world : WorldParts) → k ≢ machine → exit_acts k (sent_by answers machine side message world).told ≡ []
-other_sent true k machine side message world apart = other_first k machine (acts.Sends side message) (cut_told machine (answer_sent (canonical message) (link_at machine world))) apart (cut_none k machine (answer_sent (canonical message) (link_at machine world)))
-other_sent false k machine side message world apart = other_first k machine (acts.Sends side message) (cut_told (link_of machine side) (sent_of (end_of side) (canonical message) (link_at (link_of machine side) world))) apart (cut_none k (link_of machine side) (sent_of (end_of side) (canonical message) (link_at (link_of machine side) world)))
+pub no_acts_none : (k : ℕ) → Passes IsNoAct (λ (told : List Happening). exit_acts k told ≡ [])
+no_acts_none k = record { none = refl; both = none_join k; one = no_act_none k }
 
-other_act : (second : Bool) (k machine : ℕ) (act : Act) (world : WorldParts) → k ≢ machine → exit_acts k (act_did second machine act world).told ≡ []
-other_act second k machine (acts.Sends side message) world apart = other_sent (second && (is_exit side && is_answer message.body)) k machine side message world apart
-other_act second k machine (acts.Drive side on) world apart = refl
-other_act second k machine (acts.Reads side event) world apart = other_first k machine (acts.Reads side event) [] apart refl
-other_act second k machine (acts.Hears side message) world apart = other_first k machine (acts.Hears side message) [] apart refl
-other_act second k machine (acts.Breaches side text) world apart = other_first k machine (acts.Breaches side text) [] apart refl
-other_act second k machine (acts.Closes side) world apart = other_first k machine (acts.Closes side) [] apart refl
-other_act second k machine (acts.Notices side) world apart = other_first k machine (acts.Notices side) [] apart refl
-other_act second k machine acts.Connects world apart = other_first k machine acts.Connects [] apart refl
-other_act second k machine (acts.Deed deed) world apart = other_first k machine (acts.Deed deed) [] apart refl
-other_act second k machine (acts.Marks id quality) world apart = other_first k machine (acts.Marks id quality) [] apart refl
-other_act second k machine (acts.Inserts id) world apart = other_first k machine (acts.Inserts id) [] apart refl
-other_act second k machine (acts.Removes id) world apart = other_first k machine (acts.Removes id) [] apart refl
-other_act second k machine (acts.Replaces was now) world apart = other_first k machine (acts.Replaces was now) [] apart refl
-other_act second k machine (acts.Signals signal on) world apart = other_first k machine (acts.Signals signal on) [] apart refl
-other_act second k machine (acts.Tells message) world apart = other_first k machine (acts.Tells message) [] apart refl
-other_act second k machine (acts.Answered query order) world apart = other_first k machine (acts.Answered query order) [] apart refl
-other_act second k machine (acts.Sets setting) world apart = other_first k machine (acts.Sets setting) [] apart refl
+pub remarks_none : (k : ℕ) (told : List Happening) → AreRemarks told → exit_acts k told ≡ []
+remarks_none k told remarks = all_pass told (no_acts_none k) (no_acts told remarks)
+
+remark_none : (k : ℕ) (h : Happening) → IsRemark h → exit_acts k (h ∷ []) ≡ []
+remark_none k h is = remarks_none k (h ∷ []) (is, tt)
+
+other_one : (k machine : ℕ) (act : Act) → k ≢ machine → exit_acts k (happenings.Done machine act ∷ []) ≡ []
+other_one k machine act apart = rw (other_number k machine apart) refl
 
 pub other_acts : (second : Bool) (k machine : ℕ) (told : List Act) (world : WorldParts) → k ≢ machine → exit_acts k (acts_did second machine told world).told ≡ []
-other_acts second k machine [] world apart = refl
-other_acts second k machine (act ∷ others) world apart =
-    let one = act_did second machine act world in
-    none_join k one.told (acts_did second machine others one.world).told (other_act second k machine act world apart) (other_acts second k machine others one.world apart)
+other_acts second k machine told world apart =
+    acts_pass (λ (ts : List Happening). exit_acts k ts ≡ []) second machine told world (record { none = refl; both = none_join k; one = remark_none k }) (λ act. other_one k machine act apart)
