@@ -1,6 +1,6 @@
 -- Unique ids, and ids that stay: what each line of the script does to the ids of the boards on the floor.
 use Rattle.std.proofs.Common.{◌≡◌, ◌≢◌, ◌+◌, ◌-◌, ◌<◌, ◌≤◌, ◌++◌, ℕ, zero, suc, Bool, true, false, List, ◌∷◌, Option, Some, None, Result, Ok, Err, length, filter, refl, sym, ap, subst, ◌∙◌, append-nil, arith, eqb-true, length-append, append_assoc, []}
-use Rattle.std.specs.Prelude.{nat_le, slice_get, slice_set, drop, is_none, not}
+use Rattle.std.specs.Prelude.{nat_le, slice_get, slice_set, drop, is_none}
 use Rattle.std.specs.List.{AllByRecursion}
 use Rattle.std.proofs.lemmas.Bool.{leb-false}
 use Rattle.std.proofs.lemmas.List.{length-set}
@@ -45,12 +45,11 @@ use Rattle.line_link.specs.declared.link.Connected.TheVariants as connections
 use Rattle.line_report.specs.declared.happening.Happening.{Happening}
 use Rattle.line_report.specs.declared.happening.Happening.TheVariants as happenings
 use Rattle.line_report.specs.declared.happening.Reason.TheVariants as reasons
-use Rattle.node_core.specs.declared.input.No.{No}
 use Rattle.line_step.specs.World.{WorldParts, end_of, link_at, link_of}
 use Rattle.line_step.specs.State.{LineState, machine_in, no_line, one_more, profile_of, with_machine, with_world}
 use Rattle.line_step.specs.Acts.{act_did, acts_did, changes, lays, takes_off}
 use Rattle.line_step.specs.Steps.{MachineSteps, is_second, moment_of, read_by, unread_by}
-use Rattle.line_step.specs.Reasons.{if_there, is_here, may_do, is_bare, no_if, May, behind_own}
+use Rattle.line_step.specs.Reasons.{if_there, is_here, may_do, is_bare, no_if}
 use Rattle.line_step.specs.Shown.{standings_told}
 use Rattle.line_step.specs.Lines.{Connects, Flows, LineSteps, arrived, connecting, cut_in, lied, met, moved, spoil_told, spoiled, unseen, unseen_on, unvouched_told}
 use Rattle.line_step.specs.Runs.{Point, IsRun}
@@ -794,16 +793,6 @@ given-goes number machine (inputs.Remove id) s after told h may did =
 given-goes number machine (inputs.Replace was) s after told h may did =
     replace-goes (next_id did.node.maker) (is_kept was (body_read number machine (inputs.Replace was) s after told did).kept) number machine was s after told did refl refl (replaces_here machine was s did.node did.there may) h
 given-goes number machine input s after told h may did = handless-goes number machine input s after told tt h did
-
--- a board that may be taken out, or replaced, is here
-here-behind : (own : Result (Unit {0}) No) (here : Bool) (next : May) (done : Unit {0}) → behind_own own (no_if (not here) reasons.NotHere next) ≡ Ok done → here ≡ true
-here-behind (Err why) here next done is = cc
-here-behind (Ok _) true next done is = refl
-here-behind (Ok _) false next done is = cc
-
-pub here-if : (there : Option NodeState) (own : NodeState → Result (Unit {0}) No) (here : Bool) (next : NodeState → May) (done : Unit {0}) → if_there there (λ node. behind_own (own node) (no_if (not here) reasons.NotHere (next node))) ≡ Ok done → here ≡ true
-here-if None own here next done is = cc
-here-if (Some node) own here next done is = here-behind (own node) here (next node) done is
 
 met-handless : (on : Connected) → IsHandless (met on)
 met-handless connections.Accepted = tt

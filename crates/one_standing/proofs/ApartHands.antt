@@ -22,18 +22,17 @@ use Rattle.node_core.specs.Announces.{announces}
 use Rattle.node_core.specs.Boards.{if_kept, is_kept, replaces, with_instead, with_kept, with_mark, without}
 use Rattle.node_core.specs.Desk.{Desk}
 use Rattle.node_core.specs.Event.{Insert, Replace, event_did, event_of, maker_after, with_new}
-use Rattle.node_core.specs.May.{may_of}
 use Rattle.node_core.specs.Node.{NodeState, desk_of}
 use Rattle.node_core.specs.Reads.{all_read}
 use Rattle.line_report.specs.declared.happening.Happening.{Happening}
 use Rattle.line_report.specs.declared.happening.Happening.TheVariants as happenings
 use Rattle.line_step.specs.Acts.{act_did, acts_did}
 use Rattle.line_step.specs.FloorIds.{boards_of}
-use Rattle.line_step.specs.Reasons.{behind_own, is_here, may_do, may_remove, may_replace}
+use Rattle.line_step.specs.Reasons.{is_here}
 use Rattle.line_step.specs.State.{LineState, machine_in, with_machine, with_world}
 use Rattle.line_step.specs.Steps.{MachineSteps, is_second, moment_of, read_by, unread_by}
 use Rattle.line_step.specs.World.{WorldParts}
-use Rattle.line_step.proofs.FloorLaws.{Holds, here-if}
+use Rattle.line_step.proofs.FloorLaws.{Holds}
 use Rattle.line_step.proofs.Hands.{AreQuiet, announces-quiet, both_shut-quiet, both_tick-quiet, faults-quiet, heard-quiet, marks-quiet, notices-quiet, opens-quiet, quiet-join, read-quiet, second-quiet, signals-quiet, levels-quiet, forecasts-quiet, hands_with_tells, supervises-quiet}
 use Rattle.line_step.proofs.WithTells.{tells_append}
 use Rattle.node_core.specs.Step.{plain_step}
@@ -63,12 +62,6 @@ pub here_lies : (t : Trace) (s : LineState) (m x : ℕ) → is_here m x s.world 
 here_lies t s m x here =
     let boards = (machine_at s.world.floor m).boards in
     lies_at (counted_lies x boards (there_counted x boards (lies-there_by (place_of x boards) x boards refl here)))
-
-pub remove_here : (m x : ℕ) (s : LineState) (done : Unit {0}) → may_remove m x s ≡ Ok done → is_here m x s.world ≡ true
-remove_here m x s done may = here-if (machine_in m s) (λ node. may_of node (inputs.Remove x)) (is_here m x s.world) (λ node. may_do) done may
-
-pub replace_here : (m x : ℕ) (s : LineState) (done : Unit {0}) → may_replace m x s ≡ Ok done → is_here m x s.world ≡ true
-replace_here m x s done may = here-if (machine_in m s) (λ node. may_of node (inputs.Remove x)) (is_here m x s.world) (λ node. behind_own (may_of node (inputs.Replace x)) may_do) done may
 
 -- ---- what is done by hand is told
 

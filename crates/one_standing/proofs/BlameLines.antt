@@ -1,6 +1,6 @@
 -- NO FALSE BLAME: behind each line of a script what flows to each side is said by the other end or was spoiled, and in each a
 -- breach is told only of a side to which what flowed was spoiled.
-use Rattle.std.proofs.Common.{Err, List, None, Ok, Option, Result, Some, [], ap, arith, false, inl, inr, length, not, refl, subst, suc, sym, take, true, zero, ℕ, ◌++◌, ◌+◌, ◌-◌, ◌∙◌, ◌∷◌, ◌≡◌, ◌≢◌, ◌≤◌, ◌⊎◌, Bool}
+use Rattle.std.proofs.Common.{List, Ok, Option, Result, Some, [], ap, arith, false, inl, inr, length, not, refl, subst, suc, sym, take, true, zero, ℕ, ◌++◌, ◌+◌, ◌-◌, ◌∙◌, ◌∷◌, ◌≡◌, ◌≢◌, ◌≤◌, ◌⊎◌, Bool}
 use Rattle.std.specs.Prelude.{slice_index_or}
 use Rattle.std.proofs.lemmas.Bool.{false≢true}
 use Rattle.std.specs.List.{AllByRecursion}
@@ -9,22 +9,16 @@ use Rattle.line_base.specs.declared.states.Role.TheVariants.{Downstream, Upstrea
 use Rattle.line_base.specs.declared.states.Side.{Side}
 use Rattle.line_base.specs.declared.states.Side.TheVariants.{Entry, Exit}
 use Rattle.hermes_stream.specs.Frames.{NeedMore, answer_of}
-use Rattle.line_link.specs.Link.{LinkParts, connected_of, cut, nulled, spoil_sent}
+use Rattle.line_link.specs.Link.{LinkParts, connected_of, cut, nulled}
 use Rattle.line_link.specs.declared.link.Connected.{Connected}
 use Rattle.line_link.specs.declared.link.Connected.TheVariants as connections
 use Rattle.line_report.specs.declared.happening.Happening.{Happening}
 use Rattle.line_report.specs.declared.happening.Happening.TheVariants as happenings
 use Rattle.line_script.specs.declared.line.ScriptLine.{ScriptLine}
-use Rattle.line_script.specs.declared.line.ScriptLine.TheVariants as lines
-use Rattle.line_world.specs.FloorPlan.{FloorPlan}
-use Rattle.line_world.specs.Moves.{floor_move}
-use Rattle.line_world.specs.declared.moves.Move.{Move}
-use Rattle.line_world.specs.declared.moves.Move.TheVariants as moves
-use Rattle.line_world.specs.declared.moves.MoveNo.{MoveNo}
 use Rattle.session_core.specs.End.{is_standing_state}
 use Rattle.session_core.specs.declared.state.SessionState.{SessionState}
 use Rattle.session_core.specs.declared.state.SessionState.TheVariants.{Handshake, NotConnected, Standing}
-use Rattle.node_core.specs.May.{may_do as may_own, may_of, no_if}
+use Rattle.node_core.specs.May.{may_do as may_own, no_if}
 use Rattle.node_core.specs.Sides.{is_standing}
 use Rattle.node_core.specs.declared.input.No.{No}
 use Rattle.node_core.specs.declared.input.No.TheVariants as no
@@ -33,15 +27,15 @@ use Rattle.node_core.specs.Step.{entry_after, exit_after}
 use Rattle.node_core.specs.declared.input.Input.{Input}
 use Rattle.node_core.specs.declared.input.Input.TheVariants as inputs
 use Rattle.link_messages.specs.Fit.{IsFitInput}
-use Rattle.line_step.specs.Lines.{Becomes, Connects, Flows, LineDoes, LineSteps, Moves, Unless, cut_in, lied, met, move_told, moved, spoil_told, spoiled, unvouched_told, unseen}
+use Rattle.line_step.specs.Lines.{Connects, Flows, LineSteps, cut_in, lied, met, moved, spoiled, unseen}
 use Rattle.line_step.specs.Numbered.{Stand, no_node, node_at}
-use Rattle.line_step.specs.Reasons.{May, behind_own, may_do, may_flow, may_give, may_spoil}
+use Rattle.line_step.specs.Reasons.{may_do, may_flow}
 use Rattle.line_step.specs.Runs.{IsRun, Point}
-use Rattle.line_step.specs.Shown.{shown, standings_told}
+use Rattle.line_step.specs.Shown.{standings_told}
 use Rattle.line_step.specs.State.{LineState, machine_in, no_line, one_more, profile_of}
 use Rattle.line_step.specs.Steps.{MachineSteps, is_second, read_by}
 use Rattle.line_step.specs.Together.{IsLineTogether}
-use Rattle.line_step.specs.World.{end_of, link_at, link_of}
+use Rattle.line_step.specs.World.{link_at, link_of}
 use Rattle.line_step.proofs.Changing.{more_changes}
 use Rattle.line_step.proofs.Keeps.{does_together, more_at}
 use Rattle.line_step.proofs.Numbers.{link_beyond, machine_within, same_or_not}
@@ -60,16 +54,24 @@ use Rattle.one_standing.proofs.LineMoves.{less_one}
 use Rattle.one_standing.proofs.BlameLinks.{AreClear, IsClear, are_clear_by, are_clear_map, are_clear_ready, are_clear_with, clear_cut, clear_limit, clear_no_link, clear_nulled_down, clear_nulled_up, none_free}
 use Rattle.one_standing.proofs.BlameReady.{is_ready, is_ready_state}
 use Rattle.one_standing.proofs.BlameSteps.{AreClearIn, AreMildAt, IsFree, NewBytes, both_ready, calls, entries_of, exits_of, frees_by, frees_there, is_bytes, new_bytes, quiet_fit, quiet_mild, ready_of, step_clear}
-use Rattle.one_standing.proofs.BlameTold.{AllBlames, acts_blame, blame_told, both_blame, cut_blame, shown_blame, standings_blame}
+use Rattle.one_standing.proofs.BlameTold.{AllBlames, acts_blame, blame_told, both_blame, no_acts_blame, remarks_blame}
 use Rattle.one_standing.proofs.Carrying.{SaysAlone}
 use Rattle.one_standing.proofs.FactsBlame.{Leave, at_none}
 use Rattle.one_standing.proofs.LedgerLine.{last_node, no_last, same_nodes}
-use Rattle.one_standing.proofs.LineForms.{ConnectsBear, numbered as by_number, own_first, there_may}
+use Rattle.one_standing.proofs.LineForms.{ConnectsBear, numbered as by_number}
 use Rattle.one_standing.proofs.LineRun.{AreStood, Stood, none_stood, run_stood}
 use Rattle.one_standing.proofs.MirroringFlow.{can_flow}
 use Rattle.one_standing.proofs.MirroringPlain.{is_plain_input, no_second}
 use Rattle.one_standing.proofs.SpoilingLine.{spoil_needs}
 use Rattle.one_standing.proofs.WholeLinks.{CanSpoil, can_spoil, does_whole_links}
+use Rattle.line_step.proofs.Remarks.{all_pass, standings_remarks}
+use Rattle.line_step.proofs.Requests.{IsGiven, Request, may_get, request_of}
+use Rattle.line_step.proofs.Effects.{Effect, added_remarks, becomes_by, line_effect}
+use Rattle.one_standing.proofs.FitRequests.{IsFitRequest, fit_request, given_plain}
+use Rattle.line_step.proofs.Turns.{LineTurns, line_turns}
+use Rattle.line_step.proofs.Getting.{get_may}
+use Rattle.line_step.proofs.Effects as effects
+use Rattle.line_step.proofs.Turns as turns
 
 -- ---- what was spoiled, by the link and the side to which it flowed
 
@@ -154,24 +156,23 @@ standing_ready NotConnected is = absurd (false≢true is)
 standing_ready Handshake is = absurd (false≢true is)
 standing_ready Standing is = refl
 
--- what a machine itself may do
-own_may : (m : ℕ) (input : Input) (s : LineState) (node : NodeState) → machine_in m s ≡ Some node → may_give m input s ≡ may_do → may_of node input ≡ may_own
-own_may m input s node there may = own_first (may_of node input) may_do (there_may (machine_in m s) node (λ n. behind_own (may_of n input) may_do) there may)
-
-forecast_free : (m : ℕ) (s : LineState) → may_give m inputs.Forecast s ≡ may_do → FreeAt m inputs.Forecast s
+forecast_free : (m : ℕ) (s : LineState) → may_get m inputs.Forecast s ≡ may_do → FreeAt m inputs.Forecast s
 forecast_free m s may node there =
-    standing_ready node.lane.body.exit.session.state (standing_first (is_standing Exit node.lane.body) no.NotStanding _ (own_may m inputs.Forecast s node there may))
+    standing_ready node.lane.body.exit.session.state (standing_first (is_standing Exit node.lane.body) no.NotStanding _ (get_may m inputs.Forecast s node there may))
 
-query_free : (m : ℕ) (barcode : List ℕ) (s : LineState) → may_give m (inputs.Query barcode) s ≡ may_do → FreeAt m (inputs.Query barcode) s
+query_free : (m : ℕ) (barcode : List ℕ) (s : LineState) → may_get m (inputs.Query barcode) s ≡ may_do → FreeAt m (inputs.Query barcode) s
 query_free m barcode s may node there =
-    standing_ready node.lane.body.entry.session.state (standing_first (is_standing Entry node.lane.body) no.NotStanding _ (own_may m (inputs.Query barcode) s node there may))
+    standing_ready node.lane.body.entry.session.state (standing_first (is_standing Entry node.lane.body) no.NotStanding _ (get_may m (inputs.Query barcode) s node there may))
 
-becomes_clear : {Taint : ℕ → Side → Type 0} (now next : LineState) (what told : List Happening) → Becomes now what next told → AreClearIn Taint now → AreClearIn Taint next
-becomes_clear {Taint} now next what told becomes all = subst (λ (s : LineState). AreClearIn Taint s) (sym becomes.after_is) all
+-- what a line gives says nothing of boards to the other but what it may
+given_free : (m : ℕ) (input : Input) (s : LineState) → may_get m input s ≡ may_do → FreeAt m input s
+given_free m inputs.Forecast s may = forecast_free m s may
+given_free m (inputs.Query barcode) s may = query_free m barcode s may
+given_free m _ s may = λ node there. tt
 
-unless_clear : {Taint : ℕ → Side → Type 0} (may : May) (before next : LineState) (told : List Happening) (Done : Type 0) → Unless may before next told Done → AreClearIn Taint before → (may ≡ may_do → Done → AreClearIn Taint next) → AreClearIn Taint next
-unless_clear (Ok _) before next told Done does all then = then refl does
-unless_clear (Err reason) before next told Done does all then = becomes_clear before next (happenings.No reason ∷ []) told does all
+given_dry : (input : Input) → IsGiven input → is_bytes input ≡ false
+given_dry (inputs.Bytes side piece) given = absurd given
+given_dry _ given = refl
 
 -- one machine more, with nothing that waits
 pub more_same : {A : Type 0} (P : NodeState → A) (is_bridge : Bool) (capacity used : ℕ) (s : LineState) → P (new_node (profile_of is_bridge (length s.machines + 1) capacity used)) ≡ P no_node → (k : ℕ) → P (node_at (one_more is_bridge capacity used s) k) ≡ P (node_at s k)
@@ -208,15 +209,6 @@ spoil_clear m Entry t s st waits can counted taint all =
     same_bytes s (spoiled m Entry s) refl
     (are_clear_with (m - 1) _ s.world all (clear_limit Downstream (nulled Downstream L) (clear_nulled_down L taint needs (st.links (m - 1)) (all.at (m - 1)))))
 
-moved_clear : {Taint : ℕ → Side → Type 0} (answer : Result FloorPlan MoveNo) (s : LineState) → AreClearIn Taint s → AreClearIn Taint (moved answer s)
-moved_clear (Ok floor) s all = same_clear s (moved (Ok floor) s) refl (λ k. refl) all
-moved_clear (Err why) s all = all
-
-moves_clear : {Taint : ℕ → Side → Type 0} (gap : ℕ) (step : Move) (before next : LineState) (told : List Happening) → Moves gap step before next told → AreClearIn Taint before → AreClearIn Taint next
-moves_clear gap step before next told does all =
-    let answer : Result FloorPlan MoveNo = floor_move gap step before.world.floor in
-    becomes_clear (moved answer before) next (move_told gap step answer) told does (moved_clear answer before all)
-
 -- a machine's step of bytes, by its number
 flow_mild_at : {Taint : ℕ → Side → Type 0} → SaysAlone → (t : Trace) (number m : ℕ) (side : Side) (count : Option ℕ) (before after : LineState) (told : List Happening) → may_flow m side before ≡ may_do → Stands t before → AreClearIn Taint before
     → (flows : Flows number m side count before after told) → AreMildAt (Taint (link_of m side) side) (frees_by flows.steps.node.lane.body) side flows.steps.acts
@@ -228,58 +220,25 @@ flow_line : {Taint : ℕ → Side → Type 0} (number m : ℕ) (side : Side) (co
 flow_line number m side count t before next told g may flows =
     flow_clear g.alone number m side count before next told g.few (g.holds.fit m) (can_flow m side before may) g.holds.links g.whole g.together flows (flow_mild_at g.alone t number m side count before next told may g.holds g.all flows) g.all (freed t before g.alone g.holds g.all)
 
-does_clear : {Taint : ℕ → Side → Type 0} (number : ℕ) (line : ScriptLine) (t : Trace) (before next : LineState) (told : List Happening) → IsFitLine line → ((m : ℕ) (side : Side) → 1 ≤ m → IsTold (happenings.Spoils m side) told → Taint (link_of m side) side)
-    → Given Taint number t before next told → LineDoes number line before next told → AreClearIn Taint next
-does_clear number lines.Blank t before next told fit taints g does = becomes_clear before next [] told does g.all
-does_clear number (lines.Machine capacity used) t before next told fit taints g does = unless_clear _ before next told _ does g.all (λ may done. becomes_clear (one_more false capacity used before) next _ told done (more_clear false capacity used before g.all))
-does_clear number (lines.Bridge capacity used) t before next told fit taints g does = unless_clear _ before next told _ does g.all (λ may done. becomes_clear (one_more true capacity used before) next _ told done (more_clear true capacity used before g.all))
-does_clear number (lines.Insert m None) t before next told fit taints g does = unless_clear _ before next told _ does g.all (λ may done. plain_clear number m (inputs.Insert None) t before next told refl refl tt (λ node there. tt) g done)
-does_clear number (lines.Insert m (Some barcode)) t before next told fit taints g does = unless_clear _ before next told _ does g.all (λ may done. plain_clear number m (inputs.Insert (Some barcode)) t before next told refl refl fit (λ node there. tt) g done)
-does_clear number (lines.Remove m id) t before next told fit taints g does = unless_clear _ before next told _ does g.all (λ may done. plain_clear number m (inputs.Remove id) t before next told refl refl tt (λ node there. tt) g done)
-does_clear number (lines.Replace m id) t before next told fit taints g does = unless_clear _ before next told _ does g.all (λ may done. plain_clear number m (inputs.Replace id) t before next told refl refl tt (λ node there. tt) g done)
-does_clear number (lines.Mark m id quality) t before next told fit taints g does = unless_clear _ before next told _ does g.all (λ may done. plain_clear number m (inputs.Mark id quality) t before next told refl refl tt (λ node there. tt) g done)
-does_clear number (lines.Hold m side) t before next told fit taints g does = unless_clear _ before next told _ does g.all (λ may done. plain_clear number m (inputs.Will side false) t before next told refl refl tt (λ node there. tt) g done)
-does_clear number (lines.Go m side) t before next told fit taints g does = unless_clear _ before next told _ does g.all (λ may done. plain_clear number m (inputs.Will side true) t before next told refl refl tt (λ node there. tt) g done)
-does_clear number (lines.Signal m line on) t before next told fit taints g does = unless_clear _ before next told _ does g.all (λ may done. plain_clear number m (inputs.Level line on) t before next told refl refl tt (λ node there. tt) g done)
-does_clear number (lines.Forecast m) t before next told fit taints g does = unless_clear _ before next told _ does g.all (λ may done. plain_clear number m inputs.Forecast t before next told refl refl tt (forecast_free m before may) g done)
-does_clear number (lines.Query m barcode) t before next told fit taints g does = unless_clear _ before next told _ does g.all (λ may done. plain_clear number m (inputs.Query barcode) t before next told refl refl fit (query_free m barcode before may) g done)
-does_clear number (lines.Supervise m) t before next told fit taints g does = unless_clear _ before next told _ does g.all (λ may done. plain_clear number m (inputs.Supervise true) t before next told refl refl tt (λ node there. tt) g done)
-does_clear number (lines.Ask m question) t before next told fit taints g does = unless_clear _ before next told _ does g.all (λ may done. plain_clear number m (inputs.Ask question) t before next told refl refl tt (λ node there. tt) g done)
-does_clear number (lines.Answer m query order) t before next told fit taints g does = unless_clear _ before next told _ does g.all (λ may done. plain_clear number m (inputs.Answer query order) t before next told refl refl tt (λ node there. tt) g done)
-does_clear number (lines.Connect m) t before next told fit taints g does = unless_clear _ before next told _ does g.all (λ may done. connects_clear g.alone number m before next told g.few g.holds.fit g.holds.links g.holds.together may done g.all)
-does_clear number (lines.Flow m side count) t before next told fit taints g does = unless_clear _ before next told _ does g.all (λ may done. flow_line number m side count t before next told g may done)
-does_clear number (lines.Notice m side) t before next told fit taints g does = unless_clear _ before next told _ does g.all (λ may done. plain_clear number m (inputs.Notice side) t before next told refl refl tt (λ node there. tt) g done)
-does_clear number (lines.Cut gap) t before next told fit taints g does = unless_clear _ before next told _ does g.all (λ may done. becomes_clear (cut_in gap before) next _ told done (cut_clear gap before g.all))
-does_clear number (lines.Spoil m side) t before next told fit taints g does =
-    unless_clear (may_spoil m side before) before next told _ does g.all (λ may done.
+effect_clear : {Taint : ℕ → Side → Type 0} (number : ℕ) (request : Request) (t : Trace) (before next : LineState) (told : List Happening) → IsFitRequest request → ((m : ℕ) (side : Side) → 1 ≤ m → IsTold (happenings.Spoils m side) told → Taint (link_of m side) side)
+    → Given Taint number t before next told → Effect number before next told request → AreClearIn Taint next
+effect_clear {Taint} number request t before next told fit taints g (effects.rests _ what remarks b) = becomes_by (λ s ts. AreClearIn Taint s) b g.all
+effect_clear {Taint} number request t before next told fit taints g (effects.adds is_bridge capacity used may b) = becomes_by (λ s ts. AreClearIn Taint s) b (more_clear is_bridge capacity used before g.all)
+effect_clear number request t before next told fit taints g (effects.steps m input given may did) =
+    plain_clear number m input t before next told (given_plain input given) (given_dry input given) fit (given_free m input before may) g did
+effect_clear number request t before next told fit taints g (effects.connects m may did) = connects_clear g.alone number m before next told g.few g.holds.fit g.holds.links g.holds.together may did g.all
+effect_clear number request t before next told fit taints g (effects.flows m side count may did) = flow_line number m side count t before next told g may did
+effect_clear {Taint} number request t before next told fit taints g (effects.cuts gap may b) = becomes_by (λ s ts. AreClearIn Taint s) b (cut_clear gap before g.all)
+effect_clear {Taint} number request t before next told fit taints g (effects.spoils m side may b) =
     let can : CanSpoil m side before = can_spoil m side before may in
     let counted : 1 ≤ m = (machine_within m before can.node can.there).0 in
-    becomes_clear (spoiled m side before) next (spoil_told m side before) told done
-    (spoil_clear m side t before g.holds g.waits can counted (taints m side counted (subst (λ (all : List Happening). IsTold (happenings.Spoils m side) all) (sym done.told_is) told_first)) g.all))
-does_clear number (lines.Shutdown m) t before next told fit taints g does = unless_clear _ before next told _ does g.all (λ may done. plain_clear number m inputs.Shutdown t before next told refl refl tt (λ node there. tt) g done)
-does_clear number (lines.Tick m) t before next told fit taints g does = unless_clear _ before next told _ does g.all (λ may done. plain_clear number m inputs.Tick t before next told refl refl tt (λ node there. tt) g done)
-does_clear number (lines.Fault m side) t before next told fit taints g does = unless_clear _ before next told _ does g.all (λ may done. plain_clear number m (inputs.Fault side) t before next told refl refl tt (λ node there. tt) g done)
-does_clear number (lines.Sense m) t before next told fit taints g does = unless_clear _ before next told _ does g.all (λ may done. plain_clear number m inputs.Nothing t before next told refl refl tt (λ node there. tt) g done)
-does_clear number (lines.Begin gap) t before next told fit taints g does = moves_clear gap moves.Begin before next told does g.all
-does_clear number (lines.Left gap) t before next told fit taints g does = moves_clear gap moves.Left before next told does g.all
-does_clear number (lines.Enter gap) t before next told fit taints g does = moves_clear gap moves.Enter before next told does g.all
-does_clear number (lines.Back gap) t before next told fit taints g does = moves_clear gap moves.Back before next told does g.all
-does_clear number (lines.HandIn gap) t before next told fit taints g does = moves_clear gap moves.HandIn before next told does g.all
-does_clear number (lines.Take gap) t before next told fit taints g does = moves_clear gap moves.Take before next told does g.all
-does_clear number (lines.Lie m sensed) t before next told fit taints g does =
-    unless_clear _ before next told _ does g.all (λ may done. becomes_clear (lied number m sensed before) next _ told done (same_clear before (lied number m sensed before) refl (λ k. refl) g.all))
-does_clear number (lines.Unseen m side) t before next told fit taints g does =
-    unless_clear _ before next told _ does g.all (λ may done. becomes_clear (unseen number m side before) next _ told done (same_clear before (unseen number m side before) refl (λ k. refl) g.all))
-does_clear number lines.Show t before next told fit taints g does = becomes_clear before next (shown before) told does g.all
+    becomes_by (λ s ts. AreClearIn Taint s) b
+    (spoil_clear m side t before g.holds g.waits can counted (taints m side counted (subst (λ (all : List Happening). IsTold (happenings.Spoils m side) all) (sym b.told_is) told_first)) g.all)
+effect_clear {Taint} number request t before next told fit taints g (effects.moves gap step floor is b) = becomes_by (λ s ts. AreClearIn Taint s) b (same_clear before (moved (Ok floor) before) refl (λ k. refl) g.all)
+effect_clear {Taint} number request t before next told fit taints g (effects.lies m sensed may b) = becomes_by (λ s ts. AreClearIn Taint s) b (same_clear before (lied number m sensed before) refl (λ k. refl) g.all)
+effect_clear {Taint} number request t before next told fit taints g (effects.unsees m side may b) = becomes_by (λ s ts. AreClearIn Taint s) b (same_clear before (unseen number m side before) refl (λ k. refl) g.all)
 
 -- ---- what each tells of breaches
-
-becomes_blame : (Holds : ℕ → Side → Type 0) (now next : LineState) (what told : List Happening) → Becomes now what next told → AllBlames Holds what → AllBlames Holds told
-becomes_blame Holds now next what told becomes all = subst (λ (hs : List Happening). AllBlames Holds hs) (sym becomes.told_is) all
-
-unless_blame : (Holds : ℕ → Side → Type 0) (may : May) (before next : LineState) (told : List Happening) (Done : Type 0) → Unless may before next told Done → (may ≡ may_do → Done → AllBlames Holds told) → AllBlames Holds told
-unless_blame Holds (Ok _) before next told Done does then = then refl does
-unless_blame Holds (Err reason) before next told Done does then = becomes_blame Holds before next (happenings.No reason ∷ []) told does (tt, tt)
 
 -- a step without bytes breaches nothing
 quiet_blame : (Holds : ℕ → Side → Type 0) (number m : ℕ) (input : Input) (before next : LineState) (told : List Happening) → is_bytes input ≡ false → FreeAt m input before → MachineSteps number m input before next told → AllBlames Holds told
@@ -287,9 +246,6 @@ quiet_blame Holds number m input before next told none free steps =
     let may : Leave = record { blames = at_none; frees = frees_by steps.node.lane.body } in
     subst (λ (hs : List Happening). AllBlames Holds hs) (sym steps.told_is)
     (acts_blame Holds may (is_second input) m steps.acts (read_by m before.world) (λ side is. absurd (false≢true is)) (quiet_mild may number m input before next told none (free steps.node steps.there) steps))
-
-given_blame : (Holds : ℕ → Side → Type 0) (may : May) (number m : ℕ) (input : Input) (before next : LineState) (told : List Happening) → is_bytes input ≡ false → FreeAt m input before → Unless may before next told (MachineSteps number m input before next told) → AllBlames Holds told
-given_blame Holds may number m input before next told none free does = unless_blame Holds may before next told _ does (λ can done. quiet_blame Holds number m input before next told none free done)
 
 pub met_quiet : (on : Connected) → is_bytes (met on) ≡ false
 met_quiet connections.Accepted = refl
@@ -313,64 +269,20 @@ flow_blame past number m side count t before next told alone holds all may flows
     subst (λ (hs : List Happening). AllBlames (WasSpoiled past) hs) (sym flows.steps.told_is)
     (acts_blame (WasSpoiled past) (record { blames = mild.blames; frees = frees_by flows.steps.node.lane.body }) false m flows.steps.acts (read_by m _) (λ at is. subst (λ (s : Side). WasSpoiled past m s) (sym (mild.taints at is).0) (taint_here past m side counted (mild.taints at is).1)) mild.mild)
 
-move_blame : (Holds : ℕ → Side → Type 0) (gap : ℕ) (step : Move) (answer : Result FloorPlan MoveNo) → AllBlames Holds (move_told gap step answer)
-move_blame Holds gap step (Ok floor) = (tt, tt)
-move_blame Holds gap step (Err why) = (tt, tt)
-
-moves_blame : (Holds : ℕ → Side → Type 0) (gap : ℕ) (step : Move) (before next : LineState) (told : List Happening) → Moves gap step before next told → AllBlames Holds told
-moves_blame Holds gap step before next told does =
-    let answer : Result FloorPlan MoveNo = floor_move gap step before.world.floor in
-    becomes_blame Holds (moved answer before) next (move_told gap step answer) told does (move_blame Holds gap step answer)
-
-unvouched_blame : (Holds : ℕ → Side → Type 0) (line : Option ℕ) → AllBlames Holds (unvouched_told line)
-unvouched_blame Holds None = (tt, tt)
-unvouched_blame Holds (Some line) = tt
-
-does_blame : (past : List Happening) (number : ℕ) (line : ScriptLine) (t : Trace) (before next : LineState) (told : List Happening) → SaysAlone → Stands t before → AreClearIn (TaintBy past) before → LineDoes number line before next told → AllBlames (WasSpoiled past) told
-does_blame past number lines.Blank t before next told alone holds all does = becomes_blame (WasSpoiled past) before next [] told does tt
-does_blame past number (lines.Machine capacity used) t before next told alone holds all does = unless_blame (WasSpoiled past) _ before next told _ does (λ may done. becomes_blame (WasSpoiled past) (one_more false capacity used before) next (happenings.Machine (length before.machines + 1) capacity ∷ []) told done (tt, tt))
-does_blame past number (lines.Bridge capacity used) t before next told alone holds all does = unless_blame (WasSpoiled past) _ before next told _ does (λ may done. becomes_blame (WasSpoiled past) (one_more true capacity used before) next (happenings.Bridge (length before.machines + 1) capacity ∷ []) told done (tt, tt))
-does_blame past number (lines.Insert m barcode) t before next told alone holds all does = given_blame (WasSpoiled past) _ number m (inputs.Insert barcode) before next told refl (λ node there. tt) does
-does_blame past number (lines.Remove m id) t before next told alone holds all does = given_blame (WasSpoiled past) _ number m (inputs.Remove id) before next told refl (λ node there. tt) does
-does_blame past number (lines.Replace m id) t before next told alone holds all does = given_blame (WasSpoiled past) _ number m (inputs.Replace id) before next told refl (λ node there. tt) does
-does_blame past number (lines.Mark m id quality) t before next told alone holds all does = given_blame (WasSpoiled past) _ number m (inputs.Mark id quality) before next told refl (λ node there. tt) does
-does_blame past number (lines.Hold m side) t before next told alone holds all does = given_blame (WasSpoiled past) _ number m (inputs.Will side false) before next told refl (λ node there. tt) does
-does_blame past number (lines.Go m side) t before next told alone holds all does = given_blame (WasSpoiled past) _ number m (inputs.Will side true) before next told refl (λ node there. tt) does
-does_blame past number (lines.Signal m line on) t before next told alone holds all does = given_blame (WasSpoiled past) _ number m (inputs.Level line on) before next told refl (λ node there. tt) does
-does_blame past number (lines.Forecast m) t before next told alone holds all does = unless_blame (WasSpoiled past) _ before next told _ does (λ may done. quiet_blame (WasSpoiled past) number m inputs.Forecast before next told refl (forecast_free m before may) done)
-does_blame past number (lines.Query m barcode) t before next told alone holds all does = unless_blame (WasSpoiled past) _ before next told _ does (λ may done. quiet_blame (WasSpoiled past) number m (inputs.Query barcode) before next told refl (query_free m barcode before may) done)
-does_blame past number (lines.Supervise m) t before next told alone holds all does = given_blame (WasSpoiled past) _ number m (inputs.Supervise true) before next told refl (λ node there. tt) does
-does_blame past number (lines.Ask m question) t before next told alone holds all does = given_blame (WasSpoiled past) _ number m (inputs.Ask question) before next told refl (λ node there. tt) does
-does_blame past number (lines.Answer m query order) t before next told alone holds all does = given_blame (WasSpoiled past) _ number m (inputs.Answer query order) before next told refl (λ node there. tt) does
-does_blame past number (lines.Connect m) t before next told alone holds all does = unless_blame (WasSpoiled past) _ before next told _ does (λ may done. connects_blame (WasSpoiled past) number m before next told done)
-does_blame past number (lines.Flow m side count) t before next told alone holds all does = unless_blame (WasSpoiled past) _ before next told _ does (λ may done. flow_blame past number m side count t before next told alone holds all may done)
-does_blame past number (lines.Notice m side) t before next told alone holds all does = given_blame (WasSpoiled past) _ number m (inputs.Notice side) before next told refl (λ node there. tt) does
-does_blame past number (lines.Cut gap) t before next told alone holds all does = unless_blame (WasSpoiled past) _ before next told _ does (λ may done. becomes_blame (WasSpoiled past) (cut_in gap before) next (happenings.Cut gap ∷ []) told done (tt, tt))
-does_blame past number (lines.Spoil m side) t before next told alone holds all does =
-    unless_blame (WasSpoiled past) _ before next told _ does (λ may done. becomes_blame (WasSpoiled past) (spoiled m side before) next (spoil_told m side before) told done
-    (tt, cut_blame (WasSpoiled past) (link_of m side) (spoil_sent (end_of side) (link_at (link_of m side) before.world))))
-does_blame past number (lines.Shutdown m) t before next told alone holds all does = given_blame (WasSpoiled past) _ number m inputs.Shutdown before next told refl (λ node there. tt) does
-does_blame past number (lines.Tick m) t before next told alone holds all does = given_blame (WasSpoiled past) _ number m inputs.Tick before next told refl (λ node there. tt) does
-does_blame past number (lines.Fault m side) t before next told alone holds all does = given_blame (WasSpoiled past) _ number m (inputs.Fault side) before next told refl (λ node there. tt) does
-does_blame past number (lines.Sense m) t before next told alone holds all does = given_blame (WasSpoiled past) _ number m inputs.Nothing before next told refl (λ node there. tt) does
-does_blame past number (lines.Begin gap) t before next told alone holds all does = moves_blame (WasSpoiled past) gap moves.Begin before next told does
-does_blame past number (lines.Left gap) t before next told alone holds all does = moves_blame (WasSpoiled past) gap moves.Left before next told does
-does_blame past number (lines.Enter gap) t before next told alone holds all does = moves_blame (WasSpoiled past) gap moves.Enter before next told does
-does_blame past number (lines.Back gap) t before next told alone holds all does = moves_blame (WasSpoiled past) gap moves.Back before next told does
-does_blame past number (lines.HandIn gap) t before next told alone holds all does = moves_blame (WasSpoiled past) gap moves.HandIn before next told does
-does_blame past number (lines.Take gap) t before next told alone holds all does = moves_blame (WasSpoiled past) gap moves.Take before next told does
-does_blame past number (lines.Lie m sensed) t before next told alone holds all does =
-    unless_blame (WasSpoiled past) _ before next told _ does (λ may done. becomes_blame (WasSpoiled past) (lied number m sensed before) next (happenings.Lie m sensed ∷ unvouched_told before.unvouched) told done (tt, unvouched_blame (WasSpoiled past) before.unvouched))
-does_blame past number (lines.Unseen m side) t before next told alone holds all does =
-    unless_blame (WasSpoiled past) _ before next told _ does (λ may done. becomes_blame (WasSpoiled past) (unseen number m side before) next (happenings.Unseen m side ∷ unvouched_told before.unvouched) told done (tt, unvouched_blame (WasSpoiled past) before.unvouched))
-does_blame past number lines.Show t before next told alone holds all does = becomes_blame (WasSpoiled past) before next (shown before) told does (shown_blame (WasSpoiled past) 1 before.machines)
+turns_blame : (past : List Happening) (number : ℕ) (request : Request) (t : Trace) (before next : LineState) (told : List Happening) → SaysAlone → Stands t before → AreClearIn (TaintBy past) before → LineTurns number before next told request → AllBlames (WasSpoiled past) told
+turns_blame past number request t before next told alone holds all (turns.stays _ same none) = all_pass told (no_acts_blame (WasSpoiled past)) none
+turns_blame past number request t before next told alone holds all (turns.adds is_bridge capacity used may b) =
+    subst (λ (hs : List Happening). AllBlames (WasSpoiled past) hs) (sym b.told_is) (remarks_blame (WasSpoiled past) _ (added_remarks is_bridge capacity before))
+turns_blame past number request t before next told alone holds all (turns.steps m input given may did) = quiet_blame (WasSpoiled past) number m input before next told (given_dry input given) (given_free m input before may) did
+turns_blame past number request t before next told alone holds all (turns.connects m may did) = connects_blame (WasSpoiled past) number m before next told did
+turns_blame past number request t before next told alone holds all (turns.flows m side count may did) = flow_blame past number m side count t before next told alone holds all may did
 
 -- ---- EACH LINE
 
 pub line_blame : (past : List Happening) (number : ℕ) (line : ScriptLine) (t : Trace) (before after : LineState) (told : List Happening) → SaysAlone → Stands t before → AreClearIn (TaintBy past) before → LineSteps number line before after told → IsBlameTrue past told
 line_blame past number line t before after told alone holds all steps =
     let both : AllBlames (WasSpoiled past) (steps.done ++ standings_told before steps.next) =
-    both_blame (WasSpoiled past) steps.done (standings_told before steps.next) (does_blame past number line t before steps.next steps.done alone holds all steps.does) (standings_blame (WasSpoiled past) before steps.next) in
+    both_blame (WasSpoiled past) steps.done (standings_told before steps.next) (turns_blame past number (request_of line) t before steps.next steps.done alone holds all (line_turns number line before steps.next steps.done steps.does)) (remarks_blame (WasSpoiled past) _ (standings_remarks before steps.next)) in
     λ machine side text is. blame_told (WasSpoiled past) machine side text told (subst (λ (hs : List Happening). AllBlames (WasSpoiled past) hs) (sym steps.told_is) both) is
 
 pub line_clear : (past : List Happening) (number : ℕ) (line : ScriptLine) (before after : LineState) (told : List Happening) → SaysAlone → number ≤ 1000000 → IsFitLine line → Stood before → AreClearIn (TaintBy past) before → LineSteps number line before after told → AreClearIn (TaintBy (past ++ told)) after
@@ -388,7 +300,7 @@ line_clear past number line before after told alone few fit was all steps =
       together = does_together number line before next steps.done st.together steps.does;
       all = are_clear_map before.world (taint_more past told) all;
     } in
-    let clear : AreClearIn (TaintBy (past ++ told)) next = does_clear number line was.trace before next steps.done fit taints given steps.does in
+    let clear : AreClearIn (TaintBy (past ++ told)) next = effect_clear number (request_of line) was.trace before next steps.done (fit_request line fit) taints given (line_effect number line before next steps.done steps.does) in
     subst (λ (s : LineState). AreClearIn (TaintBy (past ++ told)) s) (sym steps.after_is) (same_clear next (record next { lines = next.lines + 1 }) refl (λ k. refl) clear)
 
 -- ---- along a run

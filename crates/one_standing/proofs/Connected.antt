@@ -23,7 +23,8 @@ use Rattle.one_standing.specs.Carried.{Trace}
 use Rattle.one_standing.proofs.ApartHands.{step_still}
 use Rattle.one_standing.proofs.FirstJoin.{first_first, first_second}
 use Rattle.one_standing.proofs.HandSteps.{Bearing}
-use Rattle.one_standing.proofs.LineForms.{ConnectsBear, Setting, own_first, passed, there_may}
+use Rattle.one_standing.proofs.LineForms.{ConnectsBear, Setting}
+use Rattle.line_step.proofs.Getting.{own_first, passed, there_may}
 use Rattle.one_standing.proofs.LineJoins.{joins_bear, still_connecting}
 use Rattle.one_standing.proofs.MirroringConnects.{MirrorsFirst, MirrorsSecond, connects_first, connects_second}
 use Rattle.one_standing.proofs.RestLine.{machines_stay, node_there}

@@ -11,7 +11,6 @@ use Rattle.line_link.specs.Link.{connected_of}
 use Rattle.line_link.specs.declared.link.Connected.{Connected}
 use Rattle.line_link.specs.declared.link.Connected.TheVariants as connections
 use Rattle.line_script.specs.declared.line.ScriptLine.{ScriptLine}
-use Rattle.line_script.specs.declared.line.ScriptLine.TheVariants as lines
 use Rattle.line_report.specs.declared.happening.Happening.{Happening}
 use Rattle.node_core.specs.Event.{Event, Insert, Replace, event_of, maker_after, with_new, Level}
 use Rattle.node_core.specs.Node.{NodeState, desk_of, new_node}
@@ -26,15 +25,9 @@ use Rattle.node_core.specs.declared.word.Word.{Word}
 use Rattle.custody.specs.Contents.{Kept, kept_first, kept_later}
 use Rattle.standings.specs.Ledger.{are_different}
 use Rattle.line_report.specs.declared.happening.Happening.TheVariants as happenings
-use Rattle.line_step.specs.Lines.{Becomes, Connects, Flows, LineDoes, LineSteps, Unless, arrived, connecting, cut_in, lied, met as met_on, move_told, moved, spoil_told, spoiled, unvouched_told, unseen}
+use Rattle.line_step.specs.Lines.{Becomes, Connects, Flows, LineSteps, arrived, connecting, met as met_on}
 use Rattle.line_step.specs.Runs.{IsRun, Point}
-use Rattle.line_step.specs.Shown.{shown, standings_told}
-use Rattle.line_world.specs.FloorPlan.{FloorPlan}
-use Rattle.line_world.specs.Moves.{floor_move}
-use Rattle.line_world.specs.declared.moves.Move.{Move}
-use Rattle.line_world.specs.declared.moves.Move.TheVariants as moves
-use Rattle.line_world.specs.declared.moves.MoveNo.{MoveNo}
-use Rattle.line_step.specs.Reasons.{May}
+use Rattle.line_step.specs.Shown.{standings_told}
 use Rattle.line_step.specs.World.{link_at}
 use Rattle.line_step.specs.Numbered.{ChangesMachine, Stand, no_node, node_at}
 use Rattle.line_step.specs.State.{LineState, no_line, one_more, profile_of}
@@ -63,6 +56,9 @@ use Rattle.one_standing.proofs.OneStand.{has_end}
 use Rattle.smema_bridge.specs.Levels.{BridgeLevels}
 use Rattle.smema_bridge.specs.declared.line.SegmentLine.{SegmentLine}
 use Rattle.line_base.specs.declared.states.Quality.TheVariants as qualities
+use Rattle.line_step.proofs.Requests.{Request, request_of}
+use Rattle.line_step.proofs.Turns.{LineTurns, line_turns}
+use Rattle.line_step.proofs.Turns as turns
 
 -- ---- a machine has one record of an id that it keeps
 
@@ -122,24 +118,7 @@ made_by bridge maker body (Err why) event q is each hand = elim hand [ ]
 hand_of : (bridge : Option BridgeLevels) (maker : Maker) (body : Body) (input : Input) (heard : List Word) (q : Record) → IsByHand bridge body (event_of maker input heard) q → IsHandOf bridge input maker body q
 hand_of bridge maker body (inputs.Insert barcode) heard q hand = made_by bridge maker body (next_id maker) (λ id. Insert id barcode) q refl (λ id is. is) hand
 hand_of bridge maker body (inputs.Replace old) heard q hand = made_by bridge maker body (next_id maker) (Replace old) q refl (λ id is. is) hand
-hand_of bridge maker body (inputs.Mark id quality) heard q hand = hand
-hand_of bridge maker body inputs.Nothing heard q hand = hand
-hand_of bridge maker body inputs.Connect heard q hand = hand
-hand_of bridge maker body inputs.Accepted heard q hand = hand
-hand_of bridge maker body inputs.Second heard q hand = hand
-hand_of bridge maker body (inputs.Bytes side piece) heard q hand = hand
-hand_of bridge maker body (inputs.Notice side) heard q hand = hand
-hand_of bridge maker body inputs.Tick heard q hand = hand
-hand_of bridge maker body inputs.Shutdown heard q hand = hand
-hand_of bridge maker body (inputs.Fault side) heard q hand = hand
-hand_of bridge maker body (inputs.Will side on) heard q hand = hand
-hand_of bridge maker body (inputs.Remove id) heard q hand = hand
-hand_of bridge maker body (inputs.Level line on) heard q hand = hand
-hand_of bridge maker body inputs.Forecast heard q hand = hand
-hand_of bridge maker body (inputs.Query barcode) heard q hand = hand
-hand_of bridge maker body (inputs.Supervise on) heard q hand = hand
-hand_of bridge maker body (inputs.Ask question) heard q hand = hand
-hand_of bridge maker body (inputs.Answer query order) heard q hand = hand
+hand_of bridge maker body _ heard q hand = hand
 
 -- a record that is kept before a step and behind it is the same, or the input is of the hands that make it or mark it
 pub machine_contents : (number machine : ℕ) (input : Input) (before after : LineState) (told : List Happening) (steps : MachineSteps number machine input before after told) → IsOneRecord (node_at before machine).lane.body
@@ -197,10 +176,6 @@ nodes_kept s t is machine = ap (λ (n : NodeState). n.lane.body.kept) (same_node
 becomes_keeps : (Marks : ℕ → ℕ → Type 0) (before now next : LineState) (what told : List Happening) → Starting before → Becomes now what next told → ((machine : ℕ) → (node_at now machine).lane.body.kept ≡ (node_at before machine).lane.body.kept) → KeepsContents Marks before next
 becomes_keeps Marks before now next what told a becomes same = subst (λ (s : LineState). KeepsContents Marks before s) (sym becomes.after_is) (same_kept Marks before now a same)
 
-unless_keeps : (Marks : ℕ → ℕ → Type 0) (may : May) (before next : LineState) (told : List Happening) (Done : Type 0) → Starting before → (Done → KeepsContents Marks before next) → Unless may before next told Done → KeepsContents Marks before next
-unless_keeps Marks (Ok _) before next told Done a keeps does = keeps does
-unless_keeps Marks (Err reason) before next told Done a keeps does = becomes_keeps Marks before before next (happenings.No reason ∷ []) told a does (λ machine. refl)
-
 -- an input that neither makes nor marks a record
 abbrev IsPlainInput : Input → Type 0
 IsPlainInput (inputs.Insert barcode) = ⊥
@@ -213,29 +188,11 @@ no_hand : (bridge : Option BridgeLevels) (input : Input) (maker : Maker) (body :
 no_hand bridge (inputs.Insert barcode) maker body p plain hand = plain
 no_hand bridge (inputs.Replace old) maker body p plain hand = plain
 no_hand bridge (inputs.Mark id quality) maker body p plain hand = plain
-no_hand bridge inputs.Nothing maker body p plain hand = hand
-no_hand bridge inputs.Connect maker body p plain hand = hand
-no_hand bridge inputs.Accepted maker body p plain hand = hand
-no_hand bridge inputs.Second maker body p plain hand = hand
-no_hand bridge (inputs.Bytes side piece) maker body p plain hand = hand
-no_hand bridge (inputs.Notice side) maker body p plain hand = hand
-no_hand bridge inputs.Tick maker body p plain hand = hand
-no_hand bridge inputs.Shutdown maker body p plain hand = hand
-no_hand bridge (inputs.Fault side) maker body p plain hand = hand
-no_hand bridge (inputs.Will side on) maker body p plain hand = hand
-no_hand bridge (inputs.Remove id) maker body p plain hand = hand
 no_hand bridge (inputs.Level line on) maker body p plain hand = plain
-no_hand bridge inputs.Forecast maker body p plain hand = hand
-no_hand bridge (inputs.Query barcode) maker body p plain hand = hand
-no_hand bridge (inputs.Supervise on) maker body p plain hand = hand
-no_hand bridge (inputs.Ask question) maker body p plain hand = hand
-no_hand bridge (inputs.Answer query order) maker body p plain hand = hand
+no_hand bridge _ maker body p plain hand = hand
 
 plain_keeps : (Marks : ℕ → ℕ → Type 0) (number m : ℕ) (input : Input) (before after : LineState) (told : List Happening) → IsPlainInput input → Starting before → MachineSteps number m input before after told → KeepsContents Marks before after
 plain_keeps Marks number m input before after told plain a steps = step_keeps Marks number m input before after told a steps (λ q p i same hand. absurd (no_hand steps.node.bridge input steps.node.maker (body_then number m input before after told steps) p plain hand))
-
-given_keeps : (Marks : ℕ → ℕ → Type 0) (may : May) (number m : ℕ) (input : Input) (before next : LineState) (told : List Happening) → IsPlainInput input → Starting before → Unless may before next told (MachineSteps number m input before next told) → KeepsContents Marks before next
-given_keeps Marks may number m input before next told plain a does = unless_keeps Marks may before next told (MachineSteps number m input before next told) a (plain_keeps Marks number m input before next told plain a) does
 
 -- the same machines start so
 starting_same : (s t : LineState) → t.machines ≡ s.machines → Starting s → Starting t
@@ -294,15 +251,6 @@ more_kept is_bridge capacity used s machine = by (same_or_not machine (length s.
       subst (λ (m : ℕ). (node_at (one_more is_bridge capacity used s) m).lane.body.kept ≡ (node_at s m).lane.body.kept) (sym next) (new (length s.machines) refl)
   by (inr apart) = ap (λ (x : Stand). x.node.lane.body.kept) ((more_changes is_bridge capacity used s).machines machine apart)
 
-moved_kept : (s : LineState) (answer : Result FloorPlan MoveNo) (machine : ℕ) → (node_at (moved answer s) machine).lane.body.kept ≡ (node_at s machine).lane.body.kept
-moved_kept s (Ok floor) machine = nodes_kept s (moved (Ok floor) s) refl machine
-moved_kept s (Err why) machine = refl
-
-move_keeps : (Marks : ℕ → ℕ → Type 0) (gap : ℕ) (step : Move) (before next : LineState) (told : List Happening) → Starting before → Becomes (moved (floor_move gap step before.world.floor) before) (move_told gap step (floor_move gap step before.world.floor)) next told → KeepsContents Marks before next
-move_keeps Marks gap step before next told a does =
-    let answer : Result FloorPlan MoveNo = floor_move gap step before.world.floor in
-    becomes_keeps Marks before (moved answer before) next (move_told gap step answer) told a does (moved_kept before answer)
-
 -- a mark that changes a record is told
 mark_is_told : (number m id : ℕ) (quality : Quality) (before next : LineState) (told : List Happening) (steps : MachineSteps number m (inputs.Mark id quality) before next told) (p : Record)
     → IsHandOf steps.node.bridge (inputs.Mark id quality) steps.node.maker (body_then number m (inputs.Mark id quality) before next told steps) p → IsMarked told m p.id
@@ -319,72 +267,25 @@ level_is_told number m line on before next told steps p hand = record {
   marks = subst (λ (x : ℕ). IsTold (happenings.Done m (acts.Marks x qualities.Failed)) told) (sym hand.2) (fails_told number m hand.0 line on before next told steps hand.1 hand.3);
 }
 
-does_keeps : (number : ℕ) (line : ScriptLine) (before next : LineState) (told : List Happening) → Starting before → LineDoes number line before next told → KeepsContents (IsMarked told) before next
-does_keeps number lines.Blank before next told a does = becomes_keeps _ before before next [] told a does (λ machine. refl)
-does_keeps number (lines.Machine capacity used) before next told a does =
-    let now : LineState = one_more false capacity used before in
-    let what : List Happening = happenings.Machine (length before.machines + 1) capacity ∷ [] in
-    unless_keeps _ _ before next told (Becomes now what next told) a (λ becomes. becomes_keeps _ before now next what told a becomes (more_kept false capacity used before)) does
-does_keeps number (lines.Bridge capacity used) before next told a does =
-    let now : LineState = one_more true capacity used before in
-    let what : List Happening = happenings.Bridge (length before.machines + 1) capacity ∷ [] in
-    unless_keeps _ _ before next told (Becomes now what next told) a (λ becomes. becomes_keeps _ before now next what told a becomes (more_kept true capacity used before)) does
-does_keeps number (lines.Insert m barcode) before next told a does =
-    unless_keeps _ _ before next told (MachineSteps number m (inputs.Insert barcode) before next told) a
-    (λ steps. step_keeps _ number m (inputs.Insert barcode) before next told a steps (made_not (IsMarked told) number m (inputs.Insert barcode) before next told a steps refl)) does
-does_keeps number (lines.Remove m id) before next told a does = given_keeps _ _ number m (inputs.Remove id) before next told tt a does
-does_keeps number (lines.Replace m id) before next told a does =
-    unless_keeps _ _ before next told (MachineSteps number m (inputs.Replace id) before next told) a
-    (λ steps. step_keeps _ number m (inputs.Replace id) before next told a steps (made_not (IsMarked told) number m (inputs.Replace id) before next told a steps refl)) does
-does_keeps number (lines.Mark m id quality) before next told a does =
-    unless_keeps _ _ before next told (MachineSteps number m (inputs.Mark id quality) before next told) a
-    (λ steps. step_keeps (IsMarked told) number m (inputs.Mark id quality) before next told a steps (λ q p i same hand. mark_is_told number m id quality before next told steps p hand)) does
-does_keeps number (lines.Hold m side) before next told a does = given_keeps _ _ number m (inputs.Will side false) before next told tt a does
-does_keeps number (lines.Go m side) before next told a does = given_keeps _ _ number m (inputs.Will side true) before next told tt a does
-does_keeps number (lines.Signal m line on) before next told a does =
-    unless_keeps _ _ before next told (MachineSteps number m (inputs.Level line on) before next told) a
-    (λ steps. step_keeps (IsMarked told) number m (inputs.Level line on) before next told a steps (λ q p i same hand. level_is_told number m line on before next told steps p hand)) does
-does_keeps number (lines.Forecast m) before next told a does = given_keeps _ _ number m (inputs.Forecast) before next told tt a does
-does_keeps number (lines.Query m barcode) before next told a does = given_keeps _ _ number m (inputs.Query barcode) before next told tt a does
-does_keeps number (lines.Supervise m) before next told a does = given_keeps _ _ number m (inputs.Supervise true) before next told tt a does
-does_keeps number (lines.Ask m question) before next told a does = given_keeps _ _ number m (inputs.Ask question) before next told tt a does
-does_keeps number (lines.Answer m query order) before next told a does = given_keeps _ _ number m (inputs.Answer query order) before next told tt a does
-does_keeps number (lines.Connect m) before next told a does = unless_keeps _ _ before next told (Connects number m before next told) a (connects_keeps _ number m before next told a) does
-does_keeps number (lines.Flow m side count) before next told a does = unless_keeps _ _ before next told (Flows number m side count before next told) a (flows_keeps _ number m side count before next told a) does
-does_keeps number (lines.Notice m side) before next told a does = given_keeps _ _ number m (inputs.Notice side) before next told tt a does
-does_keeps number (lines.Cut gap) before next told a does =
-    let now : LineState = cut_in gap before in
-    let what : List Happening = happenings.Cut gap ∷ [] in
-    unless_keeps _ _ before next told (Becomes now what next told) a (λ becomes. becomes_keeps _ before now next what told a becomes (nodes_kept before now refl)) does
-does_keeps number (lines.Spoil m side) before next told a does =
-    let now : LineState = spoiled m side before in
-    let what : List Happening = spoil_told m side before in
-    unless_keeps _ _ before next told (Becomes now what next told) a (λ becomes. becomes_keeps _ before now next what told a becomes (nodes_kept before now refl)) does
-does_keeps number (lines.Shutdown m) before next told a does = given_keeps _ _ number m inputs.Shutdown before next told tt a does
-does_keeps number (lines.Tick m) before next told a does = given_keeps _ _ number m inputs.Tick before next told tt a does
-does_keeps number (lines.Fault m side) before next told a does = given_keeps _ _ number m (inputs.Fault side) before next told tt a does
-does_keeps number (lines.Sense m) before next told a does = given_keeps _ _ number m inputs.Nothing before next told tt a does
-does_keeps number (lines.Begin gap) before next told a does = move_keeps _ gap moves.Begin before next told a does
-does_keeps number (lines.Left gap) before next told a does = move_keeps _ gap moves.Left before next told a does
-does_keeps number (lines.Enter gap) before next told a does = move_keeps _ gap moves.Enter before next told a does
-does_keeps number (lines.Back gap) before next told a does = move_keeps _ gap moves.Back before next told a does
-does_keeps number (lines.HandIn gap) before next told a does = move_keeps _ gap moves.HandIn before next told a does
-does_keeps number (lines.Take gap) before next told a does = move_keeps _ gap moves.Take before next told a does
-does_keeps number (lines.Lie m sensed) before next told a does =
-    let now : LineState = lied number m sensed before in
-    let what : List Happening = happenings.Lie m sensed ∷ unvouched_told before.unvouched in
-    unless_keeps _ _ before next told (Becomes now what next told) a (λ becomes. becomes_keeps _ before now next what told a becomes (nodes_kept before now refl)) does
-does_keeps number (lines.Unseen m side) before next told a does =
-    let now : LineState = unseen number m side before in
-    let what : List Happening = happenings.Unseen m side ∷ unvouched_told before.unvouched in
-    unless_keeps _ _ before next told (Becomes now what next told) a (λ becomes. becomes_keeps _ before now next what told a becomes (nodes_kept before now refl)) does
-does_keeps number lines.Show before next told a does = becomes_keeps _ before before next (shown before) told a does (λ machine. refl)
+given_keeps : (number m : ℕ) (input : Input) (before next : LineState) (told : List Happening) → Starting before → MachineSteps number m input before next told → KeepsContents (IsMarked told) before next
+given_keeps number m (inputs.Insert barcode) before next told a did = step_keeps _ number m (inputs.Insert barcode) before next told a did (made_not (IsMarked told) number m (inputs.Insert barcode) before next told a did refl)
+given_keeps number m (inputs.Replace id) before next told a did = step_keeps _ number m (inputs.Replace id) before next told a did (made_not (IsMarked told) number m (inputs.Replace id) before next told a did refl)
+given_keeps number m (inputs.Mark id quality) before next told a did = step_keeps (IsMarked told) number m (inputs.Mark id quality) before next told a did (λ q p i same hand. mark_is_told number m id quality before next told did p hand)
+given_keeps number m (inputs.Level line on) before next told a did = step_keeps (IsMarked told) number m (inputs.Level line on) before next told a did (λ q p i same hand. level_is_told number m line on before next told did p hand)
+given_keeps number m input before next told a did = plain_keeps (IsMarked told) number m input before next told tt a did
+
+turns_keep : (number : ℕ) (request : Request) (before next : LineState) (told : List Happening) → Starting before → LineTurns number before next told request → KeepsContents (IsMarked told) before next
+turns_keep number request before next told a (turns.stays _ same none) = same_kept (IsMarked told) before next a (nodes_kept before next same)
+turns_keep number request before next told a (turns.adds is_bridge capacity used may b) = becomes_keeps _ before (one_more is_bridge capacity used before) next _ told a b (more_kept is_bridge capacity used before)
+turns_keep number request before next told a (turns.steps m input given may did) = given_keeps number m input before next told a did
+turns_keep number request before next told a (turns.connects m may did) = connects_keeps (IsMarked told) number m before next told a did
+turns_keep number request before next told a (turns.flows m side count may did) = flows_keeps (IsMarked told) number m side count before next told a did
 
 -- EACH LINE
 pub line_keeps : (t : Trace) (number : ℕ) (line : ScriptLine) (before after : LineState) (told : List Happening) → Stands t before → LineSteps number line before after told → KeepsContents (IsMarked told) before after
 line_keeps t number line before after told st steps =
     let same : after.machines ≡ steps.next.machines = ap (λ (s : LineState). s.machines) steps.after_is in
-    let keeps : KeepsContents (IsMarked steps.done) before steps.next = does_keeps number line before steps.next steps.done (starting_of st) steps.does in
+    let keeps : KeepsContents (IsMarked steps.done) before steps.next = turns_keep number (request_of line) before steps.next steps.done (starting_of st) (line_turns number line before steps.next steps.done steps.does) in
     λ machine q p i j ids. elim (keeps machine q p i (subst (λ (rs : List Record). In p rs) (nodes_kept steps.next after same machine) j) ids) [
       | inl one ↦ inl one
       | inr mark ↦ inr (record { quality = mark.quality; marks = subst (λ (all : List Happening). IsTold (happenings.Done machine (acts.Marks p.id mark.quality)) all) (sym steps.told_is) (told_before (standings_told before steps.next) mark.marks) })

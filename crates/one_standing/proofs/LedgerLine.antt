@@ -5,16 +5,10 @@ use Rattle.one_standing.proofs.RestLine.{node_there}
 use Rattle.line_base.specs.declared.states.Side.{Side}
 use Rattle.board_record.specs.Maker.{Maker, after_next, made_id, next_id}
 use Rattle.board_record.specs.declared.maker.IdsUsedUp.{IdsUsedUp}
-use Rattle.line_link.specs.Link.{connected_of, spoil_sent}
+use Rattle.line_link.specs.Link.{connected_of}
 use Rattle.line_link.specs.declared.link.Connected.{Connected}
 use Rattle.line_link.specs.declared.link.Connected.TheVariants as connections
 use Rattle.line_script.specs.declared.line.ScriptLine.{ScriptLine}
-use Rattle.line_script.specs.declared.line.ScriptLine.TheVariants as lines
-use Rattle.line_world.specs.FloorPlan.{FloorPlan}
-use Rattle.line_world.specs.Moves.{floor_move}
-use Rattle.line_world.specs.declared.moves.Move.{Move}
-use Rattle.line_world.specs.declared.moves.Move.TheVariants as moves
-use Rattle.line_world.specs.declared.moves.MoveNo.{MoveNo}
 use Rattle.node_core.specs.Event.{Event, Insert, Replace, event_of, maker_after, with_new}
 use Rattle.node_core.specs.Node.{NodeState, desk_of, new_node}
 use Rattle.node_core.specs.Own.{own_of}
@@ -26,17 +20,15 @@ use Rattle.node_core.specs.declared.input.Input.TheVariants as inputs
 use Rattle.node_core.specs.declared.lane.Body.{Body}
 use Rattle.node_core.specs.declared.word.Word.{Word}
 use Rattle.line_report.specs.declared.happening.Happening.{Happening}
-use Rattle.line_report.specs.declared.happening.Happening.TheVariants as happenings
 use Rattle.standings.specs.Ledger.{AreLegal, Ledger, are_different, has_entry, ledger_after_all}
 use Rattle.standings.specs.Marks.{Owned, Where, has_at}
 use Rattle.standings.specs.declared.deed.Deed.{Deed}
-use Rattle.line_step.specs.Lines.{Becomes, Connects, Flows, LineDoes, LineSteps, Unless, arrived, connecting, cut_in, lied, met, move_told, moved, spoil_told, spoiled, unvouched_told, unseen}
+use Rattle.line_step.specs.Lines.{Becomes, Connects, Flows, LineSteps, arrived, connecting, met}
 use Rattle.line_step.specs.Numbered.{ChangesMachine, Stand, no_node, node_at}
-use Rattle.line_step.specs.Reasons.{May}
-use Rattle.line_step.specs.Shown.{shown, standings_told}
+use Rattle.line_step.specs.Shown.{standings_told}
 use Rattle.line_step.specs.State.{LineState, machine_in, one_more, profile_of, owned_by}
 use Rattle.line_step.specs.Steps.{MachineSteps, is_second, moment_of, read_by, unread_by}
-use Rattle.line_step.specs.World.{end_of, link_at, link_of}
+use Rattle.line_step.specs.World.{link_at}
 use Rattle.line_step.proofs.Changing.{more_changes, step_changes}
 use Rattle.line_step.proofs.FloorLaws.{steps-goes}
 use Rattle.line_step.proofs.Makers.{AreNumbered, IsOld, numbered-at, old-apart, old-new}
@@ -46,11 +38,16 @@ use Rattle.one_standing.specs.Replay.{deeds_of}
 use Rattle.one_standing.specs.Stands.{Stands}
 use Rattle.one_standing.proofs.LedgerMarks.{FitsLine, differ_of, taken_old}
 use Rattle.one_standing.proofs.LedgerSteps.{IsMadeNow, all_of, deeds_by, did_goes, silent_behind, tells_deeds}
-use Rattle.one_standing.proofs.LedgerTold.{acts_deeds, cut_none, deeds_join, shown_none, standings_none}
+use Rattle.one_standing.proofs.LedgerTold.{acts_deeds, deeds_join, no_acts_deeds, remarks_none}
 use Rattle.one_standing.proofs.LedgerTurns.{Fits, Follows, after_append, entry_at, legal_append}
 use Rattle.one_standing.proofs.LedgerWalk.{Did, IsNewFor, step_did}
 use Rattle.node_core.specs.Signals.{signalled}
 use Rattle.one_standing.proofs.Signalled.{signals_silent}
+use Rattle.line_step.proofs.Remarks.{all_pass, standings_remarks}
+use Rattle.line_step.proofs.Requests.{Request, added_told, request_of}
+use Rattle.line_step.proofs.Effects.{added_remarks}
+use Rattle.line_step.proofs.Turns.{LineTurns, line_turns}
+use Rattle.line_step.proofs.Turns as turns
 
 -- the deeds of what is told are legal, and the ledger behind them is that of the line after
 pub record Led (Old : ℕ → Type 0) (after : LineState) (ledger : Ledger) (told : List Happening) : Type 0 where
@@ -108,24 +105,7 @@ new_with New (Err why) event new = tt
 new_event : (New : ℕ → Type 0) (maker : Maker) (input : Input) (words : List Word) → IsNewInput New input maker → IsNewFor New (event_of maker input words)
 new_event New maker (inputs.Insert barcode) words new = new_with New (next_id maker) (λ id. Insert id barcode) (λ id is. new id is)
 new_event New maker (inputs.Replace old) words new = new_with New (next_id maker) (Replace old) (λ id is. new id is)
-new_event New maker inputs.Nothing words new = tt
-new_event New maker inputs.Connect words new = tt
-new_event New maker inputs.Accepted words new = tt
-new_event New maker inputs.Second words new = tt
-new_event New maker (inputs.Bytes side piece) words new = tt
-new_event New maker (inputs.Notice side) words new = tt
-new_event New maker inputs.Tick words new = tt
-new_event New maker inputs.Shutdown words new = tt
-new_event New maker (inputs.Fault side) words new = tt
-new_event New maker (inputs.Will side on) words new = tt
-new_event New maker (inputs.Level line on) words new = tt
-new_event New maker inputs.Forecast words new = tt
-new_event New maker (inputs.Query barcode) words new = tt
-new_event New maker (inputs.Supervise on) words new = tt
-new_event New maker (inputs.Ask question) words new = tt
-new_event New maker (inputs.Answer query order) words new = tt
-new_event New maker (inputs.Remove id) words new = tt
-new_event New maker (inputs.Mark id quality) words new = tt
+new_event New maker _ words new = tt
 
 -- what a step does but for what it tells its supervisor, and for a bridge's own signals
 abbrev plain_of : (number machine : ℕ) (input : Input) (before after : LineState)
@@ -269,54 +249,11 @@ becomes_led : (before now next : LineState) (what told : List Happening) (ledger
 becomes_led before now next what told ledger a becomes same none fits =
     still_led before next ledger told (subst (λ (s : LineState). OwnSame before s) (sym becomes.after_is) same) (ap deeds_of becomes.told_is ∙ none) a.olds fits
 
-unless_led : (may : May) (before next : LineState) (told : List Happening) (ledger : Ledger) (Done : Type 0) → Around before next → (Done → LedLine before next ledger told) → Unless may before next told Done → LedLine before next ledger told
-unless_led (Ok _) before next told ledger Done a led does = led does
-unless_led (Err reason) before next told ledger Done a led does = becomes_led before before next (happenings.No reason ∷ []) told ledger a does (λ machine. refl) refl
-
--- an input that makes no id
-abbrev MakesNone : Input → Type 0
-MakesNone (inputs.Insert barcode) = ⊥
-MakesNone (inputs.Replace old) = ⊥
-MakesNone _ = Unit {0}
-
-none_new : (New : ℕ → Type 0) (input : Input) (maker : Maker) → MakesNone input → IsNewInput New input maker
-none_new New (inputs.Insert barcode) maker none = absurd none
-none_new New (inputs.Replace old) maker none = absurd none
-none_new New inputs.Nothing maker none = tt
-none_new New inputs.Connect maker none = tt
-none_new New inputs.Accepted maker none = tt
-none_new New inputs.Second maker none = tt
-none_new New (inputs.Bytes side piece) maker none = tt
-none_new New (inputs.Notice side) maker none = tt
-none_new New inputs.Tick maker none = tt
-none_new New inputs.Shutdown maker none = tt
-none_new New (inputs.Fault side) maker none = tt
-none_new New (inputs.Will side on) maker none = tt
-none_new New (inputs.Level line on) maker none = tt
-none_new New inputs.Forecast maker none = tt
-none_new New (inputs.Query barcode) maker none = tt
-none_new New (inputs.Supervise on) maker none = tt
-none_new New (inputs.Ask question) maker none = tt
-none_new New (inputs.Answer query order) maker none = tt
-none_new New (inputs.Remove id) maker none = tt
-none_new New (inputs.Mark id quality) maker none = tt
-
-given_led : (may : May) (number machine : ℕ) (input : Input) (before next : LineState) (told : List Happening) (ledger : Ledger) → MakesNone input → Around before next → Unless may before next told (MachineSteps number machine input before next told) → LedLine before next ledger told
-given_led may number machine input before next told ledger none a does =
-    unless_led may before next told ledger (MachineSteps number machine input before next told) a
-    (λ steps. machine_led number machine input before next told a.olds steps (none_new (IsMadeNow (IsOld 1 before.machines) (IsOld 1 next.machines)) input steps.node.maker none) (a.different machine) (a.taken machine) ledger) does
-
-inserted_led : (may : May) (number machine : ℕ) (barcode : Option (List ℕ)) (before next : LineState) (told : List Happening) (ledger : Ledger) → Around before next
-    → Unless may before next told (MachineSteps number machine (inputs.Insert barcode) before next told) → LedLine before next ledger told
-inserted_led may number machine barcode before next told ledger a does =
-    unless_led may before next told ledger (MachineSteps number machine (inputs.Insert barcode) before next told) a
-    (λ steps. machine_led number machine (inputs.Insert barcode) before next told a.olds steps (made_here number machine (inputs.Insert barcode) before next told steps a.own refl) (a.different machine) (a.taken machine) ledger) does
-
-replaced_led : (may : May) (number machine old : ℕ) (before next : LineState) (told : List Happening) (ledger : Ledger) → Around before next
-    → Unless may before next told (MachineSteps number machine (inputs.Replace old) before next told) → LedLine before next ledger told
-replaced_led may number machine old before next told ledger a does =
-    unless_led may before next told ledger (MachineSteps number machine (inputs.Replace old) before next told) a
-    (λ steps. machine_led number machine (inputs.Replace old) before next told a.olds steps (made_here number machine (inputs.Replace old) before next told steps a.own refl) (a.different machine) (a.taken machine) ledger) does
+-- the ids that an input makes are new
+input_new : (number machine : ℕ) (input : Input) (before next : LineState) (told : List Happening) → Around before next → (steps : MachineSteps number machine input before next told) → IsNewInput (IsMadeNow (IsOld 1 before.machines) (IsOld 1 next.machines)) input steps.node.maker
+input_new number machine (inputs.Insert barcode) before next told a steps = made_here number machine (inputs.Insert barcode) before next told steps a.own refl
+input_new number machine (inputs.Replace old) before next told a steps = made_here number machine (inputs.Replace old) before next told steps a.own refl
+input_new number machine _ before next told a steps = tt
 
 -- bytes arrive: the link alone changes before the machine's step
 flows_led : (number machine : ℕ) (side : Side) (count : Option ℕ) (before next : LineState) (told : List Happening) (ledger : Ledger) → Around before next → Flows number machine side count before next told → LedLine before next ledger told
@@ -373,76 +310,14 @@ more_own is_bridge capacity used s machine = by (same_or_not machine (length s.m
 
 -- ---- each form
 
-moved_own : (s : LineState) (answer : Result FloorPlan MoveNo) → OwnSame s (moved answer s)
-moved_own s (Ok floor) = own_nodes s (moved (Ok floor) s) refl
-moved_own s (Err why) = λ machine. refl
-
-moved_none : (gap : ℕ) (step : Move) (answer : Result FloorPlan MoveNo) → deeds_of (move_told gap step answer) ≡ []
-moved_none gap step (Ok floor) = refl
-moved_none gap step (Err why) = refl
-
-move_led : (gap : ℕ) (step : Move) (before next : LineState) (told : List Happening) (ledger : Ledger) → Around before next → Becomes (moved (floor_move gap step before.world.floor) before) (move_told gap step (floor_move gap step before.world.floor)) next told → LedLine before next ledger told
-move_led gap step before next told ledger a does =
-    let answer : Result FloorPlan MoveNo = floor_move gap step before.world.floor in
-    becomes_led before (moved answer before) next (move_told gap step answer) told ledger a does (moved_own before answer) (moved_none gap step answer)
-
-unvouched_none : (unvouched : Option ℕ) → deeds_of (unvouched_told unvouched) ≡ []
-unvouched_none None = refl
-unvouched_none (Some line) = refl
-
-does_led : (number : ℕ) (line : ScriptLine) (before next : LineState) (told : List Happening) (ledger : Ledger) → Around before next → LineDoes number line before next told → LedLine before next ledger told
-does_led number lines.Blank before next told ledger a does = becomes_led before before next [] told ledger a does (λ machine. refl) refl
-does_led number (lines.Machine capacity used) before next told ledger a does =
-    let now : LineState = one_more false capacity used before in
-    let what : List Happening = happenings.Machine (length before.machines + 1) capacity ∷ [] in
-    unless_led _ before next told ledger (Becomes now what next told) a (λ becomes. becomes_led before now next what told ledger a becomes (more_own false capacity used before) refl) does
-does_led number (lines.Bridge capacity used) before next told ledger a does =
-    let now : LineState = one_more true capacity used before in
-    let what : List Happening = happenings.Bridge (length before.machines + 1) capacity ∷ [] in
-    unless_led _ before next told ledger (Becomes now what next told) a (λ becomes. becomes_led before now next what told ledger a becomes (more_own true capacity used before) refl) does
-does_led number (lines.Insert machine barcode) before next told ledger a does = inserted_led _ number machine barcode before next told ledger a does
-does_led number (lines.Remove machine id) before next told ledger a does = given_led _ number machine (inputs.Remove id) before next told ledger tt a does
-does_led number (lines.Replace machine id) before next told ledger a does = replaced_led _ number machine id before next told ledger a does
-does_led number (lines.Mark machine id quality) before next told ledger a does = given_led _ number machine (inputs.Mark id quality) before next told ledger tt a does
-does_led number (lines.Hold machine side) before next told ledger a does = given_led _ number machine (inputs.Will side false) before next told ledger tt a does
-does_led number (lines.Go machine side) before next told ledger a does = given_led _ number machine (inputs.Will side true) before next told ledger tt a does
-does_led number (lines.Signal machine line on) before next told ledger a does = given_led _ number machine (inputs.Level line on) before next told ledger tt a does
-does_led number (lines.Forecast machine) before next told ledger a does = given_led _ number machine (inputs.Forecast) before next told ledger tt a does
-does_led number (lines.Query machine barcode) before next told ledger a does = given_led _ number machine (inputs.Query barcode) before next told ledger tt a does
-does_led number (lines.Supervise machine) before next told ledger a does = given_led _ number machine (inputs.Supervise true) before next told ledger tt a does
-does_led number (lines.Ask machine question) before next told ledger a does = given_led _ number machine (inputs.Ask question) before next told ledger tt a does
-does_led number (lines.Answer machine query order) before next told ledger a does = given_led _ number machine (inputs.Answer query order) before next told ledger tt a does
-does_led number (lines.Connect machine) before next told ledger a does = unless_led _ before next told ledger (Connects number machine before next told) a (connects_led number machine before next told ledger a) does
-does_led number (lines.Flow machine side count) before next told ledger a does = unless_led _ before next told ledger (Flows number machine side count before next told) a (flows_led number machine side count before next told ledger a) does
-does_led number (lines.Notice machine side) before next told ledger a does = given_led _ number machine (inputs.Notice side) before next told ledger tt a does
-does_led number (lines.Cut gap) before next told ledger a does =
-    let now : LineState = cut_in gap before in
-    let what : List Happening = happenings.Cut gap ∷ [] in
-    unless_led _ before next told ledger (Becomes now what next told) a (λ becomes. becomes_led before now next what told ledger a becomes (own_nodes before now refl) refl) does
-does_led number (lines.Spoil machine side) before next told ledger a does =
-    let now : LineState = spoiled machine side before in
-    let what : List Happening = spoil_told machine side before in
-    unless_led _ before next told ledger (Becomes now what next told) a
-    (λ becomes. becomes_led before now next what told ledger a becomes (own_nodes before now refl) (cut_none (link_of machine side) (spoil_sent (end_of side) (link_at (link_of machine side) before.world)))) does
-does_led number (lines.Shutdown machine) before next told ledger a does = given_led _ number machine inputs.Shutdown before next told ledger tt a does
-does_led number (lines.Tick machine) before next told ledger a does = given_led _ number machine inputs.Tick before next told ledger tt a does
-does_led number (lines.Fault machine side) before next told ledger a does = given_led _ number machine (inputs.Fault side) before next told ledger tt a does
-does_led number (lines.Sense machine) before next told ledger a does = given_led _ number machine inputs.Nothing before next told ledger tt a does
-does_led number (lines.Begin gap) before next told ledger a does = move_led gap moves.Begin before next told ledger a does
-does_led number (lines.Left gap) before next told ledger a does = move_led gap moves.Left before next told ledger a does
-does_led number (lines.Enter gap) before next told ledger a does = move_led gap moves.Enter before next told ledger a does
-does_led number (lines.Back gap) before next told ledger a does = move_led gap moves.Back before next told ledger a does
-does_led number (lines.HandIn gap) before next told ledger a does = move_led gap moves.HandIn before next told ledger a does
-does_led number (lines.Take gap) before next told ledger a does = move_led gap moves.Take before next told ledger a does
-does_led number (lines.Lie machine sensed) before next told ledger a does =
-    let now : LineState = lied number machine sensed before in
-    let what : List Happening = happenings.Lie machine sensed ∷ unvouched_told before.unvouched in
-    unless_led _ before next told ledger (Becomes now what next told) a (λ becomes. becomes_led before now next what told ledger a becomes (own_nodes before now refl) (unvouched_none before.unvouched)) does
-does_led number (lines.Unseen machine side) before next told ledger a does =
-    let now : LineState = unseen number machine side before in
-    let what : List Happening = happenings.Unseen machine side ∷ unvouched_told before.unvouched in
-    unless_led _ before next told ledger (Becomes now what next told) a (λ becomes. becomes_led before now next what told ledger a becomes (own_nodes before now refl) (unvouched_none before.unvouched)) does
-does_led number lines.Show before next told ledger a does = becomes_led before before next (shown before) told ledger a does (λ machine. refl) (shown_none 1 before.machines)
+turns_led : (number : ℕ) (request : Request) (before next : LineState) (told : List Happening) (ledger : Ledger) → Around before next → LineTurns number before next told request → LedLine before next ledger told
+turns_led number request before next told ledger a (turns.stays _ same none) fits = still_led before next ledger told (own_nodes before next same) (all_pass told no_acts_deeds none) a.olds fits
+turns_led number request before next told ledger a (turns.adds is_bridge capacity used may b) fits =
+    becomes_led before (one_more is_bridge capacity used before) next (added_told is_bridge capacity before) told ledger a b (more_own is_bridge capacity used before) (remarks_none _ (added_remarks is_bridge capacity before)) fits
+turns_led number request before next told ledger a (turns.steps machine input given may did) fits =
+    machine_led number machine input before next told a.olds did (input_new number machine input before next told a did) (a.different machine) (a.taken machine) ledger fits
+turns_led number request before next told ledger a (turns.connects machine may did) fits = connects_led number machine before next told ledger a did fits
+turns_led number request before next told ledger a (turns.flows machine side count may did) fits = flows_led number machine side count before next told ledger a did fits
 
 -- ---- THE LINE
 
@@ -460,8 +335,8 @@ pub line_led : (t t2 : Trace) (number : ℕ) (line : ScriptLine) (before after :
     → FitsLine (IsOld 1 before.machines) before ledger → Led (IsOld 1 after.machines) after ledger told
 line_led t t2 number line before after told ledger st st2 steps fits =
     let same : after.machines ≡ steps.next.machines = ap (λ (s : LineState). s.machines) steps.after_is in
-    let led : Led (IsOld 1 steps.next.machines) steps.next ledger steps.done = does_led number line before steps.next steps.done ledger (around_of t t2 number line before after told st st2 steps) steps.does fits in
-    let none : deeds_of told ≡ deeds_of steps.done = ap deeds_of steps.told_is ∙ deeds_join steps.done (standings_told before steps.next) ∙ ap (λ (ds : List Deed). deeds_of steps.done ++ ds) (standings_none before steps.next) ∙ append-nil (deeds_of steps.done) in
+    let led : Led (IsOld 1 steps.next.machines) steps.next ledger steps.done = turns_led number (request_of line) before steps.next steps.done ledger (around_of t t2 number line before after told st st2 steps) (line_turns number line before steps.next steps.done steps.does) fits in
+    let none : deeds_of told ≡ deeds_of steps.done = ap deeds_of steps.told_is ∙ deeds_join steps.done (standings_told before steps.next) ∙ ap (λ (ds : List Deed). deeds_of steps.done ++ ds) (remarks_none (standings_told before steps.next) (standings_remarks before steps.next)) ∙ append-nil (deeds_of steps.done) in
     led_told told steps.done none (record {
       legal = led.legal;
       fits = fits_same steps.next after (ledger_after_all ledger (deeds_of steps.done)) (own_nodes steps.next after same) (λ x old. subst (λ (ns : List NodeState). IsOld 1 ns x) (sym same) old) led.fits;

@@ -35,6 +35,7 @@ pub mod LedgerTold
 pub mod LedgerTurns
 pub mod LedgerWalk
 pub mod Joints
+pub mod FitRequests
 pub mod LineForms
 pub mod LineJoins
 pub mod LineMoves

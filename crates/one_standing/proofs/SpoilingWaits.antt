@@ -1,6 +1,6 @@
 -- What waits at an open side comes to no message, after each line of the script.
 use Rattle.std.proofs.Common.{Bool, List, Option, Some, [], ap, append-nil, arith, false, inl, inr, length, refl, subst, suc, sym, true, zero, ℕ, ◌++◌, ◌+◌, ◌-◌, ◌∙◌, ◌≡◌, ◌≢◌, ◌⊎◌}
-use Rattle.std.specs.Prelude.{Err, Ok, Result, slice_index_or}
+use Rattle.std.specs.Prelude.{slice_index_or}
 use Rattle.std.proofs.lemmas.Bool.{false≢true}
 use Rattle.line_step.proofs.Once.{closed-stays}
 use Rattle.one_standing.proofs.LedgerLine.{last_node}
@@ -11,12 +11,6 @@ use Rattle.hermes_stream.specs.Frames.{Answer, Frame, NeedMore, TooLong, answer_
 use Rattle.line_link.specs.Link.{connected_of}
 use Rattle.line_report.specs.declared.happening.Happening.{Happening}
 use Rattle.line_script.specs.declared.line.ScriptLine.{ScriptLine}
-use Rattle.line_script.specs.declared.line.ScriptLine.TheVariants as lines
-use Rattle.line_world.specs.FloorPlan.{FloorPlan}
-use Rattle.line_world.specs.Moves.{floor_move}
-use Rattle.line_world.specs.declared.moves.Move.{Move}
-use Rattle.line_world.specs.declared.moves.Move.TheVariants as move
-use Rattle.line_world.specs.declared.moves.MoveNo.{MoveNo}
 use Rattle.node_core.specs.Node.{NodeState, new_node}
 use Rattle.node_core.specs.Sides.{is_open}
 use Rattle.node_core.specs.Step.{Brings}
@@ -26,11 +20,10 @@ use Rattle.node_core.specs.declared.input.Input.{Input}
 use Rattle.node_core.specs.declared.input.Input.TheVariants as inputs
 use Rattle.node_core.specs.declared.lane.Lane.{Lane}
 use Rattle.node_core.specs.declared.word.Word.{Word}
-use Rattle.line_step.specs.Lines.{Becomes, Connects, Flows, LineDoes, Moves, Unless, arrived, connecting, cut_in, lied, met, moved, spoiled, unseen}
+use Rattle.line_step.specs.Lines.{Connects, Flows, LineDoes, arrived, connecting, met}
 use Rattle.line_step.specs.Numbered as numbered
 use Rattle.line_step.specs.Numbered.{no_node, node_at}
 use Rattle.line_step.specs.Opened.{open_after, opened_by}
-use Rattle.line_step.specs.Reasons.{May}
 use Rattle.line_step.specs.State.{LineState, machine_in, no_line, one_more, profile_of}
 use Rattle.line_step.specs.Steps.{MachineSteps, moment_of, unread_by}
 use Rattle.line_step.specs.World.{link_at}
@@ -39,6 +32,10 @@ use Rattle.line_step.proofs.Numbers.{machine_set_own, same_or_not}
 use Rattle.line_step.proofs.Opening.{steps_open}
 use Rattle.one_standing.specs.Waits.{AreWaiting, Waits}
 use Rattle.one_standing.proofs.RestLine.{node_there}
+use Rattle.line_step.proofs.Requests.{Request, request_of}
+use Rattle.line_step.proofs.Effects.{becomes_by}
+use Rattle.line_step.proofs.Turns.{LineTurns, line_turns}
+use Rattle.line_step.proofs.Turns as turns
 
 -- ---- what is left behind all frames
 
@@ -124,10 +121,6 @@ connects number machine before after told twice waits =
     steps number (machine - 1) (met (connected_of (link_at (machine - 1) before.world).upstream)) twice.between after twice.later twice.second
     (steps number machine inputs.Connect (connecting machine before) twice.between twice.earlier twice.first (still_waiting before (connecting machine before) refl waits))
 
-moved_still : (answer : Result FloorPlan MoveNo) (s : LineState) → AreWaiting s → AreWaiting (moved answer s)
-moved_still (Ok floor) s waits = still_waiting s (moved (Ok floor) s) refl waits
-moved_still (Err why) s waits = waits
-
 -- ---- one machine more
 
 new_waits : (profile_number : ℕ) (is_bridge : Bool) (capacity used : ℕ) → Waits (new_node (profile_of is_bridge profile_number capacity used)).lane
@@ -149,51 +142,16 @@ more_waits is_bridge capacity used s waits k = by (same_or_not k (length s.machi
 
 -- ---- a line of the script
 
-made : (before next after : LineState) (what told : List Happening) → Becomes next what after told → AreWaiting next → AreWaiting after
-made before next after what told is waits = subst (λ (s : LineState). AreWaiting s) (sym is.after_is) waits
-
-unless : (may : May) (before after : LineState) (told : List Happening) (Done : Type 0) → Unless may before after told Done → AreWaiting before → (Done → AreWaiting after) → AreWaiting after
-unless (Ok _) before after told Done what waits then = then what
-unless (Err reason) before after told Done what waits then = made before before after _ told what waits
-
-moves : (gap : ℕ) (step : Move) (before after : LineState) (told : List Happening) → Moves gap step before after told → AreWaiting before → AreWaiting after
-moves gap step before after told is waits = made before (moved (floor_move gap step before.world.floor) before) after _ told is (moved_still (floor_move gap step before.world.floor) before waits)
-
 pub none_waiting : AreWaiting no_line
 none_waiting zero side there = new_waits 0 false 1 0 side there
 none_waiting (suc place) side there = new_waits 0 false 1 0 side there
 
+turns_wait : (number : ℕ) (request : Request) (before next : LineState) (told : List Happening) → AreWaiting before → LineTurns number before next told request → AreWaiting next
+turns_wait number request before next told waits (turns.stays _ same none) = still_waiting before next same waits
+turns_wait number request before next told waits (turns.adds is_bridge capacity used may b) = becomes_by (λ s ts. AreWaiting s) b (more_waits is_bridge capacity used before waits)
+turns_wait number request before next told waits (turns.steps machine input given may did) = steps number machine input before next told did waits
+turns_wait number request before next told waits (turns.connects machine may did) = connects number machine before next told did waits
+turns_wait number request before next told waits (turns.flows machine side count may did) = flows number machine side count before next told did waits
+
 pub does_waiting : (number : ℕ) (line : ScriptLine) (before next : LineState) (told : List Happening) → AreWaiting before → LineDoes number line before next told → AreWaiting next
-does_waiting number lines.Blank before next told waits is = made before before next [] told is waits
-does_waiting number (lines.Machine capacity used) before next told waits is = unless _ before next told _ is waits (λ done. made before (one_more false capacity used before) next _ told done (more_waits false capacity used before waits))
-does_waiting number (lines.Bridge capacity used) before next told waits is = unless _ before next told _ is waits (λ done. made before (one_more true capacity used before) next _ told done (more_waits true capacity used before waits))
-does_waiting number (lines.Insert machine barcode) before next told waits is = unless _ before next told _ is waits (λ done. steps number machine (inputs.Insert barcode) before next told done waits)
-does_waiting number (lines.Remove machine id) before next told waits is = unless _ before next told _ is waits (λ done. steps number machine (inputs.Remove id) before next told done waits)
-does_waiting number (lines.Replace machine id) before next told waits is = unless _ before next told _ is waits (λ done. steps number machine (inputs.Replace id) before next told done waits)
-does_waiting number (lines.Mark machine id quality) before next told waits is = unless _ before next told _ is waits (λ done. steps number machine (inputs.Mark id quality) before next told done waits)
-does_waiting number (lines.Hold machine side) before next told waits is = unless _ before next told _ is waits (λ done. steps number machine (inputs.Will side false) before next told done waits)
-does_waiting number (lines.Go machine side) before next told waits is = unless _ before next told _ is waits (λ done. steps number machine (inputs.Will side true) before next told done waits)
-does_waiting number (lines.Signal machine line on) before next told waits is = unless _ before next told _ is waits (λ done. steps number machine (inputs.Level line on) before next told done waits)
-does_waiting number (lines.Forecast machine) before next told waits is = unless _ before next told _ is waits (λ done. steps number machine (inputs.Forecast) before next told done waits)
-does_waiting number (lines.Query machine barcode) before next told waits is = unless _ before next told _ is waits (λ done. steps number machine (inputs.Query barcode) before next told done waits)
-does_waiting number (lines.Supervise machine) before next told waits is = unless _ before next told _ is waits (λ done. steps number machine (inputs.Supervise true) before next told done waits)
-does_waiting number (lines.Ask machine question) before next told waits is = unless _ before next told _ is waits (λ done. steps number machine (inputs.Ask question) before next told done waits)
-does_waiting number (lines.Answer machine query order) before next told waits is = unless _ before next told _ is waits (λ done. steps number machine (inputs.Answer query order) before next told done waits)
-does_waiting number (lines.Connect machine) before next told waits is = unless _ before next told _ is waits (λ done. connects number machine before next told done waits)
-does_waiting number (lines.Flow machine side count) before next told waits is = unless _ before next told _ is waits (λ done. flows number machine side count before next told done waits)
-does_waiting number (lines.Notice machine side) before next told waits is = unless _ before next told _ is waits (λ done. steps number machine (inputs.Notice side) before next told done waits)
-does_waiting number (lines.Cut gap) before next told waits is = unless _ before next told _ is waits (λ done. made before (cut_in gap before) next _ told done (still_waiting before (cut_in gap before) refl waits))
-does_waiting number (lines.Spoil machine side) before next told waits is = unless _ before next told _ is waits (λ done. made before (spoiled machine side before) next _ told done (still_waiting before (spoiled machine side before) refl waits))
-does_waiting number (lines.Shutdown machine) before next told waits is = unless _ before next told _ is waits (λ done. steps number machine inputs.Shutdown before next told done waits)
-does_waiting number (lines.Tick machine) before next told waits is = unless _ before next told _ is waits (λ done. steps number machine inputs.Tick before next told done waits)
-does_waiting number (lines.Fault machine side) before next told waits is = unless _ before next told _ is waits (λ done. steps number machine (inputs.Fault side) before next told done waits)
-does_waiting number (lines.Sense machine) before next told waits is = unless _ before next told _ is waits (λ done. steps number machine inputs.Nothing before next told done waits)
-does_waiting number (lines.Begin gap) before next told waits is = moves gap move.Begin before next told is waits
-does_waiting number (lines.Left gap) before next told waits is = moves gap move.Left before next told is waits
-does_waiting number (lines.Enter gap) before next told waits is = moves gap move.Enter before next told is waits
-does_waiting number (lines.Back gap) before next told waits is = moves gap move.Back before next told is waits
-does_waiting number (lines.HandIn gap) before next told waits is = moves gap move.HandIn before next told is waits
-does_waiting number (lines.Take gap) before next told waits is = moves gap move.Take before next told is waits
-does_waiting number (lines.Lie machine sensed) before next told waits is = unless _ before next told _ is waits (λ done. made before (lied number machine sensed before) next _ told done (still_waiting before (lied number machine sensed before) refl waits))
-does_waiting number (lines.Unseen machine side) before next told waits is = unless _ before next told _ is waits (λ done. made before (unseen number machine side before) next _ told done (still_waiting before (unseen number machine side before) refl waits))
-does_waiting number lines.Show before next told waits is = made before before next _ told is waits
+does_waiting number line before next told waits does = turns_wait number (request_of line) before next told waits (line_turns number line before next told does)

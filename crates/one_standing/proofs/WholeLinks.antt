@@ -1,6 +1,6 @@
 -- What stands together in each link still does after a line of the script.
 use Rattle.std.proofs.Common.{Bool, List, None, Option, Some, [], ap, arith, false, inl, inr, length, lt-ltb, ltb-true, refl, subst, sym, true, ℕ, ◌&&◌, ◌+◌, ◌-◌, ◌<◌, ◌∷◌, ◌≡◌, ◌≢◌, ◌⊎◌}
-use Rattle.std.specs.Prelude.{Err, Ok, Result, cond, drop, is_some, not, suc, take, zero}
+use Rattle.std.specs.Prelude.{cond, drop, is_some, not, suc, take, zero}
 use Rattle.std.proofs.lemmas.Bool.{eq-eqb}
 use Rattle.std.proofs.lemmas.List.{length-append, length-take-le}
 use Rattle.line_link.proofs.Together.{still_dry}
@@ -17,12 +17,6 @@ use Rattle.line_link.proofs.Reaching.{begun_by}
 use Rattle.line_report.specs.declared.happening.Happening.{Happening}
 use Rattle.line_report.specs.declared.happening.Reason.TheVariants as reasons
 use Rattle.line_script.specs.declared.line.ScriptLine.{ScriptLine}
-use Rattle.line_script.specs.declared.line.ScriptLine.TheVariants as lines
-use Rattle.line_world.specs.FloorPlan.{FloorPlan}
-use Rattle.line_world.specs.Moves.{floor_move}
-use Rattle.line_world.specs.declared.moves.Move.{Move}
-use Rattle.line_world.specs.declared.moves.Move.TheVariants as move
-use Rattle.line_world.specs.declared.moves.MoveNo.{MoveNo}
 use Rattle.node_core.specs.Node.{NodeState}
 use Rattle.node_core.specs.declared.act.Act.{Act}
 use Rattle.node_core.specs.declared.act.Act.TheVariants as acts
@@ -32,15 +26,18 @@ use Rattle.node_core.specs.declared.input.Input.{Input}
 use Rattle.node_core.specs.declared.input.Input.TheVariants as inputs
 use Rattle.node_core.specs.declared.input.No.TheVariants as nos
 use Rattle.line_step.specs.Acts.{act_did, acts_did, counted, is_answer, is_exit, sent_by}
-use Rattle.line_step.specs.Lines.{Becomes, Connects, Flows, LineDoes, Moves, Unless, arrived, connecting, cut_in, met, moved, spoiled}
+use Rattle.line_step.specs.Lines.{Connects, Flows, LineDoes, arrived, connecting, met}
 use Rattle.line_step.specs.Together.{is_linked}
-use Rattle.line_step.specs.Reasons.{May, has_neighbour, if_there, link_stands, may_do, may_spoil, no_if}
+use Rattle.line_step.specs.Reasons.{has_neighbour, if_there, link_stands, may_do, may_spoil, no_if}
 use Rattle.line_step.specs.State.{LineState, machine_in, no_line, one_more}
 use Rattle.line_step.specs.Steps.{MachineSteps, is_second, read_by}
 use Rattle.line_step.specs.World.{WorldParts, end_of, link_at, link_of, with_link}
 use Rattle.line_step.proofs.Keeps.{more_at}
 use Rattle.line_step.proofs.Numbers.{Written, link_beyond, link_set, link_set_other, nowhere, same_or_not, written}
 use Rattle.one_standing.specs.Links.{AreWholeLinks, IsWholeLink}
+use Rattle.line_step.proofs.Requests.{Request, request_of}
+use Rattle.line_step.proofs.Effects.{Effect, becomes_by, line_effect}
+use Rattle.line_step.proofs.Effects as effects
 
 -- ---- what flows
 
@@ -208,10 +205,6 @@ connects number machine before after told twice all =
     (steps number machine inputs.Connect (connecting machine before) twice.between twice.earlier twice.first
     (whole_links link (after_connect (link_at link before.world)) before.world all (whole_connect (link_at link before.world) (all link))))
 
-moved_whole : (answer : Result FloorPlan MoveNo) (s : LineState) → AreWholeLinks s → AreWholeLinks (moved answer s)
-moved_whole (Ok floor) s all = all
-moved_whole (Err why) s all = all
-
 pub more_whole : (is_bridge : Bool) (capacity used : ℕ) (s : LineState) → AreWholeLinks s → AreWholeLinks (one_more is_bridge capacity used s)
 more_whole is_bridge capacity used s all link = subst IsWholeLink (sym (more_at is_bridge capacity used s link)) (all link)
 
@@ -236,56 +229,25 @@ can_spoil machine side s may =
 
 -- ---- a line of the script
 
-made : (before next after : LineState) (what told : List Happening) → Becomes next what after told → AreWholeLinks next → AreWholeLinks after
-made before next after what told is all = subst (λ (s : LineState). AreWholeLinks s) (sym is.after_is) all
-
-unless : (may : May) (before after : LineState) (told : List Happening) (Done : Type 0) → Unless may before after told Done → AreWholeLinks before → (may ≡ may_do → Done → AreWholeLinks after) → AreWholeLinks after
-unless (Ok _) before after told Done what all then = then refl what
-unless (Err reason) before after told Done what all then = made before before after _ told what all
-
-moves : (gap : ℕ) (step : Move) (before after : LineState) (told : List Happening) → Moves gap step before after told → AreWholeLinks before → AreWholeLinks after
-moves gap step before after told is all = made before (moved (floor_move gap step before.world.floor) before) after _ told is (moved_whole (floor_move gap step before.world.floor) before all)
-
 pub none_whole_links : AreWholeLinks no_line
 none_whole_links zero = whole_none
 none_whole_links (suc place) = subst IsWholeLink (sym (link_beyond (suc place) no_line.world (omega arith))) whole_none
 
-pub does_whole_links : (number : ℕ) (line : ScriptLine) (before next : LineState) (told : List Happening) → AreWholeLinks before → LineDoes number line before next told → AreWholeLinks next
-does_whole_links number lines.Blank before next told all is = made before before next [] told is all
-does_whole_links number (lines.Machine capacity used) before next told all is = unless _ before next told _ is all (λ may done. made before (one_more false capacity used before) next _ told done (more_whole false capacity used before all))
-does_whole_links number (lines.Bridge capacity used) before next told all is = unless _ before next told _ is all (λ may done. made before (one_more true capacity used before) next _ told done (more_whole true capacity used before all))
-does_whole_links number (lines.Insert machine barcode) before next told all is = unless _ before next told _ is all (λ may done. steps number machine (inputs.Insert barcode) before next told done all)
-does_whole_links number (lines.Remove machine id) before next told all is = unless _ before next told _ is all (λ may done. steps number machine (inputs.Remove id) before next told done all)
-does_whole_links number (lines.Replace machine id) before next told all is = unless _ before next told _ is all (λ may done. steps number machine (inputs.Replace id) before next told done all)
-does_whole_links number (lines.Mark machine id quality) before next told all is = unless _ before next told _ is all (λ may done. steps number machine (inputs.Mark id quality) before next told done all)
-does_whole_links number (lines.Hold machine side) before next told all is = unless _ before next told _ is all (λ may done. steps number machine (inputs.Will side false) before next told done all)
-does_whole_links number (lines.Go machine side) before next told all is = unless _ before next told _ is all (λ may done. steps number machine (inputs.Will side true) before next told done all)
-does_whole_links number (lines.Signal machine line on) before next told all is = unless _ before next told _ is all (λ may done. steps number machine (inputs.Level line on) before next told done all)
-does_whole_links number (lines.Forecast machine) before next told all is = unless _ before next told _ is all (λ may done. steps number machine (inputs.Forecast) before next told done all)
-does_whole_links number (lines.Query machine barcode) before next told all is = unless _ before next told _ is all (λ may done. steps number machine (inputs.Query barcode) before next told done all)
-does_whole_links number (lines.Supervise machine) before next told all is = unless _ before next told _ is all (λ may done. steps number machine (inputs.Supervise true) before next told done all)
-does_whole_links number (lines.Ask machine question) before next told all is = unless _ before next told _ is all (λ may done. steps number machine (inputs.Ask question) before next told done all)
-does_whole_links number (lines.Answer machine query order) before next told all is = unless _ before next told _ is all (λ may done. steps number machine (inputs.Answer query order) before next told done all)
-does_whole_links number (lines.Connect machine) before next told all is = unless _ before next told _ is all (λ may done. connects number machine before next told done all)
-does_whole_links number (lines.Flow machine side count) before next told all is = unless _ before next told _ is all (λ may done. flows number machine side count before next told done all)
-does_whole_links number (lines.Notice machine side) before next told all is = unless _ before next told _ is all (λ may done. steps number machine (inputs.Notice side) before next told done all)
-does_whole_links number (lines.Cut gap) before next told all is =
-    unless _ before next told _ is all (λ may done. made before (cut_in gap before) next _ told done (whole_links gap (cut (link_at gap before.world)) before.world all (whole_cut (link_at gap before.world))))
-does_whole_links number (lines.Spoil machine side) before next told all is =
+effect_whole : (number : ℕ) (request : Request) (before next : LineState) (told : List Happening) → AreWholeLinks before → Effect number before next told request → AreWholeLinks next
+effect_whole number request before next told all (effects.rests _ what remarks b) = becomes_by (λ s ts. AreWholeLinks s) b all
+effect_whole number request before next told all (effects.adds is_bridge capacity used may b) = becomes_by (λ s ts. AreWholeLinks s) b (more_whole is_bridge capacity used before all)
+effect_whole number request before next told all (effects.steps machine input given may did) = steps number machine input before next told did all
+effect_whole number request before next told all (effects.connects machine may did) = connects number machine before next told did all
+effect_whole number request before next told all (effects.flows machine side count may did) = flows number machine side count before next told did all
+effect_whole number request before next told all (effects.cuts gap may b) =
+    becomes_by (λ s ts. AreWholeLinks s) b (whole_links gap (cut (link_at gap before.world)) before.world all (whole_cut (link_at gap before.world)))
+effect_whole number request before next told all (effects.spoils machine side may b) =
     let link = link_of machine side in
-    unless (may_spoil machine side before) before next told _ is all
-    (λ may done. made before (spoiled machine side before) next _ told done
-    (whole_links link (after_spoil (end_of side) (link_at link before.world)) before.world all (whole_spoil (end_of side) (link_at link before.world) (can_spoil machine side before may).stands (all link))))
-does_whole_links number (lines.Shutdown machine) before next told all is = unless _ before next told _ is all (λ may done. steps number machine inputs.Shutdown before next told done all)
-does_whole_links number (lines.Tick machine) before next told all is = unless _ before next told _ is all (λ may done. steps number machine inputs.Tick before next told done all)
-does_whole_links number (lines.Fault machine side) before next told all is = unless _ before next told _ is all (λ may done. steps number machine (inputs.Fault side) before next told done all)
-does_whole_links number (lines.Sense machine) before next told all is = unless _ before next told _ is all (λ may done. steps number machine inputs.Nothing before next told done all)
-does_whole_links number (lines.Begin gap) before next told all is = moves gap move.Begin before next told is all
-does_whole_links number (lines.Left gap) before next told all is = moves gap move.Left before next told is all
-does_whole_links number (lines.Enter gap) before next told all is = moves gap move.Enter before next told is all
-does_whole_links number (lines.Back gap) before next told all is = moves gap move.Back before next told is all
-does_whole_links number (lines.HandIn gap) before next told all is = moves gap move.HandIn before next told is all
-does_whole_links number (lines.Take gap) before next told all is = moves gap move.Take before next told is all
-does_whole_links number (lines.Lie machine sensed) before next told all is = unless _ before next told _ is all (λ may done. made before _ next _ told done all)
-does_whole_links number (lines.Unseen machine side) before next told all is = unless _ before next told _ is all (λ may done. made before _ next _ told done all)
-does_whole_links number lines.Show before next told all is = made before before next _ told is all
+    becomes_by (λ s ts. AreWholeLinks s) b
+    (whole_links link (after_spoil (end_of side) (link_at link before.world)) before.world all (whole_spoil (end_of side) (link_at link before.world) (can_spoil machine side before may).stands (all link)))
+effect_whole number request before next told all (effects.moves gap step floor is b) = becomes_by (λ s ts. AreWholeLinks s) b all
+effect_whole number request before next told all (effects.lies machine sensed may b) = becomes_by (λ s ts. AreWholeLinks s) b all
+effect_whole number request before next told all (effects.unsees machine side may b) = becomes_by (λ s ts. AreWholeLinks s) b all
+
+pub does_whole_links : (number : ℕ) (line : ScriptLine) (before next : LineState) (told : List Happening) → AreWholeLinks before → LineDoes number line before next told → AreWholeLinks next
+does_whole_links number line before next told all does = effect_whole number (request_of line) before next told all (line_effect number line before next told does)

@@ -33,7 +33,7 @@ use Rattle.one_standing.specs.Standing.{HasOneStanding}
 use Rattle.one_standing.proofs.ApartFloor.{counted}
 use Rattle.one_standing.proofs.ApartHands.{IsHandless, step_still}
 use Rattle.one_standing.proofs.FirstJoin.{entry_closed, intake_may}
-use Rattle.one_standing.proofs.LineForms.{own_first, passed, there_may}
+use Rattle.line_step.proofs.Getting.{own_first, passed, there_may}
 use Rattle.one_standing.proofs.LineJoins.{still_connecting}
 use Rattle.line_history.proofs.Stepping.{IsJustStarted}
 use Rattle.line_history.proofs.View.{connecting_stand}

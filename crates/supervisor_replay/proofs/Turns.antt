@@ -41,7 +41,8 @@ use Rattle.one_standing.proofs.ApartStep.{
   grown,
 }
 use Rattle.one_standing.proofs.LedgerWalk.{kept_ids}
-use Rattle.one_standing.proofs.LineForms.{numbered, own_first, there_may}
+use Rattle.one_standing.proofs.LineForms.{numbered}
+use Rattle.line_step.proofs.Getting.{own_first, there_may}
 use Rattle.supervisor_replay.specs.Replay.{IsWatched, Told, nothing_told, told_of}
 use Rattle.supervisor_replay.proofs.Since.{left_since}
 use Rattle.supervisor_replay.proofs.Bodies.{brings_in, holds_it, keeps_it, takes_it, takes_out}
