@@ -1,22 +1,17 @@
 -- A LINE, as each machine sees it, with its form: the machine is as it was and tells nothing, or it made one step, and only a line
 -- of a hand at this machine has it changed by hand.
-use Rattle.std.proofs.Common.{Bool, Err, List, Ok, Option, Result, Some, [], ap, append-nil, false, inl, inr, length, refl, subst, sym, true, ℕ, ◌++◌, ◌+◌, ◌-◌, ◌∙◌, ◌∷◌, ◌≡◌, ◌≢◌, ◌≤◌, ◌⊎◌}
+use Rattle.std.proofs.Common.{Bool, Err, List, Ok, Option, Result, Some, [], ap, append-nil, false, inl, inr, length, refl, subst, sym, true, ℕ, ◌++◌, ◌+◌, ◌-◌, ◌∙◌, ◌≡◌, ◌≢◌, ◌≤◌, ◌⊎◌}
 use Rattle.one_standing.proofs.RestLine.{node_there}
-use Rattle.one_standing.proofs.LineForms.{there_may}
 use Rattle.one_standing.proofs.HandSteps.{not_touched}
 use Rattle.line_base.specs.declared.states.Quality.{Quality}
 use Rattle.line_base.specs.declared.states.Side.{Side}
 use Rattle.board_record.specs.declared.sensed.Sensed.{Sensed}
 use Rattle.board_record.specs.Maker.{Maker, next_id}
 use Rattle.board_record.specs.declared.maker.IdsUsedUp.{IdsUsedUp}
-use Rattle.line_link.specs.Link.{connected_of, spoil_sent}
+use Rattle.line_link.specs.Link.{connected_of}
 use Rattle.line_link.specs.declared.link.Connected.{Connected}
 use Rattle.line_link.specs.declared.link.Connected.TheVariants as connections
 use Rattle.line_script.specs.declared.line.ScriptLine.{ScriptLine}
-use Rattle.line_script.specs.declared.line.ScriptLine.TheVariants as lines
-use Rattle.line_world.specs.Moves.{floor_move}
-use Rattle.line_world.specs.declared.moves.Move.{Move}
-use Rattle.line_world.specs.declared.moves.Move.TheVariants as moves
 use Rattle.handover_out.specs.State.{is_id}
 use Rattle.node_core.specs.Desk.{Desk}
 use Rattle.node_core.specs.Done.{Done}
@@ -31,28 +26,37 @@ use Rattle.node_core.specs.declared.input.Input.TheVariants as inputs
 use Rattle.node_core.specs.declared.input.No.{No}
 use Rattle.node_core.specs.declared.word.Word.{Word}
 use Rattle.line_report.specs.declared.happening.Happening.{Happening}
-use Rattle.line_report.specs.declared.happening.Happening.TheVariants as happenings
-use Rattle.line_step.specs.Lines.{Becomes, Connects, Flows, LineDoes, LineSteps, Moves, Unless, arrived, connecting, cut_in, lied, met, move_told, moved, spoil_told, spoiled, unseen, unvouched_told}
+use Rattle.line_step.specs.Lines.{Becomes, Connects, Flows, LineSteps, arrived, connecting, met}
 use Rattle.line_step.specs.Numbered.{Stand, node_at, stand_at}
-use Rattle.line_step.specs.Reasons.{May, behind_own, may_add, may_connect, may_cut, may_do, may_flow, may_give, may_lie, may_spoil, may_unseen}
-use Rattle.line_step.specs.Shown.{shown, standings_told}
+use Rattle.line_step.specs.Reasons.{may_do}
+use Rattle.line_step.specs.Shown.{standings_told}
 use Rattle.line_step.specs.State.{LineState, machine_in, one_more}
 use Rattle.line_step.specs.Steps.{MachineSteps, is_second, moment_of, read_by, unread_by}
-use Rattle.line_step.specs.World.{end_of, link_at, link_of}
+use Rattle.line_step.specs.World.{link_at}
 use Rattle.line_step.proofs.Changing.{step_changes}
 use Rattle.line_step.proofs.Numbers.{machine_set_own, machine_within, same_or_not}
 use Rattle.line_history.proofs.OfferingStep.{IsNoHand}
 use Rattle.line_history.proofs.OfferingWhole.{IsMarkable}
-use Rattle.line_history.proofs.View.{apart_of, arrived_stand, connecting_stand, cut_none, done_append, done_by, more_body, move_still, none_join, other_acts, own_acts, same_machines, shown_none, standings_none, undriven, undriven_signals, undriven_step, unvouched_none, unwilled}
+use Rattle.line_history.proofs.View.{apart_of, arrived_stand, connecting_stand, done_append, done_by, more_body, no_acts_none, none_join, other_acts, own_acts, remarks_none, same_machines, standings_none, undriven, undriven_signals, undriven_step, unwilled}
+use Rattle.line_step.proofs.Remarks.{all_pass}
+use Rattle.line_step.proofs.Requests.{Request, added_told, may_get, request_of}
+use Rattle.line_step.proofs.Effects.{added_remarks}
+use Rattle.line_step.proofs.Turns.{LineTurns, line_turns}
+use Rattle.line_step.proofs.Getting.{get_may}
+use Rattle.line_step.proofs.Requests as requests
+use Rattle.line_step.proofs.Turns as turns
 
 -- the line changes boards of this machine by hand, or tells it of a level of its segment, which may mark one
+abbrev pub IsHandAt : ℕ → Request → Type 0
+IsHandAt m (requests.gives machine (inputs.Insert barcode)) = m ≡ machine
+IsHandAt m (requests.gives machine (inputs.Remove id)) = m ≡ machine
+IsHandAt m (requests.gives machine (inputs.Replace id)) = m ≡ machine
+IsHandAt m (requests.gives machine (inputs.Mark id quality)) = m ≡ machine
+IsHandAt m (requests.gives machine (inputs.Level line on)) = m ≡ machine
+IsHandAt m _ = ⊥
+
 abbrev pub IsByHand : ℕ → ScriptLine → Type 0
-IsByHand m (lines.Insert machine barcode) = m ≡ machine
-IsByHand m (lines.Remove machine id) = m ≡ machine
-IsByHand m (lines.Replace machine id) = m ≡ machine
-IsByHand m (lines.Mark machine id quality) = m ≡ machine
-IsByHand m (lines.Signal machine line on) = m ≡ machine
-IsByHand m _ = ⊥
+IsByHand m line = IsHandAt m (request_of line)
 
 -- an event that befalls this machine in a line
 pub data Befalls (m : ℕ) (line : ScriptLine) (touched : Option ℕ) (event : Event) : Type 0 where
@@ -140,16 +144,11 @@ passes_second false false why other is = refl
 passes_second false true why other is = cc
 passes_second true two why other is = cc
 
-own_first : (may : Result (Unit {0}) No) (next : May) → behind_own may next ≡ may_do → may ≡ own.may_do
-own_first (Ok _) next is = refl
-own_first (Err why) next is = cc
-
-mark_free : (machine id : ℕ) (quality : Quality) (s : LineState) (node : NodeState) → machine_in machine s ≡ Some node → may_give machine (inputs.Mark id quality) s ≡ may_do → node.lane.body.outlet.touched ≡ Some id → ⊥
+mark_free : (machine id : ℕ) (quality : Quality) (s : LineState) (node : NodeState) → machine_in machine s ≡ Some node → may_get machine (inputs.Mark id quality) s ≡ may_do → node.lane.body.outlet.touched ≡ Some id → ⊥
 mark_free machine id quality s node there may =
-    not_touched node.lane.body.outlet.touched id (passes_second _ (is_id node.lane.body.outlet.touched id) _ _
-    (own_first (own.may_of node (inputs.Mark id quality)) may_do (there_may (machine_in machine s) node (λ n. behind_own (own.may_of n (inputs.Mark id quality)) may_do) there may)))
+    not_touched node.lane.body.outlet.touched id (passes_second _ (is_id node.lane.body.outlet.touched id) _ _ (get_may machine (inputs.Mark id quality) s node there may))
 
--- ---- each form of line
+-- ---- each turn
 
 quiet_course : (line : ScriptLine) (j : ℕ) (before next after : LineState) (what told : List Happening) → unwilled (node_at next (j + 1)).lane.body ≡ unwilled (node_at before (j + 1)).lane.body → done_by (j + 1) what ≡ [] → Becomes next what after told → Course j line before after told
 quiet_course line j before next after what told same none b = rests (ap (λ (s : LineState). unwilled (node_at s (j + 1)).lane.body) b.after_is ∙ same) (ap (done_by (j + 1)) b.told_is ∙ none)
@@ -159,23 +158,12 @@ more_course : (line : ScriptLine) (j : ℕ) (is_bridge : Bool) (capacity used : 
 more_course line j is_bridge capacity used before after what told none b =
     quiet_course line j before (one_more is_bridge capacity used before) after what told (more_body is_bridge capacity used before (j + 1) (same_or_not (j + 1) (length before.machines + 1))) none b
 
-still_course : (line : ScriptLine) (j : ℕ) (before next after : LineState) (what told : List Happening) → (node_at next (j + 1)).lane.body ≡ (node_at before (j + 1)).lane.body → done_by (j + 1) what ≡ [] → Becomes next what after told → Course j line before after told
-still_course line j before next after what told same none b = quiet_course line j before next after what told (ap unwilled same) none b
-
-unless_course : (line : ScriptLine) (may : May) (j : ℕ) (before after : LineState) (told : List Happening) (Does : Type 0) → Unless may before after told Does → (may ≡ may_do → Does → Course j line before after told) → Course j line before after told
-unless_course line (Ok _) j before after told Does is does = does refl is
-unless_course line (Err reason) j before after told Does is does = still_course line j before before after (happenings.No reason ∷ []) told refl refl is
-
 -- one step, of an input that is none of a hand
 plain_course : (line : ScriptLine) (number j machine : ℕ) (input : Input) (before after : LineState) (told : List Happening) → (j + 1 ≡ machine) ⊎ (j + 1 ≢ machine) → IsNoHandInput input → MachineSteps number machine input before after told → Course j line before after told
 plain_course line number j machine input before after told (inl is) none steps =
     let own : MachineSteps number (j + 1) input before after told = subst (λ (m : ℕ). MachineSteps number m input before after told) (sym is) steps in
     has_acted (own_course line number j input before before after told own refl (plainly (no_hand own.node.maker input own.steps.lane.words none)))
 plain_course line number j machine input before after told (inr apart) none steps = other_course line number j machine input before before after told steps apart refl
-
-given_course : (line : ScriptLine) (may : May) (number j machine : ℕ) (input : Input) (before after : LineState) (told : List Happening) → IsNoHandInput input → Unless may before after told (MachineSteps number machine input before after told) → Course j line before after told
-given_course line may number j machine input before after told none does =
-    unless_course line may j before after told (MachineSteps number machine input before after told) does (λ can steps. plain_course line number j machine input before after told (same_or_not (j + 1) machine) none steps)
 
 -- and of one of a hand
 hand_course : (line : ScriptLine) (number j machine : ℕ) (input : Input) (before after : LineState) (told : List Happening) → (j + 1 ≡ machine) ⊎ (j + 1 ≢ machine) → (j + 1 ≡ machine → IsByHand (j + 1) line)
@@ -251,70 +239,30 @@ connects_course : (line : ScriptLine) (number j machine : ℕ) (before after : L
 connects_course line number j machine before after told steps =
     subst (λ (x : List Happening). Course j line before after x) (sym steps.told_is) (connects_by line number j machine before after told (same_or_not (j + 1) machine) (same_or_not (j + 1) (machine - 1)) steps)
 
-moves_course : (line : ScriptLine) (j gap : ℕ) (step : Move) (before after : LineState) (told : List Happening) → Moves gap step before after told → Course j line before after told
-moves_course line j gap step before after told does =
-    let answer = floor_move gap step before.world.floor in
-    let both = move_still j gap step before answer in
-    still_course line j before (moved answer before) after (move_told gap step answer) told both.0 both.1 does
+-- an input that a line gives: those of a hand are named
+given_course : (line : ScriptLine) (number j machine : ℕ) (input : Input) (before after : LineState) (told : List Happening) → request_of line ≡ requests.gives machine input → may_get machine input before ≡ may_do → MachineSteps number machine input before after told → Course j line before after told
+given_course line number j machine (inputs.Insert barcode) before after told asks may did =
+    hand_course line number j machine (inputs.Insert barcode) before after told (same_or_not (j + 1) machine) (λ here. subst (λ (r : Request). IsHandAt (j + 1) r) (sym asks) here)
+    (λ node words there. new_markable node.lane.body.outlet.touched (next_id node.maker) (λ id. events.Insert id barcode) (λ id. tt)) did
+given_course line number j machine (inputs.Remove id) before after told asks may did =
+    hand_course line number j machine (inputs.Remove id) before after told (same_or_not (j + 1) machine) (λ here. subst (λ (r : Request). IsHandAt (j + 1) r) (sym asks) here) (λ node words there. tt) did
+given_course line number j machine (inputs.Replace id) before after told asks may did =
+    hand_course line number j machine (inputs.Replace id) before after told (same_or_not (j + 1) machine) (λ here. subst (λ (r : Request). IsHandAt (j + 1) r) (sym asks) here)
+    (λ node words there. new_markable node.lane.body.outlet.touched (next_id node.maker) (events.Replace id) (λ new. tt)) did
+given_course line number j machine (inputs.Mark id quality) before after told asks may did =
+    hand_course line number j machine (inputs.Mark id quality) before after told (same_or_not (j + 1) machine) (λ here. subst (λ (r : Request). IsHandAt (j + 1) r) (sym asks) here)
+    (λ node words there. mark_free machine id quality before node there may) did
+given_course line number j machine (inputs.Level signal on) before after told asks may did =
+    hand_course line number j machine (inputs.Level signal on) before after told (same_or_not (j + 1) machine) (λ here. subst (λ (r : Request). IsHandAt (j + 1) r) (sym asks) here) (λ node words there. tt) did
+given_course line number j machine input before after told asks may did = plain_course line number j machine input before after told (same_or_not (j + 1) machine) tt did
 
-does_course : (number : ℕ) (line : ScriptLine) (before after : LineState) (told : List Happening) → LineDoes number line before after told → (j : ℕ) → Course j line before after told
-does_course number lines.Blank before after told does j = still_course lines.Blank j before before after [] told refl refl does
-does_course number (lines.Machine capacity used) before after told does j =
-    let what = happenings.Machine (length before.machines + 1) capacity ∷ [] in
-    unless_course (lines.Machine capacity used) (may_add before) j before after told (Becomes (one_more false capacity used before) what after told) does (λ can b. more_course (lines.Machine capacity used) j false capacity used before after what told refl b)
-does_course number (lines.Bridge capacity used) before after told does j =
-    let what = happenings.Bridge (length before.machines + 1) capacity ∷ [] in
-    unless_course (lines.Bridge capacity used) (may_add before) j before after told (Becomes (one_more true capacity used before) what after told) does (λ can b. more_course (lines.Bridge capacity used) j true capacity used before after what told refl b)
-does_course number (lines.Insert machine barcode) before after told does j =
-    unless_course (lines.Insert machine barcode) _ j before after told (MachineSteps number machine (inputs.Insert barcode) before after told) does
-    (λ can steps. hand_course (lines.Insert machine barcode) number j machine (inputs.Insert barcode) before after told (same_or_not (j + 1) machine) (λ is. is) (λ node words there. new_markable node.lane.body.outlet.touched (next_id node.maker) (λ id. events.Insert id barcode) (λ id. tt)) steps)
-does_course number (lines.Remove machine id) before after told does j =
-    unless_course (lines.Remove machine id) _ j before after told (MachineSteps number machine (inputs.Remove id) before after told) does
-    (λ can steps. hand_course (lines.Remove machine id) number j machine (inputs.Remove id) before after told (same_or_not (j + 1) machine) (λ is. is) (λ node words there. tt) steps)
-does_course number (lines.Replace machine id) before after told does j =
-    unless_course (lines.Replace machine id) _ j before after told (MachineSteps number machine (inputs.Replace id) before after told) does
-    (λ can steps. hand_course (lines.Replace machine id) number j machine (inputs.Replace id) before after told (same_or_not (j + 1) machine) (λ is. is) (λ node words there. new_markable node.lane.body.outlet.touched (next_id node.maker) (events.Replace id) (λ new. tt)) steps)
-does_course number (lines.Mark machine id quality) before after told does j =
-    unless_course (lines.Mark machine id quality) (may_give machine (inputs.Mark id quality) before) j before after told (MachineSteps number machine (inputs.Mark id quality) before after told) does
-    (λ can steps. hand_course (lines.Mark machine id quality) number j machine (inputs.Mark id quality) before after told (same_or_not (j + 1) machine) (λ is. is) (λ node words there. mark_free machine id quality before node there can) steps)
-does_course number (lines.Hold machine side) before after told does j = given_course (lines.Hold machine side) _ number j machine (inputs.Will side false) before after told tt does
-does_course number (lines.Go machine side) before after told does j = given_course (lines.Go machine side) _ number j machine (inputs.Will side true) before after told tt does
-does_course number (lines.Signal machine line on) before after told does j =
-    unless_course (lines.Signal machine line on) _ j before after told (MachineSteps number machine (inputs.Level line on) before after told) does
-    (λ can steps. hand_course (lines.Signal machine line on) number j machine (inputs.Level line on) before after told (same_or_not (j + 1) machine) (λ is. is) (λ node words there. tt) steps)
-does_course number (lines.Forecast machine) before after told does j = given_course (lines.Forecast machine) _ number j machine inputs.Forecast before after told tt does
-does_course number (lines.Query machine barcode) before after told does j = given_course (lines.Query machine barcode) _ number j machine (inputs.Query barcode) before after told tt does
-does_course number (lines.Supervise machine) before after told does j = given_course (lines.Supervise machine) _ number j machine (inputs.Supervise true) before after told tt does
-does_course number (lines.Ask machine question) before after told does j = given_course (lines.Ask machine question) _ number j machine (inputs.Ask question) before after told tt does
-does_course number (lines.Answer machine query order) before after told does j = given_course (lines.Answer machine query order) _ number j machine (inputs.Answer query order) before after told tt does
-does_course number (lines.Connect machine) before after told does j = unless_course (lines.Connect machine) (may_connect machine before) j before after told (Connects number machine before after told) does (λ can steps. connects_course (lines.Connect machine) number j machine before after told steps)
-does_course number (lines.Flow machine side count) before after told does j =
-    unless_course (lines.Flow machine side count) (may_flow machine side before) j before after told (Flows number machine side count before after told) does (λ can flows. flow_course (lines.Flow machine side count) number j machine side count before after told (same_or_not (j + 1) machine) flows)
-does_course number (lines.Notice machine side) before after told does j = given_course (lines.Notice machine side) _ number j machine (inputs.Notice side) before after told tt does
-does_course number (lines.Cut gap) before after told does j =
-    unless_course (lines.Cut gap) (may_cut gap before) j before after told (Becomes (cut_in gap before) (happenings.Cut gap ∷ []) after told) does (λ can b. still_course (lines.Cut gap) j before (cut_in gap before) after (happenings.Cut gap ∷ []) told (same_machines j before (cut_in gap before) refl) refl b)
-does_course number (lines.Spoil machine side) before after told does j =
-    unless_course (lines.Spoil machine side) (may_spoil machine side before) j before after told (Becomes (spoiled machine side before) (spoil_told machine side before) after told) does
-    (λ can b. still_course (lines.Spoil machine side) j before (spoiled machine side before) after (spoil_told machine side before) told (same_machines j before (spoiled machine side before) refl) (cut_none (j + 1) (link_of machine side) (spoil_sent (end_of side) (link_at (link_of machine side) before.world))) b)
-does_course number (lines.Shutdown machine) before after told does j = given_course (lines.Shutdown machine) _ number j machine inputs.Shutdown before after told tt does
-does_course number (lines.Tick machine) before after told does j = given_course (lines.Tick machine) _ number j machine inputs.Tick before after told tt does
-does_course number (lines.Fault machine side) before after told does j = given_course (lines.Fault machine side) _ number j machine (inputs.Fault side) before after told tt does
-does_course number (lines.Sense machine) before after told does j = given_course (lines.Sense machine) _ number j machine inputs.Nothing before after told tt does
-does_course number (lines.Begin gap) before after told does j = moves_course (lines.Begin gap) j gap moves.Begin before after told does
-does_course number (lines.Left gap) before after told does j = moves_course (lines.Left gap) j gap moves.Left before after told does
-does_course number (lines.Enter gap) before after told does j = moves_course (lines.Enter gap) j gap moves.Enter before after told does
-does_course number (lines.Back gap) before after told does j = moves_course (lines.Back gap) j gap moves.Back before after told does
-does_course number (lines.HandIn gap) before after told does j = moves_course (lines.HandIn gap) j gap moves.HandIn before after told does
-does_course number (lines.Take gap) before after told does j = moves_course (lines.Take gap) j gap moves.Take before after told does
-does_course number (lines.Lie machine sensed) before after told does j =
-    let what = happenings.Lie machine sensed ∷ unvouched_told before.unvouched in
-    unless_course (lines.Lie machine sensed) (may_lie machine sensed.side before) j before after told (Becomes (lied number machine sensed before) what after told) does
-    (λ can b. still_course (lines.Lie machine sensed) j before (lied number machine sensed before) after what told (same_machines j before (lied number machine sensed before) refl) (unvouched_none (j + 1) before.unvouched) b)
-does_course number (lines.Unseen machine side) before after told does j =
-    let what = happenings.Unseen machine side ∷ unvouched_told before.unvouched in
-    unless_course (lines.Unseen machine side) (may_unseen machine side before) j before after told (Becomes (unseen number machine side before) what after told) does
-    (λ can b. still_course (lines.Unseen machine side) j before (unseen number machine side before) after what told (same_machines j before (unseen number machine side before) refl) (unvouched_none (j + 1) before.unvouched) b)
-does_course number lines.Show before after told does j = still_course lines.Show j before before after (shown before) told refl (shown_none (j + 1) 1 before.machines) does
+turns_course : (number : ℕ) (line : ScriptLine) (request : Request) (before after : LineState) (told : List Happening) → request_of line ≡ request → LineTurns number before after told request → (j : ℕ) → Course j line before after told
+turns_course number line request before after told asks (turns.stays _ same none) j = rests (ap unwilled (same_machines j before after same)) (all_pass told (no_acts_none (j + 1)) none)
+turns_course number line request before after told asks (turns.adds is_bridge capacity used may b) j =
+    more_course line j is_bridge capacity used before after (added_told is_bridge capacity before) told (remarks_none (j + 1) _ (added_remarks is_bridge capacity before)) b
+turns_course number line request before after told asks (turns.steps machine input given may did) j = given_course line number j machine input before after told asks may did
+turns_course number line request before after told asks (turns.connects machine may did) j = connects_course line number j machine before after told did
+turns_course number line request before after told asks (turns.flows machine side count may did) j = flow_course line number j machine side count before after told (same_or_not (j + 1) machine) did
 
 counted_course : {j : ℕ} {line : ScriptLine} {before next : LineState} {done told : List Happening} (n : ℕ) → done_by (j + 1) told ≡ done_by (j + 1) done → (node_at (record next { lines = n }) (j + 1)).lane.body ≡ (node_at next (j + 1)).lane.body → Course j line before next done → Course j line before (record next { lines = n }) told
 counted_course n acts body (rests same none) = rests (ap unwilled body ∙ same) (acts ∙ none)
@@ -325,7 +273,7 @@ pub line_course : (number : ℕ) (line : ScriptLine) (before after : LineState) 
 line_course number line before after told steps j =
     let next : LineState = steps.next in
     let done : List Happening = steps.done in
-    let course : Course j line before next done = does_course number line before next done steps.does j in
+    let course : Course j line before next done = turns_course number line (request_of line) before next done refl (line_turns number line before next done steps.does) j in
     let acts : done_by (j + 1) told ≡ done_by (j + 1) done =
     ap (done_by (j + 1)) steps.told_is ∙ done_append (j + 1) done (standings_told before next) ∙ ap (λ (x : List Act). done_by (j + 1) done ++ x) (standings_none (j + 1) before next) ∙ append-nil (done_by (j + 1) done) in
     subst (λ (s : LineState). Course j line before s told) (sym steps.after_is) (counted_course (next.lines + 1) acts (same_machines j next (record next { lines = next.lines + 1 }) refl) course)

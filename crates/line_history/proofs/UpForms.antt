@@ -14,17 +14,11 @@ use Rattle.hermes_horizontal.specs.declared.message.Horizontal.{Horizontal}
 use Rattle.hermes_horizontal.specs.declared.message.Message.{Message}
 use Rattle.hermes_stream.specs.Frames.{NeedMore, answer_of}
 use Rattle.line_link.specs.Flow.{Stream, coming, flowing, with_arrival}
-use Rattle.line_link.specs.Link.{LinkParts, after_connect, after_flow, after_spoil, connected, connected_of, cut, is_too_much, next_number, nulled, spoil_sent}
+use Rattle.line_link.specs.Link.{LinkParts, after_connect, after_flow, after_spoil, connected, connected_of, cut, is_too_much, next_number, nulled}
 use Rattle.line_link.specs.declared.link.Connected.{Connected}
 use Rattle.line_link.specs.declared.link.Connected.TheVariants as connections
 use Rattle.line_link.proofs.Coming.{coming_of_nul}
 use Rattle.line_script.specs.declared.line.ScriptLine.{ScriptLine}
-use Rattle.line_script.specs.declared.line.ScriptLine.TheVariants as lines
-use Rattle.line_world.specs.FloorPlan.{FloorPlan}
-use Rattle.line_world.specs.Moves.{floor_move}
-use Rattle.line_world.specs.declared.moves.Move.{Move}
-use Rattle.line_world.specs.declared.moves.Move.TheVariants as moves
-use Rattle.line_world.specs.declared.moves.MoveNo.{MoveNo}
 use Rattle.smema_bridge.specs.Levels.{BridgeLevels}
 use Rattle.line_report.specs.declared.happening.Happening.{Happening}
 use Rattle.node_core.specs.Desk.{Desk}
@@ -55,10 +49,10 @@ use Rattle.machine_custody.specs.Flight.{AreOldest, oldest_none}
 use Rattle.link_messages.specs.Fit.{AreFit, AreFitActs, AreFitWords, IsFitInput, none_fit}
 use Rattle.link_messages.specs.Heard.{Heard, HeardSpoiled, bodies}
 use Rattle.link_messages.proofs.Fitting.{fit_behind}
-use Rattle.line_step.specs.Lines.{Becomes, Connects, Flows, LineDoes, LineSteps, Moves, Unless, arrived, connecting, cut_in, lied, met, move_told, moved, spoil_told, spoiled, unseen}
+use Rattle.line_step.specs.Lines.{Connects, Flows, LineSteps, arrived, connecting, lied, met, moved, spoil_told, spoiled, unseen}
 use Rattle.line_step.specs.Numbered.{node_at}
-use Rattle.line_step.specs.Reasons.{May, has_link, is_empty, may_do, may_flow, may_spoil}
-use Rattle.line_step.specs.Shown.{shown, standings_told}
+use Rattle.line_step.specs.Reasons.{has_link, is_empty, may_do, may_flow}
+use Rattle.line_step.specs.Shown.{standings_told}
 use Rattle.line_step.specs.State.{LineState, one_more, with_world}
 use Rattle.line_step.specs.Steps.{MachineSteps, is_second, moment_of, read_by, unread_by}
 use Rattle.line_step.specs.World.{WorldParts, end_of, link_at, link_of, with_link}
@@ -87,7 +81,12 @@ use Rattle.one_standing.proofs.WholeLinks.{CanSpoil, can_spoil, steps as whole_s
 use Rattle.line_history.specs.Settled.{is_start}
 use Rattle.line_history.proofs.LinkUp.{Up, UpOn, acts_up, are_silent, at_set, is_silent, on_cut, on_limit, starts_of, up_any, up_off, up_over, up_spoiled, up_whole}
 use Rattle.line_history.proofs.Orders.{Orders, exit_words, is_plain, orders_end, orders_hears, orders_on, orders_opens, orders_refuses, orders_starts, step_orders}
-use Rattle.line_history.proofs.View.{done_append, done_by, other_acts, own_acts, cut_none, shown_none, standings_none, told_of_act, undriven, undriven_signals, undriven_step, unvouched_none}
+use Rattle.line_history.proofs.View.{done_append, done_by, other_acts, own_acts, remarks_none, standings_none, told_of_act, undriven, undriven_signals, undriven_step}
+use Rattle.line_step.proofs.Remarks.{unvouched_remarks}
+use Rattle.line_step.proofs.Requests.{Request, request_of}
+use Rattle.line_step.proofs.Effects.{Effect, added_remarks, becomes_by, line_effect, spoil_remarks}
+use Rattle.one_standing.proofs.FitRequests.{IsFitRequest, fit_request, given_plain}
+use Rattle.line_step.proofs.Effects as effects
 
 -- ---- what is told of acts
 
@@ -305,10 +304,6 @@ plain_next alone k number m input t before next told plain fits few st steps =
     (subst (λ (w : List ℕ). UpOn (Starting k told) (starts_of (base k t before st).ups) w (link_at k next.world)) (sym (same_exit m input before next (λ bytes. still_exit input bytes plain) new k))
     (step_up alone k number m input before next told steps (quiet_fit number m input before next told none fits few (st.fit m) steps) (silent_at k number m input before next told (offers_all t before st m) steps) st.links (up_any (base k t before st).up)))
 
--- what it becomes
-becomes_next : (k : ℕ) (t : Trace) (before now next : LineState) (what told : List Happening) → Becomes now what next told → UpNext k t before now what → UpNext k t before next told
-becomes_next k t before now next what told b n = subst (λ (s : LineState). UpNext k t before s told) (sym b.after_is) (subst (λ (l : List Happening). UpNext k t before now l) (sym b.told_is) n)
-
 -- where no machine tells anything and the machine's bytes and its link are the same
 still_next : (k : ℕ) (t : Trace) (before now : LineState) (what : List Happening) → Stands t before → done_by k what ≡ [] → (node_at now k).lane.exit_bytes ≡ (node_at before k).lane.exit_bytes → link_at k now.world ≡ link_at k before.world → UpNext k t before now what
 still_next k t before now what st none bytes link =
@@ -322,10 +317,6 @@ changed_next k link parts t before what st none here =
     let now : LineState = with_world (with_link link parts before.world) before in
     quiet_next k t before now what st (subst (λ (l : List Act). Orders true [] l) (sym none) orders_end)
     (subst (λ (w : List ℕ). UpOn (Starting k what) (starts_of (base k t before st).ups) w (link_at k now.world)) (sym (ap (λ (n : NodeState). n.lane.exit_bytes) (same_nodes before now refl k))) (at_set k link parts before.world here (up_any (base k t before st).up)))
-
-unless_next : (may : May) (k : ℕ) (t : Trace) (before next : LineState) (told : List Happening) (Does : Type 0) → Stands t before → Unless may before next told Does → (may ≡ may_do → Does → UpNext k t before next told) → UpNext k t before next told
-unless_next (Ok _) k t before next told Does st does then = then refl does
-unless_next (Err reason) k t before next told Does st does then = becomes_next k t before before next _ told does (still_next k t before before _ st refl refl refl)
 
 -- ---- bytes arrive
 
@@ -633,66 +624,26 @@ spoil_up k m Entry t before what st waits can is =
     let L : LinkParts = link_at (m - 1) before.world in
     on_limit (is_too_much Downstream (nulled Downstream L)) (nulled Downstream L) (subst (λ (n : ℕ). UpOn (Starting k what) (starts_of (base k t before st).ups) (node_at before k).lane.exit_bytes (link_at n before.world)) is (up_any (base k t before st).up))
 
-moved_next : (k gap : ℕ) (step : Move) (t : Trace) (before : LineState) (answer : Result FloorPlan MoveNo) → Stands t before → UpNext k t before (moved answer before) (move_told gap step answer)
-moved_next k gap step t before (Ok floor) st = still_next k t before (moved (Ok floor) before) _ st refl (ap (λ (n : NodeState). n.lane.exit_bytes) (same_nodes before (moved (Ok floor) before) refl k)) refl
-moved_next k gap step t before (Err why) st = still_next k t before before _ st refl refl refl
-
-moves_next : (k gap : ℕ) (step : Move) (t : Trace) (before next : LineState) (told : List Happening) → Stands t before → Moves gap step before next told → UpNext k t before next told
-moves_next k gap step t before next told st does =
-    let answer : Result FloorPlan MoveNo = floor_move gap step before.world.floor in
-    becomes_next k t before (moved answer before) next (move_told gap step answer) told does (moved_next k gap step t before answer st)
-
-given_next : SaysAlone → (may : May) (k number m : ℕ) (input : Input) (t : Trace) (before next : LineState) (told : List Happening) → is_plain_input input ≡ true → IsFitInput input → number ≤ 1000000 → Stands t before
-    → Unless may before next told (MachineSteps number m input before next told) → UpNext k t before next told
-given_next alone may k number m input t before next told plain fits few st does = unless_next may k t before next told _ st does (λ can steps. plain_next alone k number m input t before next told plain fits few st steps)
-
-does_next : SaysAlone → (k number : ℕ) (line : ScriptLine) (t : Trace) (before next : LineState) (told : List Happening) → number ≤ 1000000 → IsFitLine line → Stands t before → AreWaiting before → LineDoes number line before next told → UpNext k t before next told
-does_next alone k number lines.Blank t before next told few fit st waits does = becomes_next k t before before next [] told does (still_next k t before before [] st refl refl refl)
-does_next alone k number (lines.Machine capacity used) t before next told few fit st waits does =
-    unless_next _ k t before next told _ st does (λ may done. becomes_next k t before (one_more false capacity used before) next _ told done
-    (still_next k t before (one_more false capacity used before) _ st refl (more_same (λ (n : NodeState). n.lane.exit_bytes) false capacity used before refl k) (more_at false capacity used before k)))
-does_next alone k number (lines.Bridge capacity used) t before next told few fit st waits does =
-    unless_next _ k t before next told _ st does (λ may done. becomes_next k t before (one_more true capacity used before) next _ told done
-    (still_next k t before (one_more true capacity used before) _ st refl (more_same (λ (n : NodeState). n.lane.exit_bytes) true capacity used before refl k) (more_at true capacity used before k)))
-does_next alone k number (lines.Insert m None) t before next told few fit st waits does = given_next alone _ k number m (inputs.Insert None) t before next told refl tt few st does
-does_next alone k number (lines.Insert m (Some barcode)) t before next told few fit st waits does = given_next alone _ k number m (inputs.Insert (Some barcode)) t before next told refl fit few st does
-does_next alone k number (lines.Remove m id) t before next told few fit st waits does = given_next alone _ k number m (inputs.Remove id) t before next told refl tt few st does
-does_next alone k number (lines.Replace m id) t before next told few fit st waits does = given_next alone _ k number m (inputs.Replace id) t before next told refl tt few st does
-does_next alone k number (lines.Mark m id quality) t before next told few fit st waits does = given_next alone _ k number m (inputs.Mark id quality) t before next told refl tt few st does
-does_next alone k number (lines.Hold m side) t before next told few fit st waits does = given_next alone _ k number m (inputs.Will side false) t before next told refl tt few st does
-does_next alone k number (lines.Go m side) t before next told few fit st waits does = given_next alone _ k number m (inputs.Will side true) t before next told refl tt few st does
-does_next alone k number (lines.Signal m line on) t before next told few fit st waits does = given_next alone _ k number m (inputs.Level line on) t before next told refl tt few st does
-does_next alone k number (lines.Forecast m) t before next told few fit st waits does = given_next alone _ k number m inputs.Forecast t before next told refl tt few st does
-does_next alone k number (lines.Query m barcode) t before next told few fit st waits does = given_next alone _ k number m (inputs.Query barcode) t before next told refl fit few st does
-does_next alone k number (lines.Supervise m) t before next told few fit st waits does = given_next alone _ k number m (inputs.Supervise true) t before next told refl tt few st does
-does_next alone k number (lines.Ask m question) t before next told few fit st waits does = given_next alone _ k number m (inputs.Ask question) t before next told refl tt few st does
-does_next alone k number (lines.Answer m query order) t before next told few fit st waits does = given_next alone _ k number m (inputs.Answer query order) t before next told refl tt few st does
-does_next alone k number (lines.Connect m) t before next told few fit st waits does = unless_next _ k t before next told _ st does (λ may done. connect_next alone k number m t before next told (same_or_not k (m - 1)) few st done)
-does_next alone k number (lines.Flow m side count) t before next told few fit st waits does = unless_next _ k t before next told _ st does (λ may done. flow_next alone k number m side count t before next told may few st done)
-does_next alone k number (lines.Notice m side) t before next told few fit st waits does = given_next alone _ k number m (inputs.Notice side) t before next told refl tt few st does
-does_next alone k number (lines.Cut gap) t before next told few fit st waits does =
-    unless_next _ k t before next told _ st does (λ may done. becomes_next k t before (cut_in gap before) next _ told done (changed_next k gap (cut (link_at gap before.world)) t before _ st refl (λ is. on_cut (link_at gap before.world))))
-does_next alone k number (lines.Spoil m side) t before next told few fit st waits does =
-    unless_next (may_spoil m side before) k t before next told _ st does (λ may done. becomes_next k t before (spoiled m side before) next (spoil_told m side before) told done
+effect_next : SaysAlone → (k number : ℕ) (request : Request) (t : Trace) (before next : LineState) (told : List Happening) → number ≤ 1000000 → IsFitRequest request → Stands t before → AreWaiting before → Effect number before next told request → UpNext k t before next told
+effect_next alone k number request t before next told few fit st waits (effects.rests _ what remarks b) = becomes_by (UpNext k t before) b (still_next k t before before what st (remarks_none k what remarks) refl refl)
+effect_next alone k number request t before next told few fit st waits (effects.adds is_bridge capacity used may b) =
+    becomes_by (UpNext k t before) b
+    (still_next k t before (one_more is_bridge capacity used before) _ st (remarks_none k _ (added_remarks is_bridge capacity before)) (more_same (λ (n : NodeState). n.lane.exit_bytes) is_bridge capacity used before refl k) (more_at is_bridge capacity used before k))
+effect_next alone k number request t before next told few fit st waits (effects.steps m input given may did) = plain_next alone k number m input t before next told (given_plain input given) fit few st did
+effect_next alone k number request t before next told few fit st waits (effects.connects m may did) = connect_next alone k number m t before next told (same_or_not k (m - 1)) few st did
+effect_next alone k number request t before next told few fit st waits (effects.flows m side count may did) = flow_next alone k number m side count t before next told may few st did
+effect_next alone k number request t before next told few fit st waits (effects.cuts gap may b) =
+    becomes_by (UpNext k t before) b (changed_next k gap (cut (link_at gap before.world)) t before _ st refl (λ is. on_cut (link_at gap before.world)))
+effect_next alone k number request t before next told few fit st waits (effects.spoils m side may b) =
+    becomes_by (UpNext k t before) b
     (changed_next k (link_of m side) (after_spoil (end_of side) (link_at (link_of m side) before.world)) t before (spoil_told m side before) st
-    (cut_none k (link_of m side) (spoil_sent (end_of side) (link_at (link_of m side) before.world))) (λ is. spoil_up k m side t before (spoil_told m side before) st waits (can_spoil m side before may) is)))
-does_next alone k number (lines.Shutdown m) t before next told few fit st waits does = given_next alone _ k number m inputs.Shutdown t before next told refl tt few st does
-does_next alone k number (lines.Tick m) t before next told few fit st waits does = given_next alone _ k number m inputs.Tick t before next told refl tt few st does
-does_next alone k number (lines.Fault m side) t before next told few fit st waits does = given_next alone _ k number m (inputs.Fault side) t before next told refl tt few st does
-does_next alone k number (lines.Sense m) t before next told few fit st waits does = given_next alone _ k number m inputs.Nothing t before next told refl tt few st does
-does_next alone k number (lines.Begin gap) t before next told few fit st waits does = moves_next k gap moves.Begin t before next told st does
-does_next alone k number (lines.Left gap) t before next told few fit st waits does = moves_next k gap moves.Left t before next told st does
-does_next alone k number (lines.Enter gap) t before next told few fit st waits does = moves_next k gap moves.Enter t before next told st does
-does_next alone k number (lines.Back gap) t before next told few fit st waits does = moves_next k gap moves.Back t before next told st does
-does_next alone k number (lines.HandIn gap) t before next told few fit st waits does = moves_next k gap moves.HandIn t before next told st does
-does_next alone k number (lines.Take gap) t before next told few fit st waits does = moves_next k gap moves.Take t before next told st does
-does_next alone k number (lines.Lie m sensed) t before next told few fit st waits does =
-    unless_next _ k t before next told _ st does (λ may done. becomes_next k t before (lied number m sensed before) next _ told done
-    (still_next k t before (lied number m sensed before) _ st (unvouched_none k before.unvouched) (ap (λ (n : NodeState). n.lane.exit_bytes) (same_nodes before (lied number m sensed before) refl k)) refl))
-does_next alone k number (lines.Unseen m side) t before next told few fit st waits does =
-    unless_next _ k t before next told _ st does (λ may done. becomes_next k t before (unseen number m side before) next _ told done
-    (still_next k t before (unseen number m side before) _ st (unvouched_none k before.unvouched) (ap (λ (n : NodeState). n.lane.exit_bytes) (same_nodes before (unseen number m side before) refl k)) refl))
-does_next alone k number lines.Show t before next told few fit st waits does = becomes_next k t before before next (shown before) told does (still_next k t before before (shown before) st (shown_none k 1 before.machines) refl refl)
+    (remarks_none k (spoil_told m side before) (spoil_remarks m side before)) (λ is. spoil_up k m side t before (spoil_told m side before) st waits (can_spoil m side before may) is))
+effect_next alone k number request t before next told few fit st waits (effects.moves gap step floor is b) =
+    becomes_by (UpNext k t before) b (still_next k t before (moved (Ok floor) before) _ st refl (ap (λ (n : NodeState). n.lane.exit_bytes) (same_nodes before (moved (Ok floor) before) refl k)) refl)
+effect_next alone k number request t before next told few fit st waits (effects.lies m sensed may b) =
+    becomes_by (UpNext k t before) b (still_next k t before (lied number m sensed before) _ st (remarks_none k _ (unvouched_remarks before.unvouched)) (ap (λ (n : NodeState). n.lane.exit_bytes) (same_nodes before (lied number m sensed before) refl k)) refl)
+effect_next alone k number request t before next told few fit st waits (effects.unsees m side may b) =
+    becomes_by (UpNext k t before) b (still_next k t before (unseen number m side before) _ st (remarks_none k _ (unvouched_remarks before.unvouched)) (ap (λ (n : NodeState). n.lane.exit_bytes) (same_nodes before (unseen number m side before) refl k)) refl)
 
 -- ---- EACH LINE
 
@@ -703,7 +654,7 @@ pub line_next : SaysAlone → (k number : ℕ) (line : ScriptLine) (t : Trace) (
 line_next alone k number line t before after told few fit st waits steps =
     let next : LineState = steps.next in
     let now : LineState = record next { lines = next.lines + 1 } in
-    let one : UpNext k t before next steps.done = does_next alone k number line t before next steps.done few fit st waits steps.does in
+    let one : UpNext k t before next steps.done = effect_next alone k number (request_of line) t before next steps.done few (fit_request line fit) st waits (line_effect number line before next steps.done steps.does) in
     let above : done_by k told ≡ done_by k steps.done = ap (done_by k) steps.told_is ∙ more_told k steps.done (standings_told before next) (standings_none k before next) in
     let below : done_by (k + 1) told ≡ done_by (k + 1) steps.done = ap (done_by (k + 1)) steps.told_is ∙ more_told (k + 1) steps.done (standings_told before next) (standings_none (k + 1) before next) in
     let any : Starting k steps.done ≡ Starting k told = ap (λ (l : List Act). list_any is_start l ≡ true) (sym below) in

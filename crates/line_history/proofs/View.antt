@@ -1,8 +1,8 @@
 -- A LINE, as each machine sees it: the machine is as it was and tells nothing, or it made one step from what it was before
 -- the line, of which the report tells all acts but the switching of drives.
-use Rattle.std.proofs.Common.{Bool, Err, List, None, Ok, Option, Result, Some, [], ap, append-nil, append_assoc, arith, false, inl, inr, length, ne_eqb, refl, suc, subst, sym, true, zero, ℕ, ◌&&◌, ◌++◌, ◌+◌, ◌-◌, ◌==◌, ◌∙◌, ◌∷◌, ◌≡◌, ◌≢◌, ◌≤◌, ◌⊎◌}
+use Rattle.std.proofs.Common.{Bool, Err, List, Ok, Option, Result, [], ap, append-nil, append_assoc, arith, false, inl, inr, length, ne_eqb, refl, suc, subst, sym, true, zero, ℕ, ◌&&◌, ◌++◌, ◌+◌, ◌-◌, ◌==◌, ◌∙◌, ◌∷◌, ◌≡◌, ◌≢◌, ◌≤◌, ◌⊎◌}
 use Rattle.std.specs.Prelude.{if◌then◌else◌, slice_index_or, take}
-use Rattle.std.specs.List.{AllByRecursion, flat_map}
+use Rattle.std.specs.List.{AllByRecursion}
 use Rattle.std.proofs.lemmas.Bool.{ltb-true, and_from}
 use Rattle.std.proofs.lemmas.Bool.Decides.{eqb_tells}
 use Rattle.one_standing.proofs.RestLine.{node_there}
@@ -12,7 +12,6 @@ use Rattle.one_standing.proofs.MirroringEnds.{before_one}
 use Rattle.custody.proofs.Rows.{same as same_number}
 use Rattle.line_base.specs.declared.states.Side.{Side}
 use Rattle.line_base.specs.declared.states.Side.TheVariants.{Entry, Exit}
-use Rattle.board_record.specs.declared.record.Record.{Record}
 use Rattle.board_record.specs.declared.sensed.Sensed.{Sensed}
 use Rattle.board_record.specs.Maker.{Maker, next_id}
 use Rattle.board_record.specs.declared.maker.IdsUsedUp.{IdsUsedUp}
@@ -20,25 +19,17 @@ use Rattle.hermes_horizontal.specs.Canonical.{canonical}
 use Rattle.hermes_horizontal.specs.declared.message.Horizontal.{Horizontal}
 use Rattle.hermes_horizontal.specs.declared.message.Message.{Message}
 use Rattle.line_link.specs.Flow.{Stream, coming, flowing, with_arrival}
-use Rattle.line_link.specs.Link.{after_connect, after_flow, answer_sent, connected_of, sent_of, spoil_sent}
+use Rattle.line_link.specs.Link.{after_connect, after_flow, answer_sent, connected_of, sent_of}
 use Rattle.line_link.specs.declared.link.Connected.{Connected}
 use Rattle.line_link.specs.declared.link.Connected.TheVariants as connections
-use Rattle.line_link.specs.declared.link.Sent.{Sent}
-use Rattle.line_link.specs.declared.link.Sent.TheVariants as sent
 use Rattle.smema_bridge.specs.Levels.{BridgeLevels}
 use Rattle.line_script.specs.declared.line.ScriptLine.{ScriptLine}
-use Rattle.line_script.specs.declared.line.ScriptLine.TheVariants as lines
 use Rattle.line_world.specs.FloorPlan.{FloorPlan, gap_at, machine_at}
-use Rattle.line_world.specs.Moves.{floor_move}
-use Rattle.line_world.specs.declared.moves.Move.{Move}
-use Rattle.line_world.specs.declared.moves.Move.TheVariants as moves
-use Rattle.line_world.specs.declared.moves.MoveNo.{MoveNo}
 use Rattle.node_core.specs.Desk.{Desk}
 use Rattle.node_core.specs.Done.{Done}
 use Rattle.node_core.specs.Event.{Event, event_of, with_new}
 use Rattle.node_core.specs.Event as events
 use Rattle.node_core.specs.Node.{NodeState, desk_of, new_node}
-use Rattle.node_core.specs.Own.{own_of}
 use Rattle.node_core.specs.Sides.{is_open}
 use Rattle.node_core.specs.Signals.{signalled}
 use Rattle.node_core.specs.Step.{machine_step, plain_step}
@@ -55,16 +46,13 @@ use Rattle.node_core.proofs.Signalling.{signals_pass}
 use Rattle.node_core.proofs.Telling.{tells_pass}
 use Rattle.line_report.specs.declared.happening.Happening.{Happening}
 use Rattle.line_report.specs.declared.happening.Happening.TheVariants as happenings
-use Rattle.standings.specs.Told.{told_of}
-use Rattle.standings.specs.declared.told.Told.{Told as Standing}
-use Rattle.standings.specs.declared.told.Told.TheVariants as tolds
 use Rattle.line_step.specs.Acts.{act_did, acts_did, cut_told, is_answer, is_exit, sent_by}
 use Rattle.line_step.specs.FloorIds.{made_by}
-use Rattle.line_step.specs.Lines.{Becomes, Connects, Flows, LineDoes, LineSteps, Moves, Unless, arrived, connecting, cut_in, lied, met, move_told, moved, spoil_told, spoiled, unseen, unvouched_told}
+use Rattle.line_step.specs.Lines.{Becomes, Connects, Flows, LineSteps, arrived, connecting, met, spoiled}
 use Rattle.line_step.specs.Numbered.{Stand, no_node, node_at, stand_at}
-use Rattle.line_step.specs.Reasons.{May, has_link, is_empty, may_add, may_connect, may_cut, may_do, may_flow, may_lie, may_spoil, may_unseen}
-use Rattle.line_step.specs.Shown.{ascending, between_shown, ids_marked, kept_shown, shown, shown_from, standing_told, standings_told, taken_below}
-use Rattle.line_step.specs.State.{LineState, machine_in, marks_in, one_more, profile_of}
+use Rattle.line_step.specs.Reasons.{has_link, is_empty, may_do, may_flow}
+use Rattle.line_step.specs.Shown.{standings_told}
+use Rattle.line_step.specs.State.{LineState, machine_in, one_more, profile_of}
 use Rattle.line_step.specs.Steps.{MachineSteps, is_second, moment_of, read_by, unread_by}
 use Rattle.line_step.specs.World.{WorldParts, end_of, link_at, link_of}
 use Rattle.line_step.proofs.Changing.{link_changes, more_changes, step_changes}
@@ -80,6 +68,11 @@ use Rattle.one_standing.proofs.Carrying.{SaysAlone}
 use Rattle.one_standing.proofs.MirroringFlow.{CanFlow, can_flow, link_there, arrival}
 use Rattle.line_history.proofs.Floor.{acts_lies, acts_lists, make_not, makes_not, none_unread, read_lies, read_lists}
 use Rattle.line_history.proofs.Stepping.{AreTheirs}
+use Rattle.line_step.proofs.Remarks.{AreRemarks, IsNoAct, IsRemark, Passes, acts_pass, all_pass, cut_remarks, no_acts, standings_remarks}
+use Rattle.line_step.proofs.Requests.{IsGiven, Request, added_told, request_of}
+use Rattle.line_step.proofs.Effects.{added_remarks, becomes_by}
+use Rattle.line_step.proofs.Turns.{LineTurns, line_turns}
+use Rattle.line_step.proofs.Turns as turns
 
 -- ---- the acts of one machine among all that is told
 
@@ -115,33 +108,24 @@ undriven (act ∷ told) = told_of_act act ++ undriven told
 own_first : (k : ℕ) (act : Act) (rest : List Happening) → done_by k rest ≡ [] → done_by k (happenings.Done k act ∷ rest) ≡ told_of_act act
 own_first k act rest none = rw (same_number k, none) (append-nil (told_of_act act))
 
-pub cut_none : (k link : ℕ) (on : Sent) → done_by k (cut_told link on) ≡ []
-cut_none k link sent.Cuts = refl
-cut_none k link sent.Flows = refl
-cut_none k link sent.Vanishes = refl
+no_act_none : (k : ℕ) (h : Happening) → IsNoAct h → done_by k (h ∷ []) ≡ []
+no_act_none k (happenings.Done machine act) is = absurd is
+no_act_none k _ is = refl
+
+pub no_acts_none : (k : ℕ) → Passes IsNoAct (λ (told : List Happening). done_by k told ≡ [])
+no_acts_none k = record { none = refl; both = none_join k; one = no_act_none k }
+
+pub remarks_none : (k : ℕ) (told : List Happening) → AreRemarks told → done_by k told ≡ []
+remarks_none k told remarks = all_pass told (no_acts_none k) (no_acts told remarks)
 
 own_sent : (answers : Bool) (k : ℕ) (side : Side) (message : Message) (world : WorldParts) → done_by k (sent_by answers k side message world).told ≡ acts.Sends side message ∷ []
-own_sent true k side message world = own_first k (acts.Sends side message) (cut_told k (answer_sent (canonical message) (link_at k world))) (cut_none k k (answer_sent (canonical message) (link_at k world)))
-own_sent false k side message world = own_first k (acts.Sends side message) (cut_told (link_of k side) (sent_of (end_of side) (canonical message) (link_at (link_of k side) world))) (cut_none k (link_of k side) (sent_of (end_of side) (canonical message) (link_at (link_of k side) world)))
+own_sent true k side message world = own_first k (acts.Sends side message) (cut_told k (answer_sent (canonical message) (link_at k world))) (remarks_none k _ (cut_remarks k (answer_sent (canonical message) (link_at k world))))
+own_sent false k side message world = own_first k (acts.Sends side message) (cut_told (link_of k side) (sent_of (end_of side) (canonical message) (link_at (link_of k side) world))) (remarks_none k _ (cut_remarks (link_of k side) (sent_of (end_of side) (canonical message) (link_at (link_of k side) world))))
 
 own_act : (second : Bool) (k : ℕ) (act : Act) (world : WorldParts) → done_by k (act_did second k act world).told ≡ told_of_act act
 own_act second k (acts.Sends side message) world = own_sent (second && (is_exit side && is_answer message.body)) k side message world
 own_act second k (acts.Drive side on) world = refl
-own_act second k (acts.Reads side event) world = own_first k (acts.Reads side event) [] refl
-own_act second k (acts.Hears side message) world = own_first k (acts.Hears side message) [] refl
-own_act second k (acts.Breaches side text) world = own_first k (acts.Breaches side text) [] refl
-own_act second k (acts.Closes side) world = own_first k (acts.Closes side) [] refl
-own_act second k (acts.Notices side) world = own_first k (acts.Notices side) [] refl
-own_act second k acts.Connects world = own_first k acts.Connects [] refl
-own_act second k (acts.Deed deed) world = own_first k (acts.Deed deed) [] refl
-own_act second k (acts.Marks id quality) world = own_first k (acts.Marks id quality) [] refl
-own_act second k (acts.Inserts id) world = own_first k (acts.Inserts id) [] refl
-own_act second k (acts.Removes id) world = own_first k (acts.Removes id) [] refl
-own_act second k (acts.Replaces was now) world = own_first k (acts.Replaces was now) [] refl
-own_act second k (acts.Signals signal on) world = own_first k (acts.Signals signal on) [] refl
-own_act second k (acts.Tells message) world = own_first k (acts.Tells message) [] refl
-own_act second k (acts.Answered query order) world = own_first k (acts.Answered query order) [] refl
-own_act second k (acts.Sets setting) world = own_first k (acts.Sets setting) [] refl
+own_act second k act world = own_first k act [] refl
 
 pub own_acts : (second : Bool) (k : ℕ) (told : List Act) (world : WorldParts) → done_by k (acts_did second k told world).told ≡ undriven told
 own_acts second k [] world = refl
@@ -173,78 +157,18 @@ undriven_step desk unread event body = undriven_tells desk (watch_of desk body) 
 other_number : (k machine : ℕ) → k ≢ machine → (machine == k) ≡ false
 other_number k machine apart = elim (eqb_tells machine k) [ inl same ↦ absurd (apart (sym same.1)) | inr differs ↦ differs.0 ]
 
-other_first : (k machine : ℕ) (act : Act) (rest : List Happening) → k ≢ machine → done_by k rest ≡ [] → done_by k (happenings.Done machine act ∷ rest) ≡ []
-other_first k machine act rest apart none = rw (other_number k machine apart) none
+other_one : (k machine : ℕ) (act : Act) → k ≢ machine → done_by k (happenings.Done machine act ∷ []) ≡ []
+other_one k machine act apart = rw (other_number k machine apart) refl
 
-other_sent : (answers : Bool) (k machine : ℕ) (side : Side) (message : Message) (world : WorldParts) → k ≢ machine → done_by k (sent_by answers machine side message world).told ≡ []
-other_sent true k machine side message world apart = other_first k machine (acts.Sends side message) (cut_told machine (answer_sent (canonical message) (link_at machine world))) apart (cut_none k machine (answer_sent (canonical message) (link_at machine world)))
-other_sent false k machine side message world apart = other_first k machine (acts.Sends side message) (cut_told (link_of machine side) (sent_of (end_of side) (canonical message) (link_at (link_of machine side) world))) apart (cut_none k (link_of machine side) (sent_of (end_of side) (canonical message) (link_at (link_of machine side) world)))
-
-other_act : (second : Bool) (k machine : ℕ) (act : Act) (world : WorldParts) → k ≢ machine → done_by k (act_did second machine act world).told ≡ []
-other_act second k machine (acts.Sends side message) world apart = other_sent (second && (is_exit side && is_answer message.body)) k machine side message world apart
-other_act second k machine (acts.Drive side on) world apart = refl
-other_act second k machine (acts.Reads side event) world apart = other_first k machine (acts.Reads side event) [] apart refl
-other_act second k machine (acts.Hears side message) world apart = other_first k machine (acts.Hears side message) [] apart refl
-other_act second k machine (acts.Breaches side text) world apart = other_first k machine (acts.Breaches side text) [] apart refl
-other_act second k machine (acts.Closes side) world apart = other_first k machine (acts.Closes side) [] apart refl
-other_act second k machine (acts.Notices side) world apart = other_first k machine (acts.Notices side) [] apart refl
-other_act second k machine acts.Connects world apart = other_first k machine acts.Connects [] apart refl
-other_act second k machine (acts.Deed deed) world apart = other_first k machine (acts.Deed deed) [] apart refl
-other_act second k machine (acts.Marks id quality) world apart = other_first k machine (acts.Marks id quality) [] apart refl
-other_act second k machine (acts.Inserts id) world apart = other_first k machine (acts.Inserts id) [] apart refl
-other_act second k machine (acts.Removes id) world apart = other_first k machine (acts.Removes id) [] apart refl
-other_act second k machine (acts.Replaces was now) world apart = other_first k machine (acts.Replaces was now) [] apart refl
-other_act second k machine (acts.Signals signal on) world apart = other_first k machine (acts.Signals signal on) [] apart refl
-other_act second k machine (acts.Tells message) world apart = other_first k machine (acts.Tells message) [] apart refl
-other_act second k machine (acts.Answered query order) world apart = other_first k machine (acts.Answered query order) [] apart refl
-other_act second k machine (acts.Sets setting) world apart = other_first k machine (acts.Sets setting) [] apart refl
+remark_none : (k : ℕ) (h : Happening) → IsRemark h → done_by k (h ∷ []) ≡ []
+remark_none k h is = remarks_none k (h ∷ []) (is, tt)
 
 pub other_acts : (second : Bool) (k machine : ℕ) (told : List Act) (world : WorldParts) → k ≢ machine → done_by k (acts_did second machine told world).told ≡ []
-other_acts second k machine [] world apart = refl
-other_acts second k machine (act ∷ others) world apart =
-    let one = act_did second machine act world in
-    none_join k one.told (acts_did second machine others one.world).told (other_act second k machine act world apart) (other_acts second k machine others one.world apart)
-
--- ---- what is shown, and the standings
-
-kept_none : (k machine : ℕ) (boards : List Record) → done_by k (kept_shown machine boards) ≡ []
-kept_none k machine [] = refl
-kept_none k machine (board ∷ boards) = kept_none k machine boards
-
-two_none : (k : ℕ) (same : Bool) (gap below : ℕ) → done_by k (if same then [] else happenings.ShownBetween gap below ∷ []) ≡ []
-two_none k true gap below = refl
-two_none k false gap below = refl
-
-between_none : (k gap : ℕ) (above below : Option ℕ) → done_by k (between_shown gap above below) ≡ []
-between_none k gap None None = refl
-between_none k gap None (Some below) = refl
-between_none k gap (Some above) None = refl
-between_none k gap (Some above) (Some below) = two_none k (above == below) gap below
-
-pub shown_none : (k machine : ℕ) (nodes : List NodeState) → done_by k (shown_from machine nodes) ≡ []
-shown_none k machine [] = refl
-shown_none k machine (node ∷ nodes) =
-    let between = between_shown machine (own_of node.lane.body).held (taken_below nodes) in
-    none_join k (kept_shown machine node.lane.body.kept) (between ++ shown_from (machine + 1) nodes) (kept_none k machine node.lane.body.kept)
-    (none_join k between (shown_from (machine + 1) nodes) (between_none k machine (own_of node.lane.body).held (taken_below nodes)) (shown_none k (machine + 1) nodes))
-
-standing_none : (k id : ℕ) (told : Option Standing) → done_by k (standing_told id told) ≡ []
-standing_none k id None = refl
-standing_none k id (Some (tolds.With machine)) = refl
-standing_none k id (Some (tolds.Between gap)) = refl
-standing_none k id (Some tolds.Gone) = refl
-
-flat_none : (k : ℕ) (f : ℕ → List Happening) (ids : List ℕ) → ((id : ℕ) → done_by k (f id) ≡ []) → done_by k (flat_map f ids) ≡ []
-flat_none k f [] every = refl
-flat_none k f (id ∷ ids) every = none_join k (f id) (flat_map f ids) (every id) (flat_none k f ids every)
+other_acts second k machine told world apart =
+    acts_pass (λ (ts : List Happening). done_by k ts ≡ []) second machine told world (record { none = refl; both = none_join k; one = remark_none k }) (λ act. other_one k machine act apart)
 
 pub standings_none : (k : ℕ) (before next : LineState) → done_by k (standings_told before next) ≡ []
-standings_none k before next =
-    flat_none k (λ id. standing_told id (told_of (marks_in before id) (marks_in next id))) (ascending (ids_marked before ++ ids_marked next)) (λ id. standing_none k id (told_of (marks_in before id) (marks_in next id)))
-
-pub unvouched_none : (k : ℕ) (unvouched : Option ℕ) → done_by k (unvouched_told unvouched) ≡ []
-unvouched_none k None = refl
-unvouched_none k (Some line) = refl
+standings_none k before next = remarks_none k (standings_told before next) (standings_remarks before next)
 
 -- ---- which words a machine hears
 
@@ -390,21 +314,10 @@ more_body is_bridge capacity used s k (inl is) =
 quiet_turn : (j : ℕ) (t : Trace) (before next after : LineState) (what told : List Happening) → unwilled (node_at next (j + 1)).lane.body ≡ unwilled (node_at before (j + 1)).lane.body → done_by (j + 1) what ≡ [] → Becomes next what after told → Turn j t before after told
 quiet_turn j t before next after what told same none b = is_still (ap (λ (s : LineState). unwilled (node_at s (j + 1)).lane.body) b.after_is ∙ same) (ap (done_by (j + 1)) b.told_is ∙ none)
 
-still_turn : (j : ℕ) (t : Trace) (before next after : LineState) (what told : List Happening) → (node_at next (j + 1)).lane.body ≡ (node_at before (j + 1)).lane.body → done_by (j + 1) what ≡ [] → Becomes next what after told → Turn j t before after told
-still_turn j t before next after what told same none b = quiet_turn j t before next after what told (ap unwilled same) none b
-
 -- a machine is added, or a bridge
 more_turn : (j : ℕ) (t : Trace) (is_bridge : Bool) (capacity used : ℕ) (before after : LineState) (what told : List Happening) → done_by (j + 1) what ≡ [] → Becomes (one_more is_bridge capacity used before) what after told → Turn j t before after told
 more_turn j t is_bridge capacity used before after what told none b =
     quiet_turn j t before (one_more is_bridge capacity used before) after what told (more_body is_bridge capacity used before (j + 1) (same_or_not (j + 1) (length before.machines + 1))) none b
-
-unless_turn : (may : May) (j : ℕ) (t : Trace) (before after : LineState) (told : List Happening) (Does : Type 0) → Unless may before after told Does → (may ≡ may_do → Does → Turn j t before after told) → Turn j t before after told
-unless_turn (Ok _) j t before after told Does is does = does refl is
-unless_turn (Err reason) j t before after told Does is does = still_turn j t before before after (happenings.No reason ∷ []) told refl refl is
-
-given_turn : (may : May) (t : Trace) (number j machine : ℕ) (input : Input) (before after : LineState) (told : List Happening) → IsNoBytes input → Unless may before after told (MachineSteps number machine input before after told) → Turn j t before after told
-given_turn may t number j machine input before after told none does =
-    unless_turn may j t before after told (MachineSteps number machine input before after told) does (λ can steps. plain_turn t number j machine input before after told (same_or_not (j + 1) machine) none steps)
 
 pub same_machines : (j : ℕ) (s next : LineState) → next.machines ≡ s.machines → (node_at next (j + 1)).lane.body ≡ (node_at s (j + 1)).lane.body
 same_machines j s next is = ap (λ (n : NodeState). n.lane.body) (same_nodes (j + 1) s next is) where
@@ -489,64 +402,18 @@ connects_turn : (t : Trace) (number j machine : ℕ) (before after : LineState) 
 connects_turn t number j machine before after told steps =
     subst (λ (x : List Happening). Turn j t before after x) (sym steps.told_is) (connects_by t number j machine before after told (same_or_not (j + 1) machine) (same_or_not (j + 1) (machine - 1)) steps)
 
-pub move_still : (j gap : ℕ) (step : Move) (s : LineState) (answer : Result FloorPlan MoveNo) → ((node_at (moved answer s) (j + 1)).lane.body ≡ (node_at s (j + 1)).lane.body) × (done_by (j + 1) (move_told gap step answer) ≡ [])
-move_still j gap step s (Ok floor) = (same_machines j s (moved (Ok floor) s) refl, refl)
-move_still j gap step s (Err why) = (refl, refl)
+-- no input that a line gives is of bytes
+given_turn : (t : Trace) (number j machine : ℕ) (input : Input) (before after : LineState) (told : List Happening) → IsGiven input → MachineSteps number machine input before after told → Turn j t before after told
+given_turn t number j machine (inputs.Bytes side piece) before after told given steps = absurd given
+given_turn t number j machine input before after told given steps = plain_turn t number j machine input before after told (same_or_not (j + 1) machine) tt steps
 
-moves_turn : (t : Trace) (j gap : ℕ) (step : Move) (before after : LineState) (told : List Happening) → Moves gap step before after told → Turn j t before after told
-moves_turn t j gap step before after told does =
-    let answer = floor_move gap step before.world.floor in
-    let both = move_still j gap step before answer in
-    still_turn j t before (moved answer before) after (move_told gap step answer) told both.0 both.1 does
-
-does_turn : SaysAlone → (t : Trace) (number : ℕ) (line : ScriptLine) (before after : LineState) (told : List Happening) → Stands t before → LineDoes number line before after told → (j : ℕ) → Turn j t before after told
-does_turn alone t number lines.Blank before after told st does j = still_turn j t before before after [] told refl refl does
-does_turn alone t number (lines.Machine capacity used) before after told st does j =
-    let what = happenings.Machine (length before.machines + 1) capacity ∷ [] in
-    unless_turn (may_add before) j t before after told (Becomes (one_more false capacity used before) what after told) does (λ can b. more_turn j t false capacity used before after what told refl b)
-does_turn alone t number (lines.Bridge capacity used) before after told st does j =
-    let what = happenings.Bridge (length before.machines + 1) capacity ∷ [] in
-    unless_turn (may_add before) j t before after told (Becomes (one_more true capacity used before) what after told) does (λ can b. more_turn j t true capacity used before after what told refl b)
-does_turn alone t number (lines.Insert machine barcode) before after told st does j = given_turn _ t number j machine (inputs.Insert barcode) before after told tt does
-does_turn alone t number (lines.Remove machine id) before after told st does j = given_turn _ t number j machine (inputs.Remove id) before after told tt does
-does_turn alone t number (lines.Replace machine id) before after told st does j = given_turn _ t number j machine (inputs.Replace id) before after told tt does
-does_turn alone t number (lines.Mark machine id quality) before after told st does j = given_turn _ t number j machine (inputs.Mark id quality) before after told tt does
-does_turn alone t number (lines.Hold machine side) before after told st does j = given_turn _ t number j machine (inputs.Will side false) before after told tt does
-does_turn alone t number (lines.Go machine side) before after told st does j = given_turn _ t number j machine (inputs.Will side true) before after told tt does
-does_turn alone t number (lines.Signal machine line on) before after told st does j = given_turn _ t number j machine (inputs.Level line on) before after told tt does
-does_turn alone t number (lines.Forecast machine) before after told st does j = given_turn _ t number j machine (inputs.Forecast) before after told tt does
-does_turn alone t number (lines.Query machine barcode) before after told st does j = given_turn _ t number j machine (inputs.Query barcode) before after told tt does
-does_turn alone t number (lines.Supervise machine) before after told st does j = given_turn _ t number j machine (inputs.Supervise true) before after told tt does
-does_turn alone t number (lines.Ask machine question) before after told st does j = given_turn _ t number j machine (inputs.Ask question) before after told tt does
-does_turn alone t number (lines.Answer machine query order) before after told st does j = given_turn _ t number j machine (inputs.Answer query order) before after told tt does
-does_turn alone t number (lines.Connect machine) before after told st does j = unless_turn (may_connect machine before) j t before after told (Connects number machine before after told) does (λ can steps. connects_turn t number j machine before after told steps)
-does_turn alone t number (lines.Flow machine side count) before after told st does j =
-    unless_turn (may_flow machine side before) j t before after told (Flows number machine side count before after told) does (λ can flows. flow_turn alone t number j machine side count before after told st can (same_or_not (j + 1) machine) flows)
-does_turn alone t number (lines.Notice machine side) before after told st does j = given_turn _ t number j machine (inputs.Notice side) before after told tt does
-does_turn alone t number (lines.Cut gap) before after told st does j =
-    unless_turn (may_cut gap before) j t before after told (Becomes (cut_in gap before) (happenings.Cut gap ∷ []) after told) does (λ can b. still_turn j t before (cut_in gap before) after (happenings.Cut gap ∷ []) told (same_machines j before (cut_in gap before) refl) refl b)
-does_turn alone t number (lines.Spoil machine side) before after told st does j =
-    unless_turn (may_spoil machine side before) j t before after told (Becomes (spoiled machine side before) (spoil_told machine side before) after told) does
-    (λ can b. still_turn j t before (spoiled machine side before) after (spoil_told machine side before) told (same_machines j before (spoiled machine side before) refl) (cut_none (j + 1) (link_of machine side) (spoil_sent (end_of side) (link_at (link_of machine side) before.world))) b)
-does_turn alone t number (lines.Shutdown machine) before after told st does j = given_turn _ t number j machine inputs.Shutdown before after told tt does
-does_turn alone t number (lines.Tick machine) before after told st does j = given_turn _ t number j machine inputs.Tick before after told tt does
-does_turn alone t number (lines.Fault machine side) before after told st does j = given_turn _ t number j machine (inputs.Fault side) before after told tt does
-does_turn alone t number (lines.Sense machine) before after told st does j = given_turn _ t number j machine inputs.Nothing before after told tt does
-does_turn alone t number (lines.Begin gap) before after told st does j = moves_turn t j gap moves.Begin before after told does
-does_turn alone t number (lines.Left gap) before after told st does j = moves_turn t j gap moves.Left before after told does
-does_turn alone t number (lines.Enter gap) before after told st does j = moves_turn t j gap moves.Enter before after told does
-does_turn alone t number (lines.Back gap) before after told st does j = moves_turn t j gap moves.Back before after told does
-does_turn alone t number (lines.HandIn gap) before after told st does j = moves_turn t j gap moves.HandIn before after told does
-does_turn alone t number (lines.Take gap) before after told st does j = moves_turn t j gap moves.Take before after told does
-does_turn alone t number (lines.Lie machine sensed) before after told st does j =
-    let what = happenings.Lie machine sensed ∷ unvouched_told before.unvouched in
-    unless_turn (may_lie machine sensed.side before) j t before after told (Becomes (lied number machine sensed before) what after told) does
-    (λ can b. still_turn j t before (lied number machine sensed before) after what told (same_machines j before (lied number machine sensed before) refl) (unvouched_none (j + 1) before.unvouched) b)
-does_turn alone t number (lines.Unseen machine side) before after told st does j =
-    let what = happenings.Unseen machine side ∷ unvouched_told before.unvouched in
-    unless_turn (may_unseen machine side before) j t before after told (Becomes (unseen number machine side before) what after told) does
-    (λ can b. still_turn j t before (unseen number machine side before) after what told (same_machines j before (unseen number machine side before) refl) (unvouched_none (j + 1) before.unvouched) b)
-does_turn alone t number lines.Show before after told st does j = still_turn j t before before after (shown before) told refl (shown_none (j + 1) 1 before.machines) does
+turns_turn : SaysAlone → (t : Trace) (number : ℕ) (request : Request) (before after : LineState) (told : List Happening) → Stands t before → LineTurns number before after told request → (j : ℕ) → Turn j t before after told
+turns_turn alone t number request before after told st (turns.stays _ same none) j = is_still (ap unwilled (same_machines j before after same)) (all_pass told (no_acts_none (j + 1)) none)
+turns_turn alone t number request before after told st (turns.adds is_bridge capacity used may b) j =
+    more_turn j t is_bridge capacity used before after (added_told is_bridge capacity before) told (remarks_none (j + 1) _ (added_remarks is_bridge capacity before)) b
+turns_turn alone t number request before after told st (turns.steps machine input given may did) j = given_turn t number j machine input before after told given did
+turns_turn alone t number request before after told st (turns.connects machine may did) j = connects_turn t number j machine before after told did
+turns_turn alone t number request before after told st (turns.flows machine side count may did) j = flow_turn alone t number j machine side count before after told st may (same_or_not (j + 1) machine) did
 
 -- ---- a line in which no machine makes a step, and one in which boards stay where they lie
 
@@ -604,25 +471,6 @@ stays_both before between after a b one two = record {
 abbrev pub Kind : LineState → LineState → List Happening → Type 0
 Kind before after told = AllStill before after told ⊎ Stays before after told
 
-quiet_kind : (before next after : LineState) (what told : List Happening) → AllStill before next what → Becomes next what after told → Kind before after told
-quiet_kind before next after what told all b =
-    inl (λ j. (ap (λ (s : LineState). unwilled (node_at s (j + 1)).lane.body) b.after_is ∙ (all j).0, ap (done_by (j + 1)) b.told_is ∙ (all j).1))
-
-becomes_kind : (before next after : LineState) (what told : List Happening) → ((j : ℕ) → ((node_at next (j + 1)).lane.body ≡ (node_at before (j + 1)).lane.body) × (done_by (j + 1) what ≡ [])) → Becomes next what after told → Kind before after told
-becomes_kind before next after what told all b = quiet_kind before next after what told (λ j. (ap unwilled (all j).0, (all j).1)) b
-
-unless_kind : (may : May) (before after : LineState) (told : List Happening) (Does : Type 0) → Unless may before after told Does → (Does → Kind before after told) → Kind before after told
-unless_kind (Ok _) before after told Does is does = does is
-unless_kind (Err reason) before after told Does is does = becomes_kind before before after (happenings.No reason ∷ []) told (λ j. (refl, refl)) is
-
-given_kind : (may : May) (number machine : ℕ) (input : Input) (before after : LineState) (told : List Happening) → Unless may before after told (MachineSteps number machine input before after told) → Kind before after told
-given_kind may number machine input before after told does = unless_kind may before after told (MachineSteps number machine input before after told) does (λ steps. inr (step_stays number machine input before after told steps))
-
-moves_kind : (gap : ℕ) (step : Move) (before after : LineState) (told : List Happening) → Moves gap step before after told → Kind before after told
-moves_kind gap step before after told does =
-    let answer = floor_move gap step before.world.floor in
-    becomes_kind before (moved answer before) after (move_told gap step answer) told (λ j. move_still j gap step before answer) does
-
 connects_kind : (number machine : ℕ) (before after : LineState) (told : List Happening) → Connects number machine before after told → Kind before after told
 connects_kind number machine before after told steps =
     let start : LineState = connecting machine before in
@@ -636,55 +484,14 @@ flows_kind number machine side count before after told flows =
     inr (from_start before (arrived machine side count before) after told (floor_stays (link_of machine side) (after_flow (end_of side) count (link_at (link_of machine side) before.world)) before.world)
     (step_stays number machine (inputs.Bytes side flows.piece) (arrived machine side count before) after told flows.steps))
 
-does_kind : (number : ℕ) (line : ScriptLine) (before after : LineState) (told : List Happening) → LineDoes number line before after told → Kind before after told
-does_kind number lines.Blank before after told does = becomes_kind before before after [] told (λ j. (refl, refl)) does
-does_kind number (lines.Machine capacity used) before after told does =
-    let what = happenings.Machine (length before.machines + 1) capacity ∷ [] in
-    unless_kind (may_add before) before after told (Becomes (one_more false capacity used before) what after told) does
-    (quiet_kind before (one_more false capacity used before) after what told (λ j. (more_body false capacity used before (j + 1) (same_or_not (j + 1) (length before.machines + 1)), refl)))
-does_kind number (lines.Bridge capacity used) before after told does =
-    let what = happenings.Bridge (length before.machines + 1) capacity ∷ [] in
-    unless_kind (may_add before) before after told (Becomes (one_more true capacity used before) what after told) does
-    (quiet_kind before (one_more true capacity used before) after what told (λ j. (more_body true capacity used before (j + 1) (same_or_not (j + 1) (length before.machines + 1)), refl)))
-does_kind number (lines.Insert machine barcode) before after told does = given_kind _ number machine (inputs.Insert barcode) before after told does
-does_kind number (lines.Remove machine id) before after told does = given_kind _ number machine (inputs.Remove id) before after told does
-does_kind number (lines.Replace machine id) before after told does = given_kind _ number machine (inputs.Replace id) before after told does
-does_kind number (lines.Mark machine id quality) before after told does = given_kind _ number machine (inputs.Mark id quality) before after told does
-does_kind number (lines.Hold machine side) before after told does = given_kind _ number machine (inputs.Will side false) before after told does
-does_kind number (lines.Go machine side) before after told does = given_kind _ number machine (inputs.Will side true) before after told does
-does_kind number (lines.Signal machine line on) before after told does = given_kind _ number machine (inputs.Level line on) before after told does
-does_kind number (lines.Forecast machine) before after told does = given_kind _ number machine (inputs.Forecast) before after told does
-does_kind number (lines.Query machine barcode) before after told does = given_kind _ number machine (inputs.Query barcode) before after told does
-does_kind number (lines.Supervise machine) before after told does = given_kind _ number machine (inputs.Supervise true) before after told does
-does_kind number (lines.Ask machine question) before after told does = given_kind _ number machine (inputs.Ask question) before after told does
-does_kind number (lines.Answer machine query order) before after told does = given_kind _ number machine (inputs.Answer query order) before after told does
-does_kind number (lines.Connect machine) before after told does = unless_kind (may_connect machine before) before after told (Connects number machine before after told) does (connects_kind number machine before after told)
-does_kind number (lines.Flow machine side count) before after told does = unless_kind (may_flow machine side before) before after told (Flows number machine side count before after told) does (flows_kind number machine side count before after told)
-does_kind number (lines.Notice machine side) before after told does = given_kind _ number machine (inputs.Notice side) before after told does
-does_kind number (lines.Cut gap) before after told does =
-    unless_kind (may_cut gap before) before after told (Becomes (cut_in gap before) (happenings.Cut gap ∷ []) after told) does (becomes_kind before (cut_in gap before) after (happenings.Cut gap ∷ []) told (λ j. (same_machines j before (cut_in gap before) refl, refl)))
-does_kind number (lines.Spoil machine side) before after told does =
-    unless_kind (may_spoil machine side before) before after told (Becomes (spoiled machine side before) (spoil_told machine side before) after told) does
-    (becomes_kind before (spoiled machine side before) after (spoil_told machine side before) told (λ j. (same_machines j before (spoiled machine side before) refl, cut_none (j + 1) (link_of machine side) (spoil_sent (end_of side) (link_at (link_of machine side) before.world)))))
-does_kind number (lines.Shutdown machine) before after told does = given_kind _ number machine inputs.Shutdown before after told does
-does_kind number (lines.Tick machine) before after told does = given_kind _ number machine inputs.Tick before after told does
-does_kind number (lines.Fault machine side) before after told does = given_kind _ number machine (inputs.Fault side) before after told does
-does_kind number (lines.Sense machine) before after told does = given_kind _ number machine inputs.Nothing before after told does
-does_kind number (lines.Begin gap) before after told does = moves_kind gap moves.Begin before after told does
-does_kind number (lines.Left gap) before after told does = moves_kind gap moves.Left before after told does
-does_kind number (lines.Enter gap) before after told does = moves_kind gap moves.Enter before after told does
-does_kind number (lines.Back gap) before after told does = moves_kind gap moves.Back before after told does
-does_kind number (lines.HandIn gap) before after told does = moves_kind gap moves.HandIn before after told does
-does_kind number (lines.Take gap) before after told does = moves_kind gap moves.Take before after told does
-does_kind number (lines.Lie machine sensed) before after told does =
-    let what = happenings.Lie machine sensed ∷ unvouched_told before.unvouched in
-    unless_kind (may_lie machine sensed.side before) before after told (Becomes (lied number machine sensed before) what after told) does
-    (becomes_kind before (lied number machine sensed before) after what told (λ j. (same_machines j before (lied number machine sensed before) refl, unvouched_none (j + 1) before.unvouched)))
-does_kind number (lines.Unseen machine side) before after told does =
-    let what = happenings.Unseen machine side ∷ unvouched_told before.unvouched in
-    unless_kind (may_unseen machine side before) before after told (Becomes (unseen number machine side before) what after told) does
-    (becomes_kind before (unseen number machine side before) after what told (λ j. (same_machines j before (unseen number machine side before) refl, unvouched_none (j + 1) before.unvouched)))
-does_kind number lines.Show before after told does = becomes_kind before before after (shown before) told (λ j. (refl, shown_none (j + 1) 1 before.machines)) does
+turns_kind : (number : ℕ) (request : Request) (before after : LineState) (told : List Happening) → LineTurns number before after told request → Kind before after told
+turns_kind number request before after told (turns.stays _ same none) = inl (λ j. (ap unwilled (same_machines j before after same), all_pass told (no_acts_none (j + 1)) none))
+turns_kind number request before after told (turns.adds is_bridge capacity used may b) =
+    becomes_by (λ s ts. Kind before s ts) b
+    (inl (λ j. (more_body is_bridge capacity used before (j + 1) (same_or_not (j + 1) (length before.machines + 1)), remarks_none (j + 1) _ (added_remarks is_bridge capacity before))))
+turns_kind number request before after told (turns.steps machine input given may did) = inr (step_stays number machine input before after told did)
+turns_kind number request before after told (turns.connects machine may did) = connects_kind number machine before after told did
+turns_kind number request before after told (turns.flows machine side count may did) = flows_kind number machine side count before after told did
 
 counted_kind : (before next : LineState) (done more : List Happening) (n : ℕ) → ((j : ℕ) → done_by (j + 1) more ≡ []) → Kind before next done → Kind before (record next { lines = n }) (done ++ more)
 counted_kind before next done more n none (inl all) = inl (λ j. (ap unwilled (same_machines j next (record next { lines = n }) refl) ∙ (all j).0, none_join (j + 1) done more (all j).1 (none j)))
@@ -694,7 +501,7 @@ pub line_kind : (number : ℕ) (line : ScriptLine) (before after : LineState) (t
 line_kind number line before after told steps =
     let next : LineState = steps.next in
     subst (λ (s : LineState). Kind before s told) (sym steps.after_is) (subst (λ (x : List Happening). Kind before (record next { lines = next.lines + 1 }) x) (sym steps.told_is)
-    (counted_kind before next steps.done (standings_told before next) (next.lines + 1) (λ j. standings_none (j + 1) before next) (does_kind number line before next steps.done steps.does)))
+    (counted_kind before next steps.done (standings_told before next) (next.lines + 1) (λ j. standings_none (j + 1) before next) (turns_kind number (request_of line) before next steps.done (line_turns number line before next steps.done steps.does))))
 
 counted_turn : {j : ℕ} {t : Trace} {before next : LineState} {done told : List Happening} (n : ℕ) → done_by (j + 1) told ≡ done_by (j + 1) done → (node_at (record next { lines = n }) (j + 1)).lane.body ≡ (node_at next (j + 1)).lane.body → Turn j t before next done → Turn j t before (record next { lines = n }) told
 counted_turn n acts body (is_still same none) = is_still (ap unwilled body ∙ same) (acts ∙ none)
@@ -705,7 +512,7 @@ pub line_turn : SaysAlone → (t : Trace) (number : ℕ) (line : ScriptLine) (be
 line_turn alone t number line before after told st steps j =
     let next : LineState = steps.next in
     let done : List Happening = steps.done in
-    let turn : Turn j t before next done = does_turn alone t number line before next done st steps.does j in
+    let turn : Turn j t before next done = turns_turn alone t number (request_of line) before next done st (line_turns number line before next done steps.does) j in
     let acts : done_by (j + 1) told ≡ done_by (j + 1) done =
     ap (done_by (j + 1)) steps.told_is ∙ done_append (j + 1) done (standings_told before next) ∙ ap (λ (x : List Act). done_by (j + 1) done ++ x) (standings_none (j + 1) before next) ∙ append-nil (done_by (j + 1) done) in
     subst (λ (s : LineState). Turn j t before s told) (sym steps.after_is) (counted_turn (next.lines + 1) acts (same_machines j next (record next { lines = next.lines + 1 }) refl) turn)
