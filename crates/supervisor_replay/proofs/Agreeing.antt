@@ -3,7 +3,6 @@ use Rattle.std.proofs.Common.{
   ◌≡◌,
   ◌≤◌,
   ◌∙◌,
-  ◌⊎◌,
   ◌++◌,
   ◌+◌,
   ◌==◌,
@@ -72,7 +71,8 @@ use Rattle.supervisor_replay.proofs.Lines.{Agreed, still_agrees}
 use Rattle.supervisor_replay.proofs.Never.{Never, left_was, never_step}
 use Rattle.supervisor_replay.proofs.Running.{does_agree}
 use Rattle.supervisor_replay.proofs.Sights.{sole_of, view_of}
-use Rattle.supervisor_replay.proofs.Silent.{standings_silent}
+use Rattle.supervisor_replay.proofs.Silent.{remarks_silent}
+use Rattle.line_step.proofs.Remarks.{standings_remarks}
 
 -- ---- what the marks say
 
@@ -174,7 +174,7 @@ counted_agrees id next lines past done told before is was =
     (append_assoc past done (standings_told before next) ∙ ap (λ (ts : List Happening). past
     ++ ts) (sym is))
     (still_agrees id next (counted_to lines next) (past ++ done) (standings_told before next)
-    (standings_silent before next)
+    (remarks_silent (standings_told before next) (standings_remarks before next))
     (record {
       kept = λ i. refl;
       held = λ i. refl;

@@ -1,7 +1,7 @@
 -- A LINE, as the link below a machine sees it: where no offer of a board is still to be taken up
 -- there, the machine below doesn't start the board, and none is still to be taken up behind the
 -- line, if the machine above keeps the board no more.
-use Rattle.std.proofs.Common.{Bool, Err, List, None, Ok, Option, Result, Some, [], ap, append-nil, arith, false, inl, inr, length, refl, subst, sym, true, ℕ, ◌++◌, ◌+◌, ◌-◌, ◌||◌, ◌∙◌, ◌∷◌, ◌≡◌, ◌≢◌, ◌≤◌, ◌⊎◌}
+use Rattle.std.proofs.Common.{Bool, Err, List, None, Ok, Option, Result, [], ap, append-nil, arith, false, inl, inr, length, refl, subst, sym, true, ℕ, ◌++◌, ◌+◌, ◌-◌, ◌||◌, ◌∙◌, ◌∷◌, ◌≡◌, ◌≢◌, ◌≤◌, ◌⊎◌}
 use Rattle.std.specs.Prelude.{drop}
 use Rattle.std.specs.List.{list_any}
 use Rattle.std.proofs.lemmas.Bool.{false≢true}
@@ -17,17 +17,11 @@ use Rattle.hermes_stream.specs.Frames.{NeedMore, answer_of}
 use Rattle.session_core.specs.End.{SessionEnd, is_connected_state}
 use Rattle.handover_in.specs.State.{InState, passes_offers_over}
 use Rattle.line_link.specs.Flow.{Stream, coming, flowing, with_arrival}
-use Rattle.line_link.specs.Link.{LinkParts, after_connect, after_flow, after_spoil, connected_of, cut, is_too_much, next_number, nulled, spoil_sent}
+use Rattle.line_link.specs.Link.{LinkParts, after_connect, after_flow, after_spoil, connected_of, cut, is_too_much, next_number, nulled}
 use Rattle.line_link.specs.declared.link.Connected.{Connected}
 use Rattle.line_link.specs.declared.link.Connected.TheVariants as connections
 use Rattle.line_link.proofs.Coming.{coming_of_nul}
 use Rattle.line_script.specs.declared.line.ScriptLine.{ScriptLine}
-use Rattle.line_script.specs.declared.line.ScriptLine.TheVariants as lines
-use Rattle.line_world.specs.FloorPlan.{FloorPlan}
-use Rattle.line_world.specs.Moves.{floor_move}
-use Rattle.line_world.specs.declared.moves.Move.{Move}
-use Rattle.line_world.specs.declared.moves.Move.TheVariants as moves
-use Rattle.line_world.specs.declared.moves.MoveNo.{MoveNo}
 use Rattle.smema_bridge.specs.Levels.{BridgeLevels}
 use Rattle.line_report.specs.declared.happening.Happening.{Happening}
 use Rattle.node_core.specs.Desk.{Desk}
@@ -60,11 +54,11 @@ use Rattle.machine_custody.specs.Flight.{AreOldest, oldest_none}
 use Rattle.link_messages.specs.Fit.{AreFitActs, IsFitInput, none_fit}
 use Rattle.link_messages.specs.Heard.{Heard, HeardSpoiled, bodies}
 use Rattle.link_messages.proofs.Fitting.{fit_behind}
-use Rattle.line_step.specs.Lines.{Becomes, Connects, Flows, LineDoes, LineSteps, Moves, Unless, arrived, connecting, cut_in, lied, met, move_told, moved, spoil_told, spoiled, unseen}
+use Rattle.line_step.specs.Lines.{Connects, Flows, LineSteps, arrived, connecting, lied, met, moved, spoil_told, spoiled, unseen}
 use Rattle.line_step.specs.Numbered.{node_at}
 use Rattle.line_step.specs.Opened.{open_act, open_after, opened_by}
-use Rattle.line_step.specs.Reasons.{May, is_empty, may_connect, may_do, may_flow}
-use Rattle.line_step.specs.Shown.{shown, standings_told}
+use Rattle.line_step.specs.Reasons.{is_empty, may_connect, may_do, may_flow}
+use Rattle.line_step.specs.Shown.{standings_told}
 use Rattle.line_step.specs.State.{LineState, one_more, with_world}
 use Rattle.line_step.specs.Steps.{MachineSteps, is_second, moment_of, read_by, unread_by}
 use Rattle.line_step.specs.World.{WorldParts, end_of, link_at, link_of, with_link}
@@ -90,12 +84,17 @@ use Rattle.one_standing.proofs.MirroringFlow.{CanFlow, arrival, can_flow, empty_
 use Rattle.one_standing.proofs.MirroringPlain.{is_plain_input, no_second}
 use Rattle.one_standing.proofs.Plain.{node_next}
 use Rattle.one_standing.proofs.WholeLinks.{steps as whole_steps, whole_arrival, whole_links}
-use Rattle.line_history.proofs.View.{cut_none, done_append, done_by, own_acts, shown_none, standings_none, told_of_act, undriven, undriven_signals, undriven_step, unvouched_none}
+use Rattle.line_history.proofs.View.{done_append, done_by, own_acts, remarks_none, standings_none, told_of_act, undriven, undriven_signals, undriven_step}
 use Rattle.supervisor_replay.proofs.Bodies.{keeps_it}
 use Rattle.supervisor_replay.proofs.Free.{Down, DownOn, IsFree, IsOther, down_over, down_spoiled, down_whole, entry_words, offers_it, starts_it}
 use Rattle.supervisor_replay.proofs.LinkDown.{acts_down, at_set, on_cut, on_limit}
 use Rattle.supervisor_replay.proofs.Receiving.{Receives, step_receives, none_both}
 use Rattle.supervisor_replay.proofs.Sending.{step_offers_not}
+use Rattle.line_step.proofs.Remarks.{unvouched_remarks}
+use Rattle.line_step.proofs.Requests.{Request, request_of}
+use Rattle.line_step.proofs.Effects.{Effect, added_remarks, becomes_by, line_effect, spoil_remarks}
+use Rattle.one_standing.proofs.FitRequests.{IsFitRequest, fit_request, given_plain}
+use Rattle.line_step.proofs.Effects as effects
 
 pub record StaysFree (id k : ℕ) (after : LineState) (told : List Happening) : Type 0 where
   pub starts : list_any (starts_it id) (done_by (k + 1) told) ≡ false
@@ -553,12 +552,6 @@ plain_free alone id k number m input t before next told plain fits few st free s
 
 -- ---- a line without a step
 
-becomes_free : (id k : ℕ) (now next : LineState) (what told : List Happening)
-    → Becomes now what next told → StaysFree id k now what → StaysFree id k next told
-becomes_free id k now next what told b n =
-    subst (λ (s : LineState). StaysFree id k s told) (sym b.after_is)
-    (subst (λ (l : List Happening). StaysFree id k now l) (sym b.told_is) n)
-
 still_free : (id k : ℕ) (now : LineState) (what : List Happening) → done_by (k + 1) what ≡ []
     → IsFree id k now → StaysFree id k now what
 still_free id k now what none free =
@@ -574,13 +567,6 @@ changed_free : (id k link : ℕ) (parts : LinkParts) (before : LineState) (what 
 changed_free id k link parts before what none free here =
     still_free id k (with_world (with_link link parts before.world) before) what none
     (set_free id k link parts before here free)
-
-unless_free : (may : May) (id k : ℕ) (before next : LineState) (told : List Happening)
-    (Does : Type 0) → IsFree id k before → Unless may before next told Does
-    → (may ≡ may_do → Does → StaysFree id k next told) → StaysFree id k next told
-unless_free (Ok _) id k before next told Does free does then = then refl does
-unless_free (Err reason) id k before next told Does free does then =
-    becomes_free id k before next _ told does (still_free id k before _ refl free)
 
 -- ---- bytes arrive
 
@@ -953,8 +939,7 @@ spoil_free id k m side t before st waits free =
     changed_free id k (link_of m side)
     (after_spoil (end_of side) (link_at (link_of m side) before.world)) before
     (spoil_told m side before)
-    (cut_none (k + 1) (link_of m side)
-    (spoil_sent (end_of side) (link_at (link_of m side) before.world))) free
+    (remarks_none (k + 1) (spoil_told m side before) (spoil_remarks m side before)) free
     (λ is on passes was. spoil_down k m side before st.links waits is on was)
 
 more_free : (is_bridge : Bool) (capacity used id k : ℕ) (before : LineState) → IsFree id k before
@@ -966,144 +951,56 @@ more_free is_bridge capacity used id k before free =
     subst (λ (l : LinkParts). DownOn id passes (node_at before (k + 1)).lane.entry_bytes l)
     (sym (more_at is_bridge capacity used before k)) was) free
 
-moved_free : (id k gap : ℕ) (step : Move) (before : LineState) (answer : Result FloorPlan MoveNo)
-    → IsFree id k before → StaysFree id k (moved answer before) (move_told gap step answer)
-moved_free id k gap step before (Ok floor) free =
-    still_free id k (moved (Ok floor) before) _ refl
-    (free_same before (moved (Ok floor) before) refl refl free)
-moved_free id k gap step before (Err why) free = still_free id k before _ refl free
-
-moves_free : (id k gap : ℕ) (step : Move) (before next : LineState) (told : List Happening)
-    → IsFree id k before → Moves gap step before next told → StaysFree id k next told
-moves_free id k gap step before next told free does =
-    let answer : Result FloorPlan MoveNo = floor_move gap step before.world.floor in
-    becomes_free id k (moved answer before) next (move_told gap step answer) told does
-    (moved_free id k gap step before answer free)
-
-given_free : SaysAlone
-    → (may : May) (id k number m : ℕ) (input : Input) (t : Trace) (before next : LineState)
-    (told : List Happening) → is_plain_input input ≡ true → IsFitInput input → number ≤ 1000000
-    → Stands t before → IsFree id k before
-    → Unless may before next told (MachineSteps number m input before next told)
+effect_free : SaysAlone
+    → (id k number : ℕ) (request : Request) (t : Trace) (before next : LineState)
+    (told : List Happening) → number ≤ 1000000 → IsFitRequest request → Stands t before
+    → AreWaiting before → IsFree id k before → Effect number before next told request
     → StaysFree id k next told
-given_free alone may id k number m input t before next told plain fits few st free does =
-    unless_free may id k before next told _ free does (λ can steps.
-    plain_free alone id k number m input t before next told plain fits few st free steps)
-
-does_free : SaysAlone
-    → (id k number : ℕ) (line : ScriptLine) (t : Trace) (before next : LineState)
-    (told : List Happening) → number ≤ 1000000 → IsFitLine line → Stands t before
-    → AreWaiting before → IsFree id k before → LineDoes number line before next told
-    → StaysFree id k next told
-does_free alone id k number lines.Blank t before next told few fit st waits free does =
-    becomes_free id k before next [] told does (still_free id k before [] refl free)
-does_free alone id k number
-    (lines.Machine capacity used) t before next told few fit st waits free does =
-    unless_free _ id k before next told _ free does (λ may done.
-    becomes_free id k (one_more false capacity used before) next _ told done
-    (still_free id k (one_more false capacity used before) _ refl
-    (more_free false capacity used id k before free)))
-does_free alone id k number
-    (lines.Bridge capacity used) t before next told few fit st waits free does =
-    unless_free _ id k before next told _ free does (λ may done.
-    becomes_free id k (one_more true capacity used before) next _ told done
-    (still_free id k (one_more true capacity used before) _ refl
-    (more_free true capacity used id k before free)))
-does_free alone id k number (lines.Insert m None) t before next told few fit st waits free does =
-    given_free alone _ id k number m
-    (inputs.Insert None) t before next told refl tt few st free does
-does_free alone id k number
-    (lines.Insert m (Some barcode)) t before next told few fit st waits free does =
-    given_free alone _ id k number m
-    (inputs.Insert (Some barcode)) t before next told refl fit few st free does
-does_free alone id k number (lines.Remove m other) t before next told few fit st waits free does =
-    given_free alone _ id k number m
-    (inputs.Remove other) t before next told refl tt few st free does
-does_free alone id k number (lines.Replace m other) t before next told few fit st waits free does =
-    given_free alone _ id k number m
-    (inputs.Replace other) t before next told refl tt few st free does
-does_free alone id k number
-    (lines.Mark m other quality) t before next told few fit st waits free does =
-    given_free alone _ id k number m
-    (inputs.Mark other quality) t before next told refl tt few st free does
-does_free alone id k number (lines.Hold m side) t before next told few fit st waits free does =
-    given_free alone _ id k number m
-    (inputs.Will side false) t before next told refl tt few st free does
-does_free alone id k number (lines.Go m side) t before next told few fit st waits free does =
-    given_free alone _ id k number m
-    (inputs.Will side true) t before next told refl tt few st free does
-does_free alone id k number
-    (lines.Signal m signal on) t before next told few fit st waits free does =
-    given_free alone _ id k number m
-    (inputs.Level signal on) t before next told refl tt few st free does
-does_free alone id k number (lines.Forecast m) t before next told few fit st waits free does =
-    given_free alone _ id k number m inputs.Forecast t before next told refl tt few st free does
-does_free alone id k number (lines.Query m barcode) t before next told few fit st waits free does =
-    given_free alone _ id k number m
-    (inputs.Query barcode) t before next told refl fit few st free does
-does_free alone id k number (lines.Supervise m) t before next told few fit st waits free does =
-    given_free alone _ id k number m
-    (inputs.Supervise true) t before next told refl tt few st free does
-does_free alone id k number (lines.Ask m question) t before next told few fit st waits free does =
-    given_free alone _ id k number m
-    (inputs.Ask question) t before next told refl tt few st free does
-does_free alone id k number
-    (lines.Answer m query order) t before next told few fit st waits free does =
-    given_free alone _ id k number m
-    (inputs.Answer query order) t before next told refl tt few st free does
-does_free alone id k number (lines.Connect m) t before next told few fit st waits free does =
-    unless_free (may_connect m before) id k before next told _ free does (λ may done.
-    connect_free alone id k number m t before next told may few st free done)
-does_free alone id k number
-    (lines.Flow m side count) t before next told few fit st waits free does =
-    unless_free (may_flow m side before) id k before next told _ free does (λ may done.
-    flow_free alone id k number m side count t before next told may few st free done)
-does_free alone id k number (lines.Notice m side) t before next told few fit st waits free does =
-    given_free alone _ id k number m
-    (inputs.Notice side) t before next told refl tt few st free does
-does_free alone id k number (lines.Cut gap) t before next told few fit st waits free does =
-    unless_free _ id k before next told _ free does (λ may done.
-    becomes_free id k (cut_in gap before) next _ told done
+effect_free alone id k number request t before next told few fit st waits free
+    (effects.rests _ what remarks b) =
+    becomes_by (StaysFree id k) b
+    (still_free id k before what (remarks_none (k + 1) what remarks) free)
+effect_free alone id k number request t before next told few fit st waits free
+    (effects.adds is_bridge capacity used may b) =
+    becomes_by (StaysFree id k) b
+    (still_free id k (one_more is_bridge capacity used before) _
+    (remarks_none (k + 1) _ (added_remarks is_bridge capacity before))
+    (more_free is_bridge capacity used id k before free))
+effect_free alone id k number request t before next told few fit st waits free
+    (effects.steps m input given may did) =
+    plain_free alone id k number m input t before next told (given_plain input given) fit few st
+    free did
+effect_free alone id k number request t before next told few fit st waits free
+    (effects.connects m may did) =
+    connect_free alone id k number m t before next told may few st free did
+effect_free alone id k number request t before next told few fit st waits free
+    (effects.flows m side count may did) =
+    flow_free alone id k number m side count t before next told may few st free did
+effect_free alone id k number request t before next told few fit st waits free
+    (effects.cuts gap may b) =
+    becomes_by (StaysFree id k) b
     (changed_free id k gap (cut (link_at gap before.world)) before _ refl free
-    (λ is on passes was. on_cut (link_at gap before.world))))
-does_free alone id k number (lines.Spoil m side) t before next told few fit st waits free does =
-    unless_free _ id k before next told _ free does (λ may done.
-    becomes_free id k (spoiled m side before) next (spoil_told m side before) told done
-    (spoil_free id k m side t before st waits free))
-does_free alone id k number (lines.Shutdown m) t before next told few fit st waits free does =
-    given_free alone _ id k number m inputs.Shutdown t before next told refl tt few st free does
-does_free alone id k number (lines.Tick m) t before next told few fit st waits free does =
-    given_free alone _ id k number m inputs.Tick t before next told refl tt few st free does
-does_free alone id k number (lines.Fault m side) t before next told few fit st waits free does =
-    given_free alone _ id k number m
-    (inputs.Fault side) t before next told refl tt few st free does
-does_free alone id k number (lines.Sense m) t before next told few fit st waits free does =
-    given_free alone _ id k number m inputs.Nothing t before next told refl tt few st free does
-does_free alone id k number (lines.Begin gap) t before next told few fit st waits free does =
-    moves_free id k gap moves.Begin before next told free does
-does_free alone id k number (lines.Left gap) t before next told few fit st waits free does =
-    moves_free id k gap moves.Left before next told free does
-does_free alone id k number (lines.Enter gap) t before next told few fit st waits free does =
-    moves_free id k gap moves.Enter before next told free does
-does_free alone id k number (lines.Back gap) t before next told few fit st waits free does =
-    moves_free id k gap moves.Back before next told free does
-does_free alone id k number (lines.HandIn gap) t before next told few fit st waits free does =
-    moves_free id k gap moves.HandIn before next told free does
-does_free alone id k number (lines.Take gap) t before next told few fit st waits free does =
-    moves_free id k gap moves.Take before next told free does
-does_free alone id k number (lines.Lie m sensed) t before next told few fit st waits free does =
-    unless_free _ id k before next told _ free does (λ may done.
-    becomes_free id k (lied number m sensed before) next _ told done
-    (still_free id k (lied number m sensed before) _ (unvouched_none (k + 1) before.unvouched)
-    (free_same before (lied number m sensed before) refl refl free)))
-does_free alone id k number (lines.Unseen m side) t before next told few fit st waits free does =
-    unless_free _ id k before next told _ free does (λ may done.
-    becomes_free id k (unseen number m side before) next _ told done
-    (still_free id k (unseen number m side before) _ (unvouched_none (k + 1) before.unvouched)
-    (free_same before (unseen number m side before) refl refl free)))
-does_free alone id k number lines.Show t before next told few fit st waits free does =
-    becomes_free id k before next (shown before) told does
-    (still_free id k before (shown before) (shown_none (k + 1) 1 before.machines) free)
+    (λ is on passes was. on_cut (link_at gap before.world)))
+effect_free alone id k number request t before next told few fit st waits free
+    (effects.spoils m side may b) =
+    becomes_by (StaysFree id k) b (spoil_free id k m side t before st waits free)
+effect_free alone id k number request t before next told few fit st waits free
+    (effects.moves gap step floor is b) =
+    becomes_by (StaysFree id k) b
+    (still_free id k (moved (Ok floor) before) _ refl
+    (free_same before (moved (Ok floor) before) refl refl free))
+effect_free alone id k number request t before next told few fit st waits free
+    (effects.lies m sensed may b) =
+    becomes_by (StaysFree id k) b
+    (still_free id k (lied number m sensed before) _
+    (remarks_none (k + 1) _ (unvouched_remarks before.unvouched))
+    (free_same before (lied number m sensed before) refl refl free))
+effect_free alone id k number request t before next told few fit st waits free
+    (effects.unsees m side may b) =
+    becomes_by (StaysFree id k) b
+    (still_free id k (unseen number m side before) _
+    (remarks_none (k + 1) _ (unvouched_remarks before.unvouched))
+    (free_same before (unseen number m side before) refl refl free))
 
 -- ---- EACH LINE
 
@@ -1133,7 +1030,8 @@ pub line_free : SaysAlone
 line_free alone id k number line t before after told few fit st waits steps free =
     let next : LineState = steps.next in
     let one : StaysFree id k next steps.done =
-    does_free alone id k number line t before next steps.done few fit st waits free steps.does
+    effect_free alone id k number (request_of line) t before next steps.done few
+    (fit_request line fit) st waits free (line_effect number line before next steps.done steps.does)
     in
     subst (λ (s : LineState). StaysFree id k s told) (sym steps.after_is)
     (subst (λ (l : List Happening). StaysFree id k (record next { lines = next.lines + 1 }) l)
