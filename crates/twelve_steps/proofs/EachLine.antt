@@ -34,7 +34,7 @@ use Rattle.session_core.specs.Input.{opened, second}
 use Rattle.session_core.specs.Row.{session_row}
 use Rattle.link_messages.specs.Fit.{AreFitRecords}
 use Rattle.line_report.specs.declared.happening.Happening.{Happening}
-use Rattle.line_step.specs.Lines.{Becomes, Connects, Flows, LineDoes, connecting, cut_in, met, move_told, moved, spoiled}
+use Rattle.line_step.specs.Lines.{Becomes, Connects, Flows, LineDoes, connecting, met, move_told, moved, spoiled}
 use Rattle.line_step.specs.Numbered.{node_at}
 use Rattle.line_step.specs.Reasons.{has_link, may_do, may_flow}
 use Rattle.line_step.specs.State.{LineState, one_more, with_world}
@@ -60,6 +60,10 @@ use Rattle.twelve_steps.proofs.Lower.{Aside, aside_by}
 use Rattle.twelve_steps.proofs.Lines.{Goes, Had, becomes_goes, beyond_step, counts_of, elsewhere_flow, elsewhere_step, forth_later, goes_none, goes_one, later_told, link_untouched, other_link, outcome_later, refused, sense_by, settled_behind, told_below, unless_goes, acts_settle}
 use Rattle.twelve_steps.proofs.Turning.{HasSettled}
 use Rattle.node_core.specs.Places.{used}
+use Rattle.line_step.proofs.Requests.{Request, request_of}
+use Rattle.line_step.proofs.Effects.{Effect, done_move, line_effect}
+use Rattle.line_step.proofs.Requests as requests
+use Rattle.line_step.proofs.Effects as effects
 
 -- ---- bytes at this link
 
@@ -185,8 +189,8 @@ below_meets {k = k} {id = id} {left = left} {number = number} {told = told} {tol
     forth_less 0 (omega arith) (below_line alone k id number left told told_now inputs.Second s s.world next done st counts whole refl few fit steps own steps.steps.lane.brings.0 refl
     (λ body r. aside_by (second_leaves desk body r) (session_keeps (used body) desk Exit second body (session_row (session_at Exit body) second) refl)) later (λ h. says (subst (λ (n : ℕ). tells_settled k n done ≡ true) (st.same ∙ st.named) (settles st.b.id h))))
 
-connect_elsewhere : {k : ℕ} {id : Record} {left number : ℕ} {told : Bool} {s next : LineState} {done : List Happening} (m : ℕ) → Had k id left number told s next → IsElsewhere k m → Connects number m s next done → (m - 1 ≡ k + 1) ⊎ (m - 1 ≢ k + 1) → Goes k id left told s (lines.Connect m) next done
-connect_elsewhere {k = k} {id = id} {left = left} {number = number} {told = told} {s = s} {next = next} {done = done} m h e c which =
+connect_elsewhere : {k : ℕ} {id : Record} {left number : ℕ} {told : Bool} {s next : LineState} {done : List Happening} (line : ScriptLine) (m : ℕ) → Had k id left number told s next → IsElsewhere k m → is_of_link k s line ≡ false → Connects number m s next done → (m - 1 ≡ k + 1) ⊎ (m - 1 ≢ k + 1) → Goes k id left told s line next done
+connect_elsewhere {k = k} {id = id} {left = left} {number = number} {told = told} {s = s} {next = next} {done = done} line m h e not_of c which =
     let one = (counted k s h.st.linked).0 in
     let within = (machine_within m (connecting m s) c.first.node c.first.there).0 in
     let below = e.not_below in
@@ -212,12 +216,12 @@ connect_elsewhere {k = k} {id = id} {left = left} {number = number} {told = told
           let st : Stage k id left told c.between = stage_untouched first (λ x. x) h.st in
           let input : Input = met (connected_of (link_at (m - 1) s.world).upstream) in
           let second_step : MachineSteps number (k + 1) input c.between next c.later = subst (λ (n : ℕ). MachineSteps number n input c.between next c.later) is c.second in
-          goes_none (lines.Connect m) refl
+          goes_none line not_of
           (below_meets input (met_is (connected_of (link_at (m - 1) s.world).upstream)) h.alone st counts_now whole h.few (fit_machine s c.between (k + 1) first.below (h.stood.stands.fit (k + 1))) role second_step (later_told k id.id told done)
           (λ n settles. ap (λ (hs : List Happening). tells_settled k n hs) second_step.told_is ∙ acts_settle (is_second input) k n second_step.acts (read_by (k + 1) c.between.world) settles)
           (λ is_told. or_right told (tells_settled k id.id done) (ap (λ (hs : List Happening). tells_settled k id.id hs) c.told_is ∙ settled_behind k id.id c.earlier c.later is_told)))
       | inr other ↦
-          goes_none (lines.Connect m) refl (forth_untouched (untouched_then first (beyond_step k number (m - 1) _ c.between next c.later apart other c.second)) (later_told k id.id told done) h.st)
+          goes_none line not_of (forth_untouched (untouched_then first (beyond_step k number (m - 1) _ c.between next c.later apart other c.second)) (later_told k id.id told done) h.st)
     ]
 
 -- ---- lines of elsewhere
@@ -234,52 +238,50 @@ more_untouched k is_bridge capacity many s linked =
     machine_beyond k (length s.machines + 1) s now above below (more_changes is_bridge capacity many s)
     (λ _. and_from (nat_le 1 k) (nat_lt k (length now.machines)) (le-leb 1 k one) (lt-ltb k (length now.machines) (omega (arith, most, count))))
 
-cut_elsewhere : {k : ℕ} {id : Record} {left : ℕ} {told : Bool} {s next : LineState} {done what : List Happening} (gap : ℕ) → Stage k id left told s → gap ≢ k → Becomes (cut_in gap s) what next done → Goes k id left told s (lines.Cut gap) next done
-cut_elsewhere {k = k} {s = s} gap st apart b = becomes_goes (lines.Cut gap) st (link_untouched k gap (cut (link_at gap s.world)) s apart) refl b
+spoil_elsewhere : {k : ℕ} {id : Record} {left : ℕ} {told : Bool} {s next : LineState} {done what : List Happening} (line : ScriptLine) (m : ℕ) (side : Side) → Stage k id left told s → link_of m side ≢ k → is_of_link k s line ≡ false → Becomes (spoiled m side s) what next done → Goes k id left told s line next done
+spoil_elsewhere {k = k} {s = s} line m side st apart is b = becomes_goes line st (link_untouched k (link_of m side) (after_spoil (end_of side) (link_at (link_of m side) s.world)) s apart) is b
 
-spoil_elsewhere : {k : ℕ} {id : Record} {left : ℕ} {told : Bool} {s next : LineState} {done what : List Happening} (m : ℕ) (side : Side) → Stage k id left told s → link_of m side ≢ k → Becomes (spoiled m side s) what next done → Goes k id left told s (lines.Spoil m side) next done
-spoil_elsewhere {k = k} {s = s} m side st apart b = becomes_goes (lines.Spoil m side) st (link_untouched k (link_of m side) (after_spoil (end_of side) (link_at (link_of m side) s.world)) s apart) refl b
+-- what is asked for names no machine and no gap of the handover
+abbrev IsAskedElsewhere : ℕ → Request → Type 0
+IsAskedElsewhere k (requests.adds is_bridge capacity used) = Unit {0}
+IsAskedElsewhere k (requests.gives machine input) = IsElsewhere k machine
+IsAskedElsewhere k (requests.connects machine) = IsElsewhere k machine
+IsAskedElsewhere k (requests.flows machine side count) = IsElsewhere k machine
+IsAskedElsewhere k (requests.cuts gap) = gap ≢ k
+IsAskedElsewhere k (requests.spoils machine side) = IsElsewhere k machine
+IsAskedElsewhere k (requests.moves_on gap step) = gap ≢ k
+IsAskedElsewhere k _ = ⊥
+
+asked_elsewhere : (k : ℕ) (line : ScriptLine) → NamesElsewhere k line → IsAskedElsewhere k (request_of line)
+asked_elsewhere k (lines.Sense m) e = absurd e
+asked_elsewhere k _ e = e
+
+not_of_link : (k : ℕ) (s : LineState) (line : ScriptLine) → NamesElsewhere k line → is_of_link k s line ≡ false
+not_of_link k s (lines.Flow m Exit None) e = ne_eqb m k e.not_above
+not_of_link k s (lines.Flow m Entry None) e = ne_eqb m (k + 1) e.not_below
+not_of_link k s (lines.Flow m Exit (Some count)) e = refl
+not_of_link k s (lines.Flow m Entry (Some count)) e = refl
+not_of_link k s (lines.Begin gap) e = ne_eqb gap k e
+not_of_link k s (lines.Left gap) e = ne_eqb gap k e
+not_of_link k s (lines.Enter gap) e = ne_eqb gap k e
+not_of_link k s (lines.Sense m) e = absurd e
+not_of_link k s _ e = refl
+
+elsewhere_effect : {k : ℕ} {id : Record} {left number : ℕ} {told : Bool} {s next : LineState} {done : List Happening} {request : Request} (line : ScriptLine) → IsAskedElsewhere k request → is_of_link k s line ≡ false → Had k id left number told s next → Effect number s next done request → Goes k id left told s line next done
+elsewhere_effect {k = k} {s = s} line e is h (effects.rests _ what remarks b) = becomes_goes line h.st (untouched_self k s) is b
+elsewhere_effect {k = k} {s = s} line e is h (effects.adds is_bridge capacity many may b) = becomes_goes line h.st (more_untouched k is_bridge capacity many s h.st.linked) is b
+elsewhere_effect {number = number} line e is h (effects.steps m input given may did) = elsewhere_step line number m input h.st e is did
+elsewhere_effect {k = k} line e is h (effects.connects m may did) = connect_elsewhere line m h e is did (same_or_not (m - 1) (k + 1))
+elsewhere_effect {number = number} line e is h (effects.flows m side count may did) = elsewhere_flow line number m side count h.st e is did
+elsewhere_effect {k = k} {s = s} line e is h (effects.cuts gap may b) = becomes_goes line h.st (link_untouched k gap (cut (link_at gap s.world)) s e) is b
+elsewhere_effect {k = k} {s = s} line e is h (effects.spoils m side may b) = spoil_elsewhere line m side h.st (other_link k m side (counted k s h.st.linked).0 e) is b
+elsewhere_effect {s = s} line e is h (effects.moves gap step floor done b) = move_elsewhere line gap step h.st e is (done_move s done b)
+elsewhere_effect line e is h (effects.lies m sensed may b) = absurd e
+elsewhere_effect line e is h (effects.unsees m side may b) = absurd e
 
 elsewhere_line : {k : ℕ} {id : Record} {left number : ℕ} {told : Bool} {s next : LineState} {done : List Happening} (line : ScriptLine) → NamesElsewhere k line → Had k id left number told s next → LineDoes number line s next done → Goes k id left told s line next done
-elsewhere_line {k = k} {s = s} (lines.Machine capacity many) e h is = unless_goes (lines.Machine capacity many) _ _ h.st is (λ may b. becomes_goes (lines.Machine capacity many) h.st (more_untouched k false capacity many s h.st.linked) refl b)
-elsewhere_line {k = k} {s = s} (lines.Bridge capacity many) e h is = unless_goes (lines.Bridge capacity many) _ _ h.st is (λ may b. becomes_goes (lines.Bridge capacity many) h.st (more_untouched k true capacity many s h.st.linked) refl b)
-elsewhere_line {number = number} (lines.Insert m barcode) e h is = unless_goes (lines.Insert m barcode) _ _ h.st is (λ may steps. elsewhere_step (lines.Insert m barcode) number m (inputs.Insert barcode) h.st e refl steps)
-elsewhere_line {number = number} (lines.Remove m board) e h is = unless_goes (lines.Remove m board) _ _ h.st is (λ may steps. elsewhere_step (lines.Remove m board) number m (inputs.Remove board) h.st e refl steps)
-elsewhere_line {number = number} (lines.Replace m board) e h is = unless_goes (lines.Replace m board) _ _ h.st is (λ may steps. elsewhere_step (lines.Replace m board) number m (inputs.Replace board) h.st e refl steps)
-elsewhere_line {number = number} (lines.Mark m board quality) e h is = unless_goes (lines.Mark m board quality) _ _ h.st is (λ may steps. elsewhere_step (lines.Mark m board quality) number m (inputs.Mark board quality) h.st e refl steps)
-elsewhere_line {number = number} (lines.Hold m side) e h is = unless_goes (lines.Hold m side) _ _ h.st is (λ may steps. elsewhere_step (lines.Hold m side) number m (inputs.Will side false) h.st e refl steps)
-elsewhere_line {number = number} (lines.Go m side) e h is = unless_goes (lines.Go m side) _ _ h.st is (λ may steps. elsewhere_step (lines.Go m side) number m (inputs.Will side true) h.st e refl steps)
-elsewhere_line {number = number} (lines.Signal m line on) e h is = unless_goes (lines.Signal m line on) _ _ h.st is (λ may steps. elsewhere_step (lines.Signal m line on) number m (inputs.Level line on) h.st e refl steps)
-elsewhere_line {number = number} (lines.Forecast m) e h is = unless_goes (lines.Forecast m) _ _ h.st is (λ may steps. elsewhere_step (lines.Forecast m) number m (inputs.Forecast) h.st e refl steps)
-elsewhere_line {number = number} (lines.Query m barcode) e h is = unless_goes (lines.Query m barcode) _ _ h.st is (λ may steps. elsewhere_step (lines.Query m barcode) number m (inputs.Query barcode) h.st e refl steps)
-elsewhere_line {number = number} (lines.Supervise m) e h is =
-    unless_goes (lines.Supervise m) _ _ h.st is
-    (λ may steps. elsewhere_step (lines.Supervise m) number m (inputs.Supervise true) h.st e refl steps)
-elsewhere_line {number = number} (lines.Ask m question) e h is =
-    unless_goes (lines.Ask m question) _ _ h.st is
-    (λ may steps. elsewhere_step (lines.Ask m question) number m (inputs.Ask question) h.st e refl steps)
-elsewhere_line {number = number} (lines.Answer m query order) e h is =
-    unless_goes (lines.Answer m query order) _ _ h.st is
-    (λ may steps. elsewhere_step (lines.Answer m query order) number m (inputs.Answer query order) h.st e refl steps)
-elsewhere_line {k = k} {number = number} (lines.Connect m) e h is = unless_goes (lines.Connect m) _ _ h.st is (λ may c. connect_elsewhere m h e c (same_or_not (m - 1) (k + 1)))
-elsewhere_line {number = number} (lines.Flow m side count) e h is = unless_goes (lines.Flow m side count) _ _ h.st is (λ may flows. elsewhere_flow number m side count h.st e flows)
-elsewhere_line {number = number} (lines.Notice m side) e h is = unless_goes (lines.Notice m side) _ _ h.st is (λ may steps. elsewhere_step (lines.Notice m side) number m (inputs.Notice side) h.st e refl steps)
-elsewhere_line (lines.Cut gap) e h is = unless_goes (lines.Cut gap) _ _ h.st is (λ may b. cut_elsewhere gap h.st e b)
-elsewhere_line {k = k} {s = s} (lines.Spoil m side) e h is = unless_goes (lines.Spoil m side) _ _ h.st is (λ may b. spoil_elsewhere m side h.st (other_link k m side (counted k s h.st.linked).0 e) b)
-elsewhere_line {number = number} (lines.Shutdown m) e h is = unless_goes (lines.Shutdown m) _ _ h.st is (λ may steps. elsewhere_step (lines.Shutdown m) number m inputs.Shutdown h.st e refl steps)
-elsewhere_line {number = number} (lines.Tick m) e h is = unless_goes (lines.Tick m) _ _ h.st is (λ may steps. elsewhere_step (lines.Tick m) number m inputs.Tick h.st e refl steps)
-elsewhere_line {number = number} (lines.Fault m side) e h is = unless_goes (lines.Fault m side) _ _ h.st is (λ may steps. elsewhere_step (lines.Fault m side) number m (inputs.Fault side) h.st e refl steps)
-elsewhere_line {k = k} (lines.Begin gap) e h is = move_elsewhere (lines.Begin gap) gap moves.Begin h.st e (ne_eqb gap k e) is
-elsewhere_line {k = k} (lines.Left gap) e h is = move_elsewhere (lines.Left gap) gap moves.Left h.st e (ne_eqb gap k e) is
-elsewhere_line {k = k} (lines.Enter gap) e h is = move_elsewhere (lines.Enter gap) gap moves.Enter h.st e (ne_eqb gap k e) is
-elsewhere_line (lines.Back gap) e h is = move_elsewhere (lines.Back gap) gap moves.Back h.st e refl is
-elsewhere_line (lines.HandIn gap) e h is = move_elsewhere (lines.HandIn gap) gap moves.HandIn h.st e refl is
-elsewhere_line (lines.Take gap) e h is = move_elsewhere (lines.Take gap) gap moves.Take h.st e refl is
-elsewhere_line lines.Blank e h is = absurd e
-elsewhere_line (lines.Sense m) e h is = absurd e
-elsewhere_line (lines.Lie m sensed) e h is = absurd e
-elsewhere_line (lines.Unseen m side) e h is = absurd e
-elsewhere_line lines.Show e h is = absurd e
+elsewhere_line {k = k} {number = number} {s = s} {next = next} {done = done} line e h is =
+    elsewhere_effect line (asked_elsewhere k line e) (not_of_link k s line e) h (line_effect number line s next done is)
 
 -- ---- EACH UNDISTURBED LINE
 
@@ -303,8 +305,8 @@ each_line {k = k} _ notices_below h is = unless_goes (lines.Notice (k + 1) Exit)
 each_line {k = k} {s = s} _ spoils_above h is =
     let one = (counted k s h.st.linked).0 in
     let apart : k - 1 ≢ k = omega (arith, one) in
-    unless_goes (lines.Spoil k Entry) _ _ h.st is (λ may b. spoil_elsewhere k Entry h.st apart b)
+    unless_goes (lines.Spoil k Entry) _ _ h.st is (λ may b. spoil_elsewhere (lines.Spoil k Entry) k Entry h.st apart refl b)
 each_line {k = k} {s = s} _ spoils_below h is =
     let apart : k + 1 ≢ k = omega arith in
-    unless_goes (lines.Spoil (k + 1) Exit) _ _ h.st is (λ may b. spoil_elsewhere (k + 1) Exit h.st apart b)
+    unless_goes (lines.Spoil (k + 1) Exit) _ _ h.st is (λ may b. spoil_elsewhere (lines.Spoil (k + 1) Exit) (k + 1) Exit h.st apart refl b)
 each_line {k = k} _ connects_above h is = unless_goes (lines.Connect k) _ _ h.st is (λ may c. connect_above h c)

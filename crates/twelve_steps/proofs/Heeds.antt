@@ -1,10 +1,10 @@
 -- What a machine has announced it stands by between its steps: what it offers it is willing to hand over, and while it said that it
 -- is ready it is willing and has a place.
-use Rattle.std.proofs.Common.{Bool, List, None, Option, Result, Ok, Err, Some, [], ap, arith, false, length, refl, subst, suc, sym, true, ℕ, ◌&&◌, ◌+◌, ◌<◌, ◌∙◌, ◌∷◌, ◌≡◌, ◌≢◌, ◌≤◌, ◌⊎◌, ◌||◌, inl, inr}
+use Rattle.std.proofs.Common.{Bool, List, None, Option, Some, [], ap, arith, false, length, refl, subst, suc, sym, true, ℕ, ◌&&◌, ◌+◌, ◌<◌, ◌∙◌, ◌∷◌, ◌≡◌, ◌≢◌, ◌≤◌, ◌⊎◌, ◌||◌, inl, inr}
 use Rattle.std.specs.Prelude.{is_none, is_some, not, slice_get}
 use Rattle.std.proofs.lemmas.Bool.{ltb-true}
 use Rattle.one_standing.proofs.RestNone.{node_none}
-use Rattle.one_standing.proofs.LedgerLine.{last_node}
+use Rattle.one_standing.proofs.LedgerLine.{last_node, same_nodes}
 use Rattle.board_record.specs.declared.record.Record.{Record}
 use Rattle.line_base.specs.declared.states.Side.TheVariants.{Entry, Exit}
 use Rattle.handover_out.specs.Row.{OutRow, outlet_row}
@@ -18,12 +18,6 @@ use Rattle.handover_in.specs.declared.input.InInput.TheVariants as in_input
 use Rattle.handover_in.specs.declared.phase.Phase.{Phase as In}
 use Rattle.handover_in.specs.declared.phase.Phase.TheVariants as inn
 use Rattle.line_script.specs.declared.line.ScriptLine.{ScriptLine}
-use Rattle.line_script.specs.declared.line.ScriptLine.TheVariants as lines
-use Rattle.line_world.specs.FloorPlan.{FloorPlan}
-use Rattle.line_world.specs.Moves.{floor_move}
-use Rattle.line_world.specs.declared.moves.Move.{Move}
-use Rattle.line_world.specs.declared.moves.Move.TheVariants as moves
-use Rattle.line_world.specs.declared.moves.MoveNo.{MoveNo}
 use Rattle.node_core.specs.Announces.{announces, is_free, is_front, is_intake_free, offer, offer_by, offers_now, readies_now, ready, ready_by, revoke, revoke_by, revokes_now, start_by, starts_now, unready, unready_by, unreadies_now}
 use Rattle.node_core.specs.Desk.{Desk}
 use Rattle.node_core.specs.Done.{Done}
@@ -38,9 +32,8 @@ use Rattle.node_core.specs.declared.lane.Body.{Body}
 use Rattle.node_core.specs.declared.lane.End.{End}
 use Rattle.node_core.proofs.Keeping.{at_intake_keeps}
 use Rattle.line_report.specs.declared.happening.Happening.{Happening}
-use Rattle.line_step.specs.Lines.{Becomes, Connects, Flows, LineDoes, Moves, Unless, moved}
+use Rattle.line_step.specs.Lines.{Connects}
 use Rattle.line_step.specs.Numbered.{Stand, node_at}
-use Rattle.line_step.specs.Reasons.{May}
 use Rattle.line_step.specs.Runs.{IsRun, Point, state_behind}
 use Rattle.line_step.specs.State.{LineState, no_line, one_more, profile_of}
 use Rattle.line_step.specs.Steps.{MachineSteps, moment_of, unread_by}
@@ -50,6 +43,10 @@ use Rattle.twelve_steps.proofs.Beside.{SameLower, SameUpper}
 use Rattle.twelve_steps.proofs.Going.{next_node}
 use Rattle.twelve_steps.proofs.Lower.{Aside, HasRoom, offer_aside, ready_tests}
 use Rattle.twelve_steps.proofs.Upper.{last_willing, ready_beside, start_beside, unready_beside}
+use Rattle.line_step.proofs.Requests.{Request, request_of}
+use Rattle.line_step.proofs.Effects.{becomes_by}
+use Rattle.line_step.proofs.Turns.{LineTurns, line_turns}
+use Rattle.line_step.proofs.Turns as turns
 
 abbrev pub StandsOut : Body → Type 0
 StandsOut body = is_idle_phase body.outlet.phase ≡ true → is_some body.outlet.offered ≡ true → body.exit.willing ≡ true
@@ -229,60 +226,18 @@ more_heeds_at is_bridge capacity many n s h (inr apart) =
 more_heeds : (is_bridge : Bool) (capacity many : ℕ) (s : LineState) → HeedsAll s → HeedsAll (one_more is_bridge capacity many s)
 more_heeds is_bridge capacity many s h = record { at = λ n. more_heeds_at is_bridge capacity many n s h (same_or_not n (length s.machines + 1)) }
 
-becomes_heeds : {next : LineState} {what told : List Happening} (now : LineState) → Becomes now what next told → HeedsAll now → HeedsAll next
-becomes_heeds now b h = subst (λ (x : LineState). HeedsAll x) (sym b.after_is) h
-
-unless_heeds : (s next : LineState) (told : List Happening) (may : May) (Does : Type 0) → Unless may s next told Does → HeedsAll s → (Does → HeedsAll next) → HeedsAll next
-unless_heeds s next told (Ok _) Does is h does = does is
-unless_heeds s next told (Err reason) Does is h does = becomes_heeds s is h
-
 twice_heeds : (number m : ℕ) (s next : LineState) (told : List Happening) → Connects number m s next told → HeedsAll s → HeedsAll next
 twice_heeds number m s next told c h = step_heeds number _ _ c.between next c.later c.second (step_heeds number m _ _ c.between c.earlier c.first (record { at = h.at }))
 
-moved_heeds : (answer : Result FloorPlan MoveNo) (s : LineState) → HeedsAll s → HeedsAll (moved answer s)
-moved_heeds (Ok floor) s h = record { at = h.at }
-moved_heeds (Err why) s h = h
+same_heeds : (s next : LineState) → next.machines ≡ s.machines → HeedsAll s → HeedsAll next
+same_heeds s next same h = record { at = λ m. subst (λ (x : NodeState). Heeds x.capacity x.lane.body) (sym (same_nodes s next same m)) (h.at m) }
 
-move_heeds : (gap : ℕ) (step : Move) (s next : LineState) (told : List Happening) → Moves gap step s next told → HeedsAll s → HeedsAll next
-move_heeds gap step s next told b h = becomes_heeds _ b (moved_heeds (floor_move gap step s.world.floor) s h)
-
-does_heed : (number : ℕ) (line : ScriptLine) (s next : LineState) (told : List Happening) → LineDoes number line s next told → HeedsAll s → HeedsAll next
-does_heed number lines.Blank s next told is h = becomes_heeds s is h
-does_heed number (lines.Machine capacity many) s next told is h = unless_heeds s next told _ _ is h (λ b. becomes_heeds _ b (more_heeds false capacity many s h))
-does_heed number (lines.Bridge capacity many) s next told is h = unless_heeds s next told _ _ is h (λ b. becomes_heeds _ b (more_heeds true capacity many s h))
-does_heed number (lines.Insert m barcode) s next told is h = unless_heeds s next told _ _ is h (λ steps. step_heeds number m _ s next told steps h)
-does_heed number (lines.Remove m id) s next told is h = unless_heeds s next told _ _ is h (λ steps. step_heeds number m _ s next told steps h)
-does_heed number (lines.Replace m id) s next told is h = unless_heeds s next told _ _ is h (λ steps. step_heeds number m _ s next told steps h)
-does_heed number (lines.Mark m id quality) s next told is h = unless_heeds s next told _ _ is h (λ steps. step_heeds number m _ s next told steps h)
-does_heed number (lines.Hold m side) s next told is h = unless_heeds s next told _ _ is h (λ steps. step_heeds number m _ s next told steps h)
-does_heed number (lines.Go m side) s next told is h = unless_heeds s next told _ _ is h (λ steps. step_heeds number m _ s next told steps h)
-does_heed number (lines.Signal m line on) s next told is h = unless_heeds s next told _ _ is h (λ steps. step_heeds number m _ s next told steps h)
-does_heed number (lines.Forecast m) s next told is h = unless_heeds s next told _ _ is h (λ steps. step_heeds number m _ s next told steps h)
-does_heed number (lines.Query m barcode) s next told is h = unless_heeds s next told _ _ is h (λ steps. step_heeds number m _ s next told steps h)
-does_heed number (lines.Supervise m) s next told is h =
-    unless_heeds s next told _ _ is h (λ steps. step_heeds number m _ s next told steps h)
-does_heed number (lines.Ask m question) s next told is h =
-    unless_heeds s next told _ _ is h (λ steps. step_heeds number m _ s next told steps h)
-does_heed number (lines.Answer m query order) s next told is h =
-    unless_heeds s next told _ _ is h (λ steps. step_heeds number m _ s next told steps h)
-does_heed number (lines.Connect m) s next told is h = unless_heeds s next told _ _ is h (λ c. twice_heeds number m s next told c h)
-does_heed number (lines.Flow m side count) s next told is h = unless_heeds s next told _ (Flows number m side count s next told) is h (λ flows. step_heeds number m _ _ next told flows.steps (record { at = h.at }))
-does_heed number (lines.Notice m side) s next told is h = unless_heeds s next told _ _ is h (λ steps. step_heeds number m _ s next told steps h)
-does_heed number (lines.Cut gap) s next told is h = unless_heeds s next told _ _ is h (λ b. becomes_heeds _ b (record { at = h.at }))
-does_heed number (lines.Spoil m side) s next told is h = unless_heeds s next told _ _ is h (λ b. becomes_heeds _ b (record { at = h.at }))
-does_heed number (lines.Shutdown m) s next told is h = unless_heeds s next told _ _ is h (λ steps. step_heeds number m _ s next told steps h)
-does_heed number (lines.Tick m) s next told is h = unless_heeds s next told _ _ is h (λ steps. step_heeds number m _ s next told steps h)
-does_heed number (lines.Fault m side) s next told is h = unless_heeds s next told _ _ is h (λ steps. step_heeds number m _ s next told steps h)
-does_heed number (lines.Lie m sensed) s next told is h = unless_heeds s next told _ _ is h (λ b. becomes_heeds _ b (record { at = h.at }))
-does_heed number (lines.Unseen m side) s next told is h = unless_heeds s next told _ _ is h (λ b. becomes_heeds _ b (record { at = h.at }))
-does_heed number (lines.Sense m) s next told is h = unless_heeds s next told _ _ is h (λ steps. step_heeds number m _ s next told steps h)
-does_heed number (lines.Begin gap) s next told is h = move_heeds gap moves.Begin s next told is h
-does_heed number (lines.Left gap) s next told is h = move_heeds gap moves.Left s next told is h
-does_heed number (lines.Enter gap) s next told is h = move_heeds gap moves.Enter s next told is h
-does_heed number (lines.Back gap) s next told is h = move_heeds gap moves.Back s next told is h
-does_heed number (lines.HandIn gap) s next told is h = move_heeds gap moves.HandIn s next told is h
-does_heed number (lines.Take gap) s next told is h = move_heeds gap moves.Take s next told is h
-does_heed number lines.Show s next told is h = becomes_heeds s is h
+turns_heed : (number : ℕ) (request : Request) (s next : LineState) (told : List Happening) → LineTurns number s next told request → HeedsAll s → HeedsAll next
+turns_heed number request s next told (turns.stays _ same none) h = same_heeds s next same h
+turns_heed number request s next told (turns.adds is_bridge capacity many may b) h = becomes_by (λ x ts. HeedsAll x) b (more_heeds is_bridge capacity many s h)
+turns_heed number request s next told (turns.steps m input given may did) h = step_heeds number m input s next told did h
+turns_heed number request s next told (turns.connects m may did) h = twice_heeds number m s next told did h
+turns_heed number request s next told (turns.flows m side count may did) h = step_heeds number m _ _ next told did.steps (record { at = h.at })
 
 pub run_heeds : (asked : List ScriptLine) (points : List Point) (s : LineState) → HeedsAll s → IsRun s asked points → HeedsAll (state_behind s points)
 run_heeds [] [] s h run = h
@@ -290,7 +245,7 @@ run_heeds [] (point ∷ points) s h run = absurd run
 run_heeds (line ∷ asked) [] s h run = absurd run
 run_heeds (line ∷ asked) (point ∷ points) s h run =
     let steps = run.0 in
-    let next : HeedsAll steps.next = does_heed (s.lines + 1) line s steps.next steps.done steps.does h in
+    let next : HeedsAll steps.next = turns_heed (s.lines + 1) (request_of line) s steps.next steps.done (line_turns (s.lines + 1) line s steps.next steps.done steps.does) h in
     run_heeds asked points point.after (subst (λ (x : LineState). HeedsAll x) (sym steps.after_is) (record { at = next.at })) run.1
 
 none_at : (m : ℕ) → Heeds (node_at no_line m).capacity (node_at no_line m).lane.body

@@ -1,5 +1,5 @@
 -- A line of an undisturbed stretch.
-use Rattle.std.proofs.Common.{Bool, List, None, Option, Ok, Err, Some, [], ap, arith, false, ne_eqb, refl, subst, sym, true, ℕ, ◌&&◌, ◌++◌, ◌+◌, ◌==◌, ◌∙◌, ◌∷◌, ◌≡◌, ◌≢◌, ◌≤◌, ◌⊎◌, ◌||◌, inl, inr}
+use Rattle.std.proofs.Common.{Bool, List, Option, Ok, Err, [], ap, arith, false, ne_eqb, refl, subst, sym, true, ℕ, ◌&&◌, ◌++◌, ◌+◌, ◌==◌, ◌∙◌, ◌∷◌, ◌≡◌, ◌≢◌, ◌≤◌, ◌⊎◌, ◌||◌, inl, inr}
 use Rattle.std.specs.Prelude.{not}
 use Rattle.std.proofs.lemmas.Bool.{or_left, or_right}
 use Rattle.custody.proofs.Rows.{same as own_eq}
@@ -168,17 +168,11 @@ other_link k m Entry one e =
     let below = e.not_below in
     omega (arith, one, below)
 
-flow_of : (k m : ℕ) (side : Side) (count : Option ℕ) (s : LineState) → IsElsewhere k m → is_of_link k s (lines.Flow m side count) ≡ false
-flow_of k m Exit None s e = ne_eqb m k e.not_above
-flow_of k m Entry None s e = ne_eqb m (k + 1) e.not_below
-flow_of k m Exit (Some count) s e = refl
-flow_of k m Entry (Some count) s e = refl
-
-pub elsewhere_flow : {k : ℕ} {id : Record} {left : ℕ} {told : Bool} {s next : LineState} {done : List Happening} (number m : ℕ) (side : Side) (count : Option ℕ) → Stage k id left told s → IsElsewhere k m → Flows number m side count s next done → Goes k id left told s (lines.Flow m side count) next done
-elsewhere_flow {k = k} {s = s} {next = next} {done = done} number m side count st e flows =
+pub elsewhere_flow : {k : ℕ} {id : Record} {left : ℕ} {told : Bool} {s next : LineState} {done : List Happening} (line : ScriptLine) (number m : ℕ) (side : Side) (count : Option ℕ) → Stage k id left told s → IsElsewhere k m → is_of_link k s line ≡ false → Flows number m side count s next done → Goes k id left told s line next done
+elsewhere_flow {k = k} {s = s} {next = next} {done = done} line number m side count st e is flows =
     let one = (counted k s st.linked).0 in
-    goes_beyond (lines.Flow m side count) st
-    (untouched_then (link_untouched k (link_of m side) _ s (other_link k m side one e)) (beyond_step k number m (inputs.Bytes side flows.piece) (arrived m side count s) next done e.not_above e.not_below flows.steps)) (flow_of k m side count s e)
+    goes_beyond line st
+    (untouched_then (link_untouched k (link_of m side) _ s (other_link k m side one e)) (beyond_step k number m (inputs.Bytes side flows.piece) (arrived m side count s) next done e.not_above e.not_below flows.steps)) is
 
 -- ---- both machines read what their sensors saw
 
