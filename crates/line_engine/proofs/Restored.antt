@@ -1,26 +1,24 @@
 -- Which machines a line of a script changes: with what those that it may step had put back, the line is as it was.
-use Rattle.std.proofs.Common.{◌≡◌, ◌∙◌, ◌+◌, ◌-◌, ◌⊎◌, ℕ, zero, suc, List, [], ◌∷◌, Result, Ok, Err, inl, inr, drop, take, refl, sym, ap, arith, lt-ltb}
+use Rattle.std.proofs.Common.{Bool, true, false, subst, ◌≡◌, ◌∙◌, ◌+◌, ◌-◌, ◌⊎◌, ℕ, zero, suc, List, [], ◌∷◌, inl, inr, drop, take, refl, sym, ap, arith, lt-ltb}
 use Rattle.std.specs.Prelude.{map, nat_lt, slice_set}
 use Rattle.std.proofs.Math.Numerals.{sub-one}
 use Rattle.line_script.specs.declared.line.ScriptLine.{ScriptLine}
 use Rattle.line_script.specs.declared.line.ScriptLine.TheVariants as lines
-use Rattle.line_world.specs.FloorPlan.{FloorPlan}
-use Rattle.line_world.specs.Moves.{floor_move}
-use Rattle.line_world.specs.declared.moves.Move.{Move}
-use Rattle.line_world.specs.declared.moves.Move.TheVariants as moves
-use Rattle.line_world.specs.declared.moves.MoveNo.{MoveNo}
 use Rattle.node_core.specs.declared.input.Input.{Input}
 use Rattle.node_core.specs.declared.input.Input.TheVariants as inputs
 use Rattle.node_core.specs.Node.{NodeState}
 use Rattle.standings.specs.Marks.{Owned}
 use Rattle.line_step.specs.State.{LineState, owned, owned_by}
 use Rattle.line_step.specs.Steps.{MachineSteps}
-use Rattle.line_step.specs.Reasons.{May, may_add}
 use Rattle.line_step.specs.Named.{ids_named}
-use Rattle.line_step.specs.Lines.{Becomes, Connects, Flows, LineDoes, Moves, Unless, arrived, connecting, cut_in, lied, moved, spoiled, unseen}
+use Rattle.line_step.specs.Lines.{Connects, LineDoes, arrived, connecting}
 use Rattle.line_step.proofs.Ascending.{choose_true}
 use Rattle.line_report.specs.declared.happening.Happening.{Happening}
 use Rattle.line_engine.specs.Stepped.{first_stepped, last_stepped, owned_between}
+use Rattle.line_step.proofs.Requests.{Request, added_told, request_of}
+use Rattle.line_step.proofs.Turns.{LineTurns, line_turns}
+use Rattle.line_step.proofs.Requests as requests
+use Rattle.line_step.proofs.Turns as turns
 
 -- ---- what machines had, put back
 
@@ -78,14 +76,6 @@ two_back (suc place) (node ∷ nodes) upper lower = ap (λ (owns : List Owned). 
 abbrev pub Restores : ℕ → ℕ → LineState → LineState → Type 0
 Restores first last before after = owned_with first (owned_between first last (owned before)) (owned after) ≡ owned before
 
-unchanged : (first last : ℕ) (before next after : LineState) (what told : List Happening) → owned next ≡ owned before → Becomes next what after told → Restores first last before after
-unchanged first last before next after what told same b =
-    ap (λ (line : List Owned). owned_with first (owned_between first last (owned before)) line) (ap owned b.after_is ∙ same) ∙ restored_none first last (owned before)
-
-unless : (first last : ℕ) (may : May) (before after : LineState) (told : List Happening) (Done : Type 0) → (Done → Restores first last before after) → Unless may before after told Done → Restores first last before after
-unless first last (Err reason) before after told Done restores u = unchanged first last before before after _ told refl u
-unless first last (Ok _) before after told Done restores u = restores u
-
 -- the machines after a step
 stepped : (number place machine : ℕ) (input : Input) (before after : LineState) (told : List Happening) → machine ≡ suc place → (m : MachineSteps number machine input before after told) → after.machines ≡ slice_set before.machines place m.next
 stepped number place machine input before after told is m =
@@ -113,50 +103,40 @@ connects : (number machine : ℕ) (before after : LineState) (told : List Happen
 connects number zero before after told t = let none = t.first.there in cc
 connects number (suc place) before after told t = two_steps number place (suc place - 1) inputs.Connect _ before (connecting (suc place) before) t.between after t.earlier t.later (sub-one (suc place)) refl t.first t.second
 
-moved_owned : (answer : Result FloorPlan MoveNo) (s : LineState) → owned (moved answer s) ≡ owned s
-moved_owned (Ok floor) s = refl
-moved_owned (Err why) s = refl
+added_none : (is_bridge : Bool) (capacity : ℕ) (s : LineState) → ids_named (added_told is_bridge capacity s) ≡ []
+added_none true capacity s = refl
+added_none false capacity s = refl
 
-moves_board : (gap : ℕ) (step : Move) (before after : LineState) (told : List Happening) → Moves gap step before after told → Restores 0 0 before after
-moves_board gap step before after told b = unchanged 0 0 before (moved (floor_move gap step before.world.floor) before) after _ told (moved_owned (floor_move gap step before.world.floor) before) b
+-- the machines that a request may step
+abbrev last_asked : Request → ℕ
+last_asked (requests.gives machine input) = machine
+last_asked (requests.connects machine) = machine
+last_asked (requests.flows machine side count) = machine
+last_asked _ = 0
 
-added : (may : May) (before next after : LineState) (what told : List Happening) → ids_named what ≡ [] → Unless may before after told (Becomes next what after told) → ids_named told ≡ []
-added (Err reason) before next after what told none u = ap ids_named u.told_is
-added (Ok _) before next after what told none u = ap ids_named u.told_is ∙ none
+abbrev first_asked : Request → ℕ
+first_asked (requests.connects machine) = machine - 1
+first_asked request = last_asked request
+
+first_is : (line : ScriptLine) → first_asked (request_of line) ≡ first_stepped line
+first_is lines.Blank = refl
+first_is _ = refl
+
+last_is : (line : ScriptLine) → last_asked (request_of line) ≡ last_stepped line
+last_is lines.Blank = refl
+last_is _ = refl
+
+turn_restores : (number : ℕ) (request : Request) (before after : LineState) (told : List Happening) → LineTurns number before after told request → Restores (first_asked request) (last_asked request) before after ⊎ (ids_named told ≡ [])
+turn_restores number request before after told (turns.stays _ same none) =
+    inl (ap (λ (line : List Owned). owned_with (first_asked request) (owned_between (first_asked request) (last_asked request) (owned before)) line) (ap (map owned_by) same) ∙ restored_none (first_asked request) (last_asked request) (owned before))
+turn_restores number request before after told (turns.adds is_bridge capacity used may b) = inr (ap ids_named b.told_is ∙ added_none is_bridge capacity before)
+turn_restores number request before after told (turns.steps machine input given may did) = inl (one_step number machine input before before after told refl did)
+turn_restores number request before after told (turns.connects machine may did) = inl (connects number machine before after told did)
+turn_restores number request before after told (turns.flows machine side count may did) = inl (one_step number machine _ before (arrived machine side count before) after told refl did.steps)
 
 -- what the line of a new machine tells names no id; all others restore what was
 pub restores : (number : ℕ) (line : ScriptLine) (before after : LineState) (told : List Happening) → LineDoes number line before after told → Restores (first_stepped line) (last_stepped line) before after ⊎ (ids_named told ≡ [])
-restores number lines.Blank before after told d = inl (unchanged 0 0 before before after _ told refl d)
-restores number (lines.Machine capacity used) before after told d = inr (added (may_add before) before _ after _ told refl d)
-restores number (lines.Bridge capacity used) before after told d = inr (added (may_add before) before _ after _ told refl d)
-restores number (lines.Insert machine _) before after told d = inl (unless machine machine _ before after told _ (one_step number machine _ before before after told refl) d)
-restores number (lines.Remove machine _) before after told d = inl (unless machine machine _ before after told _ (one_step number machine _ before before after told refl) d)
-restores number (lines.Replace machine _) before after told d = inl (unless machine machine _ before after told _ (one_step number machine _ before before after told refl) d)
-restores number (lines.Mark machine _ _) before after told d = inl (unless machine machine _ before after told _ (one_step number machine _ before before after told refl) d)
-restores number (lines.Hold machine _) before after told d = inl (unless machine machine _ before after told _ (one_step number machine _ before before after told refl) d)
-restores number (lines.Go machine _) before after told d = inl (unless machine machine _ before after told _ (one_step number machine _ before before after told refl) d)
-restores number (lines.Signal machine _ _) before after told d = inl (unless machine machine _ before after told _ (one_step number machine _ before before after told refl) d)
-restores number (lines.Connect machine) before after told d = inl (unless (machine - 1) machine _ before after told _ (connects number machine before after told) d)
-restores number (lines.Flow machine side count) before after told d =
-    inl (unless machine machine _ before after told (Flows number machine side count before after told) (λ f. one_step number machine _ before (arrived machine side count before) after told refl f.steps) d)
-restores number (lines.Notice machine _) before after told d = inl (unless machine machine _ before after told _ (one_step number machine _ before before after told refl) d)
-restores number (lines.Cut gap) before after told d = inl (unless 0 0 _ before after told _ (unchanged 0 0 before (cut_in gap before) after _ told refl) d)
-restores number (lines.Spoil machine side) before after told d = inl (unless 0 0 _ before after told _ (unchanged 0 0 before (spoiled machine side before) after _ told refl) d)
-restores number (lines.Shutdown machine) before after told d = inl (unless machine machine _ before after told _ (one_step number machine _ before before after told refl) d)
-restores number (lines.Tick machine) before after told d = inl (unless machine machine _ before after told _ (one_step number machine _ before before after told refl) d)
-restores number (lines.Fault machine _) before after told d = inl (unless machine machine _ before after told _ (one_step number machine _ before before after told refl) d)
-restores number (lines.Sense machine) before after told d = inl (unless machine machine _ before after told _ (one_step number machine _ before before after told refl) d)
-restores number (lines.Begin gap) before after told d = inl (moves_board gap moves.Begin before after told d)
-restores number (lines.Left gap) before after told d = inl (moves_board gap moves.Left before after told d)
-restores number (lines.Enter gap) before after told d = inl (moves_board gap moves.Enter before after told d)
-restores number (lines.Back gap) before after told d = inl (moves_board gap moves.Back before after told d)
-restores number (lines.HandIn gap) before after told d = inl (moves_board gap moves.HandIn before after told d)
-restores number (lines.Take gap) before after told d = inl (moves_board gap moves.Take before after told d)
-restores number (lines.Lie machine sensed) before after told d = inl (unless 0 0 _ before after told _ (unchanged 0 0 before (lied number machine sensed before) after _ told refl) d)
-restores number (lines.Unseen machine side) before after told d = inl (unless 0 0 _ before after told _ (unchanged 0 0 before (unseen number machine side before) after _ told refl) d)
-restores number lines.Show before after told d = inl (unchanged 0 0 before before after _ told refl d)
-restores number (lines.Forecast machine) before after told d = inl (unless machine machine _ before after told _ (one_step number machine _ before before after told refl) d)
-restores number (lines.Query machine _) before after told d = inl (unless machine machine _ before after told _ (one_step number machine _ before before after told refl) d)
-restores number (lines.Supervise machine) before after told d = inl (unless machine machine _ before after told _ (one_step number machine _ before before after told refl) d)
-restores number (lines.Ask machine _) before after told d = inl (unless machine machine _ before after told _ (one_step number machine _ before before after told refl) d)
-restores number (lines.Answer machine _ _) before after told d = inl (unless machine machine _ before after told _ (one_step number machine _ before before after told refl) d)
+restores number line before after told does =
+    subst (λ (first : ℕ). Restores first (last_stepped line) before after ⊎ (ids_named told ≡ [])) (first_is line)
+    (subst (λ (last : ℕ). Restores (first_asked (request_of line)) last before after ⊎ (ids_named told ≡ [])) (last_is line)
+    (turn_restores number (request_of line) before after told (line_turns number line before after told does)))
