@@ -51,3 +51,5 @@ pub mod MovesKeep
 pub mod Spoils
 pub mod Messages
 pub mod HandsFloor
+pub mod Ahead
+pub mod Taken

@@ -56,3 +56,9 @@ pub data Talks : Bool → SessionState → Out → Option ℕ → Bool → Sessi
       {i : In} {f : Option Record} {ri : Bool} {p : Place} {up : List UpWord}
       {down : List DownWord}
       → Exit b x o of rd up → Entry b y i f ri p down → Talks false x o of rd y i f ri p up down
+
+-- what may have been said up on a connection that the exit has not taken: nothing, while it has not
+-- come to the entry, or else the description of the downstream machine alone
+pub data IsCall : List UpWord → Type 0 where
+  call_awaited : IsCall []
+  call_described : IsCall (DownstreamService ∷ [])

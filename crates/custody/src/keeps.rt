@@ -2,9 +2,10 @@
 //! and each move on the floor. Every word that is heard finds a session that takes it and a row,
 //! so no machine blames its neighbour.
 
-ghost use Rattle.std.specs.Prelude.{◌≡◌, ◌∷◌, ◌++◌, [], Bool, List, None, Ok, Option, Some, true, false, ℕ};
+ghost use Rattle.std.specs.Prelude.{◌≡◌, ◌∷◌, ◌++◌, ◌⊎◌, [], Bool, List, None, Ok, Option, Some, true, false, ℕ};
 ghost use Rattle.line_base.specs.declared.states.Quality.{Quality as Grade};
 ghost use Rattle.line_base.specs.declared.states.SensorEvent.{SensorEvent as Event};
+ghost use Rattle.line_base.specs.declared.states.Side.TheVariants.{Entry};
 ghost use Rattle.line_base.specs.declared.states.Transfer.{Transfer as End};
 ghost use Rattle.board_record.specs.declared.record.Record.{Record as Board};
 ghost use Rattle.board_record.specs.declared.sensed.Sensed.{Sensed as Sight};
@@ -20,16 +21,19 @@ ghost use Rattle.handover_out.specs.State.{board_of_phase as held_out};
 ghost use Rattle.handover_out.specs.declared.input.OutInput.TheVariants as out_input;
 ghost use Rattle.handover_out.specs.declared.phase.Phase.{Phase as Out};
 ghost use Rattle.handover_out.specs.declared.phase.Phase.TheVariants as out;
+ghost use Rattle.handover_in.specs.Row.{InRow, intake_row};
 ghost use Rattle.handover_in.specs.State.{may_connect};
+ghost use Rattle.handover_in.specs.declared.input.InInput.{InInput as Announced};
 ghost use Rattle.handover_in.specs.declared.input.InInput.TheVariants as in_input;
 ghost use Rattle.handover_in.specs.declared.phase.Phase.{Phase as In};
 ghost use Rattle.handover_in.specs.declared.phase.Phase.TheVariants as inn;
-ghost use Rattle.custody.specs.Words.{down_words, sent, starts_in, up_words};
+ghost use Rattle.custody.specs.Words.{down_words, events_at, sent, starts_in, up_words};
 ghost use Rattle.custody.specs.Place.{Place};
 ghost use Rattle.custody.specs.Pair.{Body, Ghost, LinkState, Pair, board_of, keep_at};
 ghost use Rattle.custody.specs.Contents.{Kept, Looks, OffersFront};
 ghost use Rattle.custody.specs.Facts.{IsOpen};
 ghost use Rattle.custody.specs.Hands.{IsOther, PutFor, TakenOut};
+ghost use Rattle.custody.specs.Talks.{IsCall};
 ghost use Rattle.custody.specs.Events.{EntryShut, EntryStep, ExitShut, ExitStep, IsContent, StartSaid, StartStep, called_on, cut_on, described_on, gone_by, hearing_down, hearing_up, offered_on, revoked_on, with_unread_down, with_unread_up};
 ghost use Rattle.custody.specs.Floors.{Lifted};
 
@@ -226,6 +230,65 @@ pub fn a_link_is_connected()
         }) kept }
     ensures second { (g : Ghost) (l : LinkState) → Pair g l → may_connect l.intake.phase ≡ true
         → l.entry ≡ NotConnected → Pair g (record l { entry = Handshake }) }
+{}
+
+/// The downstream machine's connection comes where the exit has taken it first: the exit shakes
+/// hands, has heard nothing, and said no word. Then the link stands, with the description on its
+/// way.
+pub fn a_link_is_taken_first()
+    ensures link { (g : Ghost) (l : LinkState) (service : Description) (down : List Message)
+        → Pair g l → may_connect l.intake.phase ≡ true → l.exit ≡ Handshake → up_words l.up ≡ []
+        → l.entry ≡ NotConnected → down_words down ≡ []
+        → Pair g (record l {
+          entry = Handshake;
+          stands = true;
+          up = message.ServiceDescription service ∷ [];
+          down = down;
+        }) }
+    ensures contents { (gone : ℕ → Bool) (g : Ghost) (l : LinkState) (service : Description)
+        (down : List Message) (kept : List Board) → Pair g l → l.entry ≡ NotConnected
+        → down_words down ≡ []
+        → IsContent (gone_by gone)
+        (record l {
+          entry = Handshake;
+          stands = true;
+          up = message.ServiceDescription service ∷ [];
+          down = down;
+        }) kept }
+{}
+
+/// One end alone takes a connection, and the link doesn't stand: the exit one that has not come
+/// to the entry or was left there, so that a description at most was said on it; the entry one
+/// that the exit has refused or left, or that waits there, on which no word was said.
+pub fn a_lone_end_is_taken()
+    ensures exit { (g : Ghost) (l : LinkState) (up : List Message) → Pair g l
+        → l.exit ≡ NotConnected → IsCall (up_words up)
+        → Pair g (record l { exit = Handshake; up = up }) }
+    ensures exit_contents { (gone : ℕ → Bool) (l : LinkState) (up : List Message)
+        (kept : List Board) → IsCall (up_words up) → IsContent (gone_by gone) l kept
+        → IsContent (gone_by gone) (record l { exit = Handshake; up = up }) kept }
+    ensures entry { (g : Ghost) (l : LinkState) (down : List Message) → Pair g l
+        → may_connect l.intake.phase ≡ true → l.entry ≡ NotConnected → down_words down ≡ []
+        → Pair g (record l { entry = Handshake; down = down }) }
+    ensures entry_contents { (gone : ℕ → Bool) (l : LinkState) (down : List Message)
+        (kept : List Board) → down_words down ≡ [] → IsContent (gone_by gone) l kept
+        → IsContent (gone_by gone) (record l { down = down }) kept }
+{}
+
+/// A machine may read its events in its own time: an intake that becomes free by an event has read
+/// all that its sensor saw, and at the gap of a free intake whose session stands no board moves.
+/// So nothing is unread there, and the entry announces as if all were read.
+pub fn a_free_intake_has_read()
+    ensures read { (g : Ghost) (l : LinkState) (e : Event) (rest : List Sight) (row : InRow)
+        → Pair g (with_unread_down l (entry_sees e ∷ rest))
+        → intake_row l.intake (in_input.Sensed e) ≡ Some row → row.after.phase ≡ inn.Idle
+        → (l.intake.phase ≡ inn.Idle) ⊎ (events_at Entry rest ≡ []) }
+    ensures rests { (step : Move) (l : LinkState) (g : Ghost) (c : Around) → Pair g l
+        → l.entry ≡ Standing → l.intake.phase ≡ inn.Idle → around_move step l.around ≡ Ok c → ⊥ }
+    ensures announces { (gone : ℕ → Bool) (kept : List Board) (g : Ghost) (l : LinkState)
+        (w : Announced) (later : List Sight) → events_at Entry later ≡ []
+        → EntryStep (gone_by gone) kept g (with_unread_down l []) w [] l.down
+        → EntryStep (gone_by gone) kept g (with_unread_down l later) w later l.down }
 {}
 
 /// A link is cut: what flows either way is gone.

@@ -45,7 +45,7 @@ use Rattle.custody.proofs.Lists.{down_words-append}
 use Rattle.machine_custody.specs.Scene.{Scene, all_met, met}
 use Rattle.machine_custody.specs.Good.{Afar, Goes, GoesBy, Good}
 use Rattle.machine_custody.specs.ByHand.{body_read, scene_read}
-use Rattle.machine_custody.specs.Joined.{GoesSecond, all_met_second, answered, is_answer, met_second}
+use Rattle.machine_custody.specs.Joined.{GoesLeft, GoesSecond, all_met_left, all_met_second, answered, is_answer, met_left, met_second, unanswered}
 use Rattle.machine_custody.proofs.Accepting.{goes_since}
 use Rattle.machine_custody.proofs.Announcing.{announces_go}
 use Rattle.machine_custody.proofs.Clock.{exit_says}
@@ -220,3 +220,58 @@ pub seconds_vanish_go : {afar : Afar} {above : List Record} {ga gb : Ghost} (des
 seconds_vanish_go desk unread body c g =
     let one : Machine = body_read desk unread body in
     step_by desk unread Second body c (vanishes_goes one (scene_read desk unread body c) desk (session_row one.exit.session second) refl (all_read_good desk unread body c g))
+
+-- ---- and to a second connection that was left below, where the answer is for nobody
+
+left_not : (what : Horizontal) (test : Bool) (c : Scene) → test ≡ false → unanswered test what c ≡ unanswered false what c
+left_not what test c is = ap (λ t. unanswered t what c) is
+
+one_left : (act : Act) (c : Scene) → IsNoAnswer act → met_left act c ≡ met act c
+one_left (acts.Sends Exit message) c plain = left_not message.body (is_answer message.body) c plain
+one_left _ c plain = refl
+
+plain_left : (told : List Act) (c : Scene) → AllActs IsNoAnswer told → all_met_left told c ≡ all_met told c
+plain_left _ c acts_none = refl
+plain_left _ c (acts_more {act = act} {others = others} p ps) = ap (all_met_left others) (one_left act c p) ∙ plain_left others (met act c) ps
+
+left_append : (xs ys : List Act) (c : Scene) → all_met_left (xs ++ ys) c ≡ all_met_left ys (all_met_left xs c)
+left_append [] ys c = refl
+left_append (x ∷ xs) ys c = left_append xs ys (met_left x c)
+
+left_tells : (desk : Desk) (watch : Watch) (made : List Act) (c : Scene)
+    → all_met_left (with_tells desk watch made) c ≡ all_met_left made c
+left_tells desk watch made =
+    beside (λ told plain. (c : Scene) → all_met_left told c ≡ all_met_left plain c) (λ c. refl)
+    (λ act told plain same c. same (met_left act c)) (λ message told plain same c. same c)
+    desk watch made
+
+left_row : {afar : Afar} {above : List Record} {ga gb : Ghost} (body : Machine) (c : Scene) (desk : Desk) (s : SessionEnd) (row : SessionRow) → IsSessionRow s second row
+    → Good afar above [] ga gb (with_session Exit s body) c → GoesLeft afar above [] ga gb c (actions_did desk Exit row.actions (with_session Exit row.after body))
+left_row body c desk _ _ (refuses_second is) g = goes_not g
+
+left_goes : {afar : Afar} {above : List Record} {ga gb : Ghost} (body : Machine) (c : Scene) (desk : Desk) (row : Option SessionRow) → session_row body.exit.session second ≡ row
+    → Good afar above [] ga gb body c → GoesLeft afar above [] ga gb c (session_did desk Exit row body)
+left_goes body c desk None is g = goes_not g
+left_goes body c desk (Some row) is g = left_row body c desk body.exit.session row (session_row_is body.exit.session second row is) g
+
+lefts_are : (desk : Desk) (unread : List Sensed) (body : Machine) (c : Scene)
+    → all_met_left (machine_step desk unread Second body).acts c
+    ≡ all_met (announces desk (event_did desk Second (body_read desk unread body)).body).acts (all_met_left (event_did desk Second (body_read desk unread body)).acts (scene_read desk unread body c))
+lefts_are desk unread body c =
+    let read : Done = all_read desk unread body in
+    let did : Done = event_did desk Second read.body in
+    let last : List Act = (announces desk did.body).acts in
+    left_tells desk (watch_of desk body) (plain_step desk unread Second body).acts c
+    ∙ left_append read.acts (did.acts ++ last) c ∙ ap (all_met_left (did.acts ++ last)) (plain_left read.acts c (read_plain desk unread body))
+    ∙ left_append did.acts last (scene_read desk unread body c) ∙ plain_left last (all_met_left did.acts (scene_read desk unread body c)) (announces_plain desk did.body)
+
+-- THE STEP OF THE MACHINE ABOVE at a second connection that the machine below has left
+pub lefts_go : {afar : Afar} {above : List Record} {ga gb : Ghost} (desk : Desk) (unread : List Sensed) (body : Machine) (c : Scene) → Good afar above unread ga gb body c
+    → GoesLeft afar above [] ga gb c (machine_step desk unread Second body)
+lefts_go {afar = afar} {above = above} {ga = ga} {gb = gb} desk unread body c g =
+    let one : Machine = body_read desk unread body in
+    let now : Scene = scene_read desk unread body c in
+    let did : Done = event_did desk Second one in
+    let t = goes_on (left_goes one now desk (session_row one.exit.session second) refl (all_read_good desk unread body c g)) (λ a b next. announces_go desk next) in
+    subst (λ (s : Scene). Goes afar above [] ga gb c (announces desk did.body).body s) (sym (lefts_are desk unread body c))
+    (goes_since (all_outlet (all_read desk unread body).acts c) (all_intake (all_read desk unread body).acts c) t)

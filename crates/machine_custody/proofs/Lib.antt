@@ -26,3 +26,6 @@ pub mod Accepting
 pub mod Answering
 pub mod Cutting
 pub mod Joining
+pub mod Fronts
+pub mod ComingLast
+pub mod TakingAlone

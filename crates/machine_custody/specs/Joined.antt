@@ -61,3 +61,26 @@ all_met_second (act ∷ others) c = all_met_second others (met_second act c)
 abbrev pub GoesSecond : Afar → List Record → List Sensed → Ghost → Ghost → Scene → Done → Type 0
 GoesSecond afar above unread ga gb c d =
     Goes afar above unread ga gb c d.body (all_met_second d.acts c)
+
+-- ---- a second connection that the machine below has left already
+
+-- the answer is for nobody
+abbrev pub unanswered : Bool → Horizontal → Scene → Scene
+unanswered true what c = c
+unanswered false what c = said Exit what c
+
+abbrev pub said_left : Side → Horizontal → Scene → Scene
+said_left Exit what c = unanswered (is_answer what) what c
+said_left Entry what c = said Entry what c
+
+abbrev pub met_left : Act → Scene → Scene
+met_left (acts.Sends side message) c = said_left side message.body c
+met_left act c = met act c
+
+abbrev pub all_met_left : List Act → Scene → Scene
+all_met_left [] c = c
+all_met_left (act ∷ others) c = all_met_left others (met_left act c)
+
+abbrev pub GoesLeft : Afar → List Record → List Sensed → Ghost → Ghost → Scene → Done → Type 0
+GoesLeft afar above unread ga gb c d =
+    Goes afar above unread ga gb c d.body (all_met_left d.acts c)

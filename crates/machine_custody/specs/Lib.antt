@@ -4,3 +4,4 @@ pub mod Unique
 pub mod Flight
 pub mod ByHand
 pub mod Joined
+pub mod Ahead

@@ -7,6 +7,7 @@ ghost use Rattle.line_base.specs.declared.states.Side.TheVariants.{Entry, Exit};
 ghost use Rattle.line_base.specs.declared.states.Quality.{Quality};
 ghost use Rattle.board_record.specs.declared.record.Record.{Record};
 ghost use Rattle.board_record.specs.declared.sensed.Sensed.{Sensed};
+ghost use Rattle.hermes_horizontal.specs.declared.message.Horizontal.{Horizontal};
 ghost use Rattle.hermes_horizontal.specs.declared.message.Horizontal.TheVariants as message;
 ghost use Rattle.hermes_horizontal.specs.declared.message.Service.{Service};
 ghost use Rattle.session_core.specs.declared.state.SessionState.TheVariants.{Handshake, NotConnected};
@@ -15,16 +16,19 @@ ghost use Rattle.handover_in.specs.State.{may_connect};
 ghost use Rattle.handover_in.specs.declared.phase.Phase.TheVariants as inn;
 ghost use Rattle.node_core.specs.Boards.{is_kept};
 ghost use Rattle.node_core.specs.Desk.{Desk};
-ghost use Rattle.node_core.specs.Event.{Accepted, Connect, Event, Insert, Mark, Remove, Replace, Second};
+ghost use Rattle.node_core.specs.Event.{Accepted, Connect, Event, Insert, Mark, Nothing, Remove, Replace, Second};
 ghost use Rattle.node_core.specs.Halves.{OffersFront};
 ghost use Rattle.node_core.specs.Step.{machine_step};
 ghost use Rattle.node_core.specs.declared.act.Act.{Act};
 ghost use Rattle.node_core.specs.declared.lane.Body.{Body as Machine};
 ghost use Rattle.custody.specs.Pair.{Ghost};
+ghost use Rattle.custody.specs.Talks.{IsCall};
+ghost use Rattle.custody.specs.Words.{down_words, up_words};
+ghost use Rattle.machine_custody.specs.Ahead.{IsFreeRead};
 ghost use Rattle.machine_custody.specs.ByHand.{AreHere, Grows, body_read};
 ghost use Rattle.machine_custody.specs.Flight.{IsPlain};
 ghost use Rattle.machine_custody.specs.Good.{Afar, Goes, GoesBy, Good};
-ghost use Rattle.machine_custody.specs.Joined.{GoesSecond, described_by, with_link};
+ghost use Rattle.machine_custody.specs.Joined.{GoesLeft, GoesSecond, described_by, with_link};
 ghost use Rattle.machine_custody.specs.Scene.{Scene, all_met};
 ghost use Rattle.machine_custody.specs.Unique.{IsApart};
 
@@ -106,6 +110,58 @@ pub fn a_second_connection_keeps_both_links()
     ensures answer { (afar : Afar) (above : List Record) (ga gb : Ghost) (desk : Desk)
         (unread : List Sensed) (body : Machine) (c : Scene) → Good afar above unread ga gb body c
         → GoesSecond afar above [] ga gb c (machine_step desk unread Second body) }
+{}
+
+/// A machine may read a front of its sensor events in a step of its own, and leave the rest: as
+/// long as its intake has none unread while it is free in a session that stands. That stays so.
+pub fn a_step_reads_a_front()
+    ensures links { (afar : Afar) (above : List Record) (ga gb : Ghost) (desk : Desk)
+        (read rest : List Sensed) (body : Machine) (c : Scene)
+        → Good afar above (read ++ rest) ga gb body c → IsFreeRead (read ++ rest) body
+        → GoesBy afar above rest ga gb c (machine_step desk read Nothing body) }
+    ensures free { (afar : Afar) (above : List Record) (ga gb : Ghost) (desk : Desk)
+        (read rest : List Sensed) (body : Machine) (c : Scene)
+        → Good afar above (read ++ rest) ga gb body c → IsFreeRead (read ++ rest) body
+        → IsFreeRead rest (machine_step desk read Nothing body).body }
+{}
+
+/// The machine below finds its connection made where the machine above has taken it first: the
+/// exit above shakes hands, has heard nothing, and said no word. From then on the link stands.
+pub fn a_link_taken_first_keeps_both_links()
+    ensures { (afar : Afar) (above : List Record) (ga gb : Ghost) (desk : Desk)
+        (unread : List Sensed) (body : Machine) (c : Scene) (down : List Horizontal)
+        → Good afar above unread ga gb body c → body.entry.session.state ≡ NotConnected
+        → may_connect body.intake.phase ≡ true → c.above.exit ≡ Handshake
+        → up_words c.above.up ≡ [] → down_words down ≡ []
+        → Goes afar above [] ga gb c (machine_step desk unread Connect body).body
+        (all_met (machine_step desk unread Connect body).acts (with_link Entry true [] down c)) }
+{}
+
+/// One end alone takes a connection, and the link doesn't stand. The machine above takes one that
+/// has not come to the machine below, or was left there; the machine below finds one made that the
+/// machine above has refused or left, or has not taken.
+pub fn a_lone_end_keeps_both_links()
+    ensures above { (afar : Afar) (above : List Record) (ga gb : Ghost) (desk : Desk)
+        (unread : List Sensed) (body : Machine) (c : Scene) (up : List Horizontal)
+        → Good afar above unread ga gb body c → body.exit.session.state ≡ NotConnected
+        → IsCall (up_words up)
+        → Goes afar above [] ga gb c (machine_step desk unread Accepted body).body
+        (all_met (machine_step desk unread Accepted body).acts
+        (with_link Exit c.below.stands up c.below.down c)) }
+    ensures below { (afar : Afar) (above : List Record) (ga gb : Ghost) (desk : Desk)
+        (unread : List Sensed) (body : Machine) (c : Scene) (down : List Horizontal)
+        → Good afar above unread ga gb body c → body.entry.session.state ≡ NotConnected
+        → may_connect body.intake.phase ≡ true → down_words down ≡ []
+        → GoesBy afar above [] ga gb (with_link Entry c.above.stands c.above.up down c)
+        (machine_step desk unread Connect body) }
+{}
+
+/// A second connection that the machine below has left: the answer is for nobody, and the first
+/// one goes on.
+pub fn a_left_connection_keeps_both_links()
+    ensures { (afar : Afar) (above : List Record) (ga gb : Ghost) (desk : Desk)
+        (unread : List Sensed) (body : Machine) (c : Scene) → Good afar above unread ga gb body c
+        → GoesLeft afar above [] ga gb c (machine_step desk unread Second body) }
 {}
 
 /// A cut of a link, in the midst of a step too, keeps the relation: it is the same before and
