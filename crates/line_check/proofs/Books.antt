@@ -1,5 +1,5 @@
 -- What a book knows of the ledger.
-use Rattle.std.proofs.Common.{◌≡◌, refl, sym, ◌∙◌, ap, ℕ, ◌==◌, Bool, true, false, not, ◌&&◌, ◌||◌, List, [], ◌∷◌, ◌++◌, Option, Some, None, append-nil, IsTrue, is_none, is_some, length, nat_eq, BuildHasherDefault, FoldHasher, option_to_list, if◌then◌else◌, eqb-true, eq-eqb, arith}
+use Rattle.std.proofs.Common.{◌≡◌, refl, sym, ◌∙◌, ap, ℕ, ◌==◌, Bool, true, false, not, ◌&&◌, ◌||◌, List, [], ◌∷◌, ◌++◌, Option, Some, None, append-nil, IsTrue, is_none, is_some, length, option_to_list, if◌then◌else◌, eqb-true, eq-eqb, arith}
 use Rattle.std.specs.List.{list_all, list_any}
 use Rattle.standings.specs.declared.mark.Mark.{Mark}
 use Rattle.standings.specs.declared.entry.Entry.{Entry}
@@ -7,10 +7,8 @@ use Rattle.standings.specs.declared.deed.Deed.{Deed}
 use Rattle.standings.specs.Marks.{has_id, has_mark, is_same_mark}
 use Rattle.standings.specs.Standing.{Place, standing_of}
 use Rattle.std.specs.Ordering.{nat_cmp}
-use Rattle.std.specs.BTreeSet as ordered
-use Rattle.std.specs.BTreeSet.{BTreeSet}
-use Rattle.std.specs.HashSet as hashed
-use Rattle.std.specs.HashSet.{HashSet}
+use Rattle.std.specs.BTreeMap.{is_at}
+use Rattle.std.specs.BTreeSet.{BTreeSet, contains}
 use Rattle.line_check.specs.declared.table.Table.{Table}
 use Rattle.line_check.specs.Table.{marks_of}
 use Rattle.line_check.specs.Book.{IsBook}
@@ -18,6 +16,7 @@ use Rattle.standings.specs.Deeds.{added, taken}
 use Rattle.standings.specs.Ledger.{Ledger, has_entry, ids_named, ledger_after, mark_of_id, marks_in, without}
 use Rattle.standings.proofs.Ids.{others_stay, has_id-append, marks_in-append, marks_in-without_one}
 use Rattle.line_check.specs.Log.{all_stand, ids_in, stands}
+use Rattle.line_check.proofs.Counting.{is_at-own}
 use Rattle.line_check.specs.Marks.{added_at, added_by, changed_by, is_some_mark, lack_standing, taken_at, taken_by, without_mark}
 
 -- AN ENTRY among those of its id
@@ -89,10 +88,10 @@ unsettled_step : (named : Bool) (old now : List Mark) (was : Bool) → (named �
 unsettled_step true old now was stays is = refl
 unsettled_step false old now was stays is = is ∙ ap lack_standing (sym (stays refl))
 
-pub noted : (ledger : Ledger) (deed : Deed) (table new_table : Table) (seen new_seen : BTreeSet ℕ) (unsettled new_unsettled : HashSet ℕ (BuildHasherDefault FoldHasher)) → IsBook ledger (record { table = table; seen = seen; unsettled = unsettled })
+pub noted : (ledger : Ledger) (deed : Deed) (table new_table : Table) (seen new_seen unsettled new_unsettled : BTreeSet ℕ) → IsBook ledger (record { table = table; seen = seen; unsettled = unsettled })
     → ((id : ℕ) → marks_of new_table id ≡ changed_by deed id (marks_of table id))
-    → ((id : ℕ) → ordered.contains nat_cmp new_seen id ≡ (ordered.contains nat_cmp seen id || has_id id (ids_named deed)))
-    → ((id : ℕ) → hashed.contains nat_eq new_unsettled id ≡ (if has_id id (ids_named deed) then lack_standing (marks_of new_table id) else hashed.contains nat_eq unsettled id))
+    → ((id : ℕ) → contains nat_cmp new_seen id ≡ (contains nat_cmp seen id || has_id id (ids_named deed)))
+    → ((id : ℕ) → contains nat_cmp new_unsettled id ≡ (if has_id id (ids_named deed) then lack_standing (marks_of new_table id) else contains nat_cmp unsettled id))
     → IsBook (ledger_after ledger deed) (record { table = new_table; seen = new_seen; unsettled = new_unsettled })
 noted ledger deed table new_table seen new_seen unsettled new_unsettled book change sees settles =
     let now : (id : ℕ) → marks_of new_table id ≡ marks_in id (ledger_after ledger deed).marks = λ id. change id ∙ ap (changed_by deed id) (book.marks id) ∙ sym (marks_in-after ledger deed id) in
@@ -100,8 +99,8 @@ noted ledger deed table new_table seen new_seen unsettled new_unsettled book cha
       marks = now;
       seen = λ id. sees id ∙ ap (λ (b : Bool). b || has_id id (ids_named deed)) (book.seen id) ∙ sym (has_id-append id ledger.seen (ids_named deed));
       unsettled = λ id. settles id
-          ∙ ap (λ (l : List Mark). if has_id id (ids_named deed) then lack_standing l else hashed.contains nat_eq unsettled id) (now id)
-          ∙ unsettled_step (has_id id (ids_named deed)) (marks_in id ledger.marks) (marks_in id (ledger_after ledger deed).marks) (hashed.contains nat_eq unsettled id) (others_stay ledger deed id) (book.unsettled id);
+          ∙ ap (λ (l : List Mark). if has_id id (ids_named deed) then lack_standing l else contains nat_cmp unsettled id) (now id)
+          ∙ unsettled_step (has_id id (ids_named deed)) (marks_in id ledger.marks) (marks_in id (ledger_after ledger deed).marks) (contains nat_cmp unsettled id) (others_stay ledger deed id) (book.unsettled id);
     }
 
 -- ALL STAND where no id is unsettled
@@ -144,12 +143,12 @@ lacking (mark ∷ l) lacks = (refl, none_from (standing_of (mark ∷ l)) lacks) 
 
 -- whether all stand is whether no id is unsettled
 pub all_stand-settled : (keys : List ℕ) (result : Bool) (marks : List Entry) → (IsTrue result → length keys ≡ 0) × (length keys ≡ 0 → IsTrue result)
-    → ((id : ℕ) → list_any (nat_eq id) keys ≡ lack_standing (marks_in id marks)) → result ≡ all_stand marks
+    → ((id : ℕ) → list_any (is_at (nat_cmp id)) keys ≡ lack_standing (marks_in id marks)) → result ≡ all_stand marks
 all_stand-settled [] true marks empty unsettled =
     sym (stand_from marks marks (λ id. sym (unsettled id)) (λ entry there. sym (has_id-ids_in entry.id marks) ∙ there))
 all_stand-settled [] false marks empty unsettled = let h : true ≡ false = sym (empty.1 refl) in cc
 all_stand-settled (key ∷ keys) true marks empty unsettled = let long : length (key ∷ keys) ≡ 0 = empty.0 refl in absurd (omega arith)
 all_stand-settled (key ∷ keys) false marks empty unsettled =
-    let lacks : lack_standing (marks_in key marks) ≡ true = sym (unsettled key) ∙ ap (λ (b : Bool). b || list_any (nat_eq key) keys) (eq-eqb key key refl) in
+    let lacks : lack_standing (marks_in key marks) ≡ true = sym (unsettled key) ∙ ap (λ (b : Bool). b || list_any (is_at (nat_cmp key)) keys) (is_at-own key) in
     let parts = lacking (marks_in key marks) lacks in
     sym (stand_not marks marks key (has_id-ids_in key marks ∙ parts.0) parts.1)

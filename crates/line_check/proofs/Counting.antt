@@ -1,9 +1,11 @@
 -- How many ids there are, each counted once.
-use Rattle.std.proofs.Common.{◌≡◌, refl, sym, ◌∙◌, ap, ℕ, ◌+◌, ◌==◌, Bool, true, false, not, ◌&&◌, ◌||◌, List, [], ◌∷◌, Option, Some, None, cond, filter, is_some, length, map, nat_eq, ◌<◌, arith, if◌then◌else◌, eqb-true, eq-eqb}
+use Rattle.std.proofs.Common.{Less, Equal, Greater, ◌≡◌, refl, sym, ◌∙◌, ap, ℕ, ◌+◌, ◌==◌, Bool, true, false, not, ◌||◌, List, [], ◌∷◌, Option, Some, None, cond, filter, is_some, length, nat_lt, ltb-true, ◌<◌, arith, if◌then◌else◌, eqb-true, eq-eqb}
 use Rattle.std.proofs.lemmas.List.{length-map}
-use Rattle.std.specs.List.{AllByRecursion, IsDistinct, list_any}
+use Rattle.std.specs.List.{AllByRecursion}
 use Rattle.std.specs.Global.{Vec}
-use Rattle.std.specs.HashMap.{HashMap, IsUnique, get, hash_map_len, keys}
+use Rattle.std.specs.Ordering.{is_eq, nat_cmp}
+use Rattle.std.specs.List.Sorted.{IsStrictlySortedBy}
+use Rattle.std.specs.BTreeMap.{BTreeMap, IsOrdered, btree_map_len, get, is_at}
 use Rattle.std.specs.Map.{keys_of, lookup}
 use Rattle.standings.specs.declared.mark.Mark.{Mark}
 use Rattle.standings.specs.Marks.{has_id}
@@ -74,10 +76,22 @@ pub count_once-split : (id : ℕ) (ids : List ℕ) → count_once ids ≡ one_if
 count_once-split id [] = refl
 count_once-split id (first ∷ rest) = count_step id first rest (first == id) (has_id first rest) refl refl (count_once-split id rest)
 
--- an id that is apart from all is not among them
-apart_from_all : (id : ℕ) (ids : List ℕ) → AllByRecursion (λ other. nat_eq id other ≡ false) ids → has_id id ids ≡ false
-apart_from_all id [] apart = refl
-apart_from_all id (first ∷ rest) apart = rw (eqb_swap first id, apart.0) (apart_from_all id rest apart.1)
+-- whether ids compare equal is whether they are the same
+pub is_at-same : (id other : ℕ) → is_at (nat_cmp id) other ≡ (other == id)
+is_at-same id other = pick (nat_lt id other) refl (id == other) refl ∙ eqb_swap id other where
+  pick : (less : Bool) → nat_lt id other ≡ less → (same : Bool) → (id == other) ≡ same → is_eq (cond less Less (cond same Equal Greater)) ≡ same
+  pick true below true at = let a : id < other = ltb-true id other below in let b : id ≡ other = eqb-true id other at in absurd (omega arith)
+  pick true below false at = refl
+  pick false below true at = refl
+  pick false below false at = refl
+
+pub is_at-own : (id : ℕ) → is_at (nat_cmp id) id ≡ true
+is_at-own id = is_at-same id id ∙ eq-eqb id id refl
+
+-- an id that is below all is not among them
+below_all : (id : ℕ) (ids : List ℕ) → AllByRecursion (λ other. nat_cmp id other ≡ Less) ids → has_id id ids ≡ false
+below_all id [] below = refl
+below_all id (first ∷ rest) below = rw (sym (is_at-same id first) ∙ ap is_eq below.0) (below_all id rest below.1)
 
 behind_first : (id first : ℕ) (rest ids : List ℕ) → has_id first rest ≡ false → ((other : ℕ) → has_id other ids ≡ has_id other (first ∷ rest))
     → (is_first : Bool) → (first == id) ≡ is_first → has_id id (without_id first ids) ≡ has_id id rest
@@ -87,30 +101,30 @@ behind_first id first rest ids absent same true is =
 behind_first id first rest ids absent same false is =
     has_id-without_other first id ids (eqb_swap id first ∙ is) ∙ same id ∙ ap (λ (b : Bool). b || has_id id rest) is
 
--- ids that differ are as many as others that are the same ids
-pub length-same_ids : (keys ids : List ℕ) → IsDistinct nat_eq keys → ((id : ℕ) → has_id id ids ≡ has_id id keys) → length keys ≡ count_once ids
-unfolding IsDistinct
-length-same_ids [] [] distinct same = refl
-length-same_ids [] (first ∷ rest) distinct same =
+-- ids in ascending order are as many as others that are the same ids
+pub length-same_ids : (keys ids : List ℕ) → IsStrictlySortedBy nat_cmp keys → ((id : ℕ) → has_id id ids ≡ has_id id keys) → length keys ≡ count_once ids
+unfolding IsStrictlySortedBy
+length-same_ids [] [] rise same = refl
+length-same_ids [] (first ∷ rest) rise same =
     let h : true ≡ false = sym (ap (λ (b : Bool). b || has_id first rest) (eq-eqb first first refl)) ∙ same first in
     absurd (cc)
-length-same_ids (first ∷ rest) ids distinct same =
-    let absent : has_id first rest ≡ false = apart_from_all first rest distinct.0 in
+length-same_ids (first ∷ rest) ids rise same =
+    let absent : has_id first rest ≡ false = below_all first rest rise.0 in
     let there : has_id first ids ≡ true = same first ∙ ap (λ (b : Bool). b || has_id first rest) (eq-eqb first first refl) in
-    let later : length rest ≡ count_once (without_id first ids) = length-same_ids rest (without_id first ids) distinct.1 (λ id. behind_first id first rest ids absent same (first == id) refl) in
+    let later : length rest ≡ count_once (without_id first ids) = length-same_ids rest (without_id first ids) rise.1 (λ id. behind_first id first rest ids absent same (first == id) refl) in
     let split : count_once ids ≡ one_if (has_id first ids) + count_once (without_id first ids) = count_once-split first ids in
     let one : one_if (has_id first ids) ≡ 1 = ap one_if there in
     omega (arith, later, split, one)
 
 module _ {X : Type 0} where
   -- the keys of entries are the ids at which something is found
-  pub has_id-keys : (id : ℕ) (entries : List (ℕ × X)) → has_id id (keys_of entries) ≡ is_some (lookup (nat_eq id) entries)
+  pub has_id-keys : (id : ℕ) (entries : List (ℕ × X)) → has_id id (keys_of entries) ≡ is_some (lookup (is_at (nat_cmp id)) entries)
   has_id-keys id [] = refl
-  has_id-keys id (entry ∷ entries) = found (nat_eq id entry.0) refl (has_id-keys id entries) where
-    found : (b : Bool) → nat_eq id entry.0 ≡ b → has_id id (keys_of entries) ≡ is_some (lookup (nat_eq id) entries)
-        → ((entry.0 == id) || has_id id (keys_of entries)) ≡ is_some (cond b (Some entry.1) (lookup (nat_eq id) entries))
-    found true is later = rw (eqb_swap entry.0 id, is) refl
-    found false is later = rw (eqb_swap entry.0 id, is) later
+  has_id-keys id (entry ∷ entries) = found (is_at (nat_cmp id) entry.0) refl (has_id-keys id entries) where
+    found : (b : Bool) → is_at (nat_cmp id) entry.0 ≡ b → has_id id (keys_of entries) ≡ is_some (lookup (is_at (nat_cmp id)) entries)
+        → ((entry.0 == id) || has_id id (keys_of entries)) ≡ is_some (cond b (Some entry.1) (lookup (is_at (nat_cmp id)) entries))
+    found true is later = rw (sym (is_at-same id entry.0) ∙ is) refl
+    found false is later = rw (sym (is_at-same id entry.0) ∙ is) later
 
 -- where no list is empty, an id has a mark exactly where it is in the map
 listed_some : (found : Option (Vec Mark)) → ((marks : Vec Mark) → found ≡ Some marks → 0 < length marks.items) → is_some_mark (listed found) ≡ is_some found
@@ -120,9 +134,8 @@ listed_some (Some marks) some = some_marks marks.items (some marks refl) where
   some_marks [] long = absurd (omega arith)
   some_marks (mark ∷ items) long = refl
 
-module _ {S : Type 0} where
-  -- the ids in the map are as many as those that have a mark
-  pub length-listed : (m : HashMap ℕ (Vec Mark) S) → HasNoEmpty m → IsUnique nat_eq m → (ids : List ℕ) → ((id : ℕ) → has_id id ids ≡ is_some_mark (listed_at m id)) → hash_map_len m ≡ count_once ids
-  length-listed m stood unique ids same =
-      sym (length-map m.entries (λ (e : ℕ × Vec Mark). e.0))
-      ∙ length-same_ids (keys_of m.entries) ids unique (λ id. same id ∙ listed_some (get nat_eq m id) (stood.none_empty id) ∙ sym (has_id-keys id m.entries))
+-- the ids in the map are as many as those that have a mark
+pub length-listed : (m : BTreeMap ℕ (Vec Mark)) → HasNoEmpty m → IsOrdered nat_cmp m → (ids : List ℕ) → ((id : ℕ) → has_id id ids ≡ is_some_mark (listed_at m id)) → btree_map_len m ≡ count_once ids
+length-listed m stood ordered ids same =
+    sym (length-map m.entries (λ (e : ℕ × Vec Mark). e.0))
+    ∙ length-same_ids (keys_of m.entries) ids ordered (λ id. same id ∙ listed_some (get nat_cmp m id) (stood.none_empty id) ∙ sym (has_id-keys id m.entries))

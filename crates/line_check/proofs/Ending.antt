@@ -1,5 +1,5 @@
 -- How a checker ends that has answered an error.
-use Rattle.std.proofs.Common.{◌≡◌, ◌∙◌, ℕ, List, [], Some, Err, append-nil, sym, ap}
+use Rattle.std.proofs.Common.{◌∙◌, ℕ, List, [], Some, Err, append-nil, sym, ap}
 use Rattle.line_check.specs.declared.known.Known.{Known}
 use Rattle.line_check.specs.declared.why.CheckError.{CheckError}
 use Rattle.line_check.specs.declared.why.CheckError.TheVariants.{No, Memory}

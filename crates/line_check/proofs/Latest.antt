@@ -1,12 +1,11 @@
 -- The greatest turn of each machine.
 use Rattle.std.proofs.Common.{◌≡◌, ◌≢◌, refl, sym, ◌∙◌, ap, subst, ℕ, ◌+◌, ◌-◌, ◌<◌, ◌≤◌, ◌==◌, Bool, true, false, ◌&&◌, ◌||◌, List, [], ◌∷◌, ◌++◌, Option, Some, None, max, length, nat_lt, slice_index_or, slice_set, arith, if◌then◌else◌, eqb-true, eq-eqb, get_or-set_same, get_or-set_other}
-use Rattle.std.proofs.lemmas.Bool.{eqb-false, le-ltb, lt-ltb, ltb-false}
+use Rattle.std.proofs.lemmas.Bool.{eqb-false, le-ltb, ltb-false}
 use Rattle.std.proofs.lemmas.Bool.Decides.{nat_tests}
 use Rattle.line_check.specs.declared.group.Group.{Group}
 use Rattle.line_check.specs.LogLine.{group_of}
 use Rattle.line_check.specs.Log.{is_below, is_late_in}
-use Rattle.line_check.specs.Turns.{AreTurns, greatest_turn, turn_in}
-use Rattle.std.specs.List.{list_any}
+use Rattle.line_check.specs.Turns.{greatest_turn, turn_in}
 
 lt-max : (t a b : ℕ) → nat_lt t (max a b) ≡ (nat_lt t a || nat_lt t b)
 lt-max t a b = grind (arith, nat_tests)

@@ -1,15 +1,13 @@
 -- The reasons against a line, and what is owed of it.
-use Rattle.std.proofs.Common.{◌≡◌, refl, sym, ◌∙◌, ap, subst, ℕ, ◌+◌, ◌==◌, Bool, true, false, not, ◌&&◌, ◌||◌, List, [], ◌∷◌, ◌++◌, Option, Some, None, append_assoc, append-nil, cond, find, length, length-append, nat_lt, arith, if◌then◌else◌}
+use Rattle.std.proofs.Common.{◌≡◌, refl, sym, ◌∙◌, ap, ℕ, ◌+◌, ◌==◌, Bool, true, false, not, ◌&&◌, List, [], ◌∷◌, ◌++◌, Option, Some, None, append_assoc, append-nil, cond, length, length-append, nat_lt, arith, if◌then◌else◌}
 use Rattle.standings.specs.declared.deed.Deed.{Deed}
-use Rattle.standings.specs.Ledger.{AreLegal, IsLegal, Ledger, empty_ledger, is_legal, ledger_after, ledger_after_all}
+use Rattle.standings.specs.Ledger.{Ledger, empty_ledger, ledger_after, ledger_after_all}
 use Rattle.line_check.specs.declared.group.Group.{Group}
-use Rattle.line_check.specs.declared.reading.Reading.{Reading}
-use Rattle.line_check.specs.declared.reading.Reading.TheVariants.{Nothing, Bad, Does}
 use Rattle.line_check.specs.declared.why.CheckWhy.{CheckWhy}
 use Rattle.line_check.specs.declared.why.CheckWhy.TheVariants.{Long, Lines, Form, Turn, Legal, Standing}
 use Rattle.line_check.specs.LogLine.{group_of, said_by}
-use Rattle.line_check.specs.Log.{Against, against, against_from, all_stand, deeds_in, deeds_of, ends_before, ends_group, holds, is_bad, is_illegal, is_late_in, is_same_group, ledger_of, or_later, reason_at}
-use Rattle.line_check.specs.Checking.{AreRefused, last_group, owed, own_reason_at}
+use Rattle.line_check.specs.Log.{Against, against, against_from, all_stand, deeds_in, deeds_of, ends_before, holds, is_bad, is_illegal, is_late_in, is_same_group, ledger_of, or_later, reason_at}
+use Rattle.line_check.specs.Checking.{last_group, owed, own_reason_at}
 
 -- LISTS OF LINES
 

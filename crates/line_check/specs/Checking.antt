@@ -1,6 +1,5 @@
 -- What a checker knows of the lines that it was given.
-use Rattle.std.specs.Prelude.{◌≡◌, ℕ, ◌+◌, Bool, true, false, not, ◌&&◌, List, [], ◌∷◌, ◌++◌, Option, None, Some, Result, Ok, Err, find, length, if◌then◌else◌}
-use Rattle.standings.specs.Ledger.{Ledger}
+use Rattle.std.specs.Prelude.{◌≡◌, ℕ, not, ◌&&◌, List, [], ◌∷◌, ◌++◌, Option, None, Some, Result, Ok, Err, find, length, if◌then◌else◌}
 use Rattle.line_check.specs.declared.group.Group.{Group}
 use Rattle.line_check.specs.declared.why.CheckWhy.{CheckWhy}
 use Rattle.line_check.specs.declared.why.CheckWhy.TheVariants.{Long, Lines, Form, Turn, Legal, Standing}

@@ -1,5 +1,5 @@
 -- The greatest turn of each machine.
-use Rattle.std.specs.Prelude.{◌≡◌, ℕ, ◌+◌, ◌<◌, ◌≤◌, ◌==◌, List, [], ◌∷◌, Option, None, Some, max, slice_index, if◌then◌else◌}
+use Rattle.std.specs.Prelude.{◌≡◌, ℕ, ◌+◌, ◌<◌, ◌==◌, List, [], ◌∷◌, Option, None, Some, max, slice_index, if◌then◌else◌}
 use Rattle.line_check.specs.declared.group.Group.{Group}
 use Rattle.line_check.specs.declared.turns.Turns.{Turns}
 use Rattle.line_check.specs.LogLine.{group_of}

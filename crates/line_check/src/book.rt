@@ -8,7 +8,7 @@ use board_record::BoardId;
 use line_base::Memory;
 use standings::{Deed, Entry, has_mark};
 use std::alloc::Global;
-use std::collections::{BTreeSet, HashSet};
+use std::collections::BTreeSet;
 
 /// The ledger of the deeds so far.
 #[derive(Drop)]
@@ -17,7 +17,7 @@ pub struct Book {
     /// The ids that were named: each is known for good.
     seen: BTreeSet<BoardId>,
     /// The ids that have marks and no standing.
-    unsettled: HashSet<BoardId>,
+    unsettled: BTreeSet<BoardId>,
 }
 
 impl Book {
@@ -35,7 +35,7 @@ impl Book {
         Book {
             table: Table::new(alloc),
             seen: BTreeSet::new(alloc),
-            unsettled: HashSet::new(alloc),
+            unsettled: BTreeSet::new(alloc),
         }
     }
 

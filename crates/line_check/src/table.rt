@@ -6,13 +6,14 @@ use board_record::BoardId;
 use line_base::Memory;
 use standings::{Deed, Entry, Mark};
 use std::alloc::Global;
-use std::collections::HashMap;
+use std::collections::BTreeMap;
 
-/// The marks of each board that has one, found by its id.
+/// The marks of each board that has one, found by its id. The map is ordered, so that no choice of
+/// ids makes a search in it long: who wrote a log is not trusted.
 #[derive(Drop)]
 pub struct Table {
     alloc: Global,
-    marks: HashMap<BoardId, Vec<Mark>>,
+    marks: BTreeMap<BoardId, Vec<Mark>>,
     ghost no_empty: { HasNoEmpty marks },
 }
 
@@ -30,7 +31,7 @@ impl Table {
     {
         Table {
             alloc,
-            marks: HashMap::new(alloc),
+            marks: BTreeMap::new(alloc),
         }
     }
 

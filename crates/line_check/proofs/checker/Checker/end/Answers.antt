@@ -1,8 +1,5 @@
-use Rattle.std.proofs.Common.{◌≡◌, ◌∙◌, ℕ, List, Option, None, Some, Err, Result, append-nil, sym, ap, subst}
-use Rattle.line_check.specs.declared.known.Known.{Known}
-use Rattle.line_check.specs.declared.why.CheckError.{CheckError}
-use Rattle.line_check.specs.declared.why.CheckError.TheVariants.{No, Memory}
-use Rattle.line_check.specs.Checking.{Ends, HasReadTo}
+use Rattle.std.proofs.Common.{subst}
+use Rattle.line_check.specs.Checking.{HasReadTo}
 use Rattle.line_check.proofs.Ending.{ends_failed}
 use Rattle.line_check.proofs.checker.Checker.end.Goals as goal
 

@@ -1,5 +1,5 @@
 use Rattle.std.proofs.Common.{◌≡◌, ◌∙◌, sym, ap, None, Some, [], append-nil, true, false}
-use Rattle.line_check.specs.Log.{Against, against, all_stand, ledger_of}
+use Rattle.line_check.specs.Log.{against, all_stand, ledger_of}
 use Rattle.line_check.specs.declared.why.CheckWhy.TheVariants.{Standing}
 use Rattle.line_check.proofs.Reasons.{end_lacks, end_stands}
 use Rattle.line_check.proofs.Rights.{right_from}

@@ -1,4 +1,4 @@
-use Rattle.std.proofs.Common.{◌≡◌, ◌∙◌, ◌∷◌, ◌++◌, ◌+◌, ◌&&◌, [], sym, ap, subst, Bool, Some, None, false, not, length, length-append, arith}
+use Rattle.std.proofs.Common.{◌≡◌, ◌∙◌, ◌∷◌, ◌&&◌, [], sym, ap, subst, Some, false, not, length-append, arith}
 use Rattle.standings.specs.Ledger.{Ledger, ledger_after_all}
 use Rattle.line_check.specs.declared.group.Group.{Group}
 use Rattle.line_check.specs.declared.reading.Reading.{Reading}

@@ -1,8 +1,7 @@
 use Rattle.std.proofs.Common.{◌≡◌, ◌∙◌, ◌∷◌, ◌+◌, ◌&&◌, ℕ, Option, Some, false, not, sym, ap}
 use Rattle.line_check.specs.declared.group.Group.{Group}
-use Rattle.line_check.specs.declared.why.CheckWhy.{CheckWhy}
 use Rattle.line_check.specs.LogLine.{group_of}
-use Rattle.line_check.specs.Log.{Against, against, all_stand, is_same_group, ledger_of}
+use Rattle.line_check.specs.Log.{against, all_stand, is_same_group, ledger_of}
 use Rattle.line_check.specs.Checking.{last_group}
 use Rattle.line_check.proofs.Reasons.{owed-own, regroup}
 use Rattle.line_check.proofs.known.Known.take.Goals as goal

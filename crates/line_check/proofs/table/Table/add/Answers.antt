@@ -1,4 +1,4 @@
-use Rattle.std.proofs.Common.{◌≡◌, ◌<◌, ◌++◌, ◌∷◌, [], ap, length, length-append, arith, None}
+use Rattle.std.proofs.Common.{◌<◌, ◌∷◌, [], ap, length, length-append, arith, None}
 use Rattle.line_check.proofs.Tables.{put_no_empty, put_or_not}
 use Rattle.line_check.proofs.table.Table.add.Goals as goal
 

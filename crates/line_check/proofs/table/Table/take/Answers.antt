@@ -1,4 +1,4 @@
-use Rattle.std.proofs.Common.{◌≡◌, ◌==◌, ◌<◌, ◌∙◌, sym, false, length, arith, None}
+use Rattle.std.proofs.Common.{◌<◌, ◌∙◌, sym, length, arith, None}
 use Rattle.std.proofs.lemmas.Bool.{eqb-false}
 use Rattle.line_check.proofs.Tables.{put_no_empty, put_or_not}
 use Rattle.line_check.proofs.table.Table.take.Goals as goal
