@@ -2,8 +2,11 @@
 //! at the end.
 #![tactic(auto)]
 
-use case_text::spell;
-use line_check::{CheckError, Checker};
+mod given;
+
+use crate::given::Given;
+use case_text::{spell_time, times_of};
+use line_check::Checker;
 use std::alloc::{AllocError, Global};
 use std::io;
 
@@ -27,37 +30,28 @@ fn said_of(alloc: Global, log: &str) -> Result<String, AllocError> {
 
 /// Gives all lines, also behind an error, which is then answered again.
 fn give_all(alloc: Global, checker: &mut Checker, log: &str) -> Result<String, AllocError> {
-    let mut first = None;
-    let mut count = 0u64;
+    let mut given = Given::new();
     for line in log.lines() {
-        let mut bytes = Vec::new(alloc);
         let (times, line) = times_of(line);
-        spell(line, &mut bytes)?;
-        for _ in 0..times {
-            count = count.saturating_add(1);
-            match (first, checker.line(bytes.as_slice())) {
-                (None, Ok(())) => {}
-                (None, Err(error)) => first = Some((count, error)),
-                (Some((_, error)), again) => {
-                    if again != Err(error) {
-                        return format!(in alloc; "another answer at {count}");
-                    }
-                }
-            }
-        }
+        give_often(alloc, checker, times, line, &mut given)?;
     }
-    match first {
-        Some((at, _)) => format!(in alloc; "said at line {at} of {count}"),
-        None => format!(in alloc; "at the end of {count}"),
-    }
+    given.told(alloc)
 }
 
-/// How often a line is given, and the line: `*N ` before it stands for N times.
-fn times_of(line: &str) -> (u64, &str) {
-    match line.strip_prefix('*').and_then(|rest| rest.split_once(' ')) {
-        Some((times, line)) => (times.parse().unwrap_or(0), line),
-        None => (1, line),
+fn give_often(
+    alloc: Global,
+    checker: &mut Checker,
+    times: u64,
+    line: &str,
+    given: &mut Given,
+) -> Result<(), AllocError> {
+    let mut bytes = Vec::new(alloc);
+    for number in 1..=times {
+        bytes.clear();
+        spell_time(alloc, number, line, &mut bytes)?;
+        given.note(checker.line(bytes.as_slice()));
     }
+    Ok(())
 }
 
 fn end_of(alloc: Global, checker: Checker) -> Result<String, AllocError> {
@@ -67,7 +61,6 @@ fn end_of(alloc: Global, checker: Checker) -> Result<String, AllocError> {
             let boards = counts.boards;
             format!(in alloc; "yes lines={lines} boards={boards}")
         }
-        Err(CheckError::No { line, why }) => format!(in alloc; "no {line} {why}"),
-        Err(CheckError::Memory) => String::from_str(alloc, "out of memory"),
+        Err(error) => format!(in alloc; "{error}"),
     }
 }
