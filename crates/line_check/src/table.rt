@@ -53,17 +53,15 @@ impl Table {
     {
         let taken = deed.taken();
         let added = deed.added();
-        self.take_some(taken)?;
+        self.take_some(taken);
         self.add_some(added)
     }
 
-    fn take_some(&mut self, entry: Option<Entry>) -> Result<(), Memory>
-        ensures { OnOk result
-            ((id : ℕ) → marks_of self.new id ≡ taken_by entry id (marks_of self.old id)) }
+    fn take_some(&mut self, entry: Option<Entry>)
+        ensures { (id : ℕ) → marks_of self.new id ≡ taken_by entry id (marks_of self.old id) }
     {
-        match entry {
-            Some(entry) => self.take(entry),
-            None => Ok(()),
+        if let Some(entry) = entry {
+            self.take(entry);
         }
     }
 
@@ -78,19 +76,16 @@ impl Table {
     }
 
     /// Takes a mark of a board away.
-    fn take(&mut self, entry: Entry) -> Result<(), Memory>
-        ensures { OnOk result
-            ((id : ℕ) → marks_of self.new id ≡ taken_at entry id (marks_of self.old id)) }
+    fn take(&mut self, entry: Entry)
+        ensures { (id : ℕ) → marks_of self.new id ≡ taken_at entry id (marks_of self.old id) }
     {
-        let Some(mut marks) = self.marks.remove(&entry.id) else {
-            return Ok(());
+        let Some(marks) = self.marks.get_mut(&entry.id) else {
+            return;
         };
-        drop_mark(&mut marks, entry.mark);
+        drop_mark(marks, entry.mark);
         if marks.is_empty() {
-            return Ok(());
+            let _none = self.marks.remove(&entry.id);
         }
-        self.marks.insert(entry.id, marks)?;
-        Ok(())
     }
 
     /// Adds a mark of a board.
