@@ -9,3 +9,4 @@ pub mod ReportOnce
 pub mod MadeOnce
 pub mod Checked
 pub mod FitScript
+pub mod Copied

@@ -1,12 +1,14 @@
 //! Reads the messages of a stream, piece by piece, and writes a line for each.
 
 ghost use Rattle.std.specs.Prelude.{◌≡◌, ◌+◌, ◌≤◌, ◌<◌, ◌^◌, ◌++◌, IfOk, OnOk, codes, decimal, length, false};
+ghost use Rattle.canonical_frames.specs.Frame.{IsCanonical};
 ghost use Rattle.hermes_horizontal.specs.Texts.{message_error_text};
 ghost use Rattle.line_cli.specs.Texts.{entry};
 ghost use Rattle.line_cli.specs.ReadText.{message_text};
 ghost use Rattle.line_cli.specs.ReadText.{ending_text, end_text};
 ghost use Rattle.line_cli.specs.StreamReader.{WritesLine, TakesPiece, TakesSome, IsOver};
 
+use canonical_frames::is_canonical;
 use hermes_horizontal::{Horizontal, Message, MessageError, read_horizontal, write_horizontal};
 use hermes_stream::{Cut, Cutter};
 use line_base::Memory;
@@ -154,8 +156,38 @@ pub fn take_piece(
     }
 }
 
-/// Appends the line of a frame: its message written canonically, or why it is refused.
+/// Appends the line of a frame: its message written canonically, or why it is refused. A frame
+/// that is canonical is copied, and not read.
 fn write_frame(alloc: Global, number: u64, frame: &[u8], to: &mut Vec<u8>) -> Result<(), Memory>
+    ensures { OnOk result (WritesLine number frame.now to.old.items to.new.items) }
+{
+    if is_canonical(frame) {
+        write_copied(number, frame, to)
+    } else {
+        write_read(alloc, number, frame, to)
+    }
+}
+
+/// Appends the line of a frame that is canonical: the frame as it is.
+fn write_copied(number: u64, frame: &[u8], to: &mut Vec<u8>) -> Result<(), Memory>
+    requires { IsCanonical frame.now }
+    ensures { OnOk result (WritesLine number frame.now to.old.items to.new.items) }
+{
+    write_entry(number, frame, to)
+}
+
+/// Appends a line of these bytes.
+fn write_entry(number: u64, bytes: &[u8], to: &mut Vec<u8>) -> Result<(), Memory>
+    ensures { OnOk result (to.new.items ≡ to.old.items ++ entry number bytes.now) }
+{
+    append_number(number, to)?;
+    to.extend_from_slice(bytes)?;
+    to.push(b'\n')?;
+    Ok(())
+}
+
+/// Appends the line of a frame by what is read of it.
+fn write_read(alloc: Global, number: u64, frame: &[u8], to: &mut Vec<u8>) -> Result<(), Memory>
     ensures { OnOk result (WritesLine number frame.now to.old.items to.new.items) }
 {
     match read_horizontal(alloc, frame) {
