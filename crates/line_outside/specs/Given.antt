@@ -12,9 +12,9 @@ use Rattle.line_outside.specs.declared.way.Address.{Address}
 use Rattle.line_outside.specs.declared.way.Way.{Way}
 use Rattle.line_outside.specs.declared.way.Way.TheVariants as ways
 
--- one call with its answer: at a port or an address, with a room of so many bytes, or with a piece
+-- one call with its answer: at an address, with a room of so many bytes, or with a piece
 pub data Given : Type 0 where
-  Listens : Way → ℕ → Opened → Given
+  Listens : Way → Address → Opened → Given
   Connects : Way → Address → Opened → Given
   Polls : Way → ℕ → GotBytes → Given
   Sends : Way → List ℕ → Sent → Given

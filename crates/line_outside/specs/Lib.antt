@@ -3,6 +3,7 @@ pub mod Source
 pub mod Sink
 pub mod Tape
 pub mod Sheet
+pub mod Listening
 pub mod Given
 pub mod Ports
 pub mod Clock

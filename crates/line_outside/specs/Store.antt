@@ -68,7 +68,7 @@ weight_of_got (gots.Bytes n) = n
 weight_of_got _ = 0
 
 abbrev pub weight_of : PortCall → ℕ
-weight_of (calls.Listens way port opened) = 0
+weight_of (calls.Listens way address opened) = 0
 weight_of (calls.Connects way address opened) = 0
 weight_of (calls.Polls way room got) = weight_of_got got
 weight_of (calls.Sends way piece sent) = piece
@@ -77,7 +77,7 @@ weight_of (calls.Closes way) = 0
 
 -- a call with its bytes
 abbrev pub given_as : PortCall → List ℕ → Given
-given_as (calls.Listens way port opened) bytes = Listens way port opened
+given_as (calls.Listens way address opened) bytes = Listens way address opened
 given_as (calls.Connects way address opened) bytes = Connects way address opened
 given_as (calls.Polls way room got) bytes = Polls way room (got_bytes got bytes)
 given_as (calls.Sends way piece sent) bytes = Sends way bytes sent

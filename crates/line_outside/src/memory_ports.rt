@@ -169,15 +169,21 @@ impl Ports for MemoryPorts {
     // every piece is taken whole
     ghost stuck = { λ _ _. Some false };
 
-    fn listen(&mut self, way: Way, port: u16) -> Opened
-        ensures told { Gains self.old.account.given self.new.account.given (Listens way port result ∷ []) }
+    fn listen(&mut self, way: Way, address: Address) -> Opened
+        ensures told { Gains self.old.account.given self.new.account.given
+            (Listens way address result ∷ []) }
         ensures cause { HasOpenCause self.old.faults self.new.faults result }
         // the listed calls fail, and no others
         ensures answer { result ≡ opened_next self.old }
-        ensures store { self.new ≡ with_call (counted self.old) (Listens way port result) 0 }
+        ensures store { self.new ≡ with_call (counted self.old) (Listens way address result) 0 }
     {
         let opened = self.opened_next();
-        self.told.note(PortCall::Listens { way, port, opened }, &[]);
+        let call = PortCall::Listens {
+            way,
+            address,
+            opened,
+        };
+        self.told.note(call, &[]);
         opened
     }
 

@@ -7,7 +7,7 @@ use crate::way::{Address, Way};
 pub enum PortCall {
     Listens {
         way: Way,
-        port: u16,
+        address: Address,
         opened: Opened,
     },
     Connects {

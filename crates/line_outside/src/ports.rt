@@ -59,9 +59,9 @@ pub trait Ports {
     /// Whether no byte can be taken for a way, where that is told.
     ghost stuck: { Self → Way → Option Bool };
 
-    /// Begins to listen for connections of a way at a port of this machine.
-    fn listen(&mut self, way: Way, port: u16) -> Opened
-        ensures told { Gains (given self.old) (given self.new) (Listens way port result ∷ []) }
+    /// Begins to listen for connections of a way at an address of this computer.
+    fn listen(&mut self, way: Way, address: Address) -> Opened
+        ensures told { Gains (given self.old) (given self.new) (Listens way address result ∷ []) }
         ensures cause { HasOpenCause (faults self.old) (faults self.new) result };
 
     /// Asks for a connection of a way to an address.

@@ -90,6 +90,12 @@ fn place_of(way: Way) -> usize
     }
 }
 
+/// An address as the host's sockets have it.
+fn socket_address(address: Address) -> SocketAddr {
+    let [a, b, c, d] = address.host;
+    SocketAddr::V4(SocketAddrV4::new(Ipv4Addr::new(a, b, c, d), address.port))
+}
+
 impl<R: Net + Clock> Ports for SocketPorts<R> {
     ghost given = { λ _. None };
 
@@ -99,9 +105,8 @@ impl<R: Net + Clock> Ports for SocketPorts<R> {
 
     ghost stuck = { λ _ _. None };
 
-    fn listen(&mut self, way: Way, port: u16) -> Opened {
-        let address = SocketAddr::V4(SocketAddrV4::new(Ipv4Addr::UNSPECIFIED, port));
-        match TcpListener::bind(&self.host, address) {
+    fn listen(&mut self, way: Way, address: Address) -> Opened {
+        match TcpListener::bind(&self.host, socket_address(address)) {
             Ok(listener) => {
                 self.sockets[place_of(way)].set_listener(listener);
                 Opened::Done
@@ -114,9 +119,7 @@ impl<R: Net + Clock> Ports for SocketPorts<R> {
     }
 
     fn connect(&mut self, way: Way, address: Address) -> Opened {
-        let [a, b, c, d] = address.host;
-        let address = SocketAddr::V4(SocketAddrV4::new(Ipv4Addr::new(a, b, c, d), address.port));
-        match TcpStream::connect(&self.host, address) {
+        match TcpStream::connect(&self.host, socket_address(address)) {
             Ok(stream) => {
                 self.sockets[place_of(way)].set_asked(stream);
                 Opened::Done

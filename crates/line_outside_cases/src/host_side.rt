@@ -48,6 +48,50 @@ where
     )
 }
 
+/// Whether another address of this computer reaches who listens at every address, and not who
+/// listens at the loopback.
+pub fn reach<R>(host: &R) -> &'static str
+where
+    R: Net + rt::Clock + Clone + Drop,
+{
+    let Some(port) = free_port(host) else {
+        return "no port is free";
+    };
+    if found_elsewhere(host, Address::at_loopback(port)) != Some(Got::Closed) {
+        return "the loopback is reached from elsewhere";
+    }
+    if found_elsewhere(host, Address::at_all(port)) != Some(Got::Arrived) {
+        return "not every address is reached";
+    }
+    "right"
+}
+
+/// What another address of this computer finds, where somebody listens.
+fn found_elsewhere<R>(host: &R, listens: Address) -> Option<Got>
+where
+    R: Net + rt::Clock + Clone + Drop,
+{
+    let Ok(one) = host.clone() else {
+        return None;
+    };
+    let Ok(other) = host.clone() else {
+        return None;
+    };
+    let mut server = SocketPorts::new(one);
+    let mut client = SocketPorts::new(other);
+    if server.listen(Way::Panel, listens) != Opened::Done {
+        return None;
+    }
+    let elsewhere = Address {
+        host: [127, 0, 0, 2],
+        port: listens.port,
+    };
+    match client.connect(Way::Upstream, elsewhere) {
+        Opened::Done => Some(found(host, &mut client, Way::Upstream)),
+        Opened::Failed => Some(Got::Closed),
+    }
+}
+
 /// A port at which nobody listens now.
 fn free_port(host: &impl Net) -> Option<u16> {
     let any = SocketAddr::V4(SocketAddrV4::new(Ipv4Addr::LOCALHOST, 0));
@@ -62,11 +106,8 @@ fn both<R: Net + rt::Clock + Drop>(
     client: &mut SocketPorts<R>,
     port: u16,
 ) -> &'static str {
-    let address = Address {
-        host: [127, 0, 0, 1],
-        port,
-    };
-    if server.listen(Way::Downstream, port) != Opened::Done {
+    let address = Address::at_loopback(port);
+    if server.listen(Way::Downstream, address) != Opened::Done {
         return "can't listen";
     }
     if client.connect(Way::Upstream, address) != Opened::Done {

@@ -31,6 +31,9 @@ fn said_of(rt: &HostRuntime, line: &str) -> Result<String, AllocError> {
     if line == "sockets" {
         return String::from_str(rt.alloc(), host_side::sockets(rt));
     }
+    if line == "reach" {
+        return String::from_str(rt.alloc(), host_side::reach(rt));
+    }
     answer(rt.alloc(), line)
 }
 

@@ -119,7 +119,7 @@ fn say(
         return said.push_str(sent_text(ports.refuse(way, what.as_bytes())));
     }
     if call == "listen" {
-        return said.push_str(opened_text(ports.listen(way, 900)));
+        return said.push_str(opened_text(ports.listen(way, ADDRESS)));
     }
     if call == "connect" {
         return said.push_str(opened_text(ports.connect(way, ADDRESS)));

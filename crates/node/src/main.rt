@@ -2,14 +2,15 @@
 //! host's, and hands them to `node_main`.
 #![tactic(auto)]
 
+mod end;
 mod file;
 
+use crate::end::tell_end;
 use crate::file::SettingsFile;
 use line_base::{Memory, Word, Words};
 use line_outside::{HostClock, SocketPorts, WriterSink};
 use node_cli::{NodeStatus, node_main};
 use std::alloc::AllocError;
-use std::io::Write;
 use std::net::Net;
 use std::process::ExitCode;
 use std::rt::{Clock, Env, Files};
@@ -20,18 +21,8 @@ fn main(rt: HostRuntime) -> ExitCode {
         Ok(status) => status,
         Err(Memory) => NodeStatus::Memory,
     };
-    let _told = tell(&rt, status);
+    let _told = tell_end(&mut rt.stderr(), status);
     ExitCode::from(status.exit_number())
-}
-
-/// Where nothing was run, a line in the log's place says why.
-fn tell<R: Print>(rt: &R, status: NodeStatus) -> io::Result<()> {
-    let mut out = io::writer(rt);
-    match status {
-        NodeStatus::Usage => out.write_all(b"usage: node <settings file>\n"),
-        NodeStatus::ConfigRefused(key, why) => writeln!(out, "refused: {key}: {why}"),
-        _ => Ok(()),
-    }
 }
 
 fn run<R>(rt: &R) -> Result<NodeStatus, Memory>

@@ -4,7 +4,7 @@ use Rattle.std.proofs.lemmas.Bool.Decides.{nat_tests}
 use Rattle.line_base.specs.Results.{then_ok, mapped_ok}
 use Rattle.toml.specs.Data.{Data, Members, string, integer, float, boolean, datetime, array, table, get_member}
 use Rattle.std.specs.Prelude.{codes}
-use Rattle.node_settings.specs.Settings.{refusal, named, capacity_of, used_of, places_of, made_places, bridge_of, identity_of, connections_of, known_turns_of, made_settings, settings_of, document_of, settings_in, read_of}
+use Rattle.node_settings.specs.Settings.{refusal, named, capacity_of, used_of, places_of, made_places, bridge_of, identity_of, connections_of, turns_of, known_panel_of, made_settings, settings_of, document_of, settings_in, read_of}
 use Rattle.node_settings.specs.Value.{number_in, number_as, required, optional}
 use Rattle.node_settings.specs.declared.key.ConfigKey.{ConfigKey}
 use Rattle.node_settings.specs.declared.key.ConfigKey.TheVariants as keys
@@ -81,9 +81,10 @@ settings_bounded ms settings e =
     let two = then_ok-inverse (places_of ms) _ settings one.2 in
     let three = then_ok-inverse (bridge_of ms) _ settings two.2 in
     let four = then_ok-inverse (connections_of one.0.lane ms) _ settings three.2 in
-    let five = mapped_ok-inverse (made_settings one.0 two.0 three.0 four.0) (known_turns_of ms) settings four.2 in
+    let five = then_ok-inverse (turns_of ms) _ settings four.2 in
+    let six = mapped_ok-inverse (made_settings one.0 two.0 three.0 four.0 five.0) (known_panel_of ms) settings five.2 in
     let P : Settings → Type 0 = λ s. AreBounded s.places in
-    subst P five.2 (places_bounded ms two.0 two.1)
+    subst P six.2 (places_bounded ms two.0 two.1)
 
 in_bounded : (document : Option Members) (settings : Settings) → settings_in document ≡ Ok settings → AreBounded settings.places
 in_bounded None settings e = cc

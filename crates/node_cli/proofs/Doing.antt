@@ -55,7 +55,7 @@ run_file (statuses.ConfigRefused key why) all moment given_old given_new log_old
 run_file statuses.ReadFault all moment given_old given_new log_old log_new is does = absurd is
 run_file statuses.LogFault all moment given_old given_new log_old log_new is does = does
 run_file statuses.Memory all moment given_old given_new log_old log_new is does = inr does
-run_file statuses.ListenFault all moment given_old given_new log_old log_new is does = does
+run_file (statuses.ListenFault address) all moment given_old given_new log_old log_new is does = does
 run_file statuses.TurnsUsed all moment given_old given_new log_old log_new is does = does
 
 run : (left : Option (List ℕ)) (bytes : List ℕ) (settings : Settings) (moment : Option ℤ) (given_old given_new : Option (List Given)) (log_old log_new : Option (List ℕ)) (status : NodeStatus)
@@ -79,7 +79,7 @@ fits_one (statuses.ConfigRefused key why) is = tt
 fits_one statuses.ReadFault is = tt
 fits_one statuses.LogFault is = tt
 fits_one statuses.Memory is = tt
-fits_one statuses.ListenFault is = tt
+fits_one (statuses.ListenFault address) is = tt
 fits_one statuses.TurnsUsed is = tt
 
 pub fits_run : (test : Bool) (status : NodeStatus) → test ≡ true → IsRunStatus status → FitsNode test status
@@ -119,5 +119,5 @@ pub fits_error : (error : SettingsError) (test : Bool) → test ≡ true → Fit
 fits_error error test e = let P : Bool → Type 0 = λ t. FitsNode t (status_of error) in subst P (sym e) (fits_error_one error)
 
 pub error_causes : (error : SettingsError) (file_before file_now ports log : ℕ) → file_before ≤ file_now → HasCauses (status_of error) file_before file_now ports ports log log
-error_causes (refusals.Refused key why) file_before file_now ports log file = record { file = file; ports = omega arith; log = omega arith; read_fault = λ e. cc; listen_fault = λ e. cc; log_fault = λ e. cc }
-error_causes refusals.Memory file_before file_now ports log file = record { file = file; ports = omega arith; log = omega arith; read_fault = λ e. cc; listen_fault = λ e. cc; log_fault = λ e. cc }
+error_causes (refusals.Refused key why) file_before file_now ports log file = record { file = file; ports = omega arith; log = omega arith; read_fault = λ e. cc; listen_fault = λ address e. cc; log_fault = λ e. cc }
+error_causes refusals.Memory file_before file_now ports log file = record { file = file; ports = omega arith; log = omega arith; read_fault = λ e. cc; listen_fault = λ address e. cc; log_fault = λ e. cc }

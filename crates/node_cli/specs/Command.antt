@@ -4,6 +4,7 @@ use Rattle.node_cli.specs.declared.settings_file.FileError.{FileError}
 use Rattle.node_cli.specs.declared.settings_file.FileError.TheVariants as errors
 use Rattle.line_outside.specs.Faults.{Rose}
 use Rattle.line_outside.specs.Given.{Given}
+use Rattle.line_outside.specs.declared.way.Address.{Address}
 use Rattle.node_run.specs.Told.{RunEndsTold}
 use Rattle.node_run.specs.declared.status.NodeStatus.{NodeStatus}
 use Rattle.node_run.specs.declared.status.NodeStatus.TheVariants as statuses
@@ -80,5 +81,6 @@ pub record HasCauses (status : NodeStatus)
   pub ports : ports_before ≤ ports_now
   pub log : log_before ≤ log_now
   pub read_fault : status ≡ statuses.ReadFault → Rose file_before file_now
-  pub listen_fault : status ≡ statuses.ListenFault → Rose ports_before ports_now
+  pub listen_fault : (address : Address) → status ≡ statuses.ListenFault address
+      → Rose ports_before ports_now
   pub log_fault : status ≡ statuses.LogFault → Rose log_before log_now

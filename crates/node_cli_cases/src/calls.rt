@@ -1,5 +1,5 @@
 use line_base::Memory;
-use line_outside::{Got, Opened, PortCall, Sent, Way};
+use line_outside::{Address, Got, Opened, PortCall, Sent, Way};
 use std::io::Write;
 
 /// Tells the calls, a line each, but for polls that found nothing.
@@ -26,20 +26,22 @@ fn weight_of(call: &PortCall) -> usize {
 
 fn tell_call(call: &PortCall, bytes: &[u8], to: &mut Vec<u8>) -> Result<(), Memory> {
     match call {
-        PortCall::Listens { way, port, opened } => {
+        PortCall::Listens {
+            way,
+            address,
+            opened,
+        } => {
             let way = way_word(*way);
-            let answer = opened_word(*opened);
-            written(write!(to, "> listen {way} {port}{answer}\n"))
+            written(write!(to, "> listen {way} "))?;
+            tell_opened(*address, *opened, to)
         }
         PortCall::Connects {
             address,
             opened,
             ..
         } => {
-            let [a, b, c, d] = address.host;
-            let port = address.port;
-            let answer = opened_word(*opened);
-            written(write!(to, "> connect {a}.{b}.{c}.{d}:{port}{answer}\n"))
+            written(write!(to, "> connect "))?;
+            tell_opened(*address, *opened, to)
         }
         PortCall::Polls {
             got: Got::NotYet,
@@ -56,6 +58,20 @@ fn tell_call(call: &PortCall, bytes: &[u8], to: &mut Vec<u8>) -> Result<(), Memo
         ),
         PortCall::Closes { way } => tell_line("> close", *way, "", &[], to),
     }
+}
+
+/// An address, and what came of it.
+fn tell_opened(address: Address, opened: Opened, to: &mut Vec<u8>) -> Result<(), Memory> {
+    let answer = opened_word(opened);
+    tell_address(address, to)?;
+    written(write!(to, "{answer}\n"))
+}
+
+/// An address as it is written.
+pub fn tell_address(address: Address, to: &mut Vec<u8>) -> Result<(), Memory> {
+    let [a, b, c, d] = address.host;
+    let port = address.port;
+    written(write!(to, "{a}.{b}.{c}.{d}:{port}"))
 }
 
 /// A word, a way, and what came of it, with the bytes as they are.

@@ -1,5 +1,5 @@
 use crate::answers::answer_of;
-use crate::calls::{tell_calls, written};
+use crate::calls::{tell_address, tell_calls, written};
 use case_text::spell;
 use line_base::{Memory, Moment, Word, Words};
 use line_outside::{FixedClock, MemoryPorts, MemorySink, MemorySource, PortAnswer};
@@ -109,6 +109,11 @@ fn tell_status(status: NodeStatus, to: &mut Vec<u8>) -> Result<(), Memory> {
     match status {
         NodeStatus::ConfigRefused(key, why) => {
             written(write!(to, "--- ConfigRefused, {key}: {why}\n"))
+        }
+        NodeStatus::ListenFault(address) => {
+            written(write!(to, "--- ListenFault, "))?;
+            tell_address(address, to)?;
+            written(write!(to, "\n"))
         }
         status => written(write!(to, "--- {status:?}\n")),
     }

@@ -20,10 +20,12 @@ use Rattle.node_core.specs.declared.act.Deed.{Deed}
 use Rattle.node_core.specs.declared.act.Deed.TheVariants as deeds
 use Rattle.node_core.specs.declared.act.Setting.TheVariants as settings
 use Rattle.node_run.specs.Account.{before_blank, behind_blank, id_found, id_in, act_in, own_told, own_line, own_behind, own_by_log, id_of_deed, IsProperAct}
-use Rattle.node_run.specs.Owning.{IsAnswer, refuses, denies, shows, TellsActs, no_lines, step_lines, answer_lines}
-use Rattle.node_run.specs.Texts.{log_line, line_of, lines_of, deed_text, at_gap, kept_line, held_line}
+use Rattle.node_run.specs.declared.drives.Drives.{Drives}
+use Rattle.node_run.specs.declared.rules.Rules.{Rules}
+use Rattle.node_run.specs.Owning.{IsAnswer, refuses, denies, shows, greets, TellsActs, no_lines, step_lines, answer_lines}
+use Rattle.node_run.specs.Texts.{log_line, line_of, lines_of, drive_line, drive_text, drives_lines, deed_text, at_gap, kept_line, held_line}
 use Rattle.node_run.proofs.Solid.{is_inner, is_solid, join, solid_decimal, inner_decimal, solid_id}
-use Rattle.node_run.proofs.Inner.{inner, spaced, inner_act, inner_deed, inner_why, inner_reason, inner_board, inner_gap, inner_quality}
+use Rattle.node_run.proofs.Inner.{inner, spaced, inner_act, inner_deed, inner_drive, inner_why, inner_reason, inner_board, inner_gap, inner_quality}
 
 -- ---- a line
 
@@ -112,34 +114,42 @@ told_no_own machine (verticals.CheckAlive ping id) own = refl
 told_no_own machine (verticals.Notification code severity text) own = refl
 told_no_own machine (verticals.Other name) own = refl
 
-act_read : (turn machine : ℕ) (act : Act) (rest : List ℕ) (own : Own) → IsProperAct act → own_behind [] (line_of turn machine act ++ rest) own ≡ own_behind [] rest (own_act own act)
-act_read turn machine (acts.Reads side event) rest own proper = told_line turn machine (acts.Reads side event) rest own proper refl
-act_read turn machine (acts.Hears side message) rest own proper = told_line turn machine (acts.Hears side message) rest own proper refl
-act_read turn machine (acts.Breaches side text) rest own proper = told_line turn machine (acts.Breaches side text) rest own proper refl
-act_read turn machine (acts.Sends side message) rest own proper = told_line turn machine (acts.Sends side message) rest own proper refl
-act_read turn machine (acts.Closes side) rest own proper = told_line turn machine (acts.Closes side) rest own proper refl
-act_read turn machine (acts.Notices side) rest own proper = told_line turn machine (acts.Notices side) rest own proper refl
-act_read turn machine acts.Connects rest own proper = told_line turn machine acts.Connects rest own proper refl
-act_read turn machine (acts.Deed deed) rest own proper = log_read turn (deed_text deed) rest own (inner_deed deed) ∙ ap (own_behind [] rest) (told_deed deed own proper)
-act_read turn machine (acts.Drive side on) rest own proper = refl
-act_read turn machine (acts.Signals signal on) rest own proper = told_line turn machine (acts.Signals signal on) rest own proper refl
-act_read turn machine (acts.Marks id quality) rest own proper = told_line turn machine (acts.Marks id quality) rest own proper refl
-act_read turn machine (acts.Inserts id) rest own proper = told_line turn machine (acts.Inserts id) rest own proper (ap (λ i. own_act own (acts.Inserts i)) (behind_number machine id proper))
-act_read turn machine (acts.Removes id) rest own proper = told_line turn machine (acts.Removes id) rest own proper (ap (λ i. own_act own (acts.Removes i)) (behind_number machine id proper))
-act_read turn machine (acts.Replaces old new) rest own proper = told_line turn machine (acts.Replaces old new) rest own proper (told_replaced machine old new own proper.0 proper.1)
-act_read turn machine (acts.Sets (settings.Will side true)) rest own proper = told_line turn machine (acts.Sets (settings.Will side true)) rest own proper refl
-act_read turn machine (acts.Sets (settings.Will side false)) rest own proper = told_line turn machine (acts.Sets (settings.Will side false)) rest own proper refl
-act_read turn machine (acts.Sets (settings.Level line on)) rest own proper = told_line turn machine (acts.Sets (settings.Level line on)) rest own proper refl
-act_read turn machine (acts.Sets (settings.Supervise on)) rest own proper = told_line turn machine (acts.Sets (settings.Supervise on)) rest own proper refl
-act_read turn machine (acts.Tells message) rest own proper = told_line turn machine (acts.Tells message) rest own proper (told_no_own machine message.body own)
-act_read turn machine (acts.Answered query order) rest own proper = told_line turn machine (acts.Answered query order) rest own proper refl
+-- that of a drive, which tells nothing of it
+drive_read : (turn machine : ℕ) (side : Side) (on : Bool) (rest : List ℕ) (own : Own) → own_behind [] (drive_line turn machine side on ++ rest) own ≡ own_behind [] rest own
+drive_read turn machine side on rest own = log_read turn (drive_text machine side on) rest own (inner_drive machine side on)
 
-acts_read : (turn machine : ℕ) (told : List Act) (rest : List ℕ) (own : Own) → AllByRecursion IsProperAct told → own_behind [] (lines_of turn machine told ++ rest) own ≡ own_behind [] rest (own_after own told)
-acts_read turn machine [] rest own proper = refl
-acts_read turn machine (act ∷ told) rest own proper =
-    ap (λ bytes. own_behind [] bytes own) (append_assoc (line_of turn machine act) (lines_of turn machine told) rest)
-    ∙ act_read turn machine act (lines_of turn machine told ++ rest) own proper.0
-    ∙ acts_read turn machine told rest (own_act own act) proper.1
+told_drive : (told : Bool) (turn machine : ℕ) (side : Side) (on : Bool) (rest : List ℕ) (own : Own) → own_behind [] (line_of told turn machine (acts.Drive side on) ++ rest) own ≡ own_behind [] rest own
+told_drive true turn machine side on rest own = drive_read turn machine side on rest own
+told_drive false turn machine side on rest own = refl
+
+act_read : (told : Bool) (turn machine : ℕ) (act : Act) (rest : List ℕ) (own : Own) → IsProperAct act → own_behind [] (line_of told turn machine act ++ rest) own ≡ own_behind [] rest (own_act own act)
+act_read told turn machine (acts.Reads side event) rest own proper = told_line turn machine (acts.Reads side event) rest own proper refl
+act_read told turn machine (acts.Hears side message) rest own proper = told_line turn machine (acts.Hears side message) rest own proper refl
+act_read told turn machine (acts.Breaches side text) rest own proper = told_line turn machine (acts.Breaches side text) rest own proper refl
+act_read told turn machine (acts.Sends side message) rest own proper = told_line turn machine (acts.Sends side message) rest own proper refl
+act_read told turn machine (acts.Closes side) rest own proper = told_line turn machine (acts.Closes side) rest own proper refl
+act_read told turn machine (acts.Notices side) rest own proper = told_line turn machine (acts.Notices side) rest own proper refl
+act_read told turn machine acts.Connects rest own proper = told_line turn machine acts.Connects rest own proper refl
+act_read told turn machine (acts.Deed deed) rest own proper = log_read turn (deed_text deed) rest own (inner_deed deed) ∙ ap (own_behind [] rest) (told_deed deed own proper)
+act_read told turn machine (acts.Drive side on) rest own proper = told_drive told turn machine side on rest own
+act_read told turn machine (acts.Signals signal on) rest own proper = told_line turn machine (acts.Signals signal on) rest own proper refl
+act_read told turn machine (acts.Marks id quality) rest own proper = told_line turn machine (acts.Marks id quality) rest own proper refl
+act_read told turn machine (acts.Inserts id) rest own proper = told_line turn machine (acts.Inserts id) rest own proper (ap (λ i. own_act own (acts.Inserts i)) (behind_number machine id proper))
+act_read told turn machine (acts.Removes id) rest own proper = told_line turn machine (acts.Removes id) rest own proper (ap (λ i. own_act own (acts.Removes i)) (behind_number machine id proper))
+act_read told turn machine (acts.Replaces old new) rest own proper = told_line turn machine (acts.Replaces old new) rest own proper (told_replaced machine old new own proper.0 proper.1)
+act_read told turn machine (acts.Sets (settings.Will side true)) rest own proper = told_line turn machine (acts.Sets (settings.Will side true)) rest own proper refl
+act_read told turn machine (acts.Sets (settings.Will side false)) rest own proper = told_line turn machine (acts.Sets (settings.Will side false)) rest own proper refl
+act_read told turn machine (acts.Sets (settings.Level line on)) rest own proper = told_line turn machine (acts.Sets (settings.Level line on)) rest own proper refl
+act_read told turn machine (acts.Sets (settings.Supervise on)) rest own proper = told_line turn machine (acts.Sets (settings.Supervise on)) rest own proper refl
+act_read told turn machine (acts.Tells message) rest own proper = told_line turn machine (acts.Tells message) rest own proper (told_no_own machine message.body own)
+act_read told turn machine (acts.Answered query order) rest own proper = told_line turn machine (acts.Answered query order) rest own proper refl
+
+acts_read : (told : Bool) (turn machine : ℕ) (acts : List Act) (rest : List ℕ) (own : Own) → AllByRecursion IsProperAct acts → own_behind [] (lines_of told turn machine acts ++ rest) own ≡ own_behind [] rest (own_after own acts)
+acts_read told turn machine [] rest own proper = refl
+acts_read told turn machine (act ∷ acts) rest own proper =
+    ap (λ bytes. own_behind [] bytes own) (append_assoc (line_of told turn machine act) (lines_of told turn machine acts) rest)
+    ∙ act_read told turn machine act (lines_of told turn machine acts ++ rest) own proper.0
+    ∙ acts_read told turn machine acts rest (own_act own act) proper.1
 
 -- ---- answers to the panel tell nothing of it
 
@@ -155,30 +165,38 @@ held_read : (turn : ℕ) (side : Side) (board : Option Record) (rest : List ℕ)
 held_read turn side None rest own = refl
 held_read turn side (Some board) rest own = log_read turn (at_gap (codes "show") side board.id) rest own (inner_gap (codes "show") side board.id refl)
 
-answer_read : (number : ℕ) {text : List ℕ} → IsAnswer number text → (rest : List ℕ) (own : Own) → own_behind [] (text ++ rest) own ≡ own_behind [] rest own
-answer_read number (refuses turn why) rest own = log_read turn (codes "refused: " ++ why_text why) rest own (join is_inner (codes "refused: ") (why_text why) refl (inner_why why))
-answer_read number (denies turn reason) rest own = log_read turn (codes "no: " ++ reason_text reason) rest own (join is_inner (codes "no: ") (reason_text reason) refl (inner_reason reason))
-answer_read number (shows turn kept out taking) rest own =
-    ap (λ bytes. own_behind [] bytes own) (append_assoc (flat_map (kept_line turn number) kept) (held_line turn Exit out ++ held_line turn Entry taking) rest)
-    ∙ kept_read turn number kept ((held_line turn Exit out ++ held_line turn Entry taking) ++ rest) own
+drives_read : (told : Bool) (turn machine : ℕ) (drives : Drives) (rest : List ℕ) (own : Own) → own_behind [] (drives_lines told turn machine drives ++ rest) own ≡ own_behind [] rest own
+drives_read true turn machine drives rest own =
+    ap (λ bytes. own_behind [] bytes own) (append_assoc (drive_line turn machine Entry drives.entry) (drive_line turn machine Exit drives.exit) rest)
+    ∙ drive_read turn machine Entry drives.entry (drive_line turn machine Exit drives.exit ++ rest) own
+    ∙ drive_read turn machine Exit drives.exit rest own
+drives_read false turn machine drives rest own = refl
+
+answer_read : (rules : Rules) {text : List ℕ} → IsAnswer rules text → (rest : List ℕ) (own : Own) → own_behind [] (text ++ rest) own ≡ own_behind [] rest own
+answer_read rules (refuses turn why) rest own = log_read turn (codes "refused: " ++ why_text why) rest own (join is_inner (codes "refused: ") (why_text why) refl (inner_why why))
+answer_read rules (denies turn reason) rest own = log_read turn (codes "no: " ++ reason_text reason) rest own (join is_inner (codes "no: ") (reason_text reason) refl (inner_reason reason))
+answer_read rules (shows turn kept out taking) rest own =
+    ap (λ bytes. own_behind [] bytes own) (append_assoc (flat_map (kept_line turn rules.number) kept) (held_line turn Exit out ++ held_line turn Entry taking) rest)
+    ∙ kept_read turn rules.number kept ((held_line turn Exit out ++ held_line turn Entry taking) ++ rest) own
     ∙ ap (λ bytes. own_behind [] bytes own) (append_assoc (held_line turn Exit out) (held_line turn Entry taking) rest)
     ∙ held_read turn Exit out (held_line turn Entry taking ++ rest) own
     ∙ held_read turn Entry taking rest own
+answer_read rules (greets turn drives) rest own = drives_read rules.panel.drives turn rules.number drives rest own
 
 -- ---- a log
 
-tells_read : (number : ℕ) {log : List ℕ} {told : List Act} → TellsActs number log told → (rest : List ℕ) (own : Own) → own_behind [] (log ++ rest) own ≡ own_behind [] rest (own_after own told)
-tells_read number no_lines rest own = refl
-tells_read number (step_lines {log} {told} turn acts proper tells) rest own =
-    ap (λ bytes. own_behind [] bytes own) (append_assoc log (lines_of turn number acts) rest)
-    ∙ tells_read number tells (lines_of turn number acts ++ rest) own
-    ∙ acts_read turn number acts rest (own_after own told) (recursion_from_All IsProperAct acts proper.each)
+tells_read : (rules : Rules) {log : List ℕ} {told : List Act} → TellsActs rules log told → (rest : List ℕ) (own : Own) → own_behind [] (log ++ rest) own ≡ own_behind [] rest (own_after own told)
+tells_read rules no_lines rest own = refl
+tells_read rules (step_lines {log} {told} turn acts proper tells) rest own =
+    ap (λ bytes. own_behind [] bytes own) (append_assoc log (lines_of rules.panel.drives turn rules.number acts) rest)
+    ∙ tells_read rules tells (lines_of rules.panel.drives turn rules.number acts ++ rest) own
+    ∙ acts_read rules.panel.drives turn rules.number acts rest (own_after own told) (recursion_from_All IsProperAct acts proper.each)
     ∙ ap (own_behind [] rest) (sym (own_append own told acts))
-tells_read number (answer_lines {log} {text} {told} tells answer) rest own =
+tells_read rules (answer_lines {log} {text} {told} tells answer) rest own =
     ap (λ bytes. own_behind [] bytes own) (append_assoc log text rest)
-    ∙ tells_read number tells (text ++ rest) own
-    ∙ answer_read number answer rest (own_after own told)
+    ∙ tells_read rules tells (text ++ rest) own
+    ∙ answer_read rules answer rest (own_after own told)
 
 -- what a log tells is what is read off it
-pub own_read : (number : ℕ) {log : List ℕ} {told : List Act} (own : Own) → TellsActs number log told → own_by_log log own ≡ own_after own told
-own_read number {log} {told} own tells = ap (λ bytes. own_behind [] bytes own) (sym (append-nil log)) ∙ tells_read number tells [] own
+pub own_read : (rules : Rules) {log : List ℕ} {told : List Act} (own : Own) → TellsActs rules log told → own_by_log log own ≡ own_after own told
+own_read rules {log} {told} own tells = ap (λ bytes. own_behind [] bytes own) (sym (append-nil log)) ∙ tells_read rules tells [] own

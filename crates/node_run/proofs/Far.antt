@@ -8,6 +8,7 @@ use Rattle.line_outside.specs.declared.answer.GotBytes.TheVariants as founds
 use Rattle.line_outside.specs.declared.ports.Opened.{Opened}
 use Rattle.line_outside.specs.declared.ports.Opened.TheVariants as opens
 use Rattle.line_outside.specs.declared.ports.Sent.{Sent}
+use Rattle.line_outside.specs.declared.way.Address.{Address}
 use Rattle.line_outside.specs.declared.way.Way.{Way}
 use Rattle.line_outside.specs.declared.way.Way.TheVariants as ways
 use Rattle.node_core.specs.May.{no_if, may_do, same_bool}
@@ -126,7 +127,7 @@ pub record ClosesLess (s t : RunState) : Type 0 where
   pub less : close_work t < close_work s
 
 -- the machine hears of it, or has no connection
-upstream_step : (rules : Rules) (moment : ℤ) (s t : RunState) (log : List ℕ) → is_open Entry s.node.lane.body ≡ true → is_due s.upstream ≡ true → TakesStep rules moment [] (inputs.Notice Entry) (record s { upstream = at_rest }) t log → ClosesLess s t
+upstream_step : (rules : Rules) (moment : ℤ) (s t : RunState) (log : List ℕ) → is_open Entry s.node.lane.body ≡ true → is_due s.upstream ≡ true → TakesStep false rules moment [] (inputs.Notice Entry) (record s { upstream = at_rest }) t log → ClosesLess s t
 upstream_step rules moment s t log connected due takes =
     let closed = notice_closes s.node takes.node Entry moment takes.told takes.steps in
     let other = notice_leaves s.node takes.node Entry moment takes.told takes.steps in
@@ -147,7 +148,7 @@ upstream_step rules moment s t log connected due takes =
       less = omega (arith, panel, way, watched, up, down, ap count connected, due_wire s.upstream.wire s.upstream.unsent due, wire_most t.upstream.wire, wire_most t.downstream.wire);
     }
 
-downstream_step : (rules : Rules) (moment : ℤ) (s t : RunState) (log : List ℕ) → is_open Exit s.node.lane.body ≡ true → is_due s.downstream ≡ true → TakesStep rules moment [] (inputs.Notice Exit) (record s { downstream = at_rest }) t log → ClosesLess s t
+downstream_step : (rules : Rules) (moment : ℤ) (s t : RunState) (log : List ℕ) → is_open Exit s.node.lane.body ≡ true → is_due s.downstream ≡ true → TakesStep false rules moment [] (inputs.Notice Exit) (record s { downstream = at_rest }) t log → ClosesLess s t
 downstream_step rules moment s t log connected due takes =
     let closed = notice_closes s.node takes.node Exit moment takes.told takes.steps in
     let other = notice_leaves s.node takes.node Exit moment takes.told takes.steps in
@@ -167,7 +168,7 @@ downstream_step rules moment s t log connected due takes =
       less = omega (arith, panel, way, watched, up, down, ap count connected, due_wire s.downstream.wire s.downstream.unsent due, wire_most t.upstream.wire, wire_most t.downstream.wire);
     }
 
-supervisory_step : (rules : Rules) (moment : ℤ) (s t : RunState) (log : List ℕ) → s.node.supervised ≡ true → is_due s.supervisory ≡ true → TakesStep rules moment [] (inputs.Supervise false) (record s { supervisory = at_rest; channel = no_session }) t log → ClosesLess s t
+supervisory_step : (rules : Rules) (moment : ℤ) (s t : RunState) (log : List ℕ) → s.node.supervised ≡ true → is_due s.supervisory ≡ true → TakesStep false rules moment [] (inputs.Supervise false) (record s { supervisory = at_rest; channel = no_session }) t log → ClosesLess s t
 supervisory_step rules moment s t log supervised due takes =
     let up = ap (λ (r : RunState). count (is_open Entry r.node.lane.body)) takes.after ∙ ap count (supervise_leaves s.node takes.node false Entry moment takes.told takes.steps) in
     let down = ap (λ (r : RunState). count (is_open Exit r.node.lane.body)) takes.after ∙ ap count (supervise_leaves s.node takes.node false Exit moment takes.told takes.steps) in
@@ -226,9 +227,9 @@ less_work s t less = omega (arith, less.rest, less.hears, ap count less.asks, ap
 
 -- ---- all moves
 
-listen_nearer : (rules : Rules) (s : RunState) (way : Way) (port : ℕ) (opened : Opened) → at_place rules s s.place ≡ nexts.Listen way port → length s.rest ≤ 4096 → IsShort (after_listen opened s).channel → far_of rules (after_listen opened s) < far_of rules s
-listen_nearer rules s way port opens.Done e rest short = place_far rules s (after_listen opens.Done s) (nexts.Listen way port) e refl refl refl rest short
-listen_nearer rules s way port opens.Failed e rest short = place_far rules s (after_listen opens.Failed s) (nexts.Listen way port) e refl refl refl rest short
+listen_nearer : (rules : Rules) (s : RunState) (way : Way) (address : Address) (opened : Opened) → at_place rules s s.place ≡ nexts.Listen way address → length s.rest ≤ 4096 → IsShort (after_listen address opened s).channel → far_of rules (after_listen address opened s) < far_of rules s
+listen_nearer rules s way address opens.Done e rest short = place_far rules s (after_listen address opens.Done s) (nexts.Listen way address) e refl refl refl rest short
+listen_nearer rules s way address opens.Failed e rest short = place_far rules s (after_listen address opens.Failed s) (nexts.Listen way address) e refl refl refl rest short
 
 connect_nearer : (rules : Rules) (s : RunState) → s.asks ≡ true → far_of rules (record s { asks = false }) < far_of rules s
 connect_nearer rules s asks = nearer_at rules s (record s { asks = false }) refl refl (omega (arith, ap count asks))
@@ -286,7 +287,7 @@ hear_nearer rules moment s t log hears does =
 
 -- A MOVE BRINGS A RUN NEARER TO ITS END
 pub moves_nearer : (rules : Rules) (moment : ℤ) {s t : RunState} {calls : List Given} {log : List ℕ} → Moves rules moment s calls t log → length s.rest ≤ 4096 → length t.rest ≤ 4096 → IsShort t.channel → far_of rules t < far_of rules s
-moves_nearer rules moment (listens {s} {way} {port} {opened} next) before after short = listen_nearer rules s way port opened (is_from rules s (nexts.Listen way port) next) before short
+moves_nearer rules moment (listens {s} {way} {address} {opened} next) before after short = listen_nearer rules s way address opened (is_from rules s (nexts.Listen way address) next) before short
 moves_nearer rules moment (connects {s} {address} {opened} next) before after short = connect_nearer rules s (is_from rules s (nexts.Connect address) next)
 moves_nearer rules moment (polls {s} {t} {way} {got} {log} next done) before after short = poll_nearer rules moment s t way got log (is_from rules s (nexts.Poll way) next) done after short
 moves_nearer rules moment (sends {s} {way} {sent} next) before after short = send_nearer rules s way sent (is_from rules s (nexts.Send way) next) before short

@@ -19,11 +19,11 @@ use Rattle.node_panel.specs.Panel.{panel_line_of}
 use Rattle.node_panel.specs.declared.line.PanelLine.{PanelLine}
 use Rattle.node_panel.specs.declared.line.PanelLine.TheVariants as lines
 use Rattle.node_run.specs.declared.rules.Rules.{Rules}
-use Rattle.node_run.specs.State.{RunState, WayValue, way_at, with_way, with_wire}
+use Rattle.node_run.specs.State.{RunState, WayValue, echoed, way_at, with_way, with_wire}
 use Rattle.node_run.specs.Next.{has_ended}
 use Rattle.node_run.specs.Steps.{Takes, TakesStep, MeetsSecond}
-use Rattle.node_run.specs.After.{after_send, after_panel, panel_arrived, panel_second, panel_bytes, panel_closed, after_supervisory, supervisory_arrived, supervisory_second, supervisory_bytes, supervisory_closed, broken, AfterUpstream, AfterDownstream, AfterPoll}
-use Rattle.node_run.specs.Lines.{cut_line, behind_first, without_return, is_too_long, echoed, Tells, DoesInput, StepsAloud, AsksIf, AsksConnect, may_ask, DoesAsked, KeepsFront, Fronts, Ends, DoesCut, DoesLine}
+use Rattle.node_run.specs.After.{after_send, greeting, PanelArrives, AfterPanel, panel_second, panel_bytes, panel_closed, after_supervisory, supervisory_arrived, supervisory_second, supervisory_bytes, supervisory_closed, broken, AfterUpstream, AfterDownstream, AfterPoll}
+use Rattle.node_run.specs.Lines.{cut_line, behind_first, without_return, is_too_long, Tells, DoesInput, AsksIf, AsksConnect, may_ask, DoesAsked, KeepsFront, Fronts, Ends, DoesCut, DoesLine}
 use Rattle.node_run.specs.declared.way_state.Wire.{Wire}
 use Rattle.node_run.specs.declared.way_state.Wire.TheVariants as wires
 use Rattle.node_run.specs.declared.status.NodeStatus.{NodeStatus}
@@ -42,7 +42,7 @@ same most s = record { turn = refl; place = refl; ended = refl; rest = λ few. f
 same_at : (most : ℕ) (s u t : RunState) → t ≡ u → SamePlace most s u → SamePlace most s t
 same_at most s u t e frame = let P : RunState → Type 0 = SamePlace most s in subst P (sym e) frame
 
-step_same : (most : ℕ) (rules : Rules) (moment : ℤ) (sensed : List Sensed) (input : Input) (s u t : RunState) (log : List ℕ) → TakesStep rules moment sensed input u t log → SamePlace most s u → SamePlace most s t
+step_same : (most : ℕ) (rules : Rules) (moment : ℤ) (sensed : List Sensed) (input : Input) (s u t : RunState) (log : List ℕ) → TakesStep false rules moment sensed input u t log → SamePlace most s u → SamePlace most s t
 step_same most rules moment sensed input s u t log takes frame =
     record { turn = ap (λ (r : RunState). r.turn) takes.after ∙ frame.turn; place = ap (λ (r : RunState). r.place) takes.after ∙ frame.place; ended = ap (λ (r : RunState). r.ended) takes.after ∙ frame.ended; rest = λ few. omega (arith, ap (λ (r : RunState). length r.rest) takes.after, frame.rest few) }
 
@@ -55,11 +55,11 @@ second_same most (Ok done) rules moment input s t log meets =
     record { turn = ap (λ (r : RunState). r.turn) meets.after; place = ap (λ (r : RunState). r.place) meets.after; ended = ap (λ (r : RunState). r.ended) meets.after; rest = λ few. omega (arith, ap (λ (r : RunState). length r.rest) meets.after, few) }
 second_same most (Err why) rules moment input s t log meets = same_at most s s t meets.0 (same most s)
 
-arrived_same : (most : ℕ) (wire : Wire) (s : RunState) → SamePlace most s (panel_arrived wire s)
-arrived_same most wires.Rests s = record { turn = refl; place = refl; ended = refl; rest = λ few. few }
-arrived_same most wires.Stands s = same most s
-arrived_same most wires.Ends s = same most s
-arrived_same most wires.Breaks s = same most s
+arrived_same : (most : ℕ) (wire : Wire) (rules : Rules) (s t : RunState) (log : List ℕ) → PanelArrives wire rules s t log → SamePlace most s t
+arrived_same most wires.Rests rules s t log arrives = same_at most s (echoed (greeting rules s) (with_wire ways.Panel wires.Stands s)) t arrives.0 (record { turn = refl; place = refl; ended = refl; rest = λ few. few })
+arrived_same most wires.Stands rules s t log arrives = same_at most s s t arrives.0 (same most s)
+arrived_same most wires.Ends rules s t log arrives = same_at most s s t arrives.0 (same most s)
+arrived_same most wires.Breaks rules s t log arrives = same_at most s s t arrives.0 (same most s)
 
 seconded_same : (most : ℕ) (wire : Wire) (s : RunState) → SamePlace most s (panel_second wire s)
 seconded_same most wires.Stands s = record { turn = refl; place = refl; ended = refl; rest = λ few. few }
@@ -88,13 +88,13 @@ IsShortGot most founds.NotYet = Unit {0}
 IsShortGot most founds.Closed = Unit {0}
 IsShortGot most founds.Failed = Unit {0}
 
-panel_same : (most : ℕ) (got : GotBytes) (s : RunState) → IsShortGot most got → SamePlace most s (after_panel got s)
-panel_same most founds.Arrived s short = arrived_same most s.panel.wire s
-panel_same most founds.Second s short = seconded_same most s.panel.wire s
-panel_same most (founds.Bytes bytes) s short = bytes_same most s.panel.wire bytes s short
-panel_same most founds.NotYet s short = same most s
-panel_same most founds.Closed s short = closed_same most s.panel.wire s
-panel_same most founds.Failed s short = closed_same most s.panel.wire s
+panel_same : (most : ℕ) (rules : Rules) (got : GotBytes) (s t : RunState) (log : List ℕ) → IsShortGot most got → AfterPanel rules got s t log → SamePlace most s t
+panel_same most rules founds.Arrived s t log short after = arrived_same most s.panel.wire rules s t log after
+panel_same most rules founds.Second s t log short after = same_at most s _ t after.0 (seconded_same most s.panel.wire s)
+panel_same most rules (founds.Bytes bytes) s t log short after = same_at most s _ t after.0 (bytes_same most s.panel.wire bytes s short)
+panel_same most rules founds.NotYet s t log short after = same_at most s s t after.0 (same most s)
+panel_same most rules founds.Closed s t log short after = same_at most s _ t after.0 (closed_same most s.panel.wire s)
+panel_same most rules founds.Failed s t log short after = same_at most s _ t after.0 (closed_same most s.panel.wire s)
 
 upstream_broken_same : (most : ℕ) (test : Bool) (s : RunState) → SamePlace most s (broken ways.Upstream test s)
 upstream_broken_same most true s = record { turn = refl; place = refl; ended = refl; rest = λ few. few }
@@ -153,7 +153,7 @@ supervisory_same most moment founds.Closed s = supervisory_closed_same most s.su
 supervisory_same most moment founds.Failed s = supervisory_closed_same most s.supervisory.wire s
 
 pub poll_same : (most : ℕ) (rules : Rules) (moment : ℤ) (way : Way) (got : GotBytes) (s t : RunState) (log : List ℕ) → IsShortGot most got → AfterPoll rules moment way got s t log → SamePlace most s t
-poll_same most rules moment ways.Panel got s t log short after = same_at most s _ t after.0 (panel_same most got s short)
+poll_same most rules moment ways.Panel got s t log short after = panel_same most rules got s t log short after
 poll_same most rules moment ways.Upstream got s t log short after = upstream_same most rules moment got s t log after
 poll_same most rules moment ways.Downstream got s t log short after = downstream_same most rules moment got s t log after
 poll_same most rules moment ways.Supervisory got s t log short after = same_at most s _ t after.0 (supervisory_same most moment got s)
@@ -200,10 +200,10 @@ rests_at s u t e frame = let P : RunState → Type 0 = SameRest s in subst P (sy
 tells_rest : (text : List ℕ) (s t : RunState) (log : List ℕ) → Tells text s t log → SameRest s t
 tells_rest text s t log tells = rests_at s (echoed text s) t tells.0 (record { turn = refl; place = refl; rest = refl; channel = refl; ended = inl refl })
 
-aloud_rest : (rules : Rules) (moment : ℤ) (sensed : List Sensed) (input : Input) (s t : RunState) (log : List ℕ) → StepsAloud rules moment sensed input s t log → SameRest s t
+aloud_rest : (rules : Rules) (moment : ℤ) (sensed : List Sensed) (input : Input) (s t : RunState) (log : List ℕ) → TakesStep true rules moment sensed input s t log → SameRest s t
 aloud_rest rules moment sensed input s t log aloud =
-    let after = aloud.takes.after in
-    rests_at s (echoed log aloud.silent) t aloud.after (record { turn = ap (λ (r : RunState). r.turn) after; place = ap (λ (r : RunState). r.place) after; rest = ap (λ (r : RunState). r.rest) after; channel = ap (λ (r : RunState). r.channel) after; ended = inl (ap (λ (r : RunState). r.ended) after) })
+    let after = aloud.after in
+    record { turn = ap (λ (r : RunState). r.turn) after; place = ap (λ (r : RunState). r.place) after; rest = ap (λ (r : RunState). r.rest) after; channel = ap (λ (r : RunState). r.channel) after; ended = inl (ap (λ (r : RunState). r.ended) after) }
 
 input_rest : (may : Result (Unit {0}) No) (rules : Rules) (moment : ℤ) (sensed : List Sensed) (input : Input) (s t : RunState) (log : List ℕ) → DoesInput may rules moment sensed input s t log → SameRest s t
 input_rest (Ok done) rules moment sensed input s t log does = aloud_rest rules moment sensed input s t log does

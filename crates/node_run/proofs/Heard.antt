@@ -72,7 +72,7 @@ here s = record { turn = refl; place = refl; rest = refl; ended = refl; channel 
 here_at : (s t : RunState) → t ≡ s → SameHere s t
 here_at s t e = let P : RunState → Type 0 = SameHere s in subst P (sym e) (here s)
 
-step_here : (rules : Rules) (moment : ℤ) (sensed : List Sensed) (input : Input) (s t : RunState) (log : List ℕ) → TakesStep rules moment sensed input s t log → SameHere s t
+step_here : (rules : Rules) (moment : ℤ) (sensed : List Sensed) (input : Input) (s t : RunState) (log : List ℕ) → TakesStep false rules moment sensed input s t log → SameHere s t
 step_here rules moment sensed input s t log takes = record {
   turn = ap (λ (r : RunState). r.turn) takes.after;
   place = ap (λ (r : RunState). r.place) takes.after;

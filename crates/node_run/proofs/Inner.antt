@@ -45,7 +45,7 @@ use Rattle.node_core.specs.declared.act.Signal.TheVariants as signals
 use Rattle.node_core.specs.declared.input.No.{No}
 use Rattle.node_core.specs.declared.input.No.TheVariants as nos
 use Rattle.node_run.specs.Account.{IsProperAct}
-use Rattle.node_run.specs.Texts.{at_gap, deed_text}
+use Rattle.node_run.specs.Texts.{at_gap, deed_text, drive_text}
 use Rattle.node_run.proofs.Solid.{is_inner, join, inner_decimal, inner_id, inner_name}
 
 abbrev pub inner : List ℕ → Type 0
@@ -102,6 +102,9 @@ inner_switched : (word : List ℕ) (machine : ℕ) (signal : List ℕ) (on : Boo
 inner_switched word machine signal on w s =
     spaced (numbered word machine ++ codes " " ++ signal) (switch_word on)
     (spaced (numbered word machine) signal (inner_numbered word machine w) s) (inner_switch on)
+
+pub inner_drive : (machine : ℕ) (side : Side) (on : Bool) → inner (drive_text machine side on)
+inner_drive machine side on = inner_switched (codes "drive") machine (side_text side) on refl (inner_side side)
 
 inner_at_side : (word : List ℕ) (machine : ℕ) (side : Side) → inner word → inner (at_side word machine side)
 inner_at_side word machine side w = spaced (numbered word machine) (side_text side) (inner_numbered word machine w) (inner_side side)

@@ -102,20 +102,20 @@ pub passed : (told : Option ℤ) (r u : RunView) (given : Option (List Given)) (
 passed told r u given before now next quiet rest e =
     as_done told r u (moved_on r.state) [] given given before now e quiet (λ moment. skips next) (gains_none given) rest (uncaused r.state.ended before now (not_ended r.rules r.state nexts.Skip next refl))
 
-listen_rest : (opened : Opened) (s : RunState) → length s.rest ≤ 4096 → length (after_listen opened s).rest ≤ 4096
-listen_rest opens.Done s few = few
-listen_rest opens.Failed s few = few
+listen_rest : (address : Address) (opened : Opened) (s : RunState) → length s.rest ≤ 4096 → length (after_listen address opened s).rest ≤ 4096
+listen_rest address opens.Done s few = few
+listen_rest address opens.Failed s few = few
 
-listen_caused : (opened : Opened) (s : RunState) (before now : ℕ) → s.ended ≡ None → HasOpenCause before now opened → IsEndCaused (after_listen opened s).ended before now
-listen_caused opens.Done s before now none cause = uncaused s.ended before now none
-listen_caused opens.Failed s before now none cause = cause.1
+listen_caused : (address : Address) (opened : Opened) (s : RunState) (before now : ℕ) → s.ended ≡ None → HasOpenCause before now opened → IsEndCaused (after_listen address opened s).ended before now
+listen_caused address opens.Done s before now none cause = uncaused s.ended before now none
+listen_caused address opens.Failed s before now none cause = cause.1
 
-pub listened : (told : Option ℤ) (r u : RunView) (way : Way) (port : ℕ) (opened : Opened) (given_old given_new : Option (List Given)) (before now : ℕ)
-    → next_of r.rules r.state ≡ nexts.Listen way port → r.told ≡ [] → length r.state.rest ≤ 4096 → Gains given_old given_new (Listens way port opened ∷ []) → HasOpenCause before now opened
-    → u ≡ record r { state = after_listen opened r.state } → MovesAs told r u given_old given_new before now
-listened told r u way port opened given_old given_new before now next quiet rest gains cause e =
-    as_done told r u (after_listen opened r.state) _ given_old given_new before now e quiet (λ moment. listens next) gains (listen_rest opened r.state rest)
-    (listen_caused opened r.state before now (not_ended r.rules r.state (nexts.Listen way port) next refl) cause)
+pub listened : (told : Option ℤ) (r u : RunView) (way : Way) (address : Address) (opened : Opened) (given_old given_new : Option (List Given)) (before now : ℕ)
+    → next_of r.rules r.state ≡ nexts.Listen way address → r.told ≡ [] → length r.state.rest ≤ 4096 → Gains given_old given_new (Listens way address opened ∷ []) → HasOpenCause before now opened
+    → u ≡ record r { state = after_listen address opened r.state } → MovesAs told r u given_old given_new before now
+listened told r u way address opened given_old given_new before now next quiet rest gains cause e =
+    as_done told r u (after_listen address opened r.state) _ given_old given_new before now e quiet (λ moment. listens next) gains (listen_rest address opened r.state rest)
+    (listen_caused address opened r.state before now (not_ended r.rules r.state (nexts.Listen way address) next refl) cause)
 
 pub opened_counts : (opened : Opened) (before now : ℕ) → HasOpenCause before now opened → before ≤ now
 opened_counts opens.Done before now cause = cause
@@ -264,7 +264,7 @@ at_end told rules s given log statuses.Done is why at = at
 at_end told rules s given log statuses.Usage is why at = at
 at_end told rules s given log (statuses.ConfigRefused key reason) is why at = at
 at_end told rules s given log statuses.ReadFault is why at = at
-at_end told rules s given log statuses.ListenFault is why at = at
+at_end told rules s given log (statuses.ListenFault address) is why at = at
 at_end told rules s given log statuses.TurnsUsed is why at = at
 
 pub ends_now : (told : Option ℤ) (rules : Rules) (s : RunState) (given : Option (List Given)) (log : Option (List ℕ)) (status : NodeStatus)
@@ -283,8 +283,8 @@ once_of ended (statuses.ConfigRefused key reason) before now is (inl e) = e
 once_of ended (statuses.ConfigRefused key reason) before now is (inr e) = cc
 once_of ended statuses.ReadFault before now is (inl e) = e
 once_of ended statuses.ReadFault before now is (inr e) = cc
-once_of ended statuses.ListenFault before now is (inl e) = e
-once_of ended statuses.ListenFault before now is (inr e) = cc
+once_of ended (statuses.ListenFault address) before now is (inl e) = e
+once_of ended (statuses.ListenFault address) before now is (inr e) = cc
 
 pub ends_once : (rules : Rules) (s : RunState) (status : NodeStatus) (before now : ℕ) → IsRunEnd s.ended → next_of rules s ≡ nexts.End status → IsOnceStatus s.ended status before now
 ends_once rules s status before now is next = once_of s.ended status before now is (is_from rules s (nexts.End status) next)
@@ -355,7 +355,7 @@ run_ends statuses.Done rules moment s t given_old given_mid given_new log_old lo
 run_ends statuses.Usage rules moment s t given_old given_mid given_new log_old log_mid log_new run ends = (t, run_at rules moment s t given_old given_mid given_new log_old log_mid log_new run ends.given ends.logged, ends.next)
 run_ends (statuses.ConfigRefused key why) rules moment s t given_old given_mid given_new log_old log_mid log_new run ends = (t, run_at rules moment s t given_old given_mid given_new log_old log_mid log_new run ends.given ends.logged, ends.next)
 run_ends statuses.ReadFault rules moment s t given_old given_mid given_new log_old log_mid log_new run ends = (t, run_at rules moment s t given_old given_mid given_new log_old log_mid log_new run ends.given ends.logged, ends.next)
-run_ends statuses.ListenFault rules moment s t given_old given_mid given_new log_old log_mid log_new run ends = (t, run_at rules moment s t given_old given_mid given_new log_old log_mid log_new run ends.given ends.logged, ends.next)
+run_ends (statuses.ListenFault address) rules moment s t given_old given_mid given_new log_old log_mid log_new run ends = (t, run_at rules moment s t given_old given_mid given_new log_old log_mid log_new run ends.given ends.logged, ends.next)
 run_ends statuses.TurnsUsed rules moment s t given_old given_mid given_new log_old log_mid log_new run ends = (t, run_at rules moment s t given_old given_mid given_new log_old log_mid log_new run ends.given ends.logged, ends.next)
 
 -- HOW THE LOOP ENDS, where the clock tells its moment
@@ -397,14 +397,15 @@ pub run_status : (ended : Option NodeStatus) (status : NodeStatus) (ports_before
 run_status ended statuses.Done ports_before ports_now log_before log_now caused once = tt
 run_status ended statuses.LogFault ports_before ports_now log_before log_now caused once = tt
 run_status ended statuses.Memory ports_before ports_now log_before log_now caused once = tt
-run_status ended statuses.ListenFault ports_before ports_now log_before log_now caused once = tt
+run_status ended (statuses.ListenFault address) ports_before ports_now log_before log_now caused once = tt
 run_status ended statuses.TurnsUsed ports_before ports_now log_before log_now caused once = tt
 run_status ended statuses.Usage ports_before ports_now log_before log_now caused once = let P : Option NodeStatus → Type 0 = λ e. IsEndCaused e ports_before ports_now in subst P once caused
 run_status ended (statuses.ConfigRefused key why) ports_before ports_now log_before log_now caused once = let P : Option NodeStatus → Type 0 = λ e. IsEndCaused e ports_before ports_now in subst P once caused
 run_status ended statuses.ReadFault ports_before ports_now log_before log_now caused once = let P : Option NodeStatus → Type 0 = λ e. IsEndCaused e ports_before ports_now in subst P once caused
 
-listen_cause : (ended : Option NodeStatus) (status : NodeStatus) (ports_before ports_mid ports_now log_mid log_now : ℕ) → ports_before ≤ ports_mid → ports_mid ≤ ports_now → IsEndCaused ended ports_before ports_mid → IsOnceStatus ended status log_mid log_now → status ≡ statuses.ListenFault → Rose ports_before ports_now
-listen_cause ended status ports_before ports_mid ports_now log_mid log_now first second caused once e =
+listen_cause : (ended : Option NodeStatus) (status : NodeStatus) (ports_before ports_mid ports_now log_mid log_now : ℕ) → ports_before ≤ ports_mid → ports_mid ≤ ports_now → IsEndCaused ended ports_before ports_mid → IsOnceStatus ended status log_mid log_now
+    → (address : Address) → status ≡ statuses.ListenFault address → Rose ports_before ports_now
+listen_cause ended status ports_before ports_mid ports_now log_mid log_now first second caused once address e =
     let P : NodeStatus → Type 0 = λ s. IsOnceStatus ended s log_mid log_now in
     let Q : Option NodeStatus → Type 0 = λ n. IsEndCaused n ports_before ports_mid in
     rose_before ports_before ports_mid ports_now first second (subst Q (subst P e once) caused)
@@ -425,13 +426,13 @@ ends_caused_by ended status ports_before ports_mid ports_now log_before log_mid 
 }
 
 pub memory_causes : (ports log : ℕ) → HasRunCauses statuses.Memory ports ports log log
-memory_causes ports log = record { ports = omega arith; log = omega arith; listen_fault = λ e. cc; log_fault = λ e. cc }
+memory_causes ports log = record { ports = omega arith; log = omega arith; listen_fault = λ address e. cc; log_fault = λ e. cc }
 
 -- a cause in a later stretch is one in both
 pub caused_later : (ended : Option NodeStatus) (a b c : ℕ) → a ≤ b → b ≤ c → IsEndCaused ended b c → IsEndCaused ended a c
 caused_later None a b c first second caused = tt
 caused_later (Some statuses.Done) a b c first second caused = tt
-caused_later (Some statuses.ListenFault) a b c first second caused = rose_after a b c first second caused
+caused_later (Some (statuses.ListenFault address)) a b c first second caused = rose_after a b c first second caused
 caused_later (Some statuses.Usage) a b c first second caused = caused
 caused_later (Some (statuses.ConfigRefused key why)) a b c first second caused = caused
 caused_later (Some statuses.ReadFault) a b c first second caused = caused
@@ -442,7 +443,7 @@ caused_later (Some statuses.TurnsUsed) a b c first second caused = caused
 pub is_run_end : (ended : Option NodeStatus) (before now : ℕ) → IsEndCaused ended before now → IsRunEnd ended
 is_run_end None before now caused = tt
 is_run_end (Some statuses.Done) before now caused = tt
-is_run_end (Some statuses.ListenFault) before now caused = tt
+is_run_end (Some (statuses.ListenFault address)) before now caused = tt
 is_run_end (Some statuses.Usage) before now caused = caused
 is_run_end (Some (statuses.ConfigRefused key why)) before now caused = caused
 is_run_end (Some statuses.ReadFault) before now caused = caused

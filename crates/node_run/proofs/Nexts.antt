@@ -41,7 +41,7 @@ IsFrom rules s (nexts.Connect address) = s.asks ≡ true
 IsFrom rules s nexts.Line = is_empty s.rest ≡ false
 IsFrom rules s nexts.Hear = s.channel.hears ≡ true
 IsFrom rules s nexts.Skip = at_place rules s s.place ≡ nexts.Skip
-IsFrom rules s (nexts.Listen way port) = at_place rules s s.place ≡ nexts.Listen way port
+IsFrom rules s (nexts.Listen way address) = at_place rules s s.place ≡ nexts.Listen way address
 IsFrom rules s (nexts.Poll way) = at_place rules s s.place ≡ nexts.Poll way
 IsFrom rules s (nexts.Send way) = at_place rules s s.place ≡ nexts.Send way
 
@@ -54,7 +54,7 @@ IsPlaced (nexts.Refuse way) = ⊥
 IsPlaced (nexts.Close way) = ⊥
 IsPlaced (nexts.Connect address) = ⊥
 IsPlaced nexts.Skip = Unit {0}
-IsPlaced (nexts.Listen way port) = Unit {0}
+IsPlaced (nexts.Listen way address) = Unit {0}
 IsPlaced (nexts.Poll way) = Unit {0}
 IsPlaced (nexts.Send way) = Unit {0}
 
@@ -96,7 +96,7 @@ place_from rules s (nexts.Connect address) e placed = absurd placed
 place_from rules s nexts.Line e placed = absurd placed
 place_from rules s nexts.Hear e placed = absurd placed
 place_from rules s nexts.Skip e placed = e
-place_from rules s (nexts.Listen way port) e placed = e
+place_from rules s (nexts.Listen way address) e placed = e
 place_from rules s (nexts.Poll way) e placed = e
 place_from rules s (nexts.Send way) e placed = e
 
@@ -162,8 +162,8 @@ left_for rules s found e goes = left_at rules s s.place (ap is_end e ∙ goes)
 pub left_to_skip : (rules : Rules) (s : RunState) → next_of rules s ≡ nexts.Skip → IsTurnLeft s.place s.turn rules.turns
 left_to_skip rules s next = left_for rules s nexts.Skip (is_from rules s nexts.Skip next) refl
 
-pub left_to_listen : (rules : Rules) (s : RunState) (way : Way) (port : ℕ) → next_of rules s ≡ nexts.Listen way port → IsTurnLeft s.place s.turn rules.turns
-left_to_listen rules s way port next = left_for rules s (nexts.Listen way port) (is_from rules s (nexts.Listen way port) next) refl
+pub left_to_listen : (rules : Rules) (s : RunState) (way : Way) (address : Address) → next_of rules s ≡ nexts.Listen way address → IsTurnLeft s.place s.turn rules.turns
+left_to_listen rules s way address next = left_for rules s (nexts.Listen way address) (is_from rules s (nexts.Listen way address) next) refl
 
 pub left_to_poll : (rules : Rules) (s : RunState) (way : Way) → next_of rules s ≡ nexts.Poll way → IsTurnLeft s.place s.turn rules.turns
 left_to_poll rules s way next = left_for rules s (nexts.Poll way) (is_from rules s (nexts.Poll way) next) refl

@@ -47,45 +47,54 @@ use Rattle.node_run.specs.declared.channel.Found.TheVariants as finds
 use Rattle.node_run.specs.declared.channel.Word.{Word}
 use Rattle.node_run.specs.declared.channel.Word.TheVariants as words
 use Rattle.node_run.specs.Steps.{Takes, TakesStep, MeetsSecond}
-use Rattle.node_run.specs.After.{after_listen, after_send, after_panel, panel_arrived, panel_second, panel_bytes, panel_closed, after_supervisory, supervisory_arrived, supervisory_second, supervisory_bytes, supervisory_closed, broken, AfterUpstream, AfterDownstream, AfterPoll, AfterClose}
-use Rattle.node_run.specs.Lines.{cut_line, without_return, is_too_long, Tells, DoesInput, StepsAloud, AsksIf, AsksConnect, may_ask, DoesAsked, KeepsFront, Fronts, Ends, DoesCut}
+use Rattle.node_run.specs.After.{after_listen, after_send, PanelArrives, AfterPanel, panel_second, panel_bytes, panel_closed, after_supervisory, supervisory_arrived, supervisory_second, supervisory_bytes, supervisory_closed, broken, AfterUpstream, AfterDownstream, AfterPoll, AfterClose}
+use Rattle.node_run.specs.Lines.{cut_line, without_return, is_too_long, Tells, DoesInput, AsksIf, AsksConnect, may_ask, DoesAsked, KeepsFront, Fronts, Ends, DoesCut}
 use Rattle.node_run.proofs.Accounts.{own_read}
 use Rattle.node_run.specs.Account.{AreProper}
-use Rattle.node_run.specs.Owning.{OwnIsRead, IsAnswer, refuses, denies, shows, TellsActs, no_lines, step_lines, answer_lines, OwnFollows}
+use Rattle.node_run.specs.Owning.{OwnIsRead, IsAnswer, refuses, denies, shows, greets, TellsActs, no_lines, step_lines, answer_lines, OwnFollows}
 use Rattle.node_run.specs.Runs.{Moves, listens, connects, polls, sends, refuses as refuses_second, closes, skips, does_line, does_hear, Runs, begins, goes_on}
 use Rattle.node_run.specs.Texts.{lines_of}
 use Rattle.node_run.specs.declared.way_state.Wire.{Wire}
 use Rattle.node_run.specs.declared.way_state.Wire.TheVariants as wires
 
 -- what one move does to what is owned, and what its lines are
-pub data Part (number : ℕ) (s t : RunState) (log : List ℕ) : Type 0 where
-  quiet : log ≡ [] → t.node ≡ s.node → Part number s t log
-  answers : IsAnswer number log → t.node ≡ s.node → Part number s t log
-  steps : (turn : ℕ) → (acts : List Act) → AreProper acts → log ≡ lines_of turn number acts → own_of t.node.lane.body ≡ own_after (own_of s.node.lane.body) acts → Part number s t log
+pub data Part (rules : Rules) (s t : RunState) (log : List ℕ) : Type 0 where
+  quiet : log ≡ [] → t.node ≡ s.node → Part rules s t log
+  answers : IsAnswer rules log → t.node ≡ s.node → Part rules s t log
+  steps : (turn : ℕ) → (acts : List Act) → AreProper acts → log ≡ lines_of rules.panel.drives turn rules.number acts → own_of t.node.lane.body ≡ own_after (own_of s.node.lane.body) acts → Part rules s t log
 
-step_part : (number : ℕ) (rules : Rules) (moment : ℤ) (sensed : List Sensed) (input : Input) (from s t : RunState) (log : List ℕ)
-    → from.node ≡ s.node → may_of s.node input ≡ may_do → rules.number ≡ number → TakesStep rules moment sensed input from t log → Part number s t log
-step_part number rules moment sensed input from s t log same may named takes =
+step_part : (asked : Bool) (rules : Rules) (moment : ℤ) (sensed : List Sensed) (input : Input) (from s t : RunState) (log : List ℕ)
+    → from.node ≡ s.node → may_of s.node input ≡ may_do → TakesStep asked rules moment sensed input from t log → Part rules s t log
+step_part asked rules moment sensed input from s t log same may takes =
     let P : NodeState → Type 0 = λ n. Steps n sensed input moment takes.node takes.told in
     let own = steps_own s.node takes.node sensed input moment takes.told may (subst P same takes.steps) in
-    steps from.turn takes.told takes.proper (takes.lines ∙ ap (λ n. lines_of from.turn n takes.told) named) (ap (λ (r : RunState). own_of r.node.lane.body) takes.after ∙ own)
+    steps from.turn takes.told takes.proper takes.lines (ap (λ (r : RunState). own_of r.node.lane.body) takes.after ∙ own)
 
-takes_part : (may : Result (Unit {0}) No) (rules : Rules) (moment : ℤ) (input : Input) (from s t : RunState) (log : List ℕ) → from.node ≡ s.node → may_of s.node input ≡ may → Takes may rules moment input from s t log → Part rules.number s t log
-takes_part (Ok done) rules moment input from s t log same may takes = step_part rules.number rules moment [] input from s t log same may refl takes
+takes_part : (may : Result (Unit {0}) No) (rules : Rules) (moment : ℤ) (input : Input) (from s t : RunState) (log : List ℕ) → from.node ≡ s.node → may_of s.node input ≡ may → Takes may rules moment input from s t log → Part rules s t log
+takes_part (Ok done) rules moment input from s t log same may takes = step_part false rules moment [] input from s t log same may takes
 takes_part (Err why) rules moment input from s t log same may takes = quiet takes.1 (ap (λ (r : RunState). r.node) takes.0)
 
 -- a closed way takes its step from what the close left
-closed_part : (may : Result (Unit {0}) No) (rules : Rules) (moment : ℤ) (input : Input) (closed s t : RunState) (log : List ℕ) → closed.node ≡ s.node → may_of s.node input ≡ may → Takes may rules moment input closed closed t log → Part rules.number s t log
-closed_part (Ok done) rules moment input closed s t log same may takes = step_part rules.number rules moment [] input closed s t log same may refl takes
+closed_part : (may : Result (Unit {0}) No) (rules : Rules) (moment : ℤ) (input : Input) (closed s t : RunState) (log : List ℕ) → closed.node ≡ s.node → may_of s.node input ≡ may → Takes may rules moment input closed closed t log → Part rules s t log
+closed_part (Ok done) rules moment input closed s t log same may takes = step_part false rules moment [] input closed s t log same may takes
 closed_part (Err why) rules moment input closed s t log same may takes = quiet takes.1 (ap (λ (r : RunState). r.node) takes.0 ∙ same)
 
-second_part : (may : Result (Unit {0}) No) (rules : Rules) (moment : ℤ) (input : Input) (s t : RunState) (log : List ℕ) → may_of s.node input ≡ may → MeetsSecond may rules moment input s t log → Part rules.number s t log
+second_part : (may : Result (Unit {0}) No) (rules : Rules) (moment : ℤ) (input : Input) (s t : RunState) (log : List ℕ) → may_of s.node input ≡ may → MeetsSecond may rules moment input s t log → Part rules s t log
 second_part (Ok done) rules moment input s t log may meets =
     steps s.turn meets.told meets.proper meets.lines (ap (λ (r : RunState). own_of r.node.lane.body) meets.after ∙ steps_own s.node meets.node [] input moment meets.told may meets.steps)
 second_part (Err why) rules moment input s t log may meets = quiet meets.1 (ap (λ (r : RunState). r.node) meets.0)
 
-still : (number : ℕ) (s u t : RunState) (log : List ℕ) → t ≡ u → log ≡ [] → u.node ≡ s.node → Part number s t log
-still number s u t log e none same = quiet none (ap (λ (r : RunState). r.node) e ∙ same)
+still : (rules : Rules) (s u t : RunState) (log : List ℕ) → t ≡ u → log ≡ [] → u.node ≡ s.node → Part rules s t log
+still rules s u t log e none same = quiet none (ap (λ (r : RunState). r.node) e ∙ same)
+
+tells_part : (rules : Rules) (text : List ℕ) (s t : RunState) (log : List ℕ) → IsAnswer rules text → Tells text s t log → Part rules s t log
+tells_part rules text s t log answer tells = answers (subst (IsAnswer rules) (sym tells.1) answer) (ap (λ (r : RunState). r.node) tells.0)
+
+-- a part from a state with the same machine
+moved_part : (rules : Rules) (from s t : RunState) (log : List ℕ) → from.node ≡ s.node → Part rules from t log → Part rules s t log
+moved_part rules from s t log same (quiet none node) = quiet none (node ∙ same)
+moved_part rules from s t log same (answers answer node) = answers answer (node ∙ same)
+moved_part rules from s t log same (steps turn acts proper text own) = steps turn acts proper text (own ∙ ap (λ (n : NodeState). own_after (own_of n.lane.body) acts) same)
 
 -- ---- polls
 
@@ -94,12 +103,6 @@ way_node ways.Panel value s = refl
 way_node ways.Upstream value s = refl
 way_node ways.Downstream value s = refl
 way_node ways.Supervisory value s = refl
-
-arrived_node : (wire : Wire) (s : RunState) → (panel_arrived wire s).node ≡ s.node
-arrived_node wires.Rests s = refl
-arrived_node wires.Stands s = refl
-arrived_node wires.Ends s = refl
-arrived_node wires.Breaks s = refl
 
 second_node : (wire : Wire) (s : RunState) → (panel_second wire s).node ≡ s.node
 second_node wires.Rests s = refl
@@ -118,14 +121,6 @@ closed_node wires.Rests s = refl
 closed_node wires.Stands s = refl
 closed_node wires.Ends s = refl
 closed_node wires.Breaks s = refl
-
-panel_node : (got : GotBytes) (s : RunState) → (after_panel got s).node ≡ s.node
-panel_node founds.Arrived s = arrived_node s.panel.wire s
-panel_node founds.Second s = second_node s.panel.wire s
-panel_node (founds.Bytes bytes) s = bytes_node s.panel.wire bytes s
-panel_node founds.NotYet s = refl
-panel_node founds.Closed s = closed_node s.panel.wire s
-panel_node founds.Failed s = closed_node s.panel.wire s
 
 supervisory_arrived_node : (wire : Wire) (s : RunState) → (supervisory_arrived wire s).node ≡ s.node
 supervisory_arrived_node wires.Rests s = refl
@@ -163,27 +158,41 @@ broken_node : (way : Way) (test : Bool) (s : RunState) → (broken way test s).n
 broken_node way true s = way_node way (record (way_at way s) { wire = wires.Breaks }) s
 broken_node way false s = refl
 
-upstream_part : (rules : Rules) (moment : ℤ) (got : GotBytes) (s t : RunState) (log : List ℕ) → AfterUpstream rules moment got s t log → Part rules.number s t log
+upstream_part : (rules : Rules) (moment : ℤ) (got : GotBytes) (s t : RunState) (log : List ℕ) → AfterUpstream rules moment got s t log → Part rules s t log
 upstream_part rules moment founds.Arrived s t log after = takes_part (may_of s.node inputs.Connect) rules moment inputs.Connect (with_wire ways.Upstream wires.Stands s) s t log refl refl after
-upstream_part rules moment founds.Second s t log after = still rules.number s s t log after.0 after.1 refl
+upstream_part rules moment founds.Second s t log after = still rules s s t log after.0 after.1 refl
 upstream_part rules moment (founds.Bytes bytes) s t log after = takes_part (may_of s.node (inputs.Bytes Entry after.piece)) rules moment (inputs.Bytes Entry after.piece) s s t log refl refl after.takes
-upstream_part rules moment founds.NotYet s t log after = still rules.number s s t log after.0 after.1 refl
-upstream_part rules moment founds.Closed s t log after = still rules.number s _ t log after.0 after.1 (broken_node ways.Upstream (is_open Entry s.node.lane.body) s)
-upstream_part rules moment founds.Failed s t log after = still rules.number s _ t log after.0 after.1 (broken_node ways.Upstream (is_open Entry s.node.lane.body) s)
+upstream_part rules moment founds.NotYet s t log after = still rules s s t log after.0 after.1 refl
+upstream_part rules moment founds.Closed s t log after = still rules s _ t log after.0 after.1 (broken_node ways.Upstream (is_open Entry s.node.lane.body) s)
+upstream_part rules moment founds.Failed s t log after = still rules s _ t log after.0 after.1 (broken_node ways.Upstream (is_open Entry s.node.lane.body) s)
 
-downstream_part : (rules : Rules) (moment : ℤ) (got : GotBytes) (s t : RunState) (log : List ℕ) → AfterDownstream rules moment got s t log → Part rules.number s t log
+downstream_part : (rules : Rules) (moment : ℤ) (got : GotBytes) (s t : RunState) (log : List ℕ) → AfterDownstream rules moment got s t log → Part rules s t log
 downstream_part rules moment founds.Arrived s t log after = takes_part (may_of s.node inputs.Accepted) rules moment inputs.Accepted (with_wire ways.Downstream wires.Stands s) s t log refl refl after
 downstream_part rules moment founds.Second s t log after = second_part (may_of s.node inputs.Second) rules moment inputs.Second s t log refl after
 downstream_part rules moment (founds.Bytes bytes) s t log after = takes_part (may_of s.node (inputs.Bytes Exit after.piece)) rules moment (inputs.Bytes Exit after.piece) s s t log refl refl after.takes
-downstream_part rules moment founds.NotYet s t log after = still rules.number s s t log after.0 after.1 refl
-downstream_part rules moment founds.Closed s t log after = still rules.number s _ t log after.0 after.1 (broken_node ways.Downstream (is_open Exit s.node.lane.body) s)
-downstream_part rules moment founds.Failed s t log after = still rules.number s _ t log after.0 after.1 (broken_node ways.Downstream (is_open Exit s.node.lane.body) s)
+downstream_part rules moment founds.NotYet s t log after = still rules s s t log after.0 after.1 refl
+downstream_part rules moment founds.Closed s t log after = still rules s _ t log after.0 after.1 (broken_node ways.Downstream (is_open Exit s.node.lane.body) s)
+downstream_part rules moment founds.Failed s t log after = still rules s _ t log after.0 after.1 (broken_node ways.Downstream (is_open Exit s.node.lane.body) s)
 
-poll_part : (rules : Rules) (moment : ℤ) (way : Way) (got : GotBytes) (s t : RunState) (log : List ℕ) → AfterPoll rules moment way got s t log → Part rules.number s t log
-poll_part rules moment ways.Panel got s t log after = still rules.number s _ t log after.0 after.1 (panel_node got s)
+arrived_part : (wire : Wire) (rules : Rules) (s t : RunState) (log : List ℕ) → PanelArrives wire rules s t log → Part rules s t log
+arrived_part wires.Rests rules s t log arrives = moved_part rules (with_wire ways.Panel wires.Stands s) s t log refl (tells_part rules _ (with_wire ways.Panel wires.Stands s) t log (greets s.turn s.drives) arrives)
+arrived_part wires.Stands rules s t log arrives = still rules s s t log arrives.0 arrives.1 refl
+arrived_part wires.Ends rules s t log arrives = still rules s s t log arrives.0 arrives.1 refl
+arrived_part wires.Breaks rules s t log arrives = still rules s s t log arrives.0 arrives.1 refl
+
+panel_part : (rules : Rules) (got : GotBytes) (s t : RunState) (log : List ℕ) → AfterPanel rules got s t log → Part rules s t log
+panel_part rules founds.Arrived s t log after = arrived_part s.panel.wire rules s t log after
+panel_part rules founds.Second s t log after = still rules s _ t log after.0 after.1 (second_node s.panel.wire s)
+panel_part rules (founds.Bytes bytes) s t log after = still rules s _ t log after.0 after.1 (bytes_node s.panel.wire bytes s)
+panel_part rules founds.NotYet s t log after = still rules s s t log after.0 after.1 refl
+panel_part rules founds.Closed s t log after = still rules s _ t log after.0 after.1 (closed_node s.panel.wire s)
+panel_part rules founds.Failed s t log after = still rules s _ t log after.0 after.1 (closed_node s.panel.wire s)
+
+poll_part : (rules : Rules) (moment : ℤ) (way : Way) (got : GotBytes) (s t : RunState) (log : List ℕ) → AfterPoll rules moment way got s t log → Part rules s t log
+poll_part rules moment ways.Panel got s t log after = panel_part rules got s t log after
 poll_part rules moment ways.Upstream got s t log after = upstream_part rules moment got s t log after
 poll_part rules moment ways.Downstream got s t log after = downstream_part rules moment got s t log after
-poll_part rules moment ways.Supervisory got s t log after = still rules.number s _ t log after.0 after.1 (supervisory_node moment got s)
+poll_part rules moment ways.Supervisory got s t log after = still rules s _ t log after.0 after.1 (supervisory_node moment got s)
 
 -- ---- sends and closes
 
@@ -193,50 +202,41 @@ sent_node way sents.NotYet s = refl
 sent_node way sents.Closed s = way_node way _ s
 sent_node way sents.Failed s = way_node way _ s
 
-listened_node : (opened : Opened) (s : RunState) → (after_listen opened s).node ≡ s.node
-listened_node opens.Done s = refl
-listened_node opens.Failed s = refl
+listened_node : (address : Address) (opened : Opened) (s : RunState) → (after_listen address opened s).node ≡ s.node
+listened_node address opens.Done s = refl
+listened_node address opens.Failed s = refl
 
 -- a machine that is supervised no more
-unsupervised_part : (rules : Rules) (moment : ℤ) (closed s t : RunState) (log : List ℕ) → closed.node ≡ s.node → Unsupervised rules moment closed t log → Part rules.number s t log
+unsupervised_part : (rules : Rules) (moment : ℤ) (closed s t : RunState) (log : List ℕ) → closed.node ≡ s.node → Unsupervised rules moment closed t log → Part rules s t log
 unsupervised_part rules moment closed s t log same after =
     closed_part (may_of closed.node (inputs.Supervise false)) rules moment (inputs.Supervise false) closed s t log same (ap (λ n. may_of n (inputs.Supervise false)) (sym same)) after
 
-close_part : (rules : Rules) (moment : ℤ) (way : Way) (s t : RunState) (log : List ℕ) → AfterClose rules moment way s t log → Part rules.number s t log
-close_part rules moment ways.Panel s t log after = still rules.number s _ t log after.0 after.1 refl
+close_part : (rules : Rules) (moment : ℤ) (way : Way) (s t : RunState) (log : List ℕ) → AfterClose rules moment way s t log → Part rules s t log
+close_part rules moment ways.Panel s t log after = still rules s _ t log after.0 after.1 refl
 close_part rules moment ways.Upstream s t log after = closed_part (may_of s.node (inputs.Notice Entry)) rules moment (inputs.Notice Entry) (record s { upstream = at_rest }) s t log refl refl after
 close_part rules moment ways.Downstream s t log after = closed_part (may_of s.node (inputs.Notice Exit)) rules moment (inputs.Notice Exit) (record s { downstream = at_rest }) s t log refl refl after
 close_part rules moment ways.Supervisory s t log after = unsupervised_part rules moment (record s { supervisory = at_rest; channel = no_session }) s t log refl after
 
 -- ---- lines
 
-tells_part : (number : ℕ) (text : List ℕ) (s t : RunState) (log : List ℕ) → IsAnswer number text → Tells text s t log → Part number s t log
-tells_part number text s t log answer tells = answers (subst (IsAnswer number) (sym tells.1) answer) (ap (λ (r : RunState). r.node) tells.0)
+input_part : (may : Result (Unit {0}) No) (rules : Rules) (moment : ℤ) (sensed : List Sensed) (input : Input) (s t : RunState) (log : List ℕ) → may_of s.node input ≡ may → DoesInput may rules moment sensed input s t log → Part rules s t log
+input_part (Ok done) rules moment sensed input s t log may does = step_part true rules moment sensed input s s t log refl may does
+input_part (Err why) rules moment sensed input s t log may does = tells_part rules _ s t log (denies s.turn (reasons.Node why)) does
 
-aloud_part : (rules : Rules) (moment : ℤ) (sensed : List Sensed) (input : Input) (s t : RunState) (log : List ℕ) → may_of s.node input ≡ may_do → StepsAloud rules moment sensed input s t log → Part rules.number s t log
-aloud_part rules moment sensed input s t log may aloud =
-    let takes = aloud.takes in
-    let own = steps_own s.node takes.node sensed input moment takes.told may takes.steps in
-    steps s.turn takes.told takes.proper takes.lines (ap (λ (r : RunState). own_of r.node.lane.body) aloud.after ∙ ap (λ (r : RunState). own_of r.node.lane.body) takes.after ∙ own)
+asks_part : (may : Result (Unit {0}) No) (rules : Rules) (s t : RunState) (log : List ℕ) → AsksIf may s t log → Part rules s t log
+asks_part (Ok done) rules s t log asks = still rules s _ t log asks.0 asks.1 refl
+asks_part (Err why) rules s t log asks = tells_part rules _ s t log (denies s.turn (reasons.Node why)) asks
 
-input_part : (may : Result (Unit {0}) No) (rules : Rules) (moment : ℤ) (sensed : List Sensed) (input : Input) (s t : RunState) (log : List ℕ) → may_of s.node input ≡ may → DoesInput may rules moment sensed input s t log → Part rules.number s t log
-input_part (Ok done) rules moment sensed input s t log may does = aloud_part rules moment sensed input s t log may does
-input_part (Err why) rules moment sensed input s t log may does = tells_part rules.number _ s t log (denies s.turn (reasons.Node why)) does
+connect_part : (upstream : Option Address) (rules : Rules) (s t : RunState) (log : List ℕ) → AsksConnect upstream s t log → Part rules s t log
+connect_part None rules s t log asks = tells_part rules _ s t log (denies s.turn reasons.NoNeighbour) asks
+connect_part (Some address) rules s t log asks = asks_part (may_ask (has_ended s.upstream.wire) (may_of s.node inputs.Connect)) rules s t log asks
 
-asks_part : (may : Result (Unit {0}) No) (number : ℕ) (s t : RunState) (log : List ℕ) → AsksIf may s t log → Part number s t log
-asks_part (Ok done) number s t log asks = still number s _ t log asks.0 asks.1 refl
-asks_part (Err why) number s t log asks = tells_part number _ s t log (denies s.turn (reasons.Node why)) asks
-
-connect_part : (upstream : Option Address) (number : ℕ) (s t : RunState) (log : List ℕ) → AsksConnect upstream s t log → Part number s t log
-connect_part None number s t log asks = tells_part number _ s t log (denies s.turn reasons.NoNeighbour) asks
-connect_part (Some address) number s t log asks = asks_part (may_ask (has_ended s.upstream.wire) (may_of s.node inputs.Connect)) number s t log asks
-
-asked_part : (asked : Result PanelLine LineWhy) (rules : Rules) (moment : ℤ) (s t : RunState) (log : List ℕ) → DoesAsked asked rules moment s t log → Part rules.number s t log
-asked_part (Err why) rules moment s t log does = tells_part rules.number _ s t log (refuses s.turn why) does
-asked_part (Ok lines.Blank) rules moment s t log does = still rules.number s s t log does.0 does.1 refl
-asked_part (Ok lines.End) rules moment s t log does = still rules.number s _ t log does.0 does.1 refl
-asked_part (Ok lines.Show) rules moment s t log does = tells_part rules.number _ s t log (shows s.turn s.node.lane.body.kept (outlets.held s.node.lane.body.outlet) (intakes.held s.node.lane.body.intake)) does
-asked_part (Ok lines.Connect) rules moment s t log does = connect_part rules.connections.upstream rules.number s t log does
+asked_part : (asked : Result PanelLine LineWhy) (rules : Rules) (moment : ℤ) (s t : RunState) (log : List ℕ) → DoesAsked asked rules moment s t log → Part rules s t log
+asked_part (Err why) rules moment s t log does = tells_part rules _ s t log (refuses s.turn why) does
+asked_part (Ok lines.Blank) rules moment s t log does = still rules s s t log does.0 does.1 refl
+asked_part (Ok lines.End) rules moment s t log does = still rules s _ t log does.0 does.1 refl
+asked_part (Ok lines.Show) rules moment s t log does = tells_part rules _ s t log (shows s.turn s.node.lane.body.kept (outlets.held s.node.lane.body.outlet) (intakes.held s.node.lane.body.intake)) does
+asked_part (Ok lines.Connect) rules moment s t log does = connect_part rules.connections.upstream rules s t log does
 asked_part (Ok (lines.Insert barcode)) rules moment s t log does = input_part (may_of s.node (inputs.Insert barcode)) rules moment _ (inputs.Insert barcode) s t log refl does
 asked_part (Ok (lines.Remove id)) rules moment s t log does = input_part (may_of s.node (inputs.Remove id)) rules moment _ (inputs.Remove id) s t log refl does
 asked_part (Ok (lines.Replace id)) rules moment s t log does = input_part (may_of s.node (inputs.Replace id)) rules moment _ (inputs.Replace id) s t log refl does
@@ -256,65 +256,59 @@ asked_part (Ok (lines.Ask question)) rules moment s t log does =
     input_part (may_of s.node (inputs.Ask question)) rules moment _ (inputs.Ask question) s t log refl does
 asked_part (Ok (lines.Sense sensed)) rules moment s t log does = input_part (may_of s.node inputs.Nothing) rules moment _ inputs.Nothing s t log refl does
 
--- a part from a state with the same machine
-moved_part : (number : ℕ) (from s t : RunState) (log : List ℕ) → from.node ≡ s.node → Part number from t log → Part number s t log
-moved_part number from s t log same (quiet none node) = quiet none (node ∙ same)
-moved_part number from s t log same (answers answer node) = answers answer (node ∙ same)
-moved_part number from s t log same (steps turn acts proper text own) = steps turn acts proper text (own ∙ ap (λ (n : NodeState). own_after (own_of n.lane.body) acts) same)
+keeps_part : (long : Bool) (front : List ℕ) (rules : Rules) (s t : RunState) (log : List ℕ) → KeepsFront long front s t log → Part rules s t log
+keeps_part true front rules s t log keeps = moved_part rules (record s { line = []; drops = true }) s t log refl (tells_part rules _ (record s { line = []; drops = true }) t log (refuses s.turn whys.LongLine) keeps)
+keeps_part false front rules s t log keeps = still rules s _ t log keeps.0 keeps.1 refl
 
-keeps_part : (long : Bool) (front : List ℕ) (number : ℕ) (s t : RunState) (log : List ℕ) → KeepsFront long front s t log → Part number s t log
-keeps_part true front number s t log keeps = moved_part number (record s { line = []; drops = true }) s t log refl (tells_part number _ (record s { line = []; drops = true }) t log (refuses s.turn whys.LongLine) keeps)
-keeps_part false front number s t log keeps = still number s _ t log keeps.0 keeps.1 refl
+fronts_part : (drops : Bool) (front : List ℕ) (rules : Rules) (s t : RunState) (log : List ℕ) → Fronts drops front s t log → Part rules s t log
+fronts_part true front rules s t log fronts = still rules s s t log fronts.0 fronts.1 refl
+fronts_part false front rules s t log fronts = keeps_part (is_too_long front) front rules s t log fronts
 
-fronts_part : (drops : Bool) (front : List ℕ) (number : ℕ) (s t : RunState) (log : List ℕ) → Fronts drops front s t log → Part number s t log
-fronts_part true front number s t log fronts = still number s s t log fronts.0 fronts.1 refl
-fronts_part false front number s t log fronts = keeps_part (is_too_long front) front number s t log fronts
+ends_part : (drops : Bool) (line : List ℕ) (rules : Rules) (moment : ℤ) (s t : RunState) (log : List ℕ) → Ends drops line rules moment s t log → Part rules s t log
+ends_part true line rules moment s t log ends = still rules s _ t log ends.0 ends.1 refl
+ends_part false line rules moment s t log ends = moved_part rules (record s { line = [] }) s t log refl (asked_part (panel_line_of (without_return line)) rules moment (record s { line = [] }) t log ends)
 
-ends_part : (drops : Bool) (line : List ℕ) (rules : Rules) (moment : ℤ) (s t : RunState) (log : List ℕ) → Ends drops line rules moment s t log → Part rules.number s t log
-ends_part true line rules moment s t log ends = still rules.number s _ t log ends.0 ends.1 refl
-ends_part false line rules moment s t log ends = moved_part rules.number (record s { line = [] }) s t log refl (asked_part (panel_line_of (without_return line)) rules moment (record s { line = [] }) t log ends)
-
-cut_part : (cut : Option (List ℕ × List ℕ)) (rules : Rules) (moment : ℤ) (s t : RunState) (log : List ℕ) → DoesCut cut rules moment s t log → Part rules.number s t log
-cut_part None rules moment s t log does = moved_part rules.number (record s { rest = [] }) s t log refl (fronts_part s.drops (s.line ++ s.rest) rules.number (record s { rest = [] }) t log does)
-cut_part (Some parts) rules moment s t log does = moved_part rules.number (record s { rest = parts.1 }) s t log refl (ends_part s.drops (s.line ++ parts.0) rules moment (record s { rest = parts.1 }) t log does)
+cut_part : (cut : Option (List ℕ × List ℕ)) (rules : Rules) (moment : ℤ) (s t : RunState) (log : List ℕ) → DoesCut cut rules moment s t log → Part rules s t log
+cut_part None rules moment s t log does = moved_part rules (record s { rest = [] }) s t log refl (fronts_part s.drops (s.line ++ s.rest) rules (record s { rest = [] }) t log does)
+cut_part (Some parts) rules moment s t log does = moved_part rules (record s { rest = parts.1 }) s t log refl (ends_part s.drops (s.line ++ parts.0) rules moment (record s { rest = parts.1 }) t log does)
 
 -- ---- messages of the supervisor
 
 answer_part : (may : Result (Unit {0}) No) (rules : Rules) (moment : ℤ) (query : ℕ) (order : List ℕ) (s t : RunState) (log : List ℕ) → may_of s.node (inputs.Answer query order) ≡ may
-    → AnswersIf may rules moment query order s t log → Part rules.number s t log
-answer_part (Ok done) rules moment query order s t log may does = step_part rules.number rules moment [] (inputs.Answer query order) s s t log refl may refl does
-answer_part (Err why) rules moment query order s t log may does = still rules.number s _ t log does.0 does.1 refl
+    → AnswersIf may rules moment query order s t log → Part rules s t log
+answer_part (Ok done) rules moment query order s t log may does = step_part false rules moment [] (inputs.Answer query order) s s t log refl may does
+answer_part (Err why) rules moment query order s t log may does = still rules s _ t log does.0 does.1 refl
 
-action_part : (action : VerticalAction) (rules : Rules) (moment : ℤ) (s t : RunState) (log : List ℕ) → DoesAction action rules moment s t log → Part rules.number s t log
+action_part : (action : VerticalAction) (rules : Rules) (moment : ℤ) (s t : RunState) (log : List ℕ) → DoesAction action rules moment s t log → Part rules s t log
 action_part actions.Describe rules moment s t log does =
     closed_part (may_of s.node (inputs.Supervise true)) rules moment (inputs.Supervise true) (said moment (system_of rules.machine_id) s) s t log refl refl does
-action_part (actions.Pong id) rules moment s t log does = still rules.number s _ t log does.0 does.1 refl
+action_part (actions.Pong id) rules moment s t log does = still rules s _ t log does.0 does.1 refl
 action_part (actions.Answer query order) rules moment s t log does = answer_part (may_of s.node (inputs.Answer query order)) rules moment query order s t log refl does
-action_part actions.Nothing rules moment s t log does = still rules.number s s t log does.0 does.1 refl
+action_part actions.Nothing rules moment s t log does = still rules s s t log does.0 does.1 refl
 
-row_part : (row : Option SupervisedRow) (body : Vertical) (rules : Rules) (moment : ℤ) (s t : RunState) (log : List ℕ) → DoesRow row body rules moment s t log → Part rules.number s t log
+row_part : (row : Option SupervisedRow) (body : Vertical) (rules : Rules) (moment : ℤ) (s t : RunState) (log : List ℕ) → DoesRow row body rules moment s t log → Part rules s t log
 row_part None body rules moment s t log does = unsupervised_part rules moment (broken_off moment (unexpected (kind_of body)) s) s t log refl does
-row_part (Some row) body rules moment s t log does = moved_part rules.number (with_stands row.after s) s t log refl (action_part row.action rules moment (with_stands row.after s) t log does)
+row_part (Some row) body rules moment s t log does = moved_part rules (with_stands row.after s) s t log refl (action_part row.action rules moment (with_stands row.after s) t log does)
 
-word_part : (word : Word) (rules : Rules) (moment : ℤ) (s t : RunState) (log : List ℕ) → DoesWord word rules moment s t log → Part rules.number s t log
+word_part : (word : Word) (rules : Rules) (moment : ℤ) (s t : RunState) (log : List ℕ) → DoesWord word rules moment s t log → Part rules s t log
 word_part (words.Says message) rules moment s t log does = row_part (supervised_row s.channel.stands message.body) message.body rules moment s t log does
 word_part (words.Wrong text) rules moment s t log does = unsupervised_part rules moment (broken_off moment text s) s t log refl does
 
-found_part : (found : Found) (rules : Rules) (moment : ℤ) (s t : RunState) (log : List ℕ) → DoesFound found rules moment s t log → Part rules.number s t log
+found_part : (found : Found) (rules : Rules) (moment : ℤ) (s t : RunState) (log : List ℕ) → DoesFound found rules moment s t log → Part rules s t log
 found_part (finds.Word word) rules moment s t log does = word_part word rules moment s t log does
-found_part finds.More rules moment s t log does = still rules.number s s t log does.0 does.1 refl
+found_part finds.More rules moment s t log does = still rules s s t log does.0 does.1 refl
 found_part finds.TooLong rules moment s t log does = unsupervised_part rules moment (broken_off moment (codes "message too long") s) s t log refl does
 
-hear_part : (rules : Rules) (moment : ℤ) (s t : RunState) (log : List ℕ) → DoesHear rules moment s t log → Part rules.number s t log
+hear_part : (rules : Rules) (moment : ℤ) (s t : RunState) (log : List ℕ) → DoesHear rules moment s t log → Part rules s t log
 hear_part rules moment s t log does =
-    moved_part rules.number (with_channel does.channel s) s t log refl (found_part does.found rules moment (with_channel does.channel s) t log does.does)
+    moved_part rules (with_channel does.channel s) s t log refl (found_part does.found rules moment (with_channel does.channel s) t log does.does)
 
 -- ---- moves and runs
 
-move_part : (rules : Rules) (moment : ℤ) {s t : RunState} {calls : List Given} {log : List ℕ} → Moves rules moment s calls t log → Part rules.number s t log
-move_part rules moment (listens {s} {way} {port} {opened} next) = quiet refl (listened_node opened s)
+move_part : (rules : Rules) (moment : ℤ) {s t : RunState} {calls : List Given} {log : List ℕ} → Moves rules moment s calls t log → Part rules s t log
+move_part rules moment (listens {s} {way} {address} {opened} next) = quiet refl (listened_node address opened s)
 move_part rules moment (connects {s} {address} {opened} next) = quiet refl refl
-move_part rules moment (polls {s} {t} {way} {got} {log} next done) = moved_part rules.number (moved_on s) s t log refl (poll_part rules moment way got (moved_on s) t log done)
+move_part rules moment (polls {s} {t} {way} {got} {log} next done) = moved_part rules (moved_on s) s t log refl (poll_part rules moment way got (moved_on s) t log done)
 move_part rules moment (sends {s} {way} {sent} next) = quiet refl (sent_node way sent (moved_on s))
 move_part rules moment (refuses_second {s} {refusal} {sent} next e) = quiet refl refl
 move_part rules moment (closes {s} {t} {way} {log} next done) = close_part rules moment way s t log done
@@ -322,28 +316,28 @@ move_part rules moment (skips {s} next) = quiet refl refl
 move_part rules moment (does_line {s} {t} {log} next done) = cut_part (cut_line s.rest) rules moment s t log done
 move_part rules moment (does_hear {s} {t} {log} next done) = hear_part rules moment s t log done
 
-follows_on : (number : ℕ) (s t u : RunState) (log lines : List ℕ) → OwnFollows number s t log → Part number t u lines → OwnFollows number s u (log ++ lines)
-follows_on number s t u log lines follows (quiet none node) =
-    let P : List ℕ → Type 0 = λ text. TellsActs number text follows.told in
+follows_on : (rules : Rules) (s t u : RunState) (log lines : List ℕ) → OwnFollows rules s t log → Part rules t u lines → OwnFollows rules s u (log ++ lines)
+follows_on rules s t u log lines follows (quiet none node) =
+    let P : List ℕ → Type 0 = λ text. TellsActs rules text follows.told in
     record { told = follows.told; tells = subst P (sym (ap (λ l. log ++ l) none ∙ append-nil log)) follows.tells; owns = ap (λ (n : NodeState). own_of n.lane.body) node ∙ follows.owns }
-follows_on number s t u log lines follows (answers answer node) =
+follows_on rules s t u log lines follows (answers answer node) =
     record { told = follows.told; tells = answer_lines follows.tells answer; owns = ap (λ (n : NodeState). own_of n.lane.body) node ∙ follows.owns }
-follows_on number s t u log lines follows (steps turn acts proper text own) =
-    let P : List ℕ → Type 0 = λ l. TellsActs number (log ++ l) (follows.told ++ acts) in
+follows_on rules s t u log lines follows (steps turn acts proper text own) =
+    let P : List ℕ → Type 0 = λ l. TellsActs rules (log ++ l) (follows.told ++ acts) in
     record {
       told = follows.told ++ acts;
       tells = subst P (sym text) (step_lines turn acts proper follows.tells);
       owns = own ∙ ap (λ o. own_after o acts) follows.owns ∙ sym (own_append (own_of s.node.lane.body) follows.told acts);
     }
 
-owns_in : (rules : Rules) (moment : ℤ) {s t : RunState} {calls : List Given} {log : List ℕ} → Runs rules moment s calls t log → OwnFollows rules.number s t log
+owns_in : (rules : Rules) (moment : ℤ) {s t : RunState} {calls : List Given} {log : List ℕ} → Runs rules moment s calls t log → OwnFollows rules s t log
 owns_in rules moment (begins {s}) = record { told = []; tells = no_lines; owns = refl }
-owns_in rules moment (goes_on {s} {t} {u} {calls} {more} {log} {lines} run move) = follows_on rules.number s t u log lines (owns_in rules moment run) (move_part rules moment move)
+owns_in rules moment (goes_on {s} {t} {u} {calls} {more} {log} {lines} run move) = follows_on rules s t u log lines (owns_in rules moment run) (move_part rules moment move)
 
-pub own_follows : (rules : Rules) (moment : ℤ) (s t : RunState) (calls : List Given) (log : List ℕ) → Runs rules moment s calls t log → OwnFollows rules.number s t log
+pub own_follows : (rules : Rules) (moment : ℤ) (s t : RunState) (calls : List Given) (log : List ℕ) → Runs rules moment s calls t log → OwnFollows rules s t log
 own_follows rules moment s t calls log run = owns_in rules moment run
 
 pub own_is_read : (rules : Rules) (moment : ℤ) (s t : RunState) (calls : List Given) (log : List ℕ) → Runs rules moment s calls t log → OwnIsRead s t log
 own_is_read rules moment s t calls log run =
     let follows = owns_in rules moment run in
-    follows.owns ∙ sym (own_read rules.number (own_of s.node.lane.body) follows.tells)
+    follows.owns ∙ sym (own_read rules (own_of s.node.lane.body) follows.tells)

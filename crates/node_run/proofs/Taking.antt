@@ -1,5 +1,5 @@
 -- From what the methods of a run say to what a move does.
-use Rattle.std.proofs.Common.{◌≡◌, ◌∙◌, sym, subst, ap, refl, ℕ, ℤ, ◌||◌, Bool, true, false, List, [], ◌∷◌, ◌++◌, Option, None, Result, Ok, Err, append_assoc, if◌then◌else◌}
+use Rattle.std.proofs.Common.{◌≡◌, ◌∙◌, sym, subst, ap, refl, ℕ, ℤ, ◌||◌, Bool, true, false, List, [], ◌∷◌, ◌++◌, Option, None, Result, Ok, Err, append-nil, append_assoc, if◌then◌else◌}
 use Rattle.std.specs.Prelude.{OnOk}
 use Rattle.std.specs.List.{list_any}
 use Rattle.line_base.specs.declared.memory.Memory.{Memory}
@@ -13,12 +13,17 @@ use Rattle.supervisory_core.specs.Row.{SupervisedRow}
 use Rattle.supervisory_core.specs.Told.{unexpected}
 use Rattle.node_core.specs.May.{may_of}
 use Rattle.node_core.specs.declared.act.Act.{Act}
+use Rattle.node_core.specs.declared.input.Input.{Input}
 use Rattle.node_core.specs.declared.input.Input.TheVariants as inputs
+use Rattle.board_record.specs.declared.sensed.Sensed.{Sensed}
 use Rattle.node_core.specs.declared.input.No.{No}
+use Rattle.line_outside.specs.declared.answer.GotBytes.TheVariants as founds
+use Rattle.line_outside.specs.declared.way.Way.TheVariants as ways
+use Rattle.node_run.specs.After.{AfterPanel, PanelArrives, greeting}
 use Rattle.node_run.specs.Channel.{HearsNext}
 use Rattle.node_run.specs.Hearing.{AnswersIf, BreaksOff, Describes, DoesFound, DoesHear, DoesRow, Unsupervised, notification, said, session_ended, system_of, untaken, with_channel}
-use Rattle.node_run.specs.State.{RunState, RunView, WayValue}
-use Rattle.node_run.specs.Steps.{HasStepped, Takes, TakesSecond, all_told_for, closes_side, message_for, messages_for, put, put_told, refusing_with, routed, told_for}
+use Rattle.node_run.specs.State.{RunState, RunView, WayValue, echoed, with_wire}
+use Rattle.node_run.specs.Steps.{HasStepped, Takes, TakesSecond, TakesStep, all_told_for, closes_side, message_for, messages_for, panel_lines, panel_told, put, put_told, refusing_with, routed, told_for, with_node}
 use Rattle.node_run.specs.declared.channel.Found.{Found}
 use Rattle.node_run.specs.declared.rules.Rules.{Rules}
 use Rattle.node_run.specs.declared.way_state.Wire.{Wire}
@@ -60,20 +65,87 @@ routed_on act rest all r m wanted first e whole =
     ∙ sym (ap (λ l. record r { state = routed l r.state }) first)
     ∙ whole
 
--- ---- a second connection downstream
+-- ---- a step that the panel asked for, and one that it didn't
 
-pub second_taken : (result : Result (Unit {0}) Memory) (moment : ℤ) (acts listed : List Act) (r m u : RunView) → listed ≡ acts
-    → HasStepped r.rules moment [] inputs.Second acts r.state m.state m.told → OnOk result (u ≡ record m { state = refusing_with listed m.state })
-    → OnOk result (TakesSecond r.rules moment inputs.Second r.state u.state u.told)
-second_taken (Ok done) moment acts listed r m u same stepped refused = record {
+pub asked_taken : (result : Result (Unit {0}) Memory) (moment : ℤ) (sensed : List Sensed) (input : Input) (acts listed : List Act) (r m n u : RunView) → listed ≡ acts
+    → HasStepped r.rules moment sensed input acts r.state m.state m.told → n ≡ record m { state = routed listed m.state } → OnOk result (u ≡ record n { state = echoed n.told n.state })
+    → OnOk result (TakesStep true r.rules moment sensed input r.state u.state u.told)
+asked_taken (Ok done) moment sensed input acts listed r m n u same stepped to_ways to_panel = record {
   node = m.state.node;
   told = acts;
   steps = stepped.steps;
   proper = stepped.proper;
-  after = ap (λ (v : RunView). v.state) refused ∙ ap (λ l. refusing_with l m.state) same ∙ ap (refusing_with acts) stepped.after;
-  lines = ap (λ (v : RunView). v.told) refused ∙ stepped.lines;
+  after =
+      ap (λ (v : RunView). v.state) to_panel
+      ∙ ap (λ (v : RunView). echoed v.told v.state) to_ways
+      ∙ ap (λ l. echoed m.told (routed l m.state)) same
+      ∙ ap (λ (s : RunState). echoed m.told (routed acts s)) stepped.after
+      ∙ ap (λ l. echoed l (routed acts (with_node m.state.node acts r.state))) stepped.lines;
+  lines = ap (λ (v : RunView). v.told) to_panel ∙ ap (λ (v : RunView). v.told) to_ways ∙ stepped.lines;
 }
-second_taken (Err memory) moment acts listed r m u same stepped refused = tt
+asked_taken (Err memory) moment sensed input acts listed r m n u same stepped to_ways to_panel = tt
+
+pub unasked_taken : (result : Result (Unit {0}) Memory) (moment : ℤ) (input : Input) (acts listed : List Act) (r m n u : RunView) → listed ≡ acts → m.rules ≡ r.rules
+    → HasStepped r.rules moment [] input acts r.state m.state m.told → n ≡ record m { state = routed listed m.state } → OnOk result (u ≡ record n { state = panel_told false n.rules listed n.state })
+    → OnOk result (TakesStep false r.rules moment [] input r.state u.state u.told)
+unasked_taken (Ok done) moment input acts listed r m n u same rules stepped to_ways to_panel = record {
+  node = m.state.node;
+  told = acts;
+  steps = stepped.steps;
+  proper = stepped.proper;
+  after =
+      ap (λ (v : RunView). v.state) to_panel
+      ∙ ap (λ (v : RunView). panel_told false v.rules listed v.state) to_ways
+      ∙ ap (λ (k : Rules). panel_told false k listed (routed listed m.state)) rules
+      ∙ ap (λ l. panel_told false r.rules l (routed l m.state)) same
+      ∙ ap (λ (s : RunState). panel_told false r.rules acts (routed acts s)) stepped.after;
+  lines = ap (λ (v : RunView). v.told) to_panel ∙ ap (λ (v : RunView). v.told) to_ways ∙ stepped.lines;
+}
+unasked_taken (Err memory) moment input acts listed r m n u same rules stepped to_ways to_panel = tt
+
+-- ---- a second connection downstream
+
+pub second_taken : (result : Result (Unit {0}) Memory) (moment : ℤ) (acts listed : List Act) (r m n u : RunView) → listed ≡ acts → m.rules ≡ r.rules
+    → HasStepped r.rules moment [] inputs.Second acts r.state m.state m.told → n ≡ record m { state = refusing_with listed m.state } → OnOk result (u ≡ record n { state = panel_told false n.rules listed n.state })
+    → OnOk result (TakesSecond r.rules moment inputs.Second r.state u.state u.told)
+second_taken (Ok done) moment acts listed r m n u same rules stepped to_ways to_panel = record {
+  node = m.state.node;
+  told = acts;
+  steps = stepped.steps;
+  proper = stepped.proper;
+  after =
+      ap (λ (v : RunView). v.state) to_panel
+      ∙ ap (λ (v : RunView). panel_told false v.rules listed v.state) to_ways
+      ∙ ap (λ (k : Rules). panel_told false k listed (refusing_with listed m.state)) rules
+      ∙ ap (λ l. panel_told false r.rules l (refusing_with l m.state)) same
+      ∙ ap (λ (s : RunState). panel_told false r.rules acts (refusing_with acts s)) stepped.after;
+  lines = ap (λ (v : RunView). v.told) to_panel ∙ ap (λ (v : RunView). v.told) to_ways ∙ stepped.lines;
+}
+second_taken (Err memory) moment acts listed r m n u same rules stepped to_ways to_panel = tt
+
+-- ---- a panel that connects, and one that isn't told
+
+pub greeted : (result : Result (Unit {0}) Memory) (r m n u : RunView) → r.state.panel.wire ≡ wires.Rests → r.told ≡ [] → m ≡ record r { state = with_wire ways.Panel wires.Stands r.state }
+    → n ≡ record m { told = m.told ++ greeting m.rules m.state } → OnOk result (u ≡ record n { state = echoed n.told n.state }) → OnOk result (AfterPanel r.rules founds.Arrived r.state u.state u.told)
+greeted (Ok done) r m n u wire none stands told to_panel =
+    let s = with_wire ways.Panel wires.Stands r.state in
+    let P : Wire → Type 0 = λ w. PanelArrives w r.rules r.state u.state u.told in
+    let whole : n ≡ record r { state = s; told = greeting r.rules r.state } =
+    told ∙ ap (λ (v : RunView). record v { told = v.told ++ greeting v.rules v.state }) stands ∙ ap (λ l. record r { state = s; told = l ++ greeting r.rules r.state }) none
+    in subst P (sym wire) (ap (λ (v : RunView). v.state) to_panel ∙ ap (λ (v : RunView). echoed v.told v.state) whole, ap (λ (v : RunView). v.told) to_panel ∙ ap (λ (v : RunView). v.told) whole)
+greeted (Err memory) r m n u wire none stands told to_panel = tt
+
+none_for : (rules : Rules) (turn : ℕ) (wire : Wire) (acts : List Act) → (wire ≡ wires.Stands → ⊥) → panel_lines false rules turn wire acts ≡ []
+none_for rules turn wires.Rests acts other = refl
+none_for rules turn wires.Stands acts other = absurd (other refl)
+none_for rules turn wires.Ends acts other = refl
+none_for rules turn wires.Breaks acts other = refl
+
+pub untold : (r : RunView) (acts : List Act) → (r.state.panel.wire ≡ wires.Stands → ⊥) → r ≡ record r { state = panel_told false r.rules acts r.state }
+untold r acts other =
+    let more : r.state.panel.unsent ≡ r.state.panel.unsent ++ panel_lines false r.rules r.state.turn r.state.panel.wire acts =
+    sym (append-nil r.state.panel.unsent) ∙ ap (λ l. r.state.panel.unsent ++ l) (sym (none_for r.rules r.state.turn r.state.panel.wire acts other))
+    in ap (λ l. record r { state = record r.state { panel = record r.state.panel { unsent = l } } }) more
 
 -- ---- messages of the supervisor
 

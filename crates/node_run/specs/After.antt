@@ -11,6 +11,7 @@ use Rattle.line_outside.specs.declared.ports.Opened.{Opened}
 use Rattle.line_outside.specs.declared.ports.Opened.TheVariants as opens
 use Rattle.line_outside.specs.declared.ports.Sent.{Sent}
 use Rattle.line_outside.specs.declared.ports.Sent.TheVariants as sents
+use Rattle.line_outside.specs.declared.way.Address.{Address}
 use Rattle.line_outside.specs.declared.way.Way.{Way}
 use Rattle.line_outside.specs.declared.way.Way.TheVariants as ways
 use Rattle.node_core.specs.May.{may_of}
@@ -22,6 +23,8 @@ use Rattle.node_run.specs.Hearing.{Unsupervised, connected_already, text_of}
 use Rattle.node_run.specs.State.{RunState, at_rest, way_at, with_way, with_wire}
 use Rattle.node_run.specs.Next.{moved_on}
 use Rattle.node_run.specs.Steps.{Takes, MeetsSecond}
+use Rattle.node_run.specs.Lines.{Tells}
+use Rattle.node_run.specs.Texts.{drives_lines}
 use Rattle.node_run.specs.declared.status.NodeStatus.TheVariants as statuses
 use Rattle.node_run.specs.declared.way_state.Wire.{Wire}
 use Rattle.node_run.specs.declared.way_state.Wire.TheVariants as wires
@@ -37,15 +40,21 @@ found_of gots.Failed bytes = founds.Failed
 
 -- ---- listening
 
-abbrev pub after_listen : Opened → RunState → RunState
-after_listen opens.Done s = moved_on s
-after_listen opens.Failed s = record (moved_on s) { ended = Some statuses.ListenFault }
+abbrev pub after_listen : Address → Opened → RunState → RunState
+after_listen address opens.Done s = moved_on s
+after_listen address opens.Failed s =
+    record (moved_on s) { ended = Some (statuses.ListenFault address) }
 
 -- ---- what a poll of the panel found
 
-abbrev pub panel_arrived : Wire → RunState → RunState
-panel_arrived wires.Rests s = with_wire ways.Panel wires.Stands s
-panel_arrived wire s = s
+-- a panel that connects is told what each drive is, where the drives are told
+abbrev pub greeting : Rules → RunState → List ℕ
+greeting rules s = drives_lines rules.panel.drives s.turn rules.number s.drives
+
+abbrev pub PanelArrives : Wire → Rules → RunState → RunState → List ℕ → Type 0
+PanelArrives wires.Rests rules s t log =
+    Tells (greeting rules s) (with_wire ways.Panel wires.Stands s) t log
+PanelArrives wire rules s t log = (t ≡ s) × (log ≡ [])
 
 -- a second panel connection is closed without text
 abbrev pub panel_second : Wire → RunState → RunState
@@ -60,13 +69,14 @@ abbrev pub panel_closed : Wire → RunState → RunState
 panel_closed wires.Stands s = with_wire ways.Panel wires.Breaks s
 panel_closed wire s = s
 
-abbrev pub after_panel : GotBytes → RunState → RunState
-after_panel founds.Arrived s = panel_arrived s.panel.wire s
-after_panel founds.Second s = panel_second s.panel.wire s
-after_panel (founds.Bytes bytes) s = panel_bytes s.panel.wire bytes s
-after_panel founds.NotYet s = s
-after_panel founds.Closed s = panel_closed s.panel.wire s
-after_panel founds.Failed s = panel_closed s.panel.wire s
+abbrev pub AfterPanel : Rules → GotBytes → RunState → RunState → List ℕ → Type 0
+AfterPanel rules founds.Arrived s t log = PanelArrives s.panel.wire rules s t log
+AfterPanel rules founds.Second s t log = (t ≡ panel_second s.panel.wire s) × (log ≡ [])
+AfterPanel rules (founds.Bytes bytes) s t log =
+    (t ≡ panel_bytes s.panel.wire bytes s) × (log ≡ [])
+AfterPanel rules founds.NotYet s t log = (t ≡ s) × (log ≡ [])
+AfterPanel rules founds.Closed s t log = (t ≡ panel_closed s.panel.wire s) × (log ≡ [])
+AfterPanel rules founds.Failed s t log = (t ≡ panel_closed s.panel.wire s) × (log ≡ [])
 
 -- ---- what a poll of the supervisor's way found
 
@@ -145,7 +155,7 @@ AfterDownstream rules moment founds.Failed s t log =
     (t ≡ broken ways.Downstream (is_open Exit s.node.lane.body) s) × (log ≡ [])
 
 abbrev pub AfterPoll : Rules → ℤ → Way → GotBytes → RunState → RunState → List ℕ → Type 0
-AfterPoll rules moment ways.Panel got s t log = (t ≡ after_panel got s) × (log ≡ [])
+AfterPoll rules moment ways.Panel got s t log = AfterPanel rules got s t log
 AfterPoll rules moment ways.Upstream got s t log = AfterUpstream rules moment got s t log
 AfterPoll rules moment ways.Downstream got s t log = AfterDownstream rules moment got s t log
 AfterPoll rules moment ways.Supervisory got s t log =

@@ -94,7 +94,7 @@ untaken why = codes "not supervised"
 abbrev pub AnswersIf : Result (Unit {0}) No → Rules → ℤ → ℕ → List ℕ → RunState → RunState → List ℕ
     → Type 0
 AnswersIf (Ok done) rules moment query order s t log =
-    TakesStep rules moment [] (inputs.Answer query order) s t log
+    TakesStep false rules moment [] (inputs.Answer query order) s t log
 AnswersIf (Err why) rules moment query order s t log =
     (t ≡ said moment (notification 0 severity.Warning (untaken why)) s) × (log ≡ [])
 

@@ -1,6 +1,7 @@
 pub mod Status
 pub mod Texts
 pub mod Account
+pub mod Drives
 pub mod Channel
 pub mod State
 pub mod Next

@@ -17,7 +17,7 @@ use Rattle.node_panel.specs.Panel.{panel_line_of}
 use Rattle.node_panel.specs.declared.line.PanelLine.{PanelLine}
 use Rattle.node_panel.specs.declared.line.PanelLine.TheVariants as lines
 use Rattle.node_run.specs.declared.rules.Rules.{Rules}
-use Rattle.node_run.specs.State.{RunState}
+use Rattle.node_run.specs.State.{RunState, echoed}
 use Rattle.node_run.specs.Next.{has_ended}
 use Rattle.node_run.specs.Steps.{TakesStep}
 use Rattle.node_run.specs.Texts.{refused_line, no_line, show_lines}
@@ -43,9 +43,6 @@ is_too_long line = nat_lt 4096 (length (without_return line))
 -- ---- what a line does
 
 -- lines go to the log, and the same to the panel
-abbrev pub echoed : List ℕ → RunState → RunState
-echoed text s = record s { panel = record s.panel { unsent = s.panel.unsent ++ text } }
-
 abbrev pub Tells : List ℕ → RunState → RunState → List ℕ → Type 0
 Tells text s t log = (t ≡ echoed text s) × (log ≡ text)
 
@@ -71,16 +68,10 @@ input_of (lines.Fault side) = inputs.Fault side
 input_of line = inputs.Nothing
 
 -- a step, whose lines go to the panel too
-pub record StepsAloud (rules : Rules) (moment : ℤ) (sensed : List Sensed) (input : Input)
-    (s t : RunState) (log : List ℕ) : Type 0 where
-  pub silent : RunState
-  pub takes : TakesStep rules moment sensed input s silent log
-  pub after : t ≡ echoed log silent
-
 abbrev pub DoesInput : Result (Unit {0}) No → Rules → ℤ → List Sensed → Input → RunState → RunState
     → List ℕ → Type 0
 DoesInput (Ok done) rules moment sensed input s t log =
-    StepsAloud rules moment sensed input s t log
+    TakesStep true rules moment sensed input s t log
 DoesInput (Err why) rules moment sensed input s t log =
     Tells (no_line s.turn (reasons.Node why)) s t log
 

@@ -35,7 +35,7 @@ pub record MakesMove (told : Option ℤ) (rules : Rules) (s t : RunState)
 abbrev pub IsEndCaused : Option NodeStatus → ℕ → ℕ → Type 0
 IsEndCaused None before now = Unit {0}
 IsEndCaused (Some statuses.Done) before now = Unit {0}
-IsEndCaused (Some statuses.ListenFault) before now = Rose before now
+IsEndCaused (Some (statuses.ListenFault address)) before now = Rose before now
 IsEndCaused (Some status) before now = ⊥
 
 -- a move was made, and the run may go on
@@ -102,7 +102,7 @@ DoesOnce (Some status) told rules s t given_old given_new log_old log_new =
 abbrev pub IsRunEnd : Option NodeStatus → Type 0
 IsRunEnd None = Unit {0}
 IsRunEnd (Some statuses.Done) = Unit {0}
-IsRunEnd (Some statuses.ListenFault) = Unit {0}
+IsRunEnd (Some (statuses.ListenFault address)) = Unit {0}
 IsRunEnd (Some status) = ⊥
 
 -- why the loop ends: the log failed, whose count rose; memory or the turns ran out; or the run

@@ -1,6 +1,7 @@
 -- WHAT COMES NEXT in a run: a call of the ports, a line of the panel, a message of the supervisor,
 -- a place where nothing is to do, or the end.
 use Rattle.std.specs.Prelude.{◌≡◌, ◌≤◌, ◌⊎◌, ℕ, ◌+◌, ◌<◌, Bool, true, false, ◌||◌, ◌&&◌, not, nat_lt, List, length, Option, None, Some, is_some, if◌then◌else◌}
+use Rattle.line_outside.specs.Listening.{at_all, at_loopback}
 use Rattle.line_outside.specs.declared.way.Address.{Address}
 use Rattle.line_outside.specs.declared.way.Way.{Way}
 use Rattle.line_outside.specs.declared.way.Way.TheVariants as ways
@@ -61,13 +62,18 @@ turn_next rules s = if nat_lt s.turn rules.turns then nexts.Skip else nexts.End 
 -- the supervisor's port is listened at where it is set
 abbrev pub listens_if : Option ℕ → Next
 listens_if None = nexts.Skip
-listens_if (Some port) = nexts.Listen ways.Supervisory port
+listens_if (Some port) = nexts.Listen ways.Supervisory (at_all port)
+
+-- THE PANEL CONNECTS FROM THE SAME COMPUTER, unless it may from anywhere
+abbrev pub panel_address : Bool → ℕ → Address
+panel_address anywhere port = if anywhere then at_all port else at_loopback port
 
 -- what is done at a place
 abbrev pub at_place : Rules → RunState → Place → Next
-at_place rules s places.ListenPanel = nexts.Listen ways.Panel rules.connections.panel_port
+at_place rules s places.ListenPanel =
+    nexts.Listen ways.Panel (panel_address rules.panel.anywhere rules.connections.panel_port)
 at_place rules s places.ListenDownstream =
-    nexts.Listen ways.Downstream rules.connections.downstream_port
+    nexts.Listen ways.Downstream (at_all rules.connections.downstream_port)
 at_place rules s places.ListenSupervisory = listens_if rules.connections.supervisory_port
 at_place rules s places.PollPanel = polls rules s ways.Panel
 at_place rules s places.PollUpstream = polls rules s ways.Upstream
@@ -126,7 +132,7 @@ goes_on (nexts.Close way) = false
 goes_on nexts.Line = true
 goes_on nexts.Hear = true
 goes_on nexts.Skip = true
-goes_on (nexts.Listen way port) = true
+goes_on (nexts.Listen way address) = true
 goes_on (nexts.Connect address) = true
 goes_on (nexts.Poll way) = true
 goes_on (nexts.Send way) = true

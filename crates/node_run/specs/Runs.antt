@@ -27,9 +27,9 @@ room_bytes = 4096
 -- ONE MOVE, with the call that it makes, if it makes one, and its lines in the log
 pub data Moves (rules : Rules) (moment : ℤ) : RunState → List Given → RunState → List ℕ
     → Type 0 where
-  listens : {s : RunState} {way : Way} {port : ℕ} {opened : Opened}
-      → next_of rules s ≡ nexts.Listen way port
-      → Moves rules moment s (Listens way port opened ∷ []) (after_listen opened s) []
+  listens : {s : RunState} {way : Way} {address : Address} {opened : Opened}
+      → next_of rules s ≡ nexts.Listen way address
+      → Moves rules moment s (Listens way address opened ∷ []) (after_listen address opened s) []
   connects : {s : RunState} {address : Address} {opened : Opened}
       → next_of rules s ≡ nexts.Connect address
       → Moves rules moment s (Connects ways.Upstream address opened ∷ [])

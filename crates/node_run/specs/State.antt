@@ -1,10 +1,12 @@
--- The state of a run: the machine, its ways, the supervisor's channel, the panel's text, and what
--- comes next.
-use Rattle.std.specs.Prelude.{ℕ, Bool, false, List, [], Option, None, Some}
+-- The state of a run: the machine, its ways, the supervisor's channel, the drives, the panel's
+-- text, and what comes next.
+use Rattle.std.specs.Prelude.{ℕ, ◌++◌, Bool, false, List, [], Option, None, Some}
 use Rattle.line_outside.specs.declared.way.Way.{Way}
 use Rattle.line_outside.specs.declared.way.Way.TheVariants as ways
 use Rattle.node_core.specs.Node.{NodeState}
 use Rattle.node_run.specs.Channel.{ChannelValue, no_session}
+use Rattle.node_run.specs.Drives.{all_off}
+use Rattle.node_run.specs.declared.drives.Drives.{Drives}
 use Rattle.node_run.specs.declared.rules.Rules.{Rules}
 use Rattle.node_run.specs.declared.status.NodeStatus.{NodeStatus}
 use Rattle.node_run.specs.declared.place.Place.{Place}
@@ -29,6 +31,7 @@ pub record RunState : Type 0 where
   pub downstream : WayValue
   pub supervisory : WayValue
   pub channel : ChannelValue
+  pub drives : Drives
   pub line : List ℕ
   pub drops : Bool
   pub rest : List ℕ
@@ -48,6 +51,10 @@ pub record RunView : Type 0 where
 abbrev pub at_rest : WayValue
 at_rest = record { wire = wires.Rests; unsent = [] }
 
+-- more text for the panel
+abbrev pub echoed : List ℕ → RunState → RunState
+echoed text s = record s { panel = record s.panel { unsent = s.panel.unsent ++ text } }
+
 -- a run begins with a new machine, before its first turn
 abbrev pub started : NodeState → RunState
 started node = record {
@@ -57,6 +64,7 @@ started node = record {
   downstream = at_rest;
   supervisory = at_rest;
   channel = no_session;
+  drives = all_off;
   line = [];
   drops = false;
   rest = [];

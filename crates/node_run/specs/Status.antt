@@ -10,5 +10,5 @@ exit_number (statuses.ConfigRefused key why) = 3
 exit_number statuses.ReadFault = 4
 exit_number statuses.LogFault = 5
 exit_number statuses.Memory = 6
-exit_number statuses.ListenFault = 7
+exit_number (statuses.ListenFault address) = 7
 exit_number statuses.TurnsUsed = 8

@@ -1,5 +1,5 @@
--- A step of the machine in a run: its messages wait on the ways of their sides, and a side that it
--- closes is to end.
+-- A step of the machine in a run: its messages wait on the ways of their sides, a side that it
+-- closes is to end, and the panel is told of it.
 use Rattle.std.specs.Prelude.{◌≡◌, ◌++◌, ℕ, ℤ, Bool, true, false, List, [], ◌∷◌, Some, Result, Ok, Err, flat_map, if◌then◌else◌}
 use Rattle.std.specs.List.{list_any}
 use Rattle.line_base.specs.declared.states.Side.{Side}
@@ -16,8 +16,9 @@ use Rattle.node_core.specs.declared.input.Input.{Input}
 use Rattle.node_core.specs.declared.input.No.{No}
 use Rattle.node_run.specs.declared.rules.Rules.{Rules}
 use Rattle.node_run.specs.Account.{AreProper}
-use Rattle.node_run.specs.State.{WayValue, RunState}
-use Rattle.node_run.specs.Texts.{lines_of}
+use Rattle.node_run.specs.Drives.{drives_after}
+use Rattle.node_run.specs.State.{WayValue, RunState, echoed}
+use Rattle.node_run.specs.Texts.{driven_lines, lines_of}
 use Rattle.node_run.specs.declared.way_state.Wire.{Wire}
 use Rattle.node_run.specs.declared.way_state.Wire.TheVariants as wires
 
@@ -60,24 +61,40 @@ routed told s = record s {
   supervisory = put_told s.channel.stands told s.supervisory;
 }
 
--- the run with its machine after a step, that did these acts
-abbrev pub stepped : NodeState → List Act → RunState → RunState
-stepped node told s = record (routed told s) { node = node }
+-- what a step does to its machine
+abbrev pub with_node : NodeState → List Act → RunState → RunState
+with_node node told s = record s { node = node; drives = drives_after s.drives told }
 
--- ONE STEP, with its lines in the log
-pub record TakesStep (rules : Rules) (moment : ℤ) (sensed : List Sensed) (input : Input)
-    (s t : RunState) (log : List ℕ) : Type 0 where
+-- what the panel is told of a step: all its lines, where it asked for the step, and else those of
+-- the drives alone, where it has a connection
+abbrev pub panel_lines : Bool → Rules → ℕ → Wire → List Act → List ℕ
+panel_lines true rules turn wire told = lines_of rules.panel.drives turn rules.number told
+panel_lines false rules turn wires.Stands told =
+    driven_lines rules.panel.drives turn rules.number told
+panel_lines false rules turn wire told = []
+
+abbrev pub panel_told : Bool → Rules → List Act → RunState → RunState
+panel_told asked rules told s = echoed (panel_lines asked rules s.turn s.panel.wire told) s
+
+-- the run after a step of its machine, that did these acts
+abbrev pub stepped : Bool → Rules → NodeState → List Act → RunState → RunState
+stepped asked rules node told s = panel_told asked rules told (with_node node told (routed told s))
+
+-- ONE STEP, that the panel asked for or not, with its lines in the log
+pub record TakesStep (asked : Bool) (rules : Rules) (moment : ℤ) (sensed : List Sensed)
+    (input : Input) (s t : RunState) (log : List ℕ) : Type 0 where
   pub node : NodeState
   pub told : List Act
   pub steps : Steps s.node sensed input moment node told
   pub proper : AreProper told
-  pub after : t ≡ stepped node told s
-  pub lines : log ≡ lines_of s.turn rules.number told
+  pub after : t ≡ stepped asked rules node told s
+  pub lines : log ≡ lines_of rules.panel.drives s.turn rules.number told
 
--- one step from this state, where the machine can take the input, and else nothing from that one
+-- one step from this state that no line of the panel asked for, where the machine can take the
+-- input, and else nothing from that one
 abbrev pub Takes : Result (Unit {0}) No → Rules → ℤ → Input → RunState → RunState → RunState
     → List ℕ → Type 0
-Takes (Ok done) rules moment input from s t log = TakesStep rules moment [] input from t log
+Takes (Ok done) rules moment input from s t log = TakesStep false rules moment [] input from t log
 Takes (Err why) rules moment input from s t log = (t ≡ s) × (log ≡ [])
 
 -- of the acts at a second connection, the first is for that
@@ -96,8 +113,9 @@ refusing_with told s =
           (record { way = ways.Downstream; text = text_of_first told });
     }
 
-abbrev pub refusing : NodeState → List Act → RunState → RunState
-refusing node told s = record (refusing_with told s) { node = node }
+abbrev pub refusing : Rules → NodeState → List Act → RunState → RunState
+refusing rules node told s =
+    panel_told false rules told (with_node node told (refusing_with told s))
 
 pub record TakesSecond (rules : Rules) (moment : ℤ) (input : Input) (s t : RunState)
     (log : List ℕ) : Type 0 where
@@ -105,8 +123,8 @@ pub record TakesSecond (rules : Rules) (moment : ℤ) (input : Input) (s t : Run
   pub told : List Act
   pub steps : Steps s.node [] input moment node told
   pub proper : AreProper told
-  pub after : t ≡ refusing node told s
-  pub lines : log ≡ lines_of s.turn rules.number told
+  pub after : t ≡ refusing rules node told s
+  pub lines : log ≡ lines_of rules.panel.drives s.turn rules.number told
 
 abbrev pub MeetsSecond : Result (Unit {0}) No → Rules → ℤ → Input → RunState → RunState → List ℕ
     → Type 0
@@ -119,5 +137,5 @@ pub record HasStepped (rules : Rules) (moment : ℤ) (sensed : List Sensed) (inp
     (told : List Act) (s t : RunState) (log : List ℕ) : Type 0 where
   pub steps : Steps s.node sensed input moment t.node told
   pub proper : AreProper told
-  pub after : t ≡ record s { node = t.node }
-  pub lines : log ≡ lines_of s.turn rules.number told
+  pub after : t ≡ with_node t.node told s
+  pub lines : log ≡ lines_of rules.panel.drives s.turn rules.number told

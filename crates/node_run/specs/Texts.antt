@@ -1,18 +1,19 @@
 -- The log of a machine: its acts as the report of a line tells them, but that the gap of a deed is
 -- the word of its side.
-use Rattle.std.specs.Prelude.{ℕ, ◌++◌, List, [], Option, None, Some, codes, decimal, flat_map}
+use Rattle.std.specs.Prelude.{ℕ, ◌++◌, Bool, true, false, List, [], Option, None, Some, codes, decimal, flat_map, if◌then◌else◌}
 use Rattle.line_base.specs.declared.states.Side.{Side}
 use Rattle.line_base.specs.declared.states.Side.TheVariants.{Entry, Exit}
 use Rattle.board_record.specs.BoardId.{id_text}
 use Rattle.board_record.specs.declared.record.Record.{Record}
 use Rattle.line_script.specs.Words.{why_text}
 use Rattle.line_script.specs.declared.line.LineWhy.{LineWhy}
-use Rattle.line_report.specs.Texts.{act_text, of_board, quality_text, reason_text, side_text}
+use Rattle.line_report.specs.Texts.{act_text, of_board, quality_text, reason_text, side_text, switched}
 use Rattle.line_report.specs.declared.happening.Reason.{Reason}
 use Rattle.node_core.specs.declared.act.Act.{Act}
 use Rattle.node_core.specs.declared.act.Act.TheVariants as acts
 use Rattle.node_core.specs.declared.act.Deed.{Deed}
 use Rattle.node_core.specs.declared.act.Deed.TheVariants as deeds
+use Rattle.node_run.specs.declared.drives.Drives.{Drives}
 
 -- a line of the log: a text, with the turn's number in front
 abbrev pub log_line : ℕ → List ℕ → List ℕ
@@ -32,15 +33,38 @@ deed_text (deeds.Starts id) = at_gap (codes "starts") Entry id
 deed_text (deeds.Settles id) = at_gap (codes "settles") Entry id
 deed_text (deeds.Drops id) = at_gap (codes "drops") Entry id
 
--- the line of an act: a drive has none
-abbrev pub line_of : ℕ → ℕ → Act → List ℕ
-line_of turn machine (acts.Drive side on) = []
-line_of turn machine (acts.Deed deed) = log_line turn (deed_text deed)
-line_of turn machine act = log_line turn (act_text machine act)
+-- the line of a drive
+abbrev pub drive_text : ℕ → Side → Bool → List ℕ
+drive_text machine side on = switched (codes "drive") machine (side_text side) on
+
+abbrev pub drive_line : ℕ → ℕ → Side → Bool → List ℕ
+drive_line turn machine side on = log_line turn (drive_text machine side on)
+
+-- the line of an act: a drive has one where the drives are told
+abbrev pub line_of : Bool → ℕ → ℕ → Act → List ℕ
+line_of told turn machine (acts.Drive side on) =
+    if told then drive_line turn machine side on else []
+line_of told turn machine (acts.Deed deed) = log_line turn (deed_text deed)
+line_of told turn machine act = log_line turn (act_text machine act)
 
 -- THE LINES OF A STEP
-abbrev pub lines_of : ℕ → ℕ → List Act → List ℕ
-lines_of turn machine acts = flat_map (line_of turn machine) acts
+abbrev pub lines_of : Bool → ℕ → ℕ → List Act → List ℕ
+lines_of told turn machine acts = flat_map (line_of told turn machine) acts
+
+-- and of its drives alone
+abbrev pub driven_line : ℕ → ℕ → Act → List ℕ
+driven_line turn machine (acts.Drive side on) = drive_line turn machine side on
+driven_line turn machine act = []
+
+abbrev pub driven_lines : Bool → ℕ → ℕ → List Act → List ℕ
+driven_lines true turn machine acts = flat_map (driven_line turn machine) acts
+driven_lines false turn machine acts = []
+
+-- what each drive is, where the drives are told
+abbrev pub drives_lines : Bool → ℕ → ℕ → Drives → List ℕ
+drives_lines true turn machine drives =
+    drive_line turn machine Entry drives.entry ++ drive_line turn machine Exit drives.exit
+drives_lines false turn machine drives = []
 
 -- a panel line that was refused, and one that can't be done
 abbrev pub refused_line : ℕ → LineWhy → List ℕ

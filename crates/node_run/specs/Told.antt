@@ -2,6 +2,7 @@
 use Rattle.std.specs.Prelude.{◌≡◌, ◌≤◌, ℕ, ℤ, List, Option, None, Some}
 use Rattle.line_outside.specs.Faults.{Rose}
 use Rattle.line_outside.specs.Given.{Given}
+use Rattle.line_outside.specs.declared.way.Address.{Address}
 use Rattle.node_core.specs.Node.{new_node}
 use Rattle.node_core.specs.declared.profile.NodeProfile.{NodeProfile}
 use Rattle.node_settings.specs.declared.settings.Settings.{Settings}
@@ -18,6 +19,7 @@ rules_of settings = record {
   machine_id = settings.identity.machine_id;
   connections = settings.connections;
   turns = settings.turns;
+  panel = settings.panel;
 }
 
 abbrev pub profile_of : Settings → NodeProfile
@@ -49,5 +51,6 @@ pub record HasRunCauses (status : NodeStatus)
     (ports_before ports_now log_before log_now : ℕ) : Type 0 where
   pub ports : ports_before ≤ ports_now
   pub log : log_before ≤ log_now
-  pub listen_fault : status ≡ statuses.ListenFault → Rose ports_before ports_now
+  pub listen_fault : (address : Address) → status ≡ statuses.ListenFault address
+      → Rose ports_before ports_now
   pub log_fault : status ≡ statuses.LogFault → Rose log_before log_now

@@ -1,16 +1,18 @@
 //! What the answers of the ports do.
 
-ghost use Rattle.std.specs.Prelude.{◌≡◌, ◌≤◌, [], false, None, OnOk, length};
+ghost use Rattle.std.specs.Prelude.{◌≡◌, ◌≤◌, ◌++◌, [], false, None, OnOk, length};
 ghost use Rattle.line_outside.specs.declared.answer.GotBytes.TheVariants as founds;
+ghost use Rattle.node_run.specs.declared.way_state.Wire.TheVariants as wires;
 ghost use Rattle.node_run.specs.Next.{IsTurnLeft, moved_on};
-ghost use Rattle.node_run.specs.After.{after_listen, after_panel, after_send, after_supervisory, found_of, panel_gone, supervisory_second, AfterPoll, AfterUpstream, AfterDownstream, AfterClose};
+ghost use Rattle.node_run.specs.After.{after_listen, after_send, after_supervisory, greeting, found_of, panel_gone, supervisory_second, AfterPanel, AfterPoll, AfterUpstream, AfterDownstream, AfterClose};
 
 use crate::hearing::refusal_of_second;
 use crate::run::{Refusal, Run};
 use crate::status::NodeStatus;
+use crate::texts::write_drives;
 use crate::way_state::Wire;
 use line_base::{Memory, Moment, Side};
-use line_outside::{Got, Opened, Sent, Way};
+use line_outside::{Address, Got, Opened, Sent, Way};
 use node_core::Input;
 
 impl Run {
@@ -22,14 +24,14 @@ impl Run {
         self.move_on();
     }
 
-    /// The answer to listening.
-    pub fn after_listen(&mut self, opened: Opened)
+    /// The answer to listening at an address.
+    pub fn after_listen(&mut self, address: Address, opened: Opened)
         requires { IsTurnLeft self.old.state.place self.old.state.turn self.old.rules.turns }
-        ensures { self.new ≡ record self.old { state = after_listen opened self.old.state } }
+        ensures { self.new ≡ record self.old { state = after_listen address opened self.old.state } }
     {
         self.move_on();
         if opened == Opened::Failed {
-            self.ended = Some(NodeStatus::ListenFault);
+            self.ended = Some(NodeStatus::ListenFault(address));
         }
     }
 
@@ -73,14 +75,15 @@ impl Run {
     }
 
     fn after_panel(&mut self, got: Got, bytes: &[u8]) -> Result<(), Memory>
+        requires { self.old.told ≡ [] }
         ensures rules { self.new.rules ≡ self.old.rules }
         ensures after { OnOk result
-            (self.new
-            ≡ record self.old { state = after_panel (found_of got bytes.now) self.old.state }) }
+            (AfterPanel self.old.rules
+            (found_of got bytes.now) self.old.state self.new.state self.new.told) }
     {
         let wire = self.panel.wire();
         match got {
-            Got::Arrived if wire == Wire::Rests => self.panel.set_wire(Wire::Stands),
+            Got::Arrived if wire == Wire::Rests => return self.greet_panel(),
             Got::Second if wire == Wire::Stands => {
                 self.refusal = Some(Refusal {
                     way: Way::Panel,
@@ -94,6 +97,37 @@ impl Run {
             _ => {}
         }
         Ok(())
+    }
+
+    /// A panel connected: it is told what each drive is, where the drives are told.
+    fn greet_panel(&mut self) -> Result<(), Memory>
+        requires wire { self.old.state.panel.wire ≡ wires.Rests }
+        requires told { self.old.told ≡ [] }
+        ensures rules { self.new.rules ≡ self.old.rules }
+        ensures after { OnOk result
+            (AfterPanel self.old.rules founds.Arrived self.old.state self.new.state self.new.told) }
+    {
+        self.set_wire(Way::Panel, Wire::Stands);
+        self.write_greeting()?;
+        self.echo()
+    }
+
+    fn write_greeting(&mut self) -> Result<(), Memory>
+        ensures rules { self.new.rules ≡ self.old.rules }
+        ensures told { OnOk result
+            (self.new
+            ≡ record self.old {
+              told = self.old.told ++ greeting self.old.rules self.old.state;
+            }) }
+    {
+        let told = self.rules.panel.drives;
+        write_drives(
+            told,
+            self.turn,
+            self.rules.number,
+            self.drives,
+            &mut self.told,
+        )
     }
 
     fn set_rest(&mut self, bytes: &[u8]) -> Result<(), Memory>
@@ -202,7 +236,7 @@ impl Run {
             return Ok(());
         }
         self.upstream.set_wire(Wire::Stands);
-        self.step(&[], Input::Connect, moment)
+        self.step_unasked(Input::Connect, moment)
     }
 
     /// The downstream neighbour's connection stands, where the machine can take it.
@@ -217,7 +251,7 @@ impl Run {
             return Ok(());
         }
         self.downstream.set_wire(Wire::Stands);
-        self.step(&[], Input::Accepted, moment)
+        self.step_unasked(Input::Accepted, moment)
     }
 
     /// The answer to sending.

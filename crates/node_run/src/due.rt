@@ -1,13 +1,13 @@
 //! What comes next.
 
 ghost use Rattle.std.specs.Prelude.{◌≡◌};
-ghost use Rattle.node_run.specs.Next.{next_of, closes_next, connects_next, lines_next, hears_next, at_place, listens_if, polls, is_polled, sends_by, turn_next};
+ghost use Rattle.node_run.specs.Next.{next_of, closes_next, connects_next, lines_next, hears_next, at_place, listens_if, panel_address, polls, is_polled, sends_by, turn_next};
 
 use crate::place::{Next, Place};
 use crate::run::Run;
 use crate::status::NodeStatus;
 use crate::way_state::WayState;
-use line_outside::Way;
+use line_outside::{Address, Way};
 
 impl Run {
     /// What comes next: the end, a second connection that is to be refused, a way that has to be
@@ -76,10 +76,11 @@ impl Run {
         ensures { result ≡ at_place self.now.rules self.now.state self.now.state.place }
     {
         match self.place {
-            Place::ListenPanel => Next::Listen(Way::Panel, self.rules.connections.panel_port),
-            Place::ListenDownstream => {
-                Next::Listen(Way::Downstream, self.rules.connections.downstream_port)
-            }
+            Place::ListenPanel => Next::Listen(Way::Panel, self.panel_address()),
+            Place::ListenDownstream => Next::Listen(
+                Way::Downstream,
+                Address::at_all(self.rules.connections.downstream_port),
+            ),
             Place::ListenSupervisory => next_listen(self.rules.connections.supervisory_port),
             Place::PollPanel => self.next_poll(Way::Panel),
             Place::PollUpstream => self.next_poll(Way::Upstream),
@@ -91,6 +92,17 @@ impl Run {
             Place::SendSupervisory => next_send(Way::Supervisory, &self.supervisory),
             Place::TurnDone => self.next_turn(),
         }
+    }
+
+    /// A panel connects from the same computer, unless it may from anywhere.
+    fn panel_address(&self) -> Address
+        ensures { result
+            ≡ panel_address self.now.rules.panel.anywhere self.now.rules.connections.panel_port }
+    {
+        if self.rules.panel.anywhere {
+            return Address::at_all(self.rules.connections.panel_port);
+        }
+        Address::at_loopback(self.rules.connections.panel_port)
     }
 
     /// A way that is to end isn't polled, nor is one that isn't set.
@@ -133,7 +145,7 @@ fn next_listen(port: Option<u16>) -> Next
     ensures { result ≡ listens_if port }
 {
     match port {
-        Some(port) => Next::Listen(Way::Supervisory, port),
+        Some(port) => Next::Listen(Way::Supervisory, Address::at_all(port)),
         None => Next::Skip,
     }
 }

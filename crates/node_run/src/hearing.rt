@@ -155,7 +155,7 @@ impl Run {
     {
         let input = Input::Answer { query, order };
         match self.may(&input) {
-            Ok(()) => self.step(&[], input, moment),
+            Ok(()) => self.step_unasked(input, moment),
             Err(why) => self.tell_untaken(why, moment),
         }
     }

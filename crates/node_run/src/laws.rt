@@ -20,7 +20,7 @@ pub fn too_much_text_closes_a_way()
 /// run's log tells, in their order.
 pub fn what_a_machine_owns_follows_from_its_log()
     ensures { (rules : Rules) (moment : ℤ) (s t : RunState) (calls : List Given) (log : List ℕ)
-        → Runs rules moment s calls t log → OwnFollows rules.number s t log }
+        → Runs rules moment s calls t log → OwnFollows rules s t log }
 {}
 
 /// What a machine owns after a run is read off the bytes of the run's log, from what it owned

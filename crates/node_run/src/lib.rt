@@ -6,6 +6,7 @@
 
 mod after;
 mod channel;
+mod drives;
 mod due;
 mod hearing;
 pub mod laws;

@@ -189,8 +189,7 @@ impl Run {
         if let Err(why) = self.node.may(&input) {
             return self.tell_no(Reason::Node(why));
         }
-        self.step(sensed, input, moment)?;
-        self.echo()
+        self.step_asked(sensed, input, moment)
     }
 
     /// Asks for a connection to the upstream neighbour, or tells why there can't be one.

@@ -45,8 +45,8 @@ pub fn make_move<P: Ports, C: Clock>(
         }
         Next::Line => take_line(run, ports, clock),
         Next::Hear => take_message(run, ports, clock),
-        Next::Listen(way, port) => {
-            listen(run, way, port, ports);
+        Next::Listen(way, address) => {
+            listen(run, way, address, ports);
             Ok(())
         }
         Next::Connect(address) => {
@@ -117,8 +117,8 @@ fn take_message<P: Ports, C: Clock>(
     run.take_message(moment)
 }
 
-fn listen<P: Ports>(run: &mut Run, way: Way, port: u16, ports: &mut P)
-    requires next { next_of run.old.rules run.old.state ≡ nexts.Listen way port }
+fn listen<P: Ports>(run: &mut Run, way: Way, address: Address, ports: &mut P)
+    requires next { next_of run.old.rules run.old.state ≡ nexts.Listen way address }
     requires told { run.old.told ≡ [] }
     requires rest { length run.old.state.rest ≤ 4096 }
     ensures counted { P.faults ports.old ≤ P.faults ports.new }
@@ -126,8 +126,8 @@ fn listen<P: Ports>(run: &mut Run, way: Way, port: u16, ports: &mut P)
         → MovesAs told run.old run.new (P.given ports.old) (P.given ports.new) (P.faults ports.old)
         (P.faults ports.new) }
 {
-    let opened = ports.listen(way, port);
-    run.after_listen(opened);
+    let opened = ports.listen(way, address);
+    run.after_listen(address, opened);
 }
 
 fn connect<P: Ports>(run: &mut Run, address: Address, ports: &mut P)

@@ -32,7 +32,7 @@ pub enum Next {
     Hear,
     /// Nothing is to do at this place.
     Skip,
-    Listen(Way, u16),
+    Listen(Way, Address),
     Connect(Address),
     Poll(Way),
     Send(Way),

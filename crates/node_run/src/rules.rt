@@ -1,5 +1,5 @@
 use line_base::Text;
-use node_settings::Connections;
+use node_settings::{Connections, Panel};
 
 /// What a run goes by.
 #[derive(Debug, PartialEq, Eq, Drop)]
@@ -12,4 +12,6 @@ pub struct Rules {
     pub connections: Connections,
     /// After how many turns it ends.
     pub turns: u64,
+    /// What its panel is told, and from where it may connect.
+    pub panel: Panel,
 }

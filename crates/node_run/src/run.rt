@@ -1,12 +1,12 @@
 ghost use Rattle.std.specs.Prelude.{◌≡◌, [], IfOk, OnOk};
 ghost use Rattle.node_run.specs.Channel.{IsShort};
-ghost use Rattle.node_run.specs.State.{RunView, started, way_at, with_wire, refusal_text};
+ghost use Rattle.node_run.specs.State.{RunView, echoed, started, way_at, with_wire, refusal_text};
 ghost use Rattle.node_run.specs.Next.{IsTurnLeft, moved_on};
-ghost use Rattle.node_run.specs.Lines.{echoed};
 ghost use Rattle.node_run.specs.After.{after_send};
 ghost use Rattle.line_outside.specs.declared.ports.Sent.TheVariants as sents;
 
 use crate::channel::Channel;
+use crate::drives::Drives;
 use crate::place::Place;
 use crate::rules::Rules;
 use crate::status::NodeStatus;
@@ -35,6 +35,7 @@ pub struct Run {
     pub(crate) downstream: WayState,
     pub(crate) supervisory: WayState,
     pub(crate) channel: Channel,
+    pub(crate) drives: Drives,
     pub(crate) line: Vec<u8>,
     pub(crate) drops: bool,
     pub(crate) rest: Vec<u8>,
@@ -62,6 +63,7 @@ impl Model for Run {
         downstream = r.downstream;
         supervisory = r.supervisory;
         channel = r.channel;
+        drives = r.drives;
         line =
             r.line.items;
         drops = r.drops;
@@ -96,6 +98,7 @@ impl Run {
             downstream: WayState::new(alloc),
             supervisory: WayState::new(alloc),
             channel,
+            drives: Drives::off(),
             line: Vec::new(alloc),
             drops: false,
             rest: Vec::new(alloc),

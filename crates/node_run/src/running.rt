@@ -93,12 +93,14 @@ fn new_run(alloc: Global, settings: Settings) -> Result<Run, Memory>
         bridge,
         connections,
         turns,
+        panel,
     } = settings;
     let rules = Rules {
         number: identity.number,
         machine_id: identity.machine_id.copy(alloc)?,
         connections,
         turns,
+        panel,
     };
     let profile = NodeProfile {
         number: identity.number,

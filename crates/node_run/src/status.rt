@@ -1,6 +1,7 @@
 ghost use Rattle.std.specs.Prelude.{◌≡◌};
 ghost use Rattle.node_run.specs.Status.{exit_number};
 
+use line_outside::Address;
 use node_settings::{ConfigKey, ConfigWhy};
 
 /// How the program `node` ends.
@@ -18,8 +19,8 @@ pub enum NodeStatus {
     LogFault,
     /// Memory was wanting.
     Memory,
-    /// A port could not be listened at.
-    ListenFault,
+    /// This address could not be listened at.
+    ListenFault(Address),
     /// All turns of the settings were done.
     TurnsUsed,
 }
@@ -36,7 +37,7 @@ impl NodeStatus {
             NodeStatus::ReadFault => 4,
             NodeStatus::LogFault => 5,
             NodeStatus::Memory => 6,
-            NodeStatus::ListenFault => 7,
+            NodeStatus::ListenFault(_) => 7,
             NodeStatus::TurnsUsed => 8,
         }
     }

@@ -1,11 +1,12 @@
 //! Steps of the machine in a run.
 
-ghost use Rattle.std.specs.Prelude.{◌≡◌, [], ◌∷◌, IfOk, OnOk};
+ghost use Rattle.std.specs.Prelude.{◌≡◌, ◌++◌, [], ◌∷◌, true, false, IfOk, OnOk};
 ghost use Rattle.line_base.specs.declared.states.Side.TheVariants.{Exit};
 ghost use Rattle.node_core.specs.May.{may_of, may_do};
 ghost use Rattle.node_core.specs.declared.act.Act.TheVariants as acts;
 ghost use Rattle.node_core.specs.declared.input.Input.TheVariants as inputs;
-ghost use Rattle.node_run.specs.Steps.{Takes, TakesSecond, TakesStep, MeetsSecond, HasStepped, routed, refusing_with, message_for};
+ghost use Rattle.node_run.specs.Texts.{lines_of};
+ghost use Rattle.node_run.specs.Steps.{Takes, TakesSecond, TakesStep, MeetsSecond, HasStepped, panel_told, routed, refusing_with, message_for};
 
 use crate::proper::acts_are_proper;
 use crate::run::{Refusal, Run};
@@ -30,11 +31,11 @@ impl Run {
         if self.node.may(&input).is_err() {
             return Ok(());
         }
-        self.step(&[], input, moment)
+        self.step_unasked(input, moment)
     }
 
-    /// A step, with its lines in the log.
-    pub fn step(
+    /// A step that a line of the panel asked for: its lines go to the log and to the panel.
+    pub fn step_asked(
         &mut self,
         sensed: &[Sensed],
         input: Input<'_>,
@@ -44,11 +45,44 @@ impl Run {
         requires told { self.old.told ≡ [] }
         ensures rules { self.new.rules ≡ self.old.rules }
         ensures takes { OnOk result
-            (TakesStep self.old.rules moment sensed.now input.entry self.old.state self.new.state
-            self.new.told) }
+            (TakesStep true self.old.rules moment sensed.now input.entry self.old.state
+            self.new.state self.new.told) }
     {
         let acts = self.step_silently(sensed, input, moment)?;
-        self.route(acts.list())
+        self.route(acts.list())?;
+        self.echo()
+    }
+
+    /// A step that no line of the panel asked for: its lines go to the log, and the panel is told
+    /// of its drives alone.
+    pub fn step_unasked(&mut self, input: Input<'_>, moment: Moment) -> Result<(), Memory>
+        requires may { may_of self.old.state.node input ≡ may_do }
+        requires told { self.old.told ≡ [] }
+        ensures rules { self.new.rules ≡ self.old.rules }
+        ensures takes { OnOk result
+            (TakesStep false self.old.rules moment [] input.entry self.old.state self.new.state
+            self.new.told) }
+    {
+        let acts = self.step_silently(&[], input, moment)?;
+        let told = acts.list();
+        self.route(told)?;
+        self.tell_drives(told)
+    }
+
+    /// The panel is told of the drives among these acts, where the drives are told and it has a
+    /// connection.
+    fn tell_drives(&mut self, acts: &[Act]) -> Result<(), Memory>
+        ensures rules { self.new.rules ≡ self.old.rules }
+        ensures told { OnOk result
+            (self.new
+            ≡ record self.old { state = panel_told false self.old.rules acts.now self.old.state }) }
+    {
+        if self.panel.wire() != Wire::Stands {
+            return Ok(());
+        }
+        let told = self.rules.panel.drives;
+        self.panel
+            .append_driven(told, self.turn, self.rules.number, acts)
     }
 
     /// The machine's step and its lines. Where its messages go is for the caller.
@@ -67,8 +101,24 @@ impl Run {
     {
         let acts = self.node.step(sensed, input, moment)?;
         acts_are_proper(acts.list());
-        write_lines(self.turn, self.rules.number, acts.list(), &mut self.told)?;
+        self.drives.obey(acts.list());
+        self.write_acts(acts.list())?;
         Ok(acts)
+    }
+
+    /// The lines of a step's acts.
+    fn write_acts(&mut self, acts: &[Act]) -> Result<(), Memory>
+        ensures rules { self.new.rules ≡ self.old.rules }
+        ensures lines { OnOk result
+            (self.new
+            ≡ record self.old {
+              told = self.old.told
+                  ++ lines_of
+                  self.old.rules.panel.drives self.old.state.turn self.old.rules.number acts.now;
+            }) }
+    {
+        let told = self.rules.panel.drives;
+        write_lines(told, self.turn, self.rules.number, acts, &mut self.told)
     }
 
     /// Messages wait on the ways of their sides, those for the supervisor where its session
@@ -143,7 +193,9 @@ impl Run {
             self.new.told) }
     {
         let acts = self.step_silently(&[], Input::Second, moment)?;
-        self.refuse_with(acts.list())
+        let told = acts.list();
+        self.refuse_with(told)?;
+        self.tell_drives(told)
     }
 
     /// The first of these acts is for the second connection, the others go their ways.

@@ -1,7 +1,9 @@
-ghost use Rattle.std.specs.Prelude.{◌≡◌, ◌++◌, Ok, OnOk};
-ghost use Rattle.line_report.specs.Texts.{act_text};
-ghost use Rattle.node_run.specs.Texts.{at_gap, deed_text, line_of, lines_of, log_line, refused_line, no_line};
+ghost use Rattle.std.specs.Prelude.{◌≡◌, ◌++◌, true, Ok, OnOk};
+ghost use Rattle.line_report.specs.Texts.{act_text, switch_word};
+ghost use Rattle.node_core.specs.declared.act.Act.TheVariants as acts;
+ghost use Rattle.node_run.specs.Texts.{at_gap, deed_text, drive_line, driven_line, driven_lines, drives_lines, line_of, lines_of, log_line, refused_line, no_line};
 
+use crate::drives::Drives;
 use board_record::BoardId;
 use line_base::{Memory, Side};
 use line_report::{Reason, side_word, write_act, write_reason};
@@ -9,25 +11,141 @@ use line_script::LineWhy;
 use node_core::{Act, Deed};
 use std::io::Write;
 
-/// Appends the lines of a step's acts.
-pub fn write_lines(turn: u64, machine: u32, acts: &[Act], to: &mut Vec<u8>) -> Result<(), Memory>
-    ensures { OnOk result (to.new.items ≡ to.old.items ++ lines_of turn machine acts.now) }
+/// Appends the lines of a step's acts, those of its drives where these are told.
+pub fn write_lines(
+    told: bool,
+    turn: u64,
+    machine: u32,
+    acts: &[Act],
+    to: &mut Vec<u8>,
+) -> Result<(), Memory>
+    ensures { OnOk result (to.new.items ≡ to.old.items ++ lines_of told turn machine acts.now) }
 {
     for act in acts {
-        write_line(turn, machine, act, to)?;
+        write_line(told, turn, machine, act, to)?;
     }
     Ok(())
 }
 
-/// Appends the line of an act. A drive has none.
-fn write_line(turn: u64, machine: u32, act: &Act, to: &mut Vec<u8>) -> Result<(), Memory>
-    ensures { OnOk result (to.new.items ≡ to.old.items ++ line_of turn machine act.now) }
+/// Appends the line of an act. A drive has one where the drives are told.
+fn write_line(
+    told: bool,
+    turn: u64,
+    machine: u32,
+    act: &Act,
+    to: &mut Vec<u8>,
+) -> Result<(), Memory>
+    ensures { OnOk result (to.new.items ≡ to.old.items ++ line_of told turn machine act.now) }
 {
     match act {
-        Act::Drive(_, _) => Ok(()),
+        Act::Drive(side, on) => write_drive_if(told, turn, machine, *side, *on, to),
         Act::Deed(deed) => write_deed_line(turn, *deed, to),
         _ => write_act_line(turn, machine, act, to),
     }
+}
+
+fn write_drive_if(
+    told: bool,
+    turn: u64,
+    machine: u32,
+    side: Side,
+    on: bool,
+    to: &mut Vec<u8>,
+) -> Result<(), Memory>
+    ensures { OnOk result
+        (to.new.items ≡ to.old.items ++ line_of told turn machine (acts.Drive side on)) }
+{
+    if !told {
+        return Ok(());
+    }
+    write_drive(turn, machine, side, on, to)
+}
+
+/// Appends the line of a drive.
+fn write_drive(
+    turn: u64,
+    machine: u32,
+    side: Side,
+    on: bool,
+    to: &mut Vec<u8>,
+) -> Result<(), Memory>
+    ensures { OnOk result (to.new.items ≡ to.old.items ++ drive_line turn machine side on) }
+{
+    let side = side_word(side);
+    let switch = switch_word(on);
+    written(write!(to, "{turn} drive {machine} {side} {switch}\n"))
+}
+
+fn switch_word(on: bool) -> &'static str
+    ensures { result.now ≡ switch_word on }
+{
+    if on { "on" } else { "off" }
+}
+
+/// Appends the lines of the drives among a step's acts, where the drives are told.
+pub fn write_driven(
+    told: bool,
+    turn: u64,
+    machine: u32,
+    acts: &[Act],
+    to: &mut Vec<u8>,
+) -> Result<(), Memory>
+    ensures { OnOk result
+        (to.new.items ≡ to.old.items ++ driven_lines told turn machine acts.now) }
+{
+    if !told {
+        return Ok(());
+    }
+    write_all_driven(turn, machine, acts, to)
+}
+
+fn write_all_driven(turn: u64, machine: u32, acts: &[Act], to: &mut Vec<u8>) -> Result<(), Memory>
+    ensures { OnOk result
+        (to.new.items ≡ to.old.items ++ driven_lines true turn machine acts.now) }
+{
+    for act in acts {
+        write_driven_act(turn, machine, act, to)?;
+    }
+    Ok(())
+}
+
+fn write_driven_act(turn: u64, machine: u32, act: &Act, to: &mut Vec<u8>) -> Result<(), Memory>
+    ensures { OnOk result (to.new.items ≡ to.old.items ++ driven_line turn machine act.now) }
+{
+    match act {
+        Act::Drive(side, on) => write_drive(turn, machine, *side, *on, to),
+        _ => Ok(()),
+    }
+}
+
+/// Appends what each drive is, where the drives are told.
+pub fn write_drives(
+    told: bool,
+    turn: u64,
+    machine: u32,
+    drives: Drives,
+    to: &mut Vec<u8>,
+) -> Result<(), Memory>
+    ensures { OnOk result
+        (to.new.items ≡ to.old.items ++ drives_lines told turn machine drives) }
+{
+    if !told {
+        return Ok(());
+    }
+    write_both_drives(turn, machine, drives, to)
+}
+
+fn write_both_drives(
+    turn: u64,
+    machine: u32,
+    drives: Drives,
+    to: &mut Vec<u8>,
+) -> Result<(), Memory>
+    ensures { OnOk result
+        (to.new.items ≡ to.old.items ++ drives_lines true turn machine drives) }
+{
+    write_drive(turn, machine, Side::Entry, drives.entry, to)?;
+    write_drive(turn, machine, Side::Exit, drives.exit, to)
 }
 
 fn write_act_line(turn: u64, machine: u32, act: &Act, to: &mut Vec<u8>) -> Result<(), Memory>

@@ -5,7 +5,7 @@ use Rattle.line_base.specs.Results.{then_ok, mapped_ok}
 use Rattle.line_outside.specs.declared.way.Address.{Address}
 use Rattle.toml.specs.Data.{Members, no_members, member, get_member}
 use Rattle.toml.specs.Parse.{parse_document}
-use Rattle.node_settings.specs.Value.{optional, required, number_as, id_text_as, address_as, bridge_as}
+use Rattle.node_settings.specs.Value.{optional, required, number_as, id_text_as, address_as, switch_as}
 use Rattle.node_settings.specs.declared.key.ConfigKey.{ConfigKey}
 use Rattle.node_settings.specs.declared.key.ConfigKey.TheVariants as keys
 use Rattle.node_settings.specs.declared.key.ConfigWhy.{ConfigWhy}
@@ -16,6 +16,7 @@ use Rattle.node_settings.specs.declared.settings.Settings.{Settings}
 use Rattle.node_settings.specs.declared.settings.Identity.{Identity}
 use Rattle.node_settings.specs.declared.settings.Places.{Places}
 use Rattle.node_settings.specs.declared.settings.Connections.{Connections}
+use Rattle.node_settings.specs.declared.settings.Panel.{Panel}
 
 -- a key that is refused for a reason
 pub record Refusal : Type 0 where
@@ -67,7 +68,7 @@ abbrev pub places_of : Members → Result Places Refusal
 places_of ms = then_ok (capacity_of ms) (λ capacity. mapped_ok (made_places capacity) (used_of ms))
 
 abbrev pub bridge_of : Members → Result (Option Bool) Refusal
-bridge_of ms = named keys.Bridge (optional bridge_as (get_member (codes "bridge") ms))
+bridge_of ms = named keys.Bridge (optional switch_as (get_member (codes "bridge") ms))
 
 abbrev pub upstream_of : Members → Result (Option Address) Refusal
 upstream_of ms = named keys.Upstream (optional address_as (get_member (codes "upstream") ms))
@@ -106,6 +107,21 @@ abbrev pub turns_of : Members → Result ℕ Refusal
 turns_of ms =
     named keys.Turns (required (number_as 1 1000000000000) (get_member (codes "turns") ms))
 
+abbrev pub drives_of : Members → Result (Option Bool) Refusal
+drives_of ms = named keys.Drives (optional switch_as (get_member (codes "drives") ms))
+
+abbrev pub panel_anywhere_of : Members → Result (Option Bool) Refusal
+panel_anywhere_of ms =
+    named keys.PanelAnywhere (optional switch_as (get_member (codes "panel_anywhere") ms))
+
+-- drives aren't told, and a panel connects from the same computer, where nothing else is said
+abbrev pub made_panel : Option Bool → Option Bool → Panel
+made_panel drives anywhere =
+    record { drives = unwrap_or drives false; anywhere = unwrap_or anywhere false }
+
+abbrev pub panel_of : Members → Result Panel Refusal
+panel_of ms = then_ok (drives_of ms) (λ drives. mapped_ok (made_panel drives) (panel_anywhere_of ms))
+
 -- ---- how a key is told
 
 abbrev pub key_text : ConfigKey → List ℕ
@@ -121,6 +137,8 @@ key_text keys.DownstreamPort = codes "downstream_port"
 key_text keys.SupervisoryPort = codes "supervisory_port"
 key_text keys.PanelPort = codes "panel_port"
 key_text keys.Turns = codes "turns"
+key_text keys.Drives = codes "drives"
+key_text keys.PanelAnywhere = codes "panel_anywhere"
 key_text keys.Unknown = codes "a key"
 
 -- ---- keys of unknown names
@@ -137,28 +155,32 @@ is_known_of_connections key =
     || bytes_eq key (codes "supervisory_port") || bytes_eq key (codes "panel_port")
     || bytes_eq key (codes "turns")
 
+abbrev pub is_known_of_panel : List ℕ → Bool
+is_known_of_panel key = bytes_eq key (codes "drives") || bytes_eq key (codes "panel_anywhere")
+
 abbrev pub is_known : List ℕ → Bool
-is_known key = is_known_of_machine key || is_known_of_connections key
+is_known key = is_known_of_machine key || is_known_of_connections key || is_known_of_panel key
 
 abbrev pub are_known : Members → Bool
 are_known no_members = true
 are_known (member key value ms) = is_known key && are_known ms
 
 -- an unknown key is refused last
-abbrev pub known_turns : Members → ℕ → Result ℕ Refusal
-known_turns ms turns =
-    if are_known ms then Ok turns else Err (refusal keys.Unknown whys.UnknownKey)
+abbrev pub known_panel : Members → Panel → Result Panel Refusal
+known_panel ms panel =
+    if are_known ms then Ok panel else Err (refusal keys.Unknown whys.UnknownKey)
 
-abbrev pub known_turns_of : Members → Result ℕ Refusal
-known_turns_of ms = then_ok (turns_of ms) (known_turns ms)
+abbrev pub known_panel_of : Members → Result Panel Refusal
+known_panel_of ms = then_ok (panel_of ms) (known_panel ms)
 
-abbrev pub made_settings : Identity → Places → Option Bool → Connections → ℕ → Settings
-made_settings identity places bridge connections turns = record {
+abbrev pub made_settings : Identity → Places → Option Bool → Connections → ℕ → Panel → Settings
+made_settings identity places bridge connections turns panel = record {
   identity = identity;
   places = places;
   bridge = unwrap_or bridge false;
   connections = connections;
   turns = turns;
+  panel = panel;
 }
 
 -- WHAT A DOCUMENT SAYS: its settings, or the refusal of the first key that is refused, in the
@@ -168,7 +190,8 @@ settings_of ms =
     then_ok (identity_of ms) (λ identity.
     then_ok (places_of ms) (λ places.
     then_ok (bridge_of ms) (λ bridge. then_ok (connections_of identity.lane ms) (λ connections.
-    mapped_ok (made_settings identity places bridge connections) (known_turns_of ms)))))
+    then_ok (turns_of ms) (λ turns.
+    mapped_ok (made_settings identity places bridge connections turns) (known_panel_of ms))))))
 
 -- the document that bytes are, if they are TOML in UTF-8
 abbrev pub document_of : List ℕ → Option Members

@@ -46,10 +46,10 @@ abbrev pub address_as : Data → Result Address ConfigWhy
 address_as (string bytes) = address_from (address_of bytes)
 address_as _ = Err whys.WrongKind
 
--- whether the body is a segment with signals
-abbrev pub bridge_as : Data → Result Bool ConfigWhy
-bridge_as (boolean bridge) = Ok bridge
-bridge_as _ = Err whys.WrongKind
+-- whether something is so
+abbrev pub switch_as : Data → Result Bool ConfigWhy
+switch_as (boolean on) = Ok on
+switch_as _ = Err whys.WrongKind
 
 -- ---- a value at a key
 

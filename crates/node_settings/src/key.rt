@@ -18,6 +18,8 @@ pub enum ConfigKey {
     SupervisoryPort,
     PanelPort,
     Turns,
+    Drives,
+    PanelAnywhere,
     Unknown,
 }
 
@@ -85,6 +87,8 @@ impl fmt::Display for ConfigKey {
             ConfigKey::SupervisoryPort => f.write_str("supervisory_port"),
             ConfigKey::PanelPort => f.write_str("panel_port"),
             ConfigKey::Turns => f.write_str("turns"),
+            ConfigKey::Drives => f.write_str("drives"),
+            ConfigKey::PanelAnywhere => f.write_str("panel_anywhere"),
             ConfigKey::Unknown => f.write_str("a key"),
         }
     }

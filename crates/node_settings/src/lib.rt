@@ -9,4 +9,4 @@ mod value;
 
 pub use key::{ConfigKey, ConfigWhy, SettingsError};
 pub use read::{MOST_SETTINGS_BYTES, read_settings};
-pub use settings::{Connections, Identity, Places, Settings};
+pub use settings::{Connections, Identity, Panel, Places, Settings};

@@ -3,12 +3,12 @@ ghost use Rattle.std.specs.BTreeMap.{keys};
 ghost use Rattle.std.specs.List.{list_all};
 ghost use Rattle.std.specs.Option.{ForSome};
 ghost use Rattle.toml.specs.View.{table_view};
-ghost use Rattle.node_settings.specs.Settings.{Reads, read_of, settings_of, identity_of, places_of, bridge_of, connections_of, known_turns_of, are_known, is_known, is_known_of_machine, is_known_of_connections};
+ghost use Rattle.node_settings.specs.Settings.{Reads, read_of, settings_of, identity_of, places_of, bridge_of, connections_of, known_panel_of, panel_of, turns_of, are_known, is_known, is_known_of_machine, is_known_of_connections, is_known_of_panel};
 
 use crate::key::{ConfigKey, ConfigWhy, SettingsError};
-use crate::settings::{Connections, Identity, Places, Settings};
+use crate::settings::{Connections, Identity, Panel, Places, Settings};
 use crate::value::{
-    id_text_at, number_at, optional_address_at, optional_bridge_at, optional_number_at,
+    id_text_at, number_at, optional_address_at, optional_number_at, optional_switch_at,
 };
 use std::alloc::Global;
 use toml::Table;
@@ -24,8 +24,8 @@ const FIRST_PORT: u32 = 50_100;
 /// Refuses, in this order: a document of more than 65,536 bytes, or one that is no TOML (numbers
 /// beyond 64 bits and nesting past 80 are none); then the first of the keys `number`,
 /// `machine_id`, `lane`, `capacity`, `used`, `bridge`, `upstream`, `downstream_port`,
-/// `supervisory_port`, `panel_port`, `turns` that is missing but not optional, of the wrong kind
-/// or out of range; and then a key of another name.
+/// `supervisory_port`, `panel_port`, `turns`, `drives`, `panel_anywhere` that is missing but not
+/// optional, of the wrong kind or out of range; and then a key of another name.
 pub fn read_settings(alloc: Global, bytes: &[u8]) -> Result<Settings, SettingsError>
     ensures { Reads (read_of bytes.now) result }
 {
@@ -48,15 +48,17 @@ fn settings_of(alloc: Global, table: &Table) -> Result<Settings, SettingsError>
 {
     let identity = identity_of(alloc, table)?;
     let places = places_of(table)?;
-    let bridge = optional_bridge_at(table, "bridge")?;
+    let bridge = optional_switch_at(table, "bridge", ConfigKey::Bridge)?;
     let connections = connections_of(table, identity.lane)?;
     let turns = turns_of(table)?;
+    let panel = known_panel_of(table)?;
     Ok(Settings {
         identity,
         places,
         bridge: bridge.unwrap_or(false),
         connections,
         turns,
+        panel,
     })
 }
 
@@ -136,15 +138,33 @@ fn port_or(port: Option<u64>, other: u32) -> u16
     }
 }
 
-/// After how many turns it ends, where no key has an unknown name.
+/// After how many turns it ends.
 fn turns_of(table: &Table) -> Result<u64, SettingsError>
-    ensures { Reads (known_turns_of (table_view table.now)) result }
+    ensures { Reads (turns_of (table_view table.now)) result }
 {
-    let turns = number_at(table, "turns", ConfigKey::Turns, 1, 1_000_000_000_000)?;
+    number_at(table, "turns", ConfigKey::Turns, 1, 1_000_000_000_000)
+}
+
+/// How it stands with its panel, where no key has an unknown name.
+fn known_panel_of(table: &Table) -> Result<Panel, SettingsError>
+    ensures { Reads (known_panel_of (table_view table.now)) result }
+{
+    let panel = panel_of(table)?;
     if !are_known(table) {
         return Err(SettingsError::Refused(ConfigKey::Unknown, ConfigWhy::UnknownKey));
     }
-    Ok(turns)
+    Ok(panel)
+}
+
+fn panel_of(table: &Table) -> Result<Panel, SettingsError>
+    ensures { Reads (panel_of (table_view table.now)) result }
+{
+    let drives = optional_switch_at(table, "drives", ConfigKey::Drives)?;
+    let anywhere = optional_switch_at(table, "panel_anywhere", ConfigKey::PanelAnywhere)?;
+    Ok(Panel {
+        drives: drives.unwrap_or(false),
+        anywhere: anywhere.unwrap_or(false),
+    })
 }
 
 fn are_known(table: &Table) -> bool
@@ -162,7 +182,13 @@ fn are_known_keys(table: &Table) -> bool
 fn is_known(key: &str) -> bool
     ensures { result ≡ is_known key.now }
 {
-    is_known_of_machine(key) || is_known_of_connections(key)
+    is_known_of_machine(key) || is_known_of_connections(key) || is_known_of_panel(key)
+}
+
+fn is_known_of_panel(key: &str) -> bool
+    ensures { result ≡ is_known_of_panel key.now }
+{
+    key == "drives" || key == "panel_anywhere"
 }
 
 fn is_known_of_machine(key: &str) -> bool

@@ -11,6 +11,7 @@ pub struct Settings {
     pub connections: Connections,
     /// After how many turns it ends, 1 to 1,000,000,000,000.
     pub turns: u64,
+    pub panel: Panel,
 }
 
 /// Who a machine is.
@@ -44,4 +45,13 @@ pub struct Connections {
     pub supervisory_port: Option<u16>,
     /// The port at which it listens for its operator's panel.
     pub panel_port: u16,
+}
+
+/// What its operator's panel is told, and from where it may connect.
+#[derive(Clone, Copy, Debug, PartialEq, Eq)]
+pub struct Panel {
+    /// Whether the drives are told, to the panel and in the log.
+    pub drives: bool,
+    /// Whether a panel may connect from another computer.
+    pub anywhere: bool,
 }

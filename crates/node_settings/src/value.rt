@@ -2,7 +2,7 @@ ghost use Rattle.std.specs.Prelude.{◌≡◌, ◌<◌, ◌≤◌, ◌^◌, ℕ,
 ghost use Rattle.toml.specs.Data.{get_member};
 ghost use Rattle.toml.specs.View.{view, table_view};
 ghost use Rattle.node_settings.specs.Settings.{Reads, named};
-ghost use Rattle.node_settings.specs.Value.{number_as, number_in, id_text_as, id_text_of, address_as, bridge_as, required, optional};
+ghost use Rattle.node_settings.specs.Value.{number_as, number_in, id_text_as, id_text_of, address_as, switch_as, required, optional};
 ghost use Rattle.node_settings.specs.declared.key.ConfigKey.TheVariants as keys;
 
 use crate::address::address_of;
@@ -155,25 +155,29 @@ fn address_as(value: &Value) -> Result<Address, ConfigWhy>
     }
 }
 
-/// Whether the body is a segment with signals, at a key which may be missing.
-pub fn optional_bridge_at(table: &Table, key: &str) -> Result<Option<bool>, SettingsError>
+/// Whether something is so, at a key which may be missing.
+pub fn optional_switch_at(
+    table: &Table,
+    key: &str,
+    name: ConfigKey,
+) -> Result<Option<bool>, SettingsError>
     ensures { Reads
-        (named keys.Bridge (optional bridge_as (get_member key.now (table_view table.now)))) result }
+        (named name (optional switch_as (get_member key.now (table_view table.now)))) result }
 {
     match member_at(table, key) {
-        Some(value) => match bridge_as(value) {
-            Ok(bridge) => Ok(Some(bridge)),
-            Err(why) => Err(SettingsError::Refused(ConfigKey::Bridge, why)),
+        Some(value) => match switch_as(value) {
+            Ok(on) => Ok(Some(on)),
+            Err(why) => Err(SettingsError::Refused(name, why)),
         },
         None => Ok(None),
     }
 }
 
-fn bridge_as(value: &Value) -> Result<bool, ConfigWhy>
-    ensures { result ≡ bridge_as (view value.now) }
+fn switch_as(value: &Value) -> Result<bool, ConfigWhy>
+    ensures { result ≡ switch_as (view value.now) }
 {
     match value.as_bool() {
-        Some(bridge) => Ok(bridge),
+        Some(on) => Ok(on),
         None => Err(ConfigWhy::WrongKind),
     }
 }

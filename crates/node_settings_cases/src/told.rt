@@ -27,8 +27,14 @@ fn told_settings(alloc: Global, settings: &Settings) -> Result<String, AllocErro
     let supervisory = told_port(alloc, settings.connections.supervisory_port)?;
     let panel = settings.connections.panel_port;
     let turns = settings.turns;
+    let drives = if settings.panel.drives { " drives" } else { "" };
+    let anywhere = if settings.panel.anywhere {
+        " anywhere"
+    } else {
+        ""
+    };
     format!(in alloc;
-        "{number} {id} {lane} {capacity} {used}{body} {upstream} {downstream}{supervisory} {panel} {turns}"
+        "{number} {id} {lane} {capacity} {used}{body} {upstream} {downstream}{supervisory} {panel} {turns}{drives}{anywhere}"
     )
 }
 

@@ -8,6 +8,12 @@ use Rattle.node_cli.proofs.main_call.run_named.Goals as goal
 pub run_node-requires-clause-least : goal.run_node-requires-clause-least
 run_node-requires-clause-least g c = (read_bounded c.as_slice.result.now c.in-Ok-read_settings.settings c.in-Ok-read_settings.ensures).least
 
+pub run_node-requires-clause-most : goal.run_node-requires-clause-most
+run_node-requires-clause-most g c = (read_bounded c.as_slice.result.now c.in-Ok-read_settings.settings c.in-Ok-read_settings.ensures).most
+
+pub run_node-requires-clause-used : goal.run_node-requires-clause-used
+run_node-requires-clause-used g c = (read_bounded c.as_slice.result.now c.in-Ok-read_settings.settings c.in-Ok-read_settings.ensures).used
+
 pub returns-clause-does : goal.returns-clause-does
 returns-clause-does g c =
     let one : is_one c.args.words.now ≡ true = rw (← c.list.ensures) (grind (arith, nat_tests)) in

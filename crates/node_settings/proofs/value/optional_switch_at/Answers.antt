@@ -1,5 +1,5 @@
 use Rattle.std.proofs.Common.{refl}
-use Rattle.node_settings.proofs.value.optional_bridge_at.Goals as goal
+use Rattle.node_settings.proofs.value.optional_switch_at.Goals as goal
 
 pub returns-in-Ok : goal.returns-in-Ok
 returns-in-Ok c = rw (← c.in-Some.ensures, ← c.in-Ok.ensures) refl
