@@ -127,6 +127,7 @@ class Control:
         self.greets = 2                # a new connection is told both drives first, and is used behind them
         self.changes = lambda: None    # called where a drive changed
         self.wanted, self.inserted, self.shown, self.failed = [], [], [], set()
+        self.shown_in = None           # the turn of what was shown last
         self.reads_in_log, self.reads_heard = [], 0
         self.log_drive, self.inserted_in_log = {"in": False, "out": False}, []
         self.is_linked = False         # to the upstream neighbour, by the log
@@ -167,7 +168,7 @@ class Control:
 
     # hearing
     def told(self, line):
-        _, _, text = line.partition(" ")
+        turn, _, text = line.partition(" ")
         match text.split():
             case ["drive", _, side, word]:
                 self.drive[side] = word == "on"
@@ -181,6 +182,8 @@ class Control:
             case ["insert", _, name]:
                 self.inserted.append(name)
             case ["show", *what]:
+                if turn != self.shown_in:
+                    self.shown, self.shown_in = [], turn
                 self.shown.append(what)
 
     def is_read(self, side, event, is_on):

@@ -23,6 +23,7 @@ reads log lines keeps each cause before its effect, and is the merged log that `
 It ends with 0 where each board and each record stands once, in order, and `line check` says yes, and with 1 else.
 """
 import argparse
+import collections
 import os
 import random
 import socket
@@ -144,6 +145,7 @@ class Play:
         self.chance, self.loop, self.merged = random.Random(words.seed), Loop(), []
         self.began, self.panel_breaks, self.is_random, self.is_over = time.monotonic(), 0, False, False
         down, way, lower_down, upper_panel, lower_panel = free_ports(5)
+        self.told = collections.Counter()       # first words of the logs' lines
         self.relay = Relay(self, way, down)
         self.upper = Node(self, 1, "loader", capacity=4, downstream_port=down, panel_port=upper_panel)
         self.lower = Node(self, 2, "printer", capacity=1024, upstream=f'"127.0.0.1:{way}"',
@@ -163,6 +165,7 @@ class Play:
     def tells(self, name, line):
         """The lines of a log that tell the story."""
         text = line.partition(" ")[2]
+        self.told[text.partition(" ")[0]] += 1
         if self.words.story and not text.startswith(("sends", "hears", "no:", "show")):
             self.say(f"  {name:8}  {text}")
 
@@ -216,23 +219,23 @@ class Play:
         """The loader's gateway stalls behind the insertion; the connection breaks when the board has left, or later."""
         above = self.above
         self.feeds()
-        self.loop.run(lambda: above.inserted or self.ended(), 30)
+        self.loop.run(lambda: above.inserted or self.ended(), 120)
         self.say("--- the loader's gateway stalls")
         above.panel.stalled = []
-        self.loop.run(lambda: above.drive["out"] or self.ended(), 30)
-        self.loop.run(lambda: self.gap.is_left, 3 + 3 * self.words.crosses)
+        self.loop.run(lambda: above.drive["out"] or self.ended(), 120)
+        self.loop.run(lambda: self.gap.is_left, 120 if self.words.no_rule else 3 * self.words.crosses)
         self.relay.break_now()
-        self.loop.run(self.ended, 3 + 3 * self.words.crosses)
+        self.loop.run(lambda: self.told["settles"] or self.told["opens"] > 1 or self.ended(), 120)
         self.say("--- the loader's gateway goes on")
         above.panel.goes_on()
-        return self.loop.run(self.is_done, 30)
+        return self.loop.run(self.is_done, 120)
 
     # the end
     def rest(self):
         """No more breaks: the last handover is settled, both nodes show what they keep, and end."""
         self.is_random, self.is_over = False, True
         self.loop.run(lambda: self.ended() or not (self.above.greets or self.below.greets), 30)
-        for _ in range(30):
+        for _ in range(6 if self.words.no_rule else 30):
             self.above.show()
             self.below.show()
             self.loop.run(self.ended, 1.0)
