@@ -1,6 +1,6 @@
 """A model of two neighbouring conveyors with their controls, which speak to their nodes' panels as the gateway of a PLC would.
 
-`Control` is what to look at: it obeys the rule for a control (docs/PROFILE.md, 'What a control does'). It tells each
+`Control` is what to look at: it obeys the rule for a control (docs/guide/machine-builder.md, 'The rule for a control'). It tells each
 event that its sensors see once and in order; a board is let go, or taken across, only behind the reading. `Gap` is
 the place between two conveyors with the sensors of both, `Panel` a connection to a panel, and `Loop` the clock.
 `examples/two-nodes --boards 100` plays them.
