@@ -1,2 +1,6 @@
 pub mod Doubled
 pub mod Waiting
+pub mod Relation
+pub mod NewMachines
+pub mod FloorMoves
+pub mod TurnSteps

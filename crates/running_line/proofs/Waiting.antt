@@ -26,18 +26,18 @@ use Rattle.running_line.specs.Wire.{Awaits, Coming, Has, Hold, Left, Wire, asked
 nothing_said : Says [] []
 nothing_said = record { fit = none_fit; flows = nothing_flows }
 
-any_given : (test : Wire → Bool) (change : Wire → Wire) (last : Wire) → ((wire : Wire) → test (change wire) ≡ test wire) → test last ≡ false
+pub any_given : (test : Wire → Bool) (change : Wire → Wire) (last : Wire) → ((wire : Wire) → test (change wire) ≡ test wire) → test last ≡ false
     → (wires : List Wire) → list_any test (map change wires ++ last ∷ []) ≡ list_any test wires
 any_given test change last same fails [] = rw fails refl
 any_given test change last same fails (wire ∷ wires) = rw (same wire, any_given test change last same fails wires) refl
 
-most_given : (test : Wire → Bool) (change : Wire → Wire) (last : Wire) → ((wire : Wire) → test (change wire) ≡ test wire) → test last ≡ false
+pub most_given : (test : Wire → Bool) (change : Wire → Wire) (last : Wire) → ((wire : Wire) → test (change wire) ≡ test wire) → test last ≡ false
     → {wires : List Wire} → AtMostOne test wires → AtMostOne test (map change wires ++ last ∷ [])
 most_given test change last same fails none_passes = passes_not fails none_passes
 most_given test change last same fails (passes_not {wire = wire} first others) = passes_not (same wire ∙ first) (most_given test change last same fails others)
 most_given test change last same fails (passes_alone {wires = wires} none) = passes_alone (any_given test change last same fails wires ∙ none)
 
-all_given : (P Q : Wire → Type 0) (change : Wire → Wire) (last : Wire) → ((wire : Wire) → P wire → Q (change wire)) → Q last
+pub all_given : (P Q : Wire → Type 0) (change : Wire → Wire) (last : Wire) → ((wire : Wire) → P wire → Q (change wire)) → Q last
     → (wires : List Wire) → AllByRecursion P wires → AllByRecursion Q (map change wires ++ last ∷ [])
 all_given P Q change last next end [] all = (end, tt)
 all_given P Q change last next end (wire ∷ wires) all = (next wire all.0, all_given P Q change last next end wires all.1)
@@ -48,15 +48,15 @@ none_then_one test last (wire ∷ wires) none = passes_not (or_parts _ _ none).0
 
 -- ---- A CONNECTION IS ASKED FOR: the one that the entry awaited is given up
 
-abbrev wire_of : Hold → Hold → List Coming → List Coming → Wire
+abbrev pub wire_of : Hold → Hold → List Coming → List Coming → Wire
 wire_of above below up down = record { above = above; below = below; up = up; down = down }
 
-same_above : (above below : Hold) (up down : List Coming) → (given_up Entry (wire_of above below up down)).above ≡ above
+pub same_above : (above below : Hold) (up down : List Coming) → (given_up Entry (wire_of above below up down)).above ≡ above
 same_above above Awaits up down = refl
 same_above above Has up down = refl
 same_above above Left up down = refl
 
-same_had : (above below : Hold) (up down : List Coming) → had_below (given_up Entry (wire_of above below up down)) ≡ has below
+pub same_had : (above below : Hold) (up down : List Coming) → had_below (given_up Entry (wire_of above below up down)) ≡ has below
 same_had above Awaits up down = refl
 same_had above Has up down = refl
 same_had above Left up down = refl
@@ -118,17 +118,17 @@ abbrev tested : (Wire → Bool) → Option Wire → Bool
 tested test None = false
 tested test (Some wire) = test wire
 
-all_set : (P : Wire → Type 0) (new : Wire) → P new → (wires : List Wire) (place : ℕ) → AllByRecursion P wires → AllByRecursion P (slice_set wires place new)
+pub all_set : (P : Wire → Type 0) (new : Wire) → P new → (wires : List Wire) (place : ℕ) → AllByRecursion P wires → AllByRecursion P (slice_set wires place new)
 all_set P new p [] place all = tt
 all_set P new p (wire ∷ wires) zero all = (p, all.1)
 all_set P new p (wire ∷ wires) (suc place) all = (all.0, all_set P new p wires place all.1)
 
-all_at : (P : Wire → Type 0) (old : Wire) (wires : List Wire) (place : ℕ) → slice_get wires place ≡ Some old → AllByRecursion P wires → P old
+pub all_at : (P : Wire → Type 0) (old : Wire) (wires : List Wire) (place : ℕ) → slice_get wires place ≡ Some old → AllByRecursion P wires → P old
 all_at P old [] place is all = cc
 all_at P old (wire ∷ wires) zero is all = subst (λ (o : Option Wire). IfThere P o) is all.0
 all_at P old (wire ∷ wires) (suc place) is all = all_at P old wires place is all.1
 
-any_set : (test : Wire → Bool) (old new : Wire) → test new ≡ test old → (wires : List Wire) (place : ℕ) → slice_get wires place ≡ Some old
+pub any_set : (test : Wire → Bool) (old new : Wire) → test new ≡ test old → (wires : List Wire) (place : ℕ) → slice_get wires place ≡ Some old
     → list_any test (slice_set wires place new) ≡ list_any test wires
 any_set test old new same [] place is = cc
 any_set test old new same (wire ∷ wires) zero is = ap (λ (b : Bool). b || list_any test wires) (same ∙ sym (subst (λ (o : Option Wire). test wire ≡ tested test o) is refl))

@@ -5,3 +5,6 @@ pub mod Turns
 pub mod RunSteps
 pub mod Doubled
 pub mod Waits
+pub mod New
+pub mod Stands
+pub mod Steady

@@ -1,14 +1,27 @@
 //! What is computed of running machines. Each law is a contract over the definitions of specs/.
 
-ghost use Rattle.std.specs.Prelude.{◌≡◌, ◌++◌, ◌∷◌, [], List, Some, map, slice_get, slice_set, ℕ};
+ghost use Rattle.std.specs.Prelude.{◌≡◌, ◌+◌, ◌++◌, ◌∷◌, [], List, Some, map, slice_get, slice_set, ℕ};
+ghost use Rattle.line_base.specs.declared.states.Side.{Side};
 ghost use Rattle.line_base.specs.declared.states.Side.TheVariants.{Entry, Exit};
 ghost use Rattle.board_record.specs.declared.sensed.Sensed.{Sensed as Sight};
+ghost use Rattle.line_world.specs.declared.moves.Move.{Move};
+ghost use Rattle.node_core.specs.Desk.{Desk};
+ghost use Rattle.node_core.specs.Event.{Event, Nothing};
 ghost use Rattle.node_core.specs.May.{may_do, may_of};
 ghost use Rattle.node_core.specs.Node.{NodeState};
+ghost use Rattle.node_core.specs.Step.{machine_step};
 ghost use Rattle.node_core.specs.declared.input.Input.TheVariants as inputs;
 ghost use Rattle.node_core.specs.declared.lane.Body.{Body as Machine};
+ghost use Rattle.machine_custody.specs.Ahead.{IsFreeRead};
+ghost use Rattle.machine_custody.specs.Flight.{IsPlain};
+ghost use Rattle.one_standing.specs.Carried.{Trace};
 ghost use Rattle.running_line.specs.Doubled.{IsDoubled, IsHeldBehind};
-ghost use Rattle.running_line.specs.RunSteps.{given_up, let_be};
+ghost use Rattle.running_line.specs.New.{IsNew, NumbersDiffer};
+ghost use Rattle.running_line.specs.Reading.{Reading, ReadsFront};
+ghost use Rattle.running_line.specs.Running.{Running, unread_by};
+ghost use Rattle.running_line.specs.RunSteps.{Asks, LetsBe, Moves, given_up, let_be};
+ghost use Rattle.running_line.specs.Stands.{AreInRelation, Stands, node_in};
+ghost use Rattle.running_line.specs.Steady.{IsSteady, scene_of};
 ghost use Rattle.running_line.specs.Waits.{Waits};
 ghost use Rattle.running_line.specs.Wire.{Awaits, Wire, asked_for};
 
@@ -41,4 +54,36 @@ pub fn what_waits_goes_on()
         (place : ℕ) (wire : Wire) → slice_get wires place ≡ Some wire → wire.below ≡ Awaits
         → Waits above below unread wires
         → Waits above below unread (slice_set wires place (let_be Entry wire)) }
+{}
+
+/// New machines whose numbers differ stand in the relation of running machines: that of each link
+/// and each machine, with what waits on each link, and the messages that the bytes on their way
+/// are. And so they do behind a step in which a connection is asked for, an end that awaits one
+/// leaves it, or a board moves at a gap, whatever is read before.
+pub fn running_machines_stay_in_relation()
+    ensures new { (s : Running) → IsNew s → NumbersDiffer s → AreInRelation s }
+    ensures asks { (machine : ℕ) (before after : Running) → Asks machine before after
+        → AreInRelation before → AreInRelation after }
+    ensures lets_be { (machine : ℕ) (side : Side) (before after : Running)
+        → LetsBe machine side before after → AreInRelation before → AreInRelation after }
+    ensures moves { (reading : Reading) (gap : ℕ) (step : Move) (before after : Running)
+        → Moves reading gap step before after → AreInRelation before → AreInRelation after }
+{}
+
+/// Among running machines that stand in the relation, the step that a machine makes in a turn keeps
+/// the relation of both its links and of the machine: where it reads a front of the events of each
+/// side and takes nothing, whatever it leaves unread, so that a free intake of a session that stands
+/// has read all still; and where it has read all and takes an input that makes no connection and
+/// changes no board by hand.
+pub fn a_step_in_a_turn_keeps_both_links()
+    ensures reads { (t : Trace) (s : Running) (j : ℕ) (desk : Desk) (read rest : List Sight)
+        → Stands t s → ReadsFront (unread_by (j + 1) s) read rest
+        → IsSteady t s j rest (machine_step desk read Nothing (node_in s (j + 1)).lane.body) }
+    ensures free { (t : Trace) (s : Running) (j : ℕ) (desk : Desk) (read rest : List Sight)
+        → Stands t s → ReadsFront (unread_by (j + 1) s) read rest
+        → IsFreeRead rest (machine_step desk read Nothing (node_in s (j + 1)).lane.body).body }
+    ensures takes { (t : Trace) (s : Running) (j : ℕ) (desk : Desk) (read : List Sight)
+        (event : Event) → Stands t s → ReadsFront (unread_by (j + 1) s) read []
+        → IsPlain event (scene_of t s j)
+        → IsSteady t s j [] (machine_step desk read event (node_in s (j + 1)).lane.body) }
 {}
