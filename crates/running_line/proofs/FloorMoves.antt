@@ -1,11 +1,10 @@
 -- A board moves at a gap: the relation of running machines goes on.
-use Rattle.std.proofs.Common.{Bool, List, None, Ok, Option, Some, [], ap, arith, eqb-true, false, inl, inr, refl, subst, sym, true, ℕ, ◌++◌, ◌+◌, ◌-◌, ◌∙◌, ◌∷◌, ◌≡◌, ◌≢◌, ◌≤◌, ◌||◌, ◌⊎◌}
+use Rattle.std.proofs.Common.{Bool, List, None, Ok, Option, [], ap, arith, eqb-true, false, inl, inr, refl, subst, sym, true, ℕ, ◌+◌, ◌-◌, ◌∙◌, ◌∷◌, ◌≡◌, ◌≢◌, ◌≤◌, ◌||◌, ◌⊎◌}
 use Rattle.std.specs.Prelude.{cond, nat_eq}
 use Rattle.std.proofs.lemmas.Bool.{or_cases, or_left, or_right, eq-eqb}
 use Rattle.line_base.specs.declared.states.SensorEvent.{SensorEvent}
-use Rattle.line_base.specs.declared.states.Side.TheVariants.{Entry, Exit}
+use Rattle.line_base.specs.declared.states.Side.TheVariants.{Entry}
 use Rattle.board_record.specs.declared.record.Record.{Record}
-use Rattle.board_record.specs.declared.sensed.Sensed.{Sensed}
 use Rattle.session_core.specs.declared.state.SessionState.{SessionState}
 use Rattle.session_core.specs.declared.state.SessionState.TheVariants.{Standing}
 use Rattle.handover_out.specs.State.{board_of_phase as held_out}
@@ -41,7 +40,7 @@ use Rattle.machine_custody.specs.ByHand.{Grows}
 use Rattle.line_step.proofs.Numbers.{none_or_one, same_or_not}
 use Rattle.one_standing.specs.Carried.{Trace, between_of as line_between, stand_of}
 use Rattle.one_standing.specs.Places.{AreApart, LiesAt, LiesIn, Spot, lies_at, lies_begun, lies_in, lies_left}
-use Rattle.one_standing.specs.Relation.{Between, Stand, link_between}
+use Rattle.one_standing.specs.Relation.{Stand, link_between}
 use Rattle.one_standing.proofs.ApartFloor.{counted, floor_lies, lies_counted, lies_in_gap, lies_on_floor, list_once, one_place_of}
 use Rattle.one_standing.proofs.LineMoves.{less_one, moved_trace}
 use Rattle.one_standing.proofs.Moving.{AreTaken, IsMoved, LiftedAt, lifted_at, move_keeps}
@@ -50,7 +49,6 @@ use Rattle.running_line.specs.RunSteps.{Moves}
 use Rattle.running_line.specs.Reading.{Reading}
 use Rattle.running_line.specs.Running.{Running, unread_by, with_floor}
 use Rattle.running_line.specs.Stands.{AreInRelation, Stands, between_of, line_of, node_in}
-use Rattle.running_line.specs.Waits.{Waits}
 
 -- ---- no board moves above an intake that is free in a session that stands
 
@@ -260,7 +258,7 @@ move_stands i step t s plan gone st is_done grow taken each =
           may_come = w.may_come;
           free = still_read i step t s plan k st done (same_or_not k (i + 1)) (same_or_not (k + 1) (i + 1));
         });
-        carried = λ k. record { up = (st.carried k).up; down = (st.carried k).down; none_up = (st.carried k).none_up; none_down = (st.carried k).none_down };
+        carried = λ k. record { up = (st.carried k).up; down = (st.carried k).down; quiet = (st.carried k).quiet; none_up = (st.carried k).none_up; none_down = (st.carried k).none_down };
         rest = λ k none. record { outlet = (st.rest k none).outlet; intake = (st.rest k none).intake; exit = (st.rest k none).exit; entry = (st.rest k none).entry; wires = (st.rest k none).wires };
         many = machines_kept (i + 1) step s.floor plan is_done ∙ st.many;
         whole = whole_after (i + 1) step s.floor plan st.whole is_done;

@@ -4,3 +4,4 @@ pub mod Relation
 pub mod NewMachines
 pub mod FloorMoves
 pub mod TurnSteps
+pub mod TurnLinks

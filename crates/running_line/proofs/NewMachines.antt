@@ -1,5 +1,5 @@
 -- New machines stand in the relation of running machines, with a trace of nothing.
-use Rattle.std.proofs.Common.{Bool, List, None, Option, Some, [], ap, arith, false, length, length-append, refl, subst, suc, sym, true, zero, ℕ, ◌++◌, ◌+◌, ◌-◌, ◌∙◌, ◌∷◌, ◌≡◌}
+use Rattle.std.proofs.Common.{Bool, List, [], ap, arith, false, length, length-append, refl, subst, suc, sym, true, zero, ℕ, ◌++◌, ◌+◌, ◌-◌, ◌∙◌, ◌∷◌, ◌≡◌}
 use Rattle.std.specs.Prelude.{cond, nat_lt, slice_index_or}
 use Rattle.std.specs.List.{AllByRecursion, list_any}
 use Rattle.line_base.specs.declared.states.Side.TheVariants.{Entry, Exit}
@@ -26,7 +26,7 @@ use Rattle.one_standing.proofs.RestMore.{lane_aside, same_keeps, stand_aside}
 use Rattle.one_standing.proofs.RestNone.{no_trace, node_none, none_stands}
 use Rattle.running_line.specs.New.{IsNew, IsNewNode, NumbersDiffer, new_floor}
 use Rattle.running_line.specs.Running.{Running, unread_by}
-use Rattle.running_line.specs.Stands.{AreInRelation, Carried, IsAtRest, Stands, between_of, is_joined, line_of, node_in}
+use Rattle.running_line.specs.Stands.{AreInRelation, Carried, IsAtRest, between_of, is_joined, line_of, node_in}
 use Rattle.running_line.specs.Waits.{Waits, none_passes}
 use Rattle.running_line.specs.Wire.{Wire}
 
@@ -177,7 +177,7 @@ waits_new s new link = subst (λ (wires : List Wire). Waits (node_in s link).lan
     })
 
 carried_new : (s : Running) → IsNew s → (link : ℕ) → Carried (node_in s link) (node_in s (link + 1)) [] [] (s.wires link)
-carried_new s new link = subst (λ (wires : List Wire). Carried (node_in s link) (node_in s (link + 1)) [] [] wires) (sym (new.wires link)) (record { up = tt; down = tt; none_up = λ none. refl; none_down = λ none. refl })
+carried_new s new link = subst (λ (wires : List Wire). Carried (node_in s link) (node_in s (link + 1)) [] [] wires) (sym (new.wires link)) (record { up = tt; down = tt; quiet = tt; none_up = λ none. refl; none_down = λ none. refl })
 
 rest_new : (s : Running) → IsNew s → (link : ℕ) → IsAtRest s link
 rest_new s new link = record {

@@ -1,7 +1,7 @@
 -- A step that changes the connections of one link alone: the relation of running machines goes on, where that link keeps it.
-use Rattle.std.proofs.Common.{Bool, List, None, Option, Some, [], ap, arith, eq-eqb, false, inl, inr, length, ne_eqb, refl, slice_get, slice_set, subst, suc, sym, true, zero, ℕ, ◌&&◌, ◌++◌, ◌+◌, ◌∙◌, ◌∷◌, ◌≡◌, ◌≢◌, ◌≤◌, ◌⊎◌, map}
+use Rattle.std.proofs.Common.{Bool, List, Some, [], ap, arith, eq-eqb, false, inl, inr, length, ne_eqb, refl, slice_get, slice_set, subst, suc, sym, true, zero, ℕ, ◌&&◌, ◌++◌, ◌+◌, ◌∙◌, ◌∷◌, ◌≡◌, ◌≢◌, ◌≤◌, ◌⊎◌, map}
 use Rattle.std.specs.Prelude.{cond, nat_eq, nat_le, nat_lt}
-use Rattle.std.specs.List.{AllByRecursion, list_any}
+use Rattle.std.specs.List.{list_any}
 use Rattle.std.proofs.lemmas.Bool.{false≢true}
 use Rattle.std.proofs.lemmas.Bool.Decides.{nat_tests}
 use Rattle.std.proofs.lemmas.Option.{slice_get_within}
@@ -21,10 +21,10 @@ use Rattle.one_standing.proofs.RestLine.{node_there}
 use Rattle.one_standing.proofs.RestMore.{same_keeps}
 use Rattle.running_line.specs.RunSteps.{Asks, LetsBe, given_up, let_be}
 use Rattle.running_line.specs.Running.{Running, at_place, node_of, unread_by, with_wires}
-use Rattle.running_line.specs.Stands.{AreInRelation, Carried, Carries, Stands, between_of, is_joined, line_of, node_in}
+use Rattle.running_line.specs.Stands.{Carried, Carries, Stands, between_of, is_joined, line_of, node_in}
 use Rattle.running_line.specs.Waits.{Waits, had_above, had_below}
 use Rattle.running_line.specs.Wire.{Awaits, Coming, Has, Hold, Left, Wire, asked_for, end_at, has}
-use Rattle.running_line.proofs.Waiting.{all_at, all_given, all_set, any_given, any_set, entry_lets_be, exit_lets_be, node_asks, same_above, same_had, wire_of}
+use Rattle.running_line.proofs.Waiting.{all_at, all_given, all_set, any_given, any_set, awaits_not, entry_lets_be, exit_lets_be, node_asks, same_above, same_had, wire_of}
 
 -- ---- the connections of one link, changed
 
@@ -91,6 +91,9 @@ awaits_has is = cc
 left_has : Left ≡ Has → ⊥
 left_has is = cc
 
+left_awaits : Left ≡ Awaits → ⊥
+left_awaits is = cc
+
 same_joined : (above below : Hold) (up down : List Coming) → is_joined (given_up Entry (wire_of above below up down)) ≡ is_joined (wire_of above below up down)
 same_joined above Awaits up down = refl
 same_joined above Has up down = refl
@@ -110,6 +113,7 @@ asked_carries : {above below : NodeState} {up down : List Horizontal} {wires : L
 asked_carries {above} {below} {up} {down} {wires} c = record {
   up = all_given _ _ (given_up Entry) asked_for (λ wire p. up_still (λ (coming : List Coming). Carries above.lane.exit_bytes coming up) wire.above wire.below wire.up wire.down p) (λ is. absurd (awaits_has is)) wires c.up;
   down = all_given _ _ (given_up Entry) asked_for (λ wire p. down_still (λ (coming : List Coming). Carries below.lane.entry_bytes coming down) wire.above wire.below wire.up wire.down p) (λ is. absurd (awaits_has is)) wires c.down;
+  quiet = all_given _ _ (given_up Entry) asked_for (λ wire p has_it is. absurd (awaits_not wire.above wire.below wire.up wire.down is)) (λ is awaits. absurd (awaits_has is)) wires c.quiet;
   none_up = λ none. c.none_up (sym (any_given had_above (given_up Entry) asked_for (λ wire. ap has (same_above wire.above wire.below wire.up wire.down)) refl wires) ∙ none);
   none_down = λ none. c.none_down (sym (any_given had_below (given_up Entry) asked_for (λ wire. same_had wire.above wire.below wire.up wire.down) refl wires) ∙ none);
 }
@@ -147,12 +151,14 @@ let_carries : {above below : NodeState} {up down : List Horizontal} (side : Side
 let_carries Exit {wires = wires} place wire there is c = record {
   up = all_set _ (let_be Exit wire) (λ never. absurd (left_has never)) wires place c.up;
   down = all_set _ (let_be Exit wire) (all_at _ wire wires place there c.down) wires place c.down;
+  quiet = all_set _ (let_be Exit wire) (λ never awaits. absurd (left_has never)) wires place c.quiet;
   none_up = λ none. c.none_up (sym (any_set had_above wire (let_be Exit wire) (sym (ap has is)) wires place there) ∙ none);
   none_down = λ none. c.none_down (sym (any_set had_below wire (let_be Exit wire) refl wires place there) ∙ none);
 }
 let_carries Entry {wires = wires} place wire there is c = record {
   up = all_set _ (let_be Entry wire) (all_at _ wire wires place there c.up) wires place c.up;
   down = all_set _ (let_be Entry wire) (λ never. absurd (left_has never)) wires place c.down;
+  quiet = all_set _ (let_be Entry wire) (λ has_it never. absurd (left_awaits never)) wires place c.quiet;
   none_up = λ none. c.none_up (sym (any_set had_above wire (let_be Entry wire) refl wires place there) ∙ none);
   none_down = λ none. c.none_down (sym (any_set had_below wire (let_be Entry wire) (sym (ap has is)) wires place there) ∙ none);
 }

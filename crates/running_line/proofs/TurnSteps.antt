@@ -1,8 +1,7 @@
 -- The machine's step in a turn keeps the relation of both its links. A machine reads a front of the events of each side: only the events
 -- of each side by themselves count.
-use Rattle.std.proofs.Common.{List, [], ap, append-nil, refl, subst, sym, ℕ, ◌++◌, ◌+◌, ◌∙◌, ◌∷◌, ◌≡◌}
+use Rattle.std.proofs.Common.{List, [], append-nil, subst, sym, ℕ, ◌++◌, ◌+◌, ◌∙◌, ◌≡◌}
 use Rattle.line_base.specs.declared.states.SensorEvent.{SensorEvent}
-use Rattle.line_base.specs.declared.states.Side.{Side}
 use Rattle.line_base.specs.declared.states.Side.TheVariants.{Entry, Exit}
 use Rattle.board_record.specs.declared.record.Record.{Record}
 use Rattle.board_record.specs.declared.sensed.Sensed.{Sensed}
@@ -62,7 +61,7 @@ front_exit read rest front = exit-append read rest ∙ sym front.exit
 front_entry : {unread : List Sensed} (read rest : List Sensed) → ReadsFront unread read rest → events_at Entry (read ++ rest) ≡ events_at Entry unread
 front_entry read rest front = entry-append read rest ∙ sym front.entry
 
-abbrev GoodBefore : Trace → Running → ℕ → List Sensed → Type 0
+abbrev pub GoodBefore : Trace → Running → ℕ → List Sensed → Type 0
 GoodBefore t s j unread = Good (afar_at (stand_of (line_of s)) (between_of t s) j) (node_in s j).lane.body.kept unread (t.ghost j) (t.ghost (j + 1)) (node_in s (j + 1)).lane.body (scene_of t s j)
 
 front_before : {t : Trace} {s : Running} (j : ℕ) (read rest : List Sensed) → Stands t s → ReadsFront (unread_by (j + 1) s) read rest → GoodBefore t s j (read ++ rest)
@@ -91,9 +90,11 @@ exit_all read front = sym (append-nil (events_at Exit read)) ∙ sym front.exit
 entry_all : {unread : List Sensed} (read : List Sensed) → ReadsFront unread read [] → events_at Entry read ≡ events_at Entry unread
 entry_all read front = sym (append-nil (events_at Entry read)) ∙ sym front.entry
 
+pub all_before : {t : Trace} {s : Running} (j : ℕ) (read : List Sensed) → Stands t s → ReadsFront (unread_by (j + 1) s) read [] → GoodBefore t s j read
+all_before {t} {s} j read st front = good_events (unread_by (j + 1) s) read (exit_all read front) (entry_all read front) (good_at (stand_of (line_of s)) (between_of t s) j st.keeps)
+
 pub takes_steady : (t : Trace) (s : Running) (j : ℕ) (desk : Desk) (read : List Sensed) (event : Event) → Stands t s → ReadsFront (unread_by (j + 1) s) read [] → IsPlain event (scene_of t s j) → IsSteady t s j [] (machine_step desk read event (node_in s (j + 1)).lane.body)
 takes_steady t s j desk read event st front plain = record {
   elsewhere = elsewhere_of (stand_of (line_of s) (j + 1)).place.boards;
-  goes = plain_keeps desk read event (node_in s (j + 1)).lane.body (scene_of t s j) plain (st.keeps.machines.at j).offers
-      (good_events (unread_by (j + 1) s) read (exit_all read front) (entry_all read front) (good_at (stand_of (line_of s)) (between_of t s) j st.keeps));
+  goes = plain_keeps desk read event (node_in s (j + 1)).lane.body (scene_of t s j) plain (st.keeps.machines.at j).offers (all_before j read st front);
 }

@@ -4,6 +4,7 @@ use Rattle.std.proofs.lemmas.Bool.{or_from, or_parts}
 use Rattle.std.specs.List.{AllByRecursion, list_any}
 use Rattle.line_base.specs.declared.states.Side.TheVariants.{Entry, Exit}
 use Rattle.board_record.specs.declared.sensed.Sensed.{Sensed}
+use Rattle.hermes_horizontal.specs.declared.message.Horizontal.{Horizontal}
 use Rattle.handover_in.specs.State.{may_connect}
 use Rattle.node_core.specs.May.{may_do, may_of, no_if}
 use Rattle.node_core.specs.Node.{NodeState}
@@ -12,7 +13,7 @@ use Rattle.node_core.specs.declared.input.Input.TheVariants as inputs
 use Rattle.node_core.specs.declared.input.No.TheVariants as no
 use Rattle.node_core.specs.declared.lane.Body.{Body as Machine}
 use Rattle.custody.specs.Talks.{IsCall, call_awaited}
-use Rattle.custody.specs.Words.{UpWord, up_words}
+use Rattle.custody.specs.Words.{up_words}
 use Rattle.custody.proofs.Texts.{nothing_flows}
 use Rattle.link_messages.specs.Fit.{none_fit}
 use Rattle.link_messages.specs.Heard.{bodies}
@@ -61,7 +62,7 @@ same_had above Awaits up down = refl
 same_had above Has up down = refl
 same_had above Left up down = refl
 
-awaits_not : (above below : Hold) (up down : List Coming) → (given_up Entry (wire_of above below up down)).below ≡ Awaits → ⊥
+pub awaits_not : (above below : Hold) (up down : List Coming) → (given_up Entry (wire_of above below up down)).below ≡ Awaits → ⊥
 awaits_not above Awaits up down is = cc
 awaits_not above Has up down is = cc
 awaits_not above Left up down is = cc
@@ -76,7 +77,7 @@ none_kept : (wires : List Wire) → list_any had_below wires ≡ false → list_
 none_kept [] none = refl
 none_kept (wire ∷ wires) none = or_from _ _ (kept_not wire.above wire.below wire.up wire.down (or_parts _ _ none).0) (none_kept wires (or_parts _ _ none).1)
 
-awaited : {words : List UpWord} → SaidUp Awaits words → IsCall words
+awaited : {said : List Horizontal} → SaidUp Awaits said → IsCall (up_words said)
 awaited not_come = call_awaited
 
 untaken_still : (above below : Hold) (up down : List Coming) → (above ≡ Awaits → IsUntaken (wire_of above below up down))
@@ -114,7 +115,7 @@ abbrev IfThere : (Wire → Type 0) → Option Wire → Type 0
 IfThere P None = Unit {0}
 IfThere P (Some wire) = P wire
 
-abbrev tested : (Wire → Bool) → Option Wire → Bool
+abbrev pub tested : (Wire → Bool) → Option Wire → Bool
 tested test None = false
 tested test (Some wire) = test wire
 
@@ -188,7 +189,7 @@ entry_lets_be {wires = wires} place wire there is w = record {
   one_below = most_fewer kept_below (let_be Entry wire) refl place w.one_below;
   exit_open = any_set had_above wire (let_be Entry wire) refl wires place there ∙ w.exit_open;
   entry_open = any_set had_below wire (let_be Entry wire) (sym (ap has is)) wires place there ∙ w.entry_open;
-  untaken = all_set _ (let_be Entry wire) (λ awaits. let u = all_at _ wire wires place there w.untaken awaits in record { said = u.said; says = u.says; call = was_left (awaited (subst (λ (h : Hold). SaidUp h (up_words (bodies u.said))) is u.call)); down = refl }) wires place w.untaken;
+  untaken = all_set _ (let_be Entry wire) (λ awaits. let u = all_at _ wire wires place there w.untaken awaits in record { said = u.said; says = u.says; call = was_left (awaited (subst (λ (h : Hold). SaidUp h (bodies u.said)) is u.call)); down = refl }) wires place w.untaken;
   uncome = all_set _ (let_be Entry wire) (λ never. absurd (left_awaits never)) wires place w.uncome;
   called = all_set _ (let_be Entry wire) (λ awaits never. absurd (left_has never)) wires place w.called;
   taken_first = all_set _ (let_be Entry wire) (λ has_it never. absurd (left_awaits never)) wires place w.taken_first;

@@ -1,5 +1,5 @@
 -- NEW MACHINES: nothing has happened to them, nothing lies under them, and nothing is between them.
-use Rattle.std.specs.Prelude.{ℕ, zero, suc, List, [], Some, length, ◌≡◌}
+use Rattle.std.specs.Prelude.{ℕ, zero, suc, [], Some, length, ◌≡◌}
 use Rattle.std.specs.List.{AllByRecursion}
 use Rattle.line_world.specs.FloorPlan.{FloorPlan, no_floor, one_machine_more}
 use Rattle.node_core.specs.Node.{NodeState, new_node}

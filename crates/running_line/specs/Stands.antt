@@ -24,7 +24,7 @@ use Rattle.one_standing.specs.Relation.{Between}
 use Rattle.running_line.specs.New.{NumbersDiffer}
 use Rattle.running_line.specs.Running.{Running, unread_by}
 use Rattle.running_line.specs.Waits.{Waits, had_above, had_below}
-use Rattle.running_line.specs.Wire.{Coming, Has, Wire, bytes_of, has}
+use Rattle.running_line.specs.Wire.{Awaits, Coming, Has, Wire, bytes_of, has}
 
 -- ---- by numbers
 
@@ -64,13 +64,15 @@ pub record Carries (waiting : List ℕ) (coming : List Coming) (messages : List 
   pub are : messages ≡ bodies said
 
 -- the messages that are sent and not heard come on the connection that their side has; to a side
--- without one there are none
+-- without one there are none, and none to an exit on one that has not come below
 pub record Carried (above below : NodeState) (upward downward : List Horizontal)
     (wires : List Wire) : Type 0 where
   pub up : AllByRecursion
       (λ (wire : Wire). wire.above ≡ Has → Carries above.lane.exit_bytes wire.up upward) wires
   pub down : AllByRecursion
       (λ (wire : Wire). wire.below ≡ Has → Carries below.lane.entry_bytes wire.down downward) wires
+  pub quiet : AllByRecursion
+      (λ (wire : Wire). wire.above ≡ Has → wire.below ≡ Awaits → upward ≡ []) wires
   pub none_up : list_any had_above wires ≡ false → upward ≡ []
   pub none_down : list_any had_below wires ≡ false → downward ≡ []
 

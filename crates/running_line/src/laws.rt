@@ -6,7 +6,7 @@ ghost use Rattle.line_base.specs.declared.states.Side.TheVariants.{Entry, Exit};
 ghost use Rattle.board_record.specs.declared.sensed.Sensed.{Sensed as Sight};
 ghost use Rattle.line_world.specs.declared.moves.Move.{Move};
 ghost use Rattle.node_core.specs.Desk.{Desk};
-ghost use Rattle.node_core.specs.Event.{Event, Nothing};
+ghost use Rattle.node_core.specs.Event.{Accepted, Connect, Event, Nothing, Second};
 ghost use Rattle.node_core.specs.May.{may_do, may_of};
 ghost use Rattle.node_core.specs.Node.{NodeState};
 ghost use Rattle.node_core.specs.Step.{machine_step};
@@ -21,7 +21,8 @@ ghost use Rattle.running_line.specs.Reading.{Reading, ReadsFront};
 ghost use Rattle.running_line.specs.Running.{Running, unread_by};
 ghost use Rattle.running_line.specs.RunSteps.{Asks, LetsBe, Moves, given_up, let_be};
 ghost use Rattle.running_line.specs.Stands.{AreInRelation, Stands, node_in};
-ghost use Rattle.running_line.specs.Steady.{IsSteady, scene_of};
+ghost use Rattle.running_line.specs.Steady.{FindsIt, IsSteady, RefusesIt, TakesIt, scene_of};
+ghost use Rattle.running_line.specs.Turns.{HasNone, IsAt};
 ghost use Rattle.running_line.specs.Waits.{Waits};
 ghost use Rattle.running_line.specs.Wire.{Awaits, Wire, asked_for};
 
@@ -86,4 +87,22 @@ pub fn a_step_in_a_turn_keeps_both_links()
         (event : Event) → Stands t s → ReadsFront (unread_by (j + 1) s) read []
         → IsPlain event (scene_of t s j)
         → IsSteady t s j [] (machine_step desk read event (node_in s (j + 1)).lane.body) }
+{}
+
+/// And so does a step in which a connection is made, where the machine has read all: its exit takes
+/// one that it awaits, while it has none; its entry finds one made that it awaits; or its exit
+/// refuses one, while the first goes on. What was said on the connection is on its way from then on,
+/// and the link stands where the other end has that connection too.
+pub fn a_connection_in_a_turn_keeps_both_links()
+    ensures accepted { (t : Trace) (s : Running) (j : ℕ) (desk : Desk) (read : List Sight)
+        (place : ℕ) → Stands t s → ReadsFront (unread_by (j + 1) s) read []
+        → (at : IsAt (j + 1) Exit place Awaits s) → HasNone (j + 1) Exit s
+        → TakesIt t s j at.wire (machine_step desk read Accepted (node_in s (j + 1)).lane.body) }
+    ensures come { (t : Trace) (s : Running) (j : ℕ) (desk : Desk) (read : List Sight)
+        (place : ℕ) → Stands t s → ReadsFront (unread_by (j + 1) s) read []
+        → (at : IsAt (j + 1) Entry place Awaits s)
+        → FindsIt t s j at.wire (machine_step desk read Connect (node_in s (j + 1)).lane.body) }
+    ensures second { (t : Trace) (s : Running) (j : ℕ) (desk : Desk) (read : List Sight)
+        → Stands t s → ReadsFront (unread_by (j + 1) s) read []
+        → RefusesIt t s j (machine_step desk read Second (node_in s (j + 1)).lane.body) }
 {}
