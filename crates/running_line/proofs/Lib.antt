@@ -5,3 +5,4 @@ pub mod NewMachines
 pub mod FloorMoves
 pub mod TurnSteps
 pub mod TurnLinks
+pub mod OneStand

@@ -15,12 +15,13 @@ ghost use Rattle.node_core.specs.declared.lane.Body.{Body as Machine};
 ghost use Rattle.machine_custody.specs.Ahead.{IsFreeRead};
 ghost use Rattle.machine_custody.specs.Flight.{IsPlain};
 ghost use Rattle.one_standing.specs.Carried.{Trace};
+ghost use Rattle.one_standing.specs.Standing.{HasOneStanding};
 ghost use Rattle.running_line.specs.Doubled.{IsDoubled, IsHeldBehind};
 ghost use Rattle.running_line.specs.New.{IsNew, NumbersDiffer};
 ghost use Rattle.running_line.specs.Reading.{Reading, ReadsFront};
 ghost use Rattle.running_line.specs.Running.{Running, unread_by};
 ghost use Rattle.running_line.specs.RunSteps.{Asks, LetsBe, Moves, given_up, let_be};
-ghost use Rattle.running_line.specs.Stands.{AreInRelation, Stands, node_in};
+ghost use Rattle.running_line.specs.Stands.{AreInRelation, Stands, line_of, node_in};
 ghost use Rattle.running_line.specs.Steady.{FindsIt, IsSteady, RefusesIt, TakesIt, scene_of};
 ghost use Rattle.running_line.specs.Turns.{HasNone, IsAt};
 ghost use Rattle.running_line.specs.Waits.{Waits};
@@ -105,4 +106,10 @@ pub fn a_connection_in_a_turn_keeps_both_links()
     ensures second { (t : Trace) (s : Running) (j : ℕ) (desk : Desk) (read : List Sight)
         → Stands t s → ReadsFront (unread_by (j + 1) s) read []
         → RefusesIt t s j (machine_step desk read Second (node_in s (j + 1)).lane.body) }
+{}
+
+/// Where running machines stand in the relation, each board's record has one standing: with one
+/// machine, or in one handover between two neighbours.
+pub fn one_standing_in_the_relation()
+    ensures { (s : Running) → AreInRelation s → HasOneStanding (line_of s) }
 {}
