@@ -1,0 +1,27 @@
+/* The sizes and offsets of the structs, as numbers: a struct of the header that moves stops the build. */
+#include "hermes_machine.h"
+
+#define AT(type, field, offset) _Static_assert(offsetof(type, field) == (offset), #type "." #field)
+#define SIZE(type, size) _Static_assert(sizeof(type) == (size), #type)
+
+SIZE(hermes_machine, 16);
+AT(hermes_machine, full, 0);
+AT(hermes_machine, at, 8);
+
+SIZE(hermes_profile, 32);
+AT(hermes_profile, size, 0);
+AT(hermes_profile, number, 4);
+AT(hermes_profile, lane, 8);
+AT(hermes_profile, capacity, 12);
+AT(hermes_profile, bridge, 16);
+AT(hermes_profile, zero, 20);
+AT(hermes_profile, used, 24);
+
+SIZE(hermes_view, 40);
+AT(hermes_view, size, 0);
+AT(hermes_view, bridge, 4);
+AT(hermes_view, state, 8);
+AT(hermes_view, held, 16);
+AT(hermes_view, supervised, 24);
+AT(hermes_view, zero, 28);
+AT(hermes_view, kept, 32);
