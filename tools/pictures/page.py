@@ -92,7 +92,8 @@ def notes(read, custody, messages):
         lines = [custody.groups[number].first for number in custody.differing]
         said.append(("warn", f"What the report tells of standings isn't what its deeds give, at line {line_links(lines)}."))
     if read.unvouched is not None:
-        said.append(("warn", f'From line {line_links([read.unvouched])} on nobody vouches: a line of the script told what was not so.'))
+        line = read.lines[read.unvouched - 1].group[0]
+        said.append(("warn", f'From <a href="#L{read.unvouched}">line {line} of the script</a> on nobody vouches: it told what was not so.'))
     backward = [message.heard.number for message in messages if message.fate == meanings.BACKWARD]
     if backward:
         said.append(("warn", f"Heard before it was sent, in the order of this text: line {line_links(backward)}."))
