@@ -357,7 +357,7 @@ rowed_tells desk side message unsettled body (Some row) can is =
     let input = heard message.body unsettled in
     let took : Took message.body row.actions.first = row_takes (session_row_is (session_at side body) input row is) in
     tells_session side row.after body (rowed desk side message body (Some row))
-    (taken_tells desk side message row.actions.first row.actions (with_session side row.after body) (front_session side row.after body (to_offers body can.front)) (λ what first. pass_linked side input body row what is first can.linked) took)
+    (taken_tells desk side message row.actions.first row.actions (with_session side row.after body) (front_session side row.after body (to_offers body can.front)) (λ what first. pass_linked side message.body unsettled body row what is first can.linked) took)
 
 -- ---- words
 

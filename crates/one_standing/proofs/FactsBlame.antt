@@ -1,8 +1,29 @@
 -- NO FALSE BLAME, for a machine's step: where all that it hears are messages that the machine at the other end sends, in the
 -- order in which they were sent, nothing is told of a breach. And whatever is heard so, or wrong, the machine sends only such
 -- messages itself.
-use Rattle.std.proofs.Common.{Bool, List, None, Option, Some, [], ap, false, is_some, map, refl, subst, sym, true, ℕ, ℤ, ◌&&◌, ◌++◌, ◌∙◌, ◌∷◌, ◌≡◌}
-use Rattle.std.specs.Prelude.{slice_get}
+use Rattle.std.proofs.Common.{
+  Bool,
+  List,
+  None,
+  Option,
+  Some,
+  [],
+  ap,
+  false,
+  is_some,
+  map,
+  refl,
+  subst,
+  sym,
+  true,
+  ℕ,
+  ℤ,
+  ◌&&◌,
+  ◌++◌,
+  ◌∙◌,
+  ◌∷◌,
+  ◌≡◌,
+}
 use Rattle.std.proofs.lemmas.Bool.{false≢true, and_from}
 use Rattle.line_base.specs.declared.states.Code.{Code}
 use Rattle.line_base.specs.declared.states.Role.{Role}
@@ -24,18 +45,46 @@ use Rattle.machine_custody.proofs.BehindReading.{read_leaves}
 use Rattle.machine_custody.proofs.HearingAll.{deaf}
 use Rattle.machine_custody.proofs.HearingEntry.{entry_hears}
 use Rattle.machine_custody.proofs.HearingExit.{exit_hears}
-use Rattle.machine_custody.proofs.Listening.{Then, breach_shuts, closed, entry_hears_then, exit_hears_then, still}
+use Rattle.machine_custody.proofs.Listening.{
+  Then,
+  breach_shuts,
+  closed,
+  entry_hears_then,
+  exit_hears_then,
+  still,
+}
 use Rattle.machine_custody.proofs.Reading.{all_read_good}
-use Rattle.custody.specs.Apart.{Exit as Alone, exit_called, exit_called_stuck, exit_described, exit_described_stuck, exit_idle}
+use Rattle.custody.specs.Apart.{
+  Exit as Alone,
+  exit_called,
+  exit_called_stuck,
+  exit_described,
+  exit_described_stuck,
+  exit_idle,
+}
 use Rattle.custody.specs.Contents.{Looks}
 use Rattle.custody.specs.Events.{gone_by}
 use Rattle.custody.specs.Flight.{Readies, Starts}
 use Rattle.custody.specs.Pair.{Ghost, LinkState}
 use Rattle.custody.specs.Place.{Place}
 use Rattle.custody.specs.Shape.{Shape, no_handover, start_and_stop_sent, start_sent}
-use Rattle.custody.specs.Talks.{Talks, apart, apart_start, apart_start_stop, live, shaking_idle, shaking_stuck, shaking_waiting}
+use Rattle.custody.specs.Talks.{
+  Talks,
+  apart,
+  apart_start,
+  apart_start_stop,
+  live,
+  shaking_idle,
+  shaking_stuck,
+  shaking_waiting,
+}
 use Rattle.custody.specs.Words.{DownWord, DownstreamService, UpWord}
-use Rattle.custody.proofs.EntryEvents.{hears_available, hears_finished, hears_revoke_available, hears_upstream}
+use Rattle.custody.proofs.EntryEvents.{
+  hears_available,
+  hears_finished,
+  hears_revoke_available,
+  hears_upstream,
+}
 use Rattle.custody.proofs.ExitEvents.{hears_ready, hears_revoke_ready, hears_start, hears_stop}
 use Rattle.custody.proofs.Promised.{finds_for_a_start}
 use Rattle.machine_custody.specs.Good.{Afar, GoesBy, Good}
@@ -54,14 +103,38 @@ use Rattle.hermes_horizontal.specs.declared.message.Ping.{Ping}
 use Rattle.hermes_horizontal.specs.declared.message.Ping.TheVariants as ping
 use Rattle.hermes_horizontal.specs.declared.message.Service.{Service}
 use Rattle.session_core.specs.declared.actions.Action.{Action}
-use Rattle.session_core.specs.declared.actions.Action.TheVariants.{Close, Pass, Ping as Pings, Pong, SendService, Stand, Tell}
+use Rattle.session_core.specs.declared.actions.Action.TheVariants.{
+  Close,
+  Pass,
+  Ping as Pings,
+  Pong,
+  SendService,
+  Stand,
+  Tell,
+}
 use Rattle.session_core.specs.declared.actions.Actions.{Actions}
 use Rattle.session_core.specs.declared.state.SessionState.{SessionState}
-use Rattle.session_core.specs.declared.state.SessionState.TheVariants.{Handshake, NotConnected, Standing}
+use Rattle.session_core.specs.declared.state.SessionState.TheVariants.{
+  Handshake,
+  NotConnected,
+  Standing,
+}
 use Rattle.session_core.specs.Acts.{nothing, one}
-use Rattle.session_core.specs.End.{SessionEnd, at_rest, is_connected_state, stands, taken as heard_from}
-use Rattle.session_core.specs.Input.{heard, opened, second, shutdown, tick}
-use Rattle.session_core.specs.Row.{SessionRow, alive_actions, connected_row, described_row, session_row}
+use Rattle.session_core.specs.End.{
+  SessionEnd,
+  at_rest,
+  is_connected_state,
+  stands,
+  taken as heard_from,
+}
+use Rattle.session_core.specs.Input.{heard}
+use Rattle.session_core.specs.Row.{
+  SessionRow,
+  alive_actions,
+  connected_row,
+  described_row,
+  session_row,
+}
 use Rattle.handover_out.specs.declared.act.OutAct.{OutAct}
 use Rattle.handover_out.specs.declared.act.OutDeed.{OutDeed}
 use Rattle.handover_out.specs.declared.act.OutSend.{OutSend}
@@ -75,34 +148,87 @@ use Rattle.handover_in.specs.declared.act.InSend.{InSend}
 use Rattle.handover_in.specs.declared.act.InSend.TheVariants as in_sends
 use Rattle.handover_in.specs.declared.input.InInput.TheVariants as in_input
 use Rattle.handover_in.specs.Row.{InRow, intake_row}
-use Rattle.node_core.specs.Announces.{announces, offer, offer_by, offers_now, ready, ready_by, readies_now, revoke, revoke_by, revokes_now, start, start_by, starts_now, unready, unready_by, unreadies_now}
-use Rattle.node_core.specs.Boards.{if_kept, is_kept}
-use Rattle.node_core.specs.Connect.{if_open, opens, shuts_down, ticks}
+use Rattle.node_core.specs.Announces.{announces, ready}
+use Rattle.node_core.specs.Connect.{if_open}
 use Rattle.node_core.specs.Desk.{Desk}
-use Rattle.node_core.specs.Done.{Done, and_then, behind, done}
-use Rattle.node_core.specs.Event.{Accepted, Connect, Event, Fault, Insert, Mark, Nothing, Notice, Remove, Replace, Second, Shutdown, Tick, Will, Words, event_did, Level, Forecast, Query, Supervised}
-use Rattle.node_core.specs.Information.{forecasts}
-use Rattle.node_core.specs.Halves.{behind_opening, ended, half_closed, intake_row_did, opening_board, outlet_row_did}
+use Rattle.node_core.specs.Done.{Done, and_then, behind}
+use Rattle.node_core.specs.Event.{Event, Nothing, Words, event_did, Forecast, Query}
+use Rattle.node_core.specs.Halves.{behind_opening, ended, opening_board}
 use Rattle.node_core.specs.Hears.{hears, intake_took, outlet_took, passed, rowed, taken}
-use Rattle.node_core.specs.Reads.{all_read, reads, saw}
-use Rattle.node_core.specs.Session.{action_did, actions_did, breaches, maybe_did, session_did}
+use Rattle.node_core.specs.Reads.{all_read}
+use Rattle.node_core.specs.Session.{actions_did, breaches}
 use Rattle.node_core.specs.Sides.{is_open, session_at, with_session}
 use Rattle.node_core.specs.Step.{machine_step, plain_step}
-use Rattle.node_core.specs.Supervising.{Answer, Ask, Supervise, Supervision, supervises, watch_of, with_tells}
+use Rattle.node_core.specs.Supervising.{Answer, Ask, watch_of, with_tells}
 use Rattle.node_core.specs.declared.supervising.Watch.{Watch}
 use Rattle.node_core.proofs.Telling.{tells_pass}
-use Rattle.node_core.specs.Told.{drives, in_does, in_sends as in_said, in_told, notification, out_does, out_sends as out_said, out_told, sends}
+use Rattle.node_core.specs.Told.{
+  drives,
+  in_does,
+  in_sends as in_said,
+  in_told,
+  notification,
+  out_does,
+  out_sends as out_said,
+  out_told,
+  sends,
+}
 use Rattle.node_core.specs.Words.{all_heard}
 use Rattle.node_core.specs.declared.act.Act.{Act}
 use Rattle.node_core.specs.declared.act.Act.TheVariants as acts
 use Rattle.node_core.specs.declared.lane.Body.{Body}
 use Rattle.node_core.specs.declared.word.Word.{Word}
 use Rattle.node_core.specs.declared.word.Word.TheVariants as words
-use Rattle.node_core.specs.Bridge.{failed_front, fails, tells_level}
 use Rattle.link_messages.specs.Heard.{bodies}
-use Rattle.one_standing.proofs.BlameReady.{hears_ready as behind_hearing, is_ready, read_stays, ready_after, ready_stands}
-use Rattle.smema_bridge.specs.declared.line.SegmentLine.{SegmentLine}
-use Rattle.line_base.specs.declared.states.Quality.TheVariants as qualities
+use Rattle.one_standing.proofs.BlameReady.{
+  hears_ready as behind_hearing,
+  is_ready,
+  read_stays,
+  ready_after,
+  ready_stands,
+}
+use Rattle.step_rules.specs.Causes.{
+  Announcing,
+  ByHand,
+  Cause,
+  Hearing,
+  Meeting,
+  Reading,
+  Tells,
+  hand_inserts,
+  tells_alive,
+  tells_forecast,
+  tells_hearing,
+  tells_info,
+  tells_notice,
+  tells_query,
+  tells_service,
+}
+use Rattle.step_rules.specs.Made.{
+  Made,
+  made_act,
+  made_both,
+  made_breach,
+  made_by_hand,
+  made_close,
+  made_intake,
+  made_none,
+  made_notice,
+  made_outlet,
+  made_passed,
+  made_row,
+  made_start,
+  made_will,
+  made_word,
+  without_connection,
+}
+use Rattle.step_rules.proofs.Steps.{
+  actions_made,
+  all_read_made,
+  announces_made,
+  event_made,
+  half_closed_made,
+}
 
 -- ---- acts that breach nothing but at such sides, and send only such messages as come to the side at the other end
 
@@ -219,100 +345,6 @@ in_said_mild may desk (Some (in_sends.Stop state id)) = refl
 in_mild : (may : Leave) (desk : Desk) (act : InAct) → are_mild may (in_told desk act) ≡ true
 in_mild may desk act = mild_append may (in_does act.deed) (in_said desk act.send ++ drives Entry act.drive) (in_does_mild may act.deed) (mild_append may (in_said desk act.send) (drives Entry act.drive) (in_said_mild may desk act.send) (drives_mild may Entry act.drive))
 
-outlet_mild : {may : Leave} (desk : Desk) (body : Body) (found : Option OutRow) → Mild may (outlet_row_did desk body found)
-outlet_mild desk body None = record { mild = refl }
-outlet_mild {may} desk body (Some r) = record { mild = out_mild may desk body.kept r.act }
-
-intake_mild : {may : Leave} (desk : Desk) (body : Body) (found : Option InRow) → Mild may (intake_row_did desk body found)
-intake_mild desk body None = record { mild = refl }
-intake_mild {may} desk body (Some r) = record { mild = in_mild may desk r.act }
-
-half_mild : {may : Leave} (desk : Desk) (side : Side) (body : Body) → Mild may (half_closed desk side body)
-half_mild desk Entry body = intake_mild desk body (intake_row body.intake in_input.Closed)
-half_mild desk Exit body = outlet_mild desk body (outlet_row body.outlet out_input.Closed)
-
-action_mild : {may : Leave} (desk : Desk) (side : Side) (action : Action) (body : Body) → Mild may (action_did desk side action body)
-action_mild desk Entry SendService body = record { mild = refl }
-action_mild desk Exit SendService body = record { mild = refl }
-action_mild desk Entry (Pong id) body = record { mild = refl }
-action_mild desk Exit (Pong id) body = record { mild = refl }
-action_mild desk Entry (Pings n) body = record { mild = refl }
-action_mild desk Exit (Pings n) body = record { mild = refl }
-action_mild desk Entry (Tell what) body = record { mild = refl }
-action_mild desk Exit (Tell what) body = record { mild = refl }
-action_mild desk side Close body = mild_behind (acts.Closes side ∷ []) (half_closed desk side body) refl (half_mild desk side body)
-action_mild desk side Stand body = intake_mild desk body (intake_row body.intake in_input.Stand)
-action_mild desk side (Pass what) body = record { mild = refl }
-
-maybe_mild : {may : Leave} (desk : Desk) (side : Side) (action : Option Action) (body : Body) → Mild may (maybe_did desk side action body)
-maybe_mild desk side None body = record { mild = refl }
-maybe_mild desk side (Some action) body = action_mild desk side action body
-
-actions_mild : {may : Leave} (desk : Desk) (side : Side) (actions : Actions) (body : Body) → Mild may (actions_did desk side actions body)
-actions_mild desk side actions body =
-    let first : Done = maybe_did desk side actions.first body in
-    mild_both first (λ (b : Body). and_then (maybe_did desk side actions.second b) (maybe_did desk side actions.third)) (maybe_mild desk side actions.first body)
-    (mild_both (maybe_did desk side actions.second first.body) (maybe_did desk side actions.third) (maybe_mild desk side actions.second first.body) (maybe_mild desk side actions.third (maybe_did desk side actions.second first.body).body))
-
-session_mild : {may : Leave} (desk : Desk) (side : Side) (body : Body) (found : Option SessionRow) → Mild may (session_did desk side found body)
-session_mild desk side body None = record { mild = refl }
-session_mild desk side body (Some r) = actions_mild desk side r.actions (with_session side r.after body)
-
-ended_mild : {may : Leave} (desk : Desk) (side : Side) (body : Body) → Mild may (half_closed desk side (with_session side (at_rest (session_at side body).role) body))
-ended_mild desk side body = half_mild desk side (with_session side (at_rest (session_at side body).role) body)
-
-saw_mild : {may : Leave} (desk : Desk) (seen : Seen) (body : Body) → Mild may (reads desk seen body)
-saw_mild desk seen body = mild_behind (acts.Reads seen.side seen.event ∷ []) (saw desk seen.side seen.event body) refl (by seen.side) where
-  by : {may : Leave} (side : Side) → Mild may (saw desk side seen.event body)
-  by Entry = intake_mild desk body (intake_row body.intake (in_input.Sensed seen.event))
-  by Exit = outlet_mild desk body (outlet_row body.outlet (out_input.Sensed seen.event))
-
-read_mild : {may : Leave} (desk : Desk) (unread : List Seen) (body : Body) → Mild may (all_read desk unread body)
-read_mild desk [] body = record { mild = refl }
-read_mild desk (s ∷ ss) body = mild_both (reads desk s body) (all_read desk ss) (saw_mild desk s body) (read_mild desk ss (reads desk s body).body)
-
-if_mild : {may : Leave} (test : Bool) (d : Done) (body : Body) → Mild may d → Mild may (if_open test d body)
-if_mild true d body m = m
-if_mild false d body m = record { mild = refl }
-
-kept_mild : {may : Leave} (test : Bool) (body after : Body) (act : Act) → is_mild may act ≡ true → Mild may (if_kept test after act body)
-kept_mild true body after act mild = record { mild = and_from _ true mild refl }
-kept_mild false body after act mild = record { mild = refl }
-
--- ---- the announcements
-
-revoke_mild : {may : Leave} (desk : Desk) (test : Bool) (body : Body) → Mild may (revoke_by desk test body)
-revoke_mild desk true body = outlet_mild desk body (outlet_row body.outlet out_input.Revoke)
-revoke_mild desk false body = record { mild = refl }
-
-unready_mild : {may : Leave} (desk : Desk) (test : Bool) (body : Body) → Mild may (unready_by desk test body)
-unready_mild desk true body = intake_mild desk body (intake_row body.intake in_input.Unready)
-unready_mild desk false body = record { mild = refl }
-
-offer_mild : {may : Leave} (desk : Desk) (test : Bool) (front : Option Record) (body : Body) → Mild may (offer_by desk test front body)
-offer_mild desk true (Some front) body = outlet_mild desk body (outlet_row body.outlet (out_input.Offer front.id))
-offer_mild desk true None body = record { mild = refl }
-offer_mild desk false front body = record { mild = refl }
-
-ready_mild : {may : Leave} (desk : Desk) (test : Bool) (body : Body) → Mild may (ready_by desk test body)
-ready_mild desk true body = intake_mild desk body (intake_row body.intake in_input.Ready)
-ready_mild desk false body = record { mild = refl }
-
-start_mild : {may : Leave} (desk : Desk) (test : Bool) (body : Body) → Mild may (start_by desk test body)
-start_mild desk true body = intake_mild desk body (intake_row body.intake in_input.Start)
-start_mild desk false body = record { mild = refl }
-
-announces_mild : {may : Leave} (desk : Desk) (body : Body) → Mild may (announces desk body)
-announces_mild desk body =
-    let one = (revoke desk body).body in
-    let two = (unready desk one).body in
-    let three = (offer desk two).body in
-    let four = (ready desk three).body in
-    mild_both (revoke desk body) (λ (b : Body). and_then (unready desk b) (λ c. and_then (offer desk c) (λ d. and_then (ready desk d) (start desk)))) (revoke_mild desk (revokes_now body) body)
-    (mild_both (unready desk one) (λ (c : Body). and_then (offer desk c) (λ d. and_then (ready desk d) (start desk))) (unready_mild desk (unreadies_now desk one) one)
-    (mild_both (offer desk two) (λ (d : Body). and_then (ready desk d) (start desk)) (offer_mild desk (offers_now two) (slice_get two.kept 0) two)
-    (mild_both (ready desk three) (start desk) (ready_mild desk (readies_now desk three) three) (start_mild desk (starts_now four) four))))
-
 -- ---- what befalls a machine, but words
 
 -- where boards are told of beside their handovers, the session of that side stands
@@ -322,56 +354,75 @@ IsNoWords frees Forecast = frees Exit ≡ true
 IsNoWords frees (Query barcode) = frees Entry ≡ true
 IsNoWords frees _ = Unit {0}
 
-level_mild : {may : Leave} (line : SegmentLine) (on : Bool) (body : Body) → Mild may (tells_level line on body)
-level_mild line on body = record { mild = refl }
+-- ---- the pieces of a step, but for words
 
-fails_mild : {may : Leave} (found : Option ℕ) (body : Body) → Mild may (fails found body)
-fails_mild None body = record { mild = refl }
-fails_mild (Some id) body = kept_mild (is_kept id body.kept) body _ (acts.Marks id qualities.Failed) refl
+abbrev IsQuietCause : Leave → Cause → Type 0
+IsQuietCause may Reading = Unit {0}
+IsQuietCause may (Hearing side word) = ⊥
+IsQuietCause may (Meeting event) = IsNoWords may.frees event
+IsQuietCause may (Announcing starting) = Unit {0}
 
-forecast_mild : {may : Leave} (desk : Desk) (front : Option Record) (body : Body) → may.frees Exit ≡ true → Mild may (done body (forecasts desk front))
-forecast_mild desk None body free = record { mild = refl }
-forecast_mild desk (Some board) body free = record { mild = and_from _ true free refl }
+act_mild : {desk : Desk} {cause : Cause} {body : Body} {act : Act} (may : Leave)
+    → Tells desk cause body act → IsQuietCause may cause → is_mild may act ≡ true
+act_mild may tells_hearing own = absurd own
+act_mild may (tells_info says on) own = absurd own
+act_mild may (tells_forecast is) own = own
+act_mild may tells_query own = own
+act_mild may (tells_service {side = Entry} talk) own = refl
+act_mild may (tells_service {side = Exit} talk) own = refl
+act_mild may (tells_alive {side = Entry} talk) own = refl
+act_mild may (tells_alive {side = Exit} talk) own = refl
+act_mild may (tells_notice {side = Entry} talk) own = refl
+act_mild may (tells_notice {side = Exit} talk) own = refl
+act_mild may _ own = refl
 
-supervises_mild : {may : Leave} (desk : Desk) (what : Supervision) (body : Body)
-    → Mild may (supervises desk what body)
-supervises_mild desk (Supervise on) body = record { mild = refl }
-supervises_mild desk (Ask question) body = record { mild = refl }
-supervises_mild desk (Answer query order) body = record { mild = refl }
+hand_mild : {desk : Desk} {event : Event} {body : Body} {kept : List Record} {act : Act}
+    (may : Leave) → ByHand desk event body kept act → is_mild may act ≡ true
+hand_mild may hand_inserts = refl
+hand_mild may _ = refl
 
-event_mild : {may : Leave} (desk : Desk) (event : Event) (body : Body) → IsNoWords may.frees event → Mild may (event_did desk event body)
-event_mild desk Nothing body other = record { mild = refl }
-event_mild desk Connect body other = mild_behind (acts.Connects ∷ []) (opens desk Entry body) refl (session_mild desk Entry body (session_row (session_at Entry body) opened))
-event_mild desk Accepted body other = session_mild desk Exit body (session_row (session_at Exit body) opened)
-event_mild desk Second body other = session_mild desk Exit body (session_row (session_at Exit body) second)
-event_mild desk (Words side words) body other = absurd other
-event_mild desk (Notice side) body other = if_mild (is_open side body) (behind (acts.Notices side ∷ []) (half_closed desk side (with_session side (at_rest (session_at side body).role) body))) body
-    (mild_behind (acts.Notices side ∷ []) (half_closed desk side (with_session side (at_rest (session_at side body).role) body)) refl (ended_mild desk side body))
-event_mild desk Tick body other = mild_both (ticks desk Entry body) (ticks desk Exit) (session_mild desk Entry body (session_row (session_at Entry body) tick))
-    (let b = (ticks desk Entry body).body in session_mild desk Exit b (session_row (session_at Exit b) tick))
-event_mild desk Shutdown body other = mild_both (shuts_down desk Entry body) (shuts_down desk Exit) (session_mild desk Entry body (session_row (session_at Entry body) shutdown))
-    (let b = (shuts_down desk Entry body).body in session_mild desk Exit b (session_row (session_at Exit b) shutdown))
-event_mild desk (Fault Entry) body other = intake_mild desk body (intake_row body.intake in_input.Fault)
-event_mild desk (Fault Exit) body other = outlet_mild desk body (outlet_row body.outlet out_input.Fault)
-event_mild desk (Will side on) body other = record { mild = refl }
-event_mild {may} desk (Level line on) body other =
-    mild_both (tells_level line on body) (λ (b : Body). fails (failed_front desk.bridge line on b) b) (level_mild line on body)
-    (let b = (tells_level line on body).body in fails_mild (failed_front desk.bridge line on b) b)
-event_mild desk Forecast body other = forecast_mild desk (slice_get body.kept 0) body other
-event_mild desk (Query barcode) body other = record { mild = and_from _ true other refl }
-event_mild desk (Supervised what) body other = supervises_mild desk what body
-event_mild desk (Insert id barcode) body other = record { mild = refl }
-event_mild desk (Remove id) body other = kept_mild (is_kept id body.kept) body _ (acts.Removes id) refl
-event_mild desk (Replace old new) body other = kept_mild (is_kept old body.kept) body _ (acts.Replaces old new) refl
-event_mild desk (Mark id quality) body other = kept_mild (is_kept id body.kept) body _ (acts.Marks id quality) refl
+mild : {desk : Desk} {cause : Cause} {body : Body} {d : Done} (may : Leave)
+    → Made desk cause body d → IsQuietCause may cause → Mild may d
+mild may made_none own = record { mild = refl }
+mild may (made_both {one = one} {two = two} first next) own =
+    let a = mild may first own in
+    let b = mild may next own in
+    record { mild = mild_append may one.acts two.acts a.mild b.mild }
+mild may (made_word is on made) own = absurd own
+mild may (made_act {act = act} tells) own =
+    record { mild = and_from (is_mild may act) true (act_mild may tells own) refl }
+mild may (made_row to shape made) own = record { mild = (mild may made own).mild }
+mild may (made_passed shape first on made) own = absurd own
+mild may (made_close talk made) own = record { mild = (mild may made own).mild }
+mild may (made_notice on made) own = record { mild = (mild may made own).mild }
+mild may (made_breach made) own = absurd own
+mild may (made_start says on shape) own = absurd own
+mild {desk = desk} may (made_outlet {row = row} {body = body} to shape) own =
+    record { mild = out_mild may desk body.kept row.act }
+mild {desk = desk} may (made_intake {row = row} to shape) own =
+    record { mild = in_mild may desk row.act }
+mild may (made_by_hand {act = act} hand) own =
+    record { mild = and_from (is_mild may act) true (hand_mild may hand) refl }
+mild may (made_will sets) own = record { mild = refl }
+
+-- what a session has its machine do, and that its connection is at an end
+actions_mild : {may : Leave} (desk : Desk) (side : Side) (actions : Actions) (body : Body)
+    → Mild may (actions_did desk side actions body)
+actions_mild {may} desk side actions body =
+    mild may (actions_made desk (Meeting Nothing) side actions body tt) tt
+
+ended_mild : {may : Leave} (desk : Desk) (side : Side) (body : Body)
+    → Mild may (ended desk side body)
+ended_mild {may} desk side body =
+    mild may (half_closed_made desk (Meeting Nothing) side (without_connection side body) tt) tt
 
 step_mild_by : {may : Leave} (desk : Desk) (unread : List Seen) (event : Event) (body : Body) → Mild may (event_did desk event (all_read desk unread body).body) → Mild may (machine_step desk unread event body)
 step_mild_by {may} desk unread event body m =
     let read = all_read desk unread body in
     let plain : Mild may (plain_step desk unread event body) =
-    mild_both read (λ (b : Body). and_then (event_did desk event b) (announces desk)) (read_mild desk unread body)
+    mild_both read (λ (b : Body). and_then (event_did desk event b) (announces desk)) (mild may (all_read_made desk unread body) tt)
     (mild_both (event_did desk event read.body) (announces desk) m
-    (announces_mild desk (event_did desk event read.body).body)) in
+    (mild may (announces_made desk (event_did desk event read.body).body) tt)) in
     record {
       mild = tells_mild may desk (watch_of desk body)
           (plain_step desk unread event body).acts ∙ plain.mild;
@@ -379,7 +430,7 @@ step_mild_by {may} desk unread event body m =
 
 -- without words nothing is breached
 pub quiet_step_mild : (may : Leave) (desk : Desk) (unread : List Seen) (event : Event) (body : Body) → IsNoWords may.frees event → are_mild may (machine_step desk unread event body).acts ≡ true
-quiet_step_mild may desk unread event body other = (step_mild_by {may = may} desk unread event body (event_mild {may = may} desk event (all_read desk unread body).body other)).mild
+quiet_step_mild may desk unread event body other = (step_mild_by {may = may} desk unread event body (mild may (event_made desk event (all_read desk unread body).body) other)).mild
 
 -- ---- a message that the machine at the other end sends
 

@@ -1,74 +1,187 @@
 -- What a machine owns goes from place to place as the acts of its step say: each deed finds its id where it takes it from.
--- One lemma for each definition of the machine step, in the order of the definitions.
-use Rattle.std.proofs.Common.{if◌then◌else◌, ◌&&◌, subst, ◌≡◌, ◌∙◌, ◌++◌, ◌==◌, ◌||◌, ℕ, Bool, true, false, List, [], ◌∷◌, Option, Some, None, refl, sym, ap}
-use Rattle.std.specs.Prelude.{is_some, slice_get}
+-- So it is of each piece of which a step is made.
+use Rattle.std.proofs.Common.{
+  if◌then◌else◌,
+  ◌&&◌,
+  subst,
+  ◌≡◌,
+  ◌∙◌,
+  ◌++◌,
+  ◌==◌,
+  ◌||◌,
+  ℕ,
+  Bool,
+  true,
+  false,
+  List,
+  [],
+  ◌∷◌,
+  Option,
+  Some,
+  None,
+  refl,
+  sym,
+  ap,
+}
+use Rattle.std.specs.Prelude.{slice_get}
 use Rattle.std.proofs.lemmas.Bool.{and_parts}
 use Rattle.node_core.proofs.Sound.{ids_behind}
 use Rattle.line_base.specs.declared.states.Side.{Side}
 use Rattle.line_base.specs.declared.states.Side.TheVariants.{Entry, Exit}
-use Rattle.line_base.specs.declared.states.SensorEvent.{SensorEvent}
-use Rattle.line_base.specs.declared.states.Severity.TheVariants.{Fatal}
 use Rattle.line_base.specs.declared.states.Quality.{Quality}
 use Rattle.board_record.specs.declared.record.Record.{Record}
 use Rattle.board_record.specs.declared.sensed.Sensed.{Sensed as Seen}
 use Rattle.board_record.specs.Record.{plain_record}
-use Rattle.hermes_horizontal.specs.declared.message.Message.{Message}
-use Rattle.hermes_horizontal.specs.Parts.{kind_of}
-use Rattle.session_core.specs.declared.actions.Action.{Action}
-use Rattle.session_core.specs.declared.actions.Actions.{Actions}
-use Rattle.session_core.specs.declared.actions.Action.TheVariants.{SendService, Pong, Ping, Tell, Close, Stand, Pass}
-use Rattle.session_core.specs.Breach.{unexpected}
 use Rattle.session_core.specs.End.{SessionEnd, at_rest}
-use Rattle.session_core.specs.Input.{heard, opened, second, tick, shutdown}
-use Rattle.session_core.specs.Row.{SessionRow, session_row}
+use Rattle.session_core.specs.Input.{heard}
 use Rattle.handover_out.specs.declared.input.OutInput.{OutInput}
 use Rattle.handover_out.specs.declared.input.OutInput.TheVariants as out_input
 use Rattle.handover_out.specs.State.{OutState, held, would_open}
-use Rattle.handover_out.specs.Row.{OutRow, outlet_row}
-use Rattle.handover_out.specs.Table.{IsOutletRow, opens as out_opens, refuses, stop_home, left_moving, left_stuck, left_stopped, left_unlinked, back_stuck, back_stopped, back_unlinked, taken_moving, taken_stuck, taken_stopped, taken_unlinked, fault_home, closed_home, offers, revokes}
-use Rattle.handover_out.proofs.Rows.{row_is}
+use Rattle.handover_out.specs.Row.{OutRow}
+use Rattle.handover_out.specs.Table.{
+  IsOutletRow,
+  opens as out_opens,
+  refuses,
+  stop_home,
+  left_moving,
+  left_stuck,
+  left_stopped,
+  left_unlinked,
+  back_stuck,
+  back_stopped,
+  back_unlinked,
+  taken_moving,
+  taken_stuck,
+  taken_stopped,
+  taken_unlinked,
+  fault_home,
+  closed_home,
+  offers,
+  revokes,
+}
 use Rattle.handover_in.specs.declared.input.InInput.{InInput}
 use Rattle.handover_in.specs.declared.input.InInput.TheVariants as in_input
 use Rattle.handover_in.specs.State.{InState, held as in_held}
 use Rattle.handover_in.specs.Row.{InRow, intake_row}
-use Rattle.handover_in.specs.Table.{IsIntakeRow, starts_transport, running_drop, hears_keep, hears_drop, full_heard, taken_heard, stopped_keep, stopped_drop, waiting_settles, waiting_home, waiting_taken, closed_home as in_closed_home, closed_stopped_home, closed_stopped_gone, stands_settles, closed_between, closed_inside, closed_gone, gets_ready, gets_unready}
+use Rattle.handover_in.specs.Table.{
+  IsIntakeRow,
+  starts_transport,
+  running_drop,
+  hears_keep,
+  hears_drop,
+  full_heard,
+  taken_heard,
+  stopped_keep,
+  stopped_drop,
+  waiting_settles,
+  waiting_home,
+  waiting_taken,
+  closed_home as in_closed_home,
+  closed_stopped_home,
+  closed_stopped_gone,
+  stands_settles,
+  closed_between,
+  closed_inside,
+  closed_gone,
+  gets_ready,
+  gets_unready,
+}
 use Rattle.handover_in.proofs.Rows.{row_is as in_row_is}
 use Rattle.node_core.specs.Desk.{Desk}
 use Rattle.node_core.specs.declared.act.Act.{Act}
 use Rattle.node_core.specs.declared.act.Act.TheVariants as acts
 use Rattle.node_core.specs.declared.act.Deed.{Deed}
 use Rattle.node_core.specs.declared.lane.Body.{Body}
-use Rattle.node_core.specs.declared.word.Word.{Word}
-use Rattle.node_core.specs.declared.word.Word.TheVariants.{Says, Wrong}
-use Rattle.node_core.specs.declared.word.ExitWord.{ExitWord}
-use Rattle.node_core.specs.declared.word.ExitWord.TheVariants as exits
-use Rattle.node_core.specs.declared.word.EntryWord.{EntryWord}
-use Rattle.node_core.specs.declared.word.EntryWord.TheVariants as entries
-use Rattle.node_core.specs.Done.{Done, done, stays, behind, and_then}
-use Rattle.node_core.specs.Told.{out_told, in_told, sends, notification}
-use Rattle.node_core.specs.Sides.{session_at, with_session, is_open}
-use Rattle.node_core.specs.Halves.{given_back, settled, outlet_row_did, intake_row_did, half_closed, ended, opening_board, behind_opening}
-use Rattle.node_core.specs.Session.{action_did, maybe_did, actions_did, session_did, breaches}
-use Rattle.node_core.specs.Hears.{rowed, taken, passed, exit_took, entry_took, outlet_took, intake_took, exit_word, entry_word}
-use Rattle.node_core.specs.Words.{word_did, all_heard}
-use Rattle.node_core.specs.Reads.{saw, reads, all_read}
-use Rattle.node_core.specs.Connect.{if_open, opens, notices, ticks, shuts_down}
-use Rattle.node_core.specs.Boards.{without, with_instead, with_mark, is_kept, if_kept, faults, wills}
-use Rattle.node_core.specs.Announces.{revokes_now, revoke_by, revoke, unreadies_now, unready_by, unready, offers_now, offer_by, offer, readies_now, ready_by, ready, starts_now, start_by, start, announces}
-use Rattle.node_core.specs.Event.{Event, Nothing, Connect, Accepted, Second, Words, Notice, Tick, Shutdown, Fault, Will, Insert, Remove, Replace, Mark, event_did, Level, Forecast, Query, Supervised}
+use Rattle.node_core.specs.Done.{Done, done, stays, and_then}
+use Rattle.node_core.specs.Told.{out_told, in_told}
+use Rattle.node_core.specs.Sides.{session_at, with_session}
+use Rattle.node_core.specs.Halves.{
+  given_back,
+  settled,
+  intake_row_did,
+  opening_board,
+  behind_opening,
+}
+use Rattle.node_core.specs.Reads.{all_read}
+use Rattle.node_core.specs.Boards.{without, with_instead, with_kept, with_mark, is_kept, if_kept}
+use Rattle.node_core.specs.Announces.{
+  revokes_now,
+  revoke,
+  unreadies_now,
+  unready,
+  offers_now,
+  offer,
+  readies_now,
+  ready,
+  starts_now,
+  start_by,
+  start,
+  announces,
+}
+use Rattle.node_core.specs.Event.{Event, Insert, Remove, Replace, event_did}
 use Rattle.node_core.specs.Step.{plain_step}
-use Rattle.node_core.specs.Supervising.{Answer, Ask, Supervise, Supervision, supervision_act, with_tells}
+use Rattle.node_core.specs.Supervising.{with_tells}
 use Rattle.node_core.specs.declared.supervising.Watch.{Watch}
 use Rattle.node_core.proofs.Telling.{tells_pass}
 use Rattle.node_core.specs.Own.{with_id_instead, without_id, Own, own_by, own_of, ids_of, id_of}
 use Rattle.node_core.specs.declared.act.Deed.TheVariants as deeds
 use Rattle.node_core.proofs.HalfRows.{IsNoStart, IsPlain}
 use Rattle.standings.specs.Marks.{has_id}
-use Rattle.node_core.specs.Bridge.{failed_front, fails, sets_level, tells_level}
-use Rattle.node_core.specs.Information.{forecasts}
-use Rattle.smema_bridge.specs.declared.line.SegmentLine.{SegmentLine}
-use Rattle.smema_bridge.specs.declared.line.SegmentLine.TheVariants.{Available, Failed, Ready}
+use Rattle.smema_bridge.specs.declared.line.SegmentLine.TheVariants.{Failed, Ready}
 use Rattle.line_base.specs.declared.states.Quality.TheVariants as qualities
+use Rattle.step_rules.specs.Causes.{
+  Announcing,
+  ByHand,
+  Cause,
+  Hearing,
+  Meeting,
+  Reading,
+  Tells as TellsAct,
+  ToIntake,
+  ToOutlet,
+  hand_fails,
+  hand_inserts as by_insert,
+  hand_marks,
+  hand_removes as by_remove,
+  hand_replaces as by_replace,
+  in_closed,
+  in_ready,
+  in_stand,
+  in_start,
+  in_unready,
+  out_closed,
+  out_offer,
+  out_revoke,
+  tells_alive,
+  tells_notice,
+  tells_reading,
+  tells_service,
+}
+use Rattle.step_rules.specs.Made.{
+  Made,
+  made_act,
+  made_both,
+  made_breach,
+  made_by_hand,
+  made_close,
+  made_intake,
+  made_none,
+  made_notice,
+  made_outlet,
+  made_passed,
+  made_row,
+  made_start,
+  made_will,
+  made_word,
+}
+use Rattle.step_rules.proofs.Steps.{
+  all_read_made,
+  event_made,
+  offer_made,
+  ready_made,
+  revoke_made,
+  unready_made,
+}
 
 -- ---- acts that move no record
 
@@ -141,25 +254,22 @@ walk_append (walk_loses more) next = walk_loses (walk_append more next)
 walk_append (walk_settles more) next = walk_settles (walk_append more next)
 walk_append (walk_drops more) next = walk_drops (walk_append more next)
 
--- ---- a micro event, and what is composed of them
+pub silent_by : (one front both : Bool) → (one && front) ≡ true → (front ≡ true → both ≡ true) → (one && both) ≡ true
+silent_by true front both is next = next is
+silent_by false front both is next = cc
+
+pub both_silent : (first rest : List Act) → are_silent first ≡ true → are_silent rest ≡ true → are_silent (first ++ rest) ≡ true
+both_silent [] rest one other = other
+both_silent (act ∷ first) rest one other = silent_by (is_silent act) (are_silent first) (are_silent (first ++ rest)) one (λ is. both_silent first rest is other)
+
+-- ---- a micro event
 
 record Walks (body : Body) (d : Done) : Type 0 where
   walk : Walk (own_of body) d.acts (own_of d.body)
 
-walks_still : (body : Body) → Walks body (stays body)
-walks_still body = record { walk = walk_end }
-
-walks_told : (body : Body) (told : List Act) → are_silent told ≡ true → Walks body (done body told)
-walks_told body told silent = record { walk = walk_quiet (own_of body) told silent }
-
-walks_behind : (body : Body) (told : List Act) → are_silent told ≡ true → (d : Done) → Walks body d → Walks body (behind told d)
-walks_behind body told silent d k = record { walk = walk_append (walk_quiet (own_of body) told silent) k.walk }
-
-walks_both : (body : Body) (first : Done) (next : Body → Done) → Walks body first → Walks first.body (next first.body) → Walks body (and_then first next)
-walks_both body first next a b = record { walk = walk_append a.walk b.walk }
-
 -- a session changes first
-walks_session : (side : Side) (s : SessionEnd) (body : Body) (d : Done) → Walks (with_session side s body) d → Walks body d
+walks_session : (side : Side) (s : SessionEnd) (body : Body) (d : Done)
+    → Walks (with_session side s body) d → Walks body d
 walks_session Entry s body d k = record { walk = k.walk }
 walks_session Exit s body d k = record { walk = k.walk }
 
@@ -220,149 +330,6 @@ in_row_walk desk outlet kept (closed_gone {heard = true}) plain = walk_quiet _ _
 in_row_walk desk outlet kept (closed_gone {heard = false}) plain = walk_quiet _ _ refl
 in_row_walk desk outlet kept _ plain = walk_quiet _ _ refl
 
-outlet_walks : (desk : Desk) (body : Body) (input : OutInput) (found : Option OutRow) → IsPlain input → outlet_row body.outlet input ≡ found → Walks body (outlet_row_did desk body found)
-outlet_walks desk body input None plain is = walks_still body
-outlet_walks desk body input (Some r) plain is = record { walk = row_walk desk body.intake body.kept (row_is body.outlet input r is) plain }
-
-intake_walks : (desk : Desk) (body : Body) (input : InInput) (found : Option InRow) → IsNoStart input → intake_row body.intake input ≡ found → Walks body (intake_row_did desk body found)
-intake_walks desk body input None plain is = walks_still body
-intake_walks desk body input (Some r) plain is = record { walk = in_row_walk desk body.outlet body.kept (in_row_is body.intake input r is) plain }
-
-at_outlet_walks : (desk : Desk) (input : OutInput) (body : Body) → IsPlain input → Walks body (outlet_row_did desk body (outlet_row body.outlet input))
-at_outlet_walks desk input body plain = outlet_walks desk body input (outlet_row body.outlet input) plain refl
-
-at_intake_walks : (desk : Desk) (input : InInput) (body : Body) → IsNoStart input → Walks body (intake_row_did desk body (intake_row body.intake input))
-at_intake_walks desk input body plain = intake_walks desk body input (intake_row body.intake input) plain refl
-
-half_closed_walks : (desk : Desk) (side : Side) (body : Body) → Walks body (half_closed desk side body)
-half_closed_walks desk Entry body = at_intake_walks desk in_input.Closed body tt
-half_closed_walks desk Exit body = at_outlet_walks desk out_input.Closed body tt
-
-ended_walks : (desk : Desk) (side : Side) (body : Body) → Walks body (ended desk side body)
-ended_walks desk side body = walks_session side (at_rest (session_at side body).role) body (ended desk side body) (half_closed_walks desk side (with_session side (at_rest (session_at side body).role) body))
-
--- ---- sessions
-
-action_walks : (desk : Desk) (side : Side) (action : Action) (body : Body) → Walks body (action_did desk side action body)
-action_walks desk side SendService body = walks_told body _ refl
-action_walks desk side (Pong _) body = walks_told body _ refl
-action_walks desk side (Ping _) body = walks_told body _ refl
-action_walks desk side (Tell _) body = walks_told body _ refl
-action_walks desk side Close body = walks_behind body (acts.Closes side ∷ []) refl (half_closed desk side body) (half_closed_walks desk side body)
-action_walks desk side Stand body = at_intake_walks desk in_input.Stand body tt
-action_walks desk side (Pass _) body = walks_still body
-
-maybe_walks : (desk : Desk) (side : Side) (action : Option Action) (body : Body) → Walks body (maybe_did desk side action body)
-maybe_walks desk side None body = walks_still body
-maybe_walks desk side (Some action) body = action_walks desk side action body
-
-actions_walks : (desk : Desk) (side : Side) (actions : Actions) (body : Body) → Walks body (actions_did desk side actions body)
-actions_walks desk side actions body =
-    let one = maybe_did desk side actions.first body in
-    walks_both body one (λ (b : Body). and_then (maybe_did desk side actions.second b) (maybe_did desk side actions.third)) (maybe_walks desk side actions.first body)
-    (walks_both one.body (maybe_did desk side actions.second one.body) (maybe_did desk side actions.third) (maybe_walks desk side actions.second one.body) (maybe_walks desk side actions.third (maybe_did desk side actions.second one.body).body))
-
-session_walks : (desk : Desk) (side : Side) (body : Body) (found : Option SessionRow) → Walks body (session_did desk side found body)
-session_walks desk side body None = walks_still body
-session_walks desk side body (Some r) = walks_session side r.after body (session_did desk side (Some r) body) (actions_walks desk side r.actions (with_session side r.after body))
-
-breaches_walks : (desk : Desk) (side : Side) (text : List ℕ) (body : Body) → Walks body (breaches desk side text body)
-breaches_walks desk side text body = walks_behind body (acts.Breaches side text ∷ (sends desk side (notification 1 Fatal text) ++ acts.Closes side ∷ [])) refl (ended desk side body) (ended_walks desk side body)
-
--- ---- messages
-
--- what a half took, if it has a row
-data WalksAny (body : Body) : Option Done → Type 0 where
-  walks_none : WalksAny body None
-  walks_some : {d : Done} → Walks body d → WalksAny body (Some d)
-
-outlet_took_walks : (desk : Desk) (body : Body) (input : OutInput) (found : Option OutRow) → IsPlain input → outlet_row body.outlet input ≡ found → WalksAny body (outlet_took desk body found)
-outlet_took_walks desk body input None plain is = walks_none
-outlet_took_walks desk body input (Some r) plain is = walks_some (outlet_walks desk body input (Some r) plain is)
-
-start_took_walks : (desk : Desk) (body : Body) (named : ℕ) (opening : Bool) (found : Option OutRow) → outlet_row body.outlet (out_input.Start named (opening_board opening body.kept)) ≡ found
-    → WalksAny body (outlet_took desk (record body { kept = behind_opening opening body.kept }) found)
-start_took_walks desk body named opening None is = walks_none
-start_took_walks desk body named opening (Some r) is =
-    walks_some (record { walk = start_walk desk body.intake opening body.kept (row_is body.outlet (out_input.Start named (opening_board opening body.kept)) r is) })
-
-exit_walks : (desk : Desk) (word : ExitWord) (body : Body) → WalksAny body (exit_took desk word body)
-exit_walks desk exits.Ready body = outlet_took_walks desk body out_input.MachineReady (outlet_row body.outlet out_input.MachineReady) tt refl
-exit_walks desk exits.Unready body = outlet_took_walks desk body out_input.RevokeMachineReady (outlet_row body.outlet out_input.RevokeMachineReady) tt refl
-exit_walks desk (exits.Start named) body = start_took_walks desk body named (would_open body.outlet named) (outlet_row body.outlet (out_input.Start named (opening_board (would_open body.outlet named) body.kept))) refl
-exit_walks desk (exits.Stop state named) body = outlet_took_walks desk body (out_input.Stop state named) (outlet_row body.outlet (out_input.Stop state named)) tt refl
-exit_walks desk (exits.Query top bottom) body = walks_some (walks_told body _ refl)
-exit_walks desk exits.Nothing body = walks_some (walks_still body)
-
-intake_took_walks : (desk : Desk) (body : Body) (input : InInput) (found : Option InRow) → IsNoStart input → intake_row body.intake input ≡ found → WalksAny body (intake_took desk body found)
-intake_took_walks desk body input None plain is = walks_none
-intake_took_walks desk body input (Some r) plain is = walks_some (intake_walks desk body input (Some r) plain is)
-
-entry_walks : (desk : Desk) (word : EntryWord) (body : Body) → WalksAny body (entry_took desk word body)
-entry_walks desk (entries.Available board) body = intake_took_walks desk body (in_input.BoardAvailable board) (intake_row body.intake (in_input.BoardAvailable board)) tt refl
-entry_walks desk entries.Revoked body = intake_took_walks desk body in_input.RevokeBoardAvailable (intake_row body.intake in_input.RevokeBoardAvailable) tt refl
-entry_walks desk (entries.Finished state named) body = intake_took_walks desk body (in_input.Finished state named) (intake_row body.intake (in_input.Finished state named)) tt refl
-entry_walks desk entries.Nothing body = walks_some (walks_still body)
-
-passed_walks : (desk : Desk) (side : Side) (message : Message) (body : Body) (found : Option Done) → WalksAny body found → Walks body (passed desk side message body found)
-passed_walks desk side message body None k = breaches_walks desk side (unexpected (kind_of message.body)) body
-passed_walks desk side message body (Some d) (walks_some k) = walks_behind body (acts.Hears side message ∷ []) refl d k
-
-heard_by_session : (desk : Desk) (side : Side) (message : Message) (actions : Actions) (body : Body) → Walks body (behind (acts.Hears side message ∷ []) (actions_did desk side actions body))
-heard_by_session desk side message actions body = walks_behind body (acts.Hears side message ∷ []) refl (actions_did desk side actions body) (actions_walks desk side actions body)
-
-taken_walks : (desk : Desk) (side : Side) (message : Message) (first : Option Action) (actions : Actions) (body : Body) → Walks body (taken desk side message first actions body)
-taken_walks desk Entry message (Some (Pass what)) actions body = passed_walks desk Entry message body (entry_took desk (entry_word what) body) (entry_walks desk (entry_word what) body)
-taken_walks desk Exit message (Some (Pass what)) actions body = passed_walks desk Exit message body (exit_took desk (exit_word what) body) (exit_walks desk (exit_word what) body)
-taken_walks desk side message None actions body = heard_by_session desk side message actions body
-taken_walks desk side message (Some SendService) actions body = heard_by_session desk side message actions body
-taken_walks desk side message (Some (Pong _)) actions body = heard_by_session desk side message actions body
-taken_walks desk side message (Some (Ping _)) actions body = heard_by_session desk side message actions body
-taken_walks desk side message (Some (Tell _)) actions body = heard_by_session desk side message actions body
-taken_walks desk side message (Some Close) actions body = heard_by_session desk side message actions body
-taken_walks desk side message (Some Stand) actions body = heard_by_session desk side message actions body
-
-rowed_walks : (desk : Desk) (side : Side) (message : Message) (body : Body) (found : Option SessionRow) → Walks body (rowed desk side message body found)
-rowed_walks desk side message body None = breaches_walks desk side (unexpected (kind_of message.body)) body
-rowed_walks desk side message body (Some r) = walks_session side r.after body (rowed desk side message body (Some r)) (taken_walks desk side message r.actions.first r.actions (with_session side r.after body))
-
-word_walks : (desk : Desk) (side : Side) (word : Word) (body : Body) → Walks body (word_did desk side word body)
-word_walks desk side (Says message) body = rowed_walks desk side message body (session_row (session_at side body) (heard message.body (is_some (held body.outlet))))
-word_walks desk side (Wrong text) body = breaches_walks desk side text body
-
-if_walks : (test : Bool) (d : Done) (body : Body) → Walks body d → Walks body (if_open test d body)
-if_walks true d body k = k
-if_walks false d body k = walks_still body
-
-heard_walks : (desk : Desk) (side : Side) (words : List Word) (body : Body) → Walks body (all_heard desk side words body)
-heard_walks desk side [] body = walks_still body
-heard_walks desk side (w ∷ ws) body = if_walks (is_open side body) (and_then (word_did desk side w body) (all_heard desk side ws)) body
-    (walks_both body (word_did desk side w body) (all_heard desk side ws) (word_walks desk side w body) (heard_walks desk side ws (word_did desk side w body).body))
-
--- ---- sensor events
-
-saw_walks : (desk : Desk) (side : Side) (event : SensorEvent) (body : Body) → Walks body (saw desk side event body)
-saw_walks desk Entry event body = at_intake_walks desk (in_input.Sensed event) body tt
-saw_walks desk Exit event body = at_outlet_walks desk (out_input.Sensed event) body tt
-
-all_read_walks : (desk : Desk) (unread : List Seen) (body : Body) → Walks body (all_read desk unread body)
-all_read_walks desk [] body = walks_still body
-all_read_walks desk (s ∷ ss) body = walks_both body (reads desk s body) (all_read desk ss)
-    (walks_behind body (acts.Reads s.side s.event ∷ []) refl (saw desk s.side s.event body) (saw_walks desk s.side s.event body))
-    (all_read_walks desk ss (reads desk s body).body)
-
-wills_walks : (side : Side) (on : Bool) (body : Body) → Walks body (wills side on body)
-wills_walks Entry on body = record { walk = walk_on refl walk_end }
-wills_walks Exit on body = record { walk = walk_on refl walk_end }
-
-faults_walks : (desk : Desk) (side : Side) (body : Body) → Walks body (faults desk side body)
-faults_walks desk Entry body = at_intake_walks desk in_input.Fault body tt
-faults_walks desk Exit body = at_outlet_walks desk out_input.Fault body tt
-
-notices_walks : (desk : Desk) (side : Side) (body : Body) → Walks body (notices desk side body)
-notices_walks desk side body = if_walks (is_open side body) (behind (acts.Notices side ∷ []) (ended desk side body)) body
-    (walks_behind body (acts.Notices side ∷ []) refl (ended desk side body) (ended_walks desk side body))
-
 -- ---- by hand
 
 pub kept_ids : (id : ℕ) (kept : List Record) → is_kept id kept ≡ has_id id (ids_of kept)
@@ -405,18 +372,12 @@ meets_walk w = record { hand = hand_walks w.walk }
 
 removes_by : {New : ℕ → Type 0} (id : ℕ) (body : Body) (test : Bool) → is_kept id body.kept ≡ test → Meets New body (if_kept test (record body { kept = without id body.kept }) (acts.Removes id) body)
 removes_by id body true is = record { hand = hand_kept (without id body.kept) (id_of (held body.outlet)) (id_of (in_held body.intake)) (ids_without id body.kept) (hand_removes (sym (kept_ids id body.kept) ∙ is)) }
-removes_by id body false is = meets_walk (walks_still body)
+removes_by id body false is = meets_walk (record { walk = walk_end })
 
 replaces_by : {New : ℕ → Type 0} (desk : Desk) (old new : ℕ) (body : Body) (test : Bool) → New new → is_kept old body.kept ≡ test
     → Meets New body (if_kept test (record body { kept = with_instead old (plain_record new desk.name None) body.kept }) (acts.Replaces old new) body)
 replaces_by desk old new body true fresh is = record { hand = hand_kept (with_instead old (plain_record new desk.name None) body.kept) (id_of (held body.outlet)) (id_of (in_held body.intake)) (ids_instead old (plain_record new desk.name None) body.kept) (hand_replaces (sym (kept_ids old body.kept) ∙ is) fresh) }
-replaces_by desk old new body false fresh is = meets_walk (walks_still body)
-
-marks_by : (id : ℕ) (quality : Quality) (body : Body) (test : Bool) → Walks body (if_kept test (record body { kept = with_mark id quality body.kept }) (acts.Marks id quality) body)
-marks_by id quality body true = record { walk = subst (λ (ids : List ℕ). Walk (own_of body) (acts.Marks id quality ∷ []) (own_parts ids (id_of (held body.outlet)) (id_of (in_held body.intake)))) (ids_marked id quality body.kept) (walk_on refl walk_end) }
-marks_by id quality body false = walks_still body
-
--- ---- the event
+replaces_by desk old new body false fresh is = meets_walk (record { walk = walk_end })
 
 -- the ids that an event makes
 abbrev pub IsNewFor : (ℕ → Type 0) → Event → Type 0
@@ -424,52 +385,92 @@ IsNewFor New (Insert id barcode) = New id
 IsNewFor New (Replace old new) = New new
 IsNewFor New _ = Unit {0}
 
-fails_walk : (found : Option ℕ) (body : Body) → Walks body (fails found body)
-fails_walk None body = walks_still body
-fails_walk (Some id) body = marks_by id qualities.Failed body (is_kept id body.kept)
+-- ---- the pieces of a step, but by hand and as it announces
 
-tells_walk : (line : SegmentLine) (on : Bool) (body : Body) → Walks body (tells_level line on body)
-tells_walk Ready on body = record { walk = walk_on refl walk_end }
-tells_walk Available on body = record { walk = walk_on refl walk_end }
-tells_walk Failed on body = walks_told body _ refl
+abbrev Moves : Cause → Type 0
+Moves Reading = Unit {0}
+Moves (Hearing side word) = Unit {0}
+Moves (Announcing starting) = ⊥
+Moves (Meeting (Insert id barcode)) = ⊥
+Moves (Meeting (Remove id)) = ⊥
+Moves (Meeting (Replace old new)) = ⊥
+Moves (Meeting event) = Unit {0}
 
-levels_walk : (desk : Desk) (line : SegmentLine) (on : Bool) (body : Body) → Walks body (sets_level desk line on body)
-levels_walk desk line on body =
-    let one : Body = (tells_level line on body).body in
-    walks_both body (tells_level line on body) (λ (b : Body). fails (failed_front desk.bridge line on b) b) (tells_walk line on body)
-    (fails_walk (failed_front desk.bridge line on one) one)
+plain_out : {cause : Cause} {body : Body} {input : OutInput} → ToOutlet cause body input
+    → Moves cause → IsPlain input
+plain_out (out_offer now is) moves = absurd moves
+plain_out _ moves = tt
 
-forecasts_silent : (desk : Desk) (front : Option Record) → are_silent (forecasts desk front) ≡ true
-forecasts_silent desk None = refl
-forecasts_silent desk (Some board) = refl
+plain_in : {desk : Desk} {cause : Cause} {body : Body} {input : InInput}
+    → ToIntake desk cause body input → Moves cause → IsNoStart input
+plain_in (in_start now) moves = absurd moves
+plain_in _ moves = tt
 
-supervision_silent : (desk : Desk) (what : Supervision)
-    → are_silent (supervision_act desk what ∷ []) ≡ true
-supervision_silent desk (Supervise on) = refl
-supervision_silent desk (Ask question) = refl
-supervision_silent desk (Answer query order) = refl
+act_silent : {desk : Desk} {cause : Cause} {body : Body} {act : Act} → TellsAct desk cause body act
+    → is_silent act ≡ true
+act_silent tells_reading = refl
+act_silent _ = refl
 
-event_meets : {New : ℕ → Type 0} (desk : Desk) (event : Event) (body : Body) → IsNewFor New event → Meets New body (event_did desk event body)
-event_meets desk Nothing body new = meets_walk (walks_still body)
-event_meets desk Connect body new = meets_walk (walks_behind body (acts.Connects ∷ []) refl (opens desk Entry body) (session_walks desk Entry body (session_row (session_at Entry body) opened)))
-event_meets desk Accepted body new = meets_walk (session_walks desk Exit body (session_row (session_at Exit body) opened))
-event_meets desk Second body new = meets_walk (session_walks desk Exit body (session_row (session_at Exit body) second))
-event_meets desk (Words side words) body new = meets_walk (heard_walks desk side words body)
-event_meets desk (Notice side) body new = meets_walk (notices_walks desk side body)
-event_meets desk Tick body new = meets_walk (walks_both body (ticks desk Entry body) (ticks desk Exit) (session_walks desk Entry body (session_row (session_at Entry body) tick))
-    (let b = (ticks desk Entry body).body in session_walks desk Exit b (session_row (session_at Exit b) tick)))
-event_meets desk Shutdown body new = meets_walk (walks_both body (shuts_down desk Entry body) (shuts_down desk Exit) (session_walks desk Entry body (session_row (session_at Entry body) shutdown))
-    (let b = (shuts_down desk Entry body).body in session_walks desk Exit b (session_row (session_at Exit b) shutdown)))
-event_meets desk (Fault side) body new = meets_walk (faults_walks desk side body)
-event_meets desk (Will side on) body new = meets_walk (wills_walks side on body)
-event_meets desk (Level line on) body new = meets_walk (levels_walk desk line on body)
-event_meets desk Forecast body new = meets_walk (walks_told body _ (forecasts_silent desk (slice_get body.kept 0)))
-event_meets desk (Query barcode) body new = meets_walk (walks_told body _ refl)
-event_meets desk (Supervised what) body new = meets_walk (walks_told body _ (supervision_silent desk what))
-event_meets desk (Insert id barcode) body new = record { hand = hand_kept (body.kept ++ plain_record id desk.name barcode ∷ []) (id_of (held body.outlet)) (id_of (in_held body.intake)) (ids_behind body.kept (plain_record id desk.name barcode)) (hand_inserts new) }
+marks_walk : (id : ℕ) (quality : Quality) (body : Body)
+    → Walks body (done (with_kept (with_mark id quality body.kept) body) (acts.Marks id quality ∷ []))
+marks_walk id quality body = record {
+  walk =
+      subst (λ (ids : List ℕ). Walk (own_of body) (acts.Marks id quality ∷ [])
+      (own_parts ids (id_of (held body.outlet)) (id_of (in_held body.intake))))
+      (ids_marked id quality body.kept) (walk_on refl walk_end);
+}
+
+hand_walk : {desk : Desk} {event : Event} {body : Body} {kept : List Record} {act : Act}
+    → ByHand desk event body kept act → Moves (Meeting event)
+    → Walks body (done (with_kept kept body) (act ∷ []))
+hand_walk by_insert moves = absurd moves
+hand_walk (by_remove is) moves = absurd moves
+hand_walk (by_replace is) moves = absurd moves
+hand_walk (hand_marks {id = id} {quality = quality} {body = body} is) moves =
+    marks_walk id quality body
+hand_walk (hand_fails {id = id} {body = body} front is) moves =
+    marks_walk id qualities.Failed body
+
+walks : {desk : Desk} {cause : Cause} {body : Body} {d : Done} → Made desk cause body d
+    → Moves cause → Walks body d
+walks made_none moves = record { walk = walk_end }
+walks (made_both one two) moves =
+    record { walk = walk_append (walks one moves).walk (walks two moves).walk }
+walks (made_word is on made) moves = walks made tt
+walks (made_act tells) moves = record { walk = walk_on (act_silent tells) walk_end }
+walks (made_row {side = side} {row = row} {body = body} to shape made) moves =
+    walks_session side row.after body _ (walks made moves)
+walks (made_passed {side = side} {row = row} {body = body} shape first on made) moves =
+    walks_session side row.after body _ (walks made moves)
+walks (made_close talk made) moves = record { walk = walk_on refl (walks made moves).walk }
+walks (made_notice {side = side} {body = body} on made) moves =
+    let k = walks_session side (at_rest (session_at side body).role) body _ (walks made moves) in
+    record { walk = walk_on refl k.walk }
+walks (made_breach {side = side} {body = body} made) moves =
+    let k = walks_session side (at_rest (session_at side body).role) body _ (walks made moves) in
+    record { walk = walk_on refl (walk_on refl (walk_on refl k.walk)) }
+walks {desk = desk} (made_start {id = id} {body = body} says on shape) moves =
+    record { walk = start_walk desk body.intake (would_open body.outlet id) body.kept shape }
+walks {desk = desk} (made_outlet {body = body} to shape) moves =
+    record { walk = row_walk desk body.intake body.kept shape (plain_out to moves) }
+walks {desk = desk} (made_intake {body = body} to shape) moves =
+    record { walk = in_row_walk desk body.outlet body.kept shape (plain_in to moves) }
+walks (made_by_hand hand) moves = hand_walk hand moves
+walks (made_will {side = Entry} sets) moves = record { walk = walk_on refl walk_end }
+walks (made_will {side = Exit} sets) moves = record { walk = walk_on refl walk_end }
+
+event_meets : {New : ℕ → Type 0} (desk : Desk) (event : Event) (body : Body) → IsNewFor New event
+    → Meets New body (event_did desk event body)
+event_meets desk (Insert id barcode) body new = record {
+  hand =
+      hand_kept (body.kept ++ plain_record id desk.name barcode ∷ []) (id_of (held body.outlet))
+      (id_of (in_held body.intake)) (ids_behind body.kept (plain_record id desk.name barcode))
+      (hand_inserts new);
+}
 event_meets desk (Remove id) body new = removes_by id body (is_kept id body.kept) refl
-event_meets desk (Replace old new) body fresh = replaces_by desk old new body (is_kept old body.kept) fresh refl
-event_meets desk (Mark id quality) body new = meets_walk (marks_by id quality body (is_kept id body.kept))
+event_meets desk (Replace old new) body fresh =
+    replaces_by desk old new body (is_kept old body.kept) fresh refl
+event_meets desk event body new = meets_walk (walks (event_made desk event body) tt)
 
 -- ---- the announcements
 
@@ -493,38 +494,33 @@ ready_silent desk outlet kept gets_ready = (refl, refl)
 unready_silent : (desk : Desk) (outlet : OutState) {s : InState} {r : InRow} (kept : List Record) → IsIntakeRow s in_input.Unready r → (are_silent (in_told desk r.act) ≡ true) × (own_by (settled r.act.keep kept) outlet r.after ≡ own_by kept outlet s)
 unready_silent desk outlet kept gets_unready = (refl, refl)
 
-revoke_row_quiet : (desk : Desk) (body : Body) (found : Option OutRow) → outlet_row body.outlet out_input.Revoke ≡ found → Quiet body (outlet_row_did desk body found)
-revoke_row_quiet desk body None is = quiet_still body
-revoke_row_quiet desk body (Some r) is = let two = revoke_silent desk body.intake body.kept (row_is body.outlet out_input.Revoke r is) in record { silent = two.0; same = two.1 }
-
-offer_row_quiet : (desk : Desk) (body : Body) (id : ℕ) (found : Option OutRow) → outlet_row body.outlet (out_input.Offer id) ≡ found → Quiet body (outlet_row_did desk body found)
-offer_row_quiet desk body id None is = quiet_still body
-offer_row_quiet desk body id (Some r) is = let two = offer_silent desk body.intake body.kept (row_is body.outlet (out_input.Offer id) r is) in record { silent = two.0; same = two.1 }
-
-ready_row_quiet : (desk : Desk) (body : Body) (found : Option InRow) → intake_row body.intake in_input.Ready ≡ found → Quiet body (intake_row_did desk body found)
-ready_row_quiet desk body None is = quiet_still body
-ready_row_quiet desk body (Some r) is = let two = ready_silent desk body.outlet body.kept (in_row_is body.intake in_input.Ready r is) in record { silent = two.0; same = two.1 }
-
-unready_row_quiet : (desk : Desk) (body : Body) (found : Option InRow) → intake_row body.intake in_input.Unready ≡ found → Quiet body (intake_row_did desk body found)
-unready_row_quiet desk body None is = quiet_still body
-unready_row_quiet desk body (Some r) is = let two = unready_silent desk body.outlet body.kept (in_row_is body.intake in_input.Unready r is) in record { silent = two.0; same = two.1 }
-
-revoke_quiet : (desk : Desk) (test : Bool) (body : Body) → Quiet body (revoke_by desk test body)
-revoke_quiet desk true body = revoke_row_quiet desk body (outlet_row body.outlet out_input.Revoke) refl
-revoke_quiet desk false body = quiet_still body
-
-unready_quiet : (desk : Desk) (test : Bool) (body : Body) → Quiet body (unready_by desk test body)
-unready_quiet desk true body = unready_row_quiet desk body (intake_row body.intake in_input.Unready) refl
-unready_quiet desk false body = quiet_still body
-
-offer_quiet : (desk : Desk) (test : Bool) (front : Option Record) (body : Body) → Quiet body (offer_by desk test front body)
-offer_quiet desk true (Some front) body = offer_row_quiet desk body front.id (outlet_row body.outlet (out_input.Offer front.id)) refl
-offer_quiet desk true None body = quiet_still body
-offer_quiet desk false front body = quiet_still body
-
-ready_quiet : (desk : Desk) (test : Bool) (body : Body) → Quiet body (ready_by desk test body)
-ready_quiet desk true body = ready_row_quiet desk body (intake_row body.intake in_input.Ready) refl
-ready_quiet desk false body = quiet_still body
+-- all but a start
+quiet : {desk : Desk} {body : Body} {d : Done} → Made desk (Announcing false) body d → Quiet body d
+quiet made_none = record { silent = refl; same = refl }
+quiet (made_both {one = one} {two = two} first next) =
+    let a = quiet first in
+    let b = quiet next in
+    record { silent = both_silent one.acts two.acts a.silent b.silent; same = b.same ∙ a.same }
+quiet (made_act (tells_service talk)) = absurd talk
+quiet (made_act (tells_alive talk)) = absurd talk
+quiet (made_act (tells_notice talk)) = absurd talk
+quiet (made_row to shape made) = elim to [ ]
+quiet (made_close talk made) = absurd talk
+quiet (made_outlet (out_closed talk) shape) = absurd talk
+quiet {desk = desk} (made_outlet {body = body} (out_revoke now) shape) =
+    let two = revoke_silent desk body.intake body.kept shape in
+    record { silent = two.0; same = two.1 }
+quiet {desk = desk} (made_outlet {body = body} (out_offer now is) shape) =
+    let two = offer_silent desk body.intake body.kept shape in
+    record { silent = two.0; same = two.1 }
+quiet (made_intake (in_closed talk) shape) = absurd talk
+quiet (made_intake (in_stand talk) shape) = absurd talk
+quiet {desk = desk} (made_intake {body = body} (in_unready now) shape) =
+    let two = unready_silent desk body.outlet body.kept shape in
+    record { silent = two.0; same = two.1 }
+quiet {desk = desk} (made_intake {body = body} (in_ready now) shape) =
+    let two = ready_silent desk body.outlet body.kept shape in
+    record { silent = two.0; same = two.1 }
 
 record Tells (body : Body) (d : Done) : Type 0 where
   says : Announces (own_of body) d.acts (own_of d.body)
@@ -532,16 +528,24 @@ record Tells (body : Body) (d : Done) : Type 0 where
 start_says : (desk : Desk) (outlet : OutState) {s : InState} {r : InRow} (kept : List Record) → IsIntakeRow s in_input.Start r → Announces (own_by kept outlet s) (in_told desk r.act) (own_by (settled r.act.keep kept) outlet r.after)
 start_says desk outlet kept starts_transport = says_start refl
 
-start_row_tells : (desk : Desk) (body : Body) (found : Option InRow) → intake_row body.intake in_input.Start ≡ found → Tells body (intake_row_did desk body found)
+start_row_tells : (desk : Desk) (body : Body) (found : Option InRow)
+    → intake_row body.intake in_input.Start ≡ found → Tells body (intake_row_did desk body found)
 start_row_tells desk body None is = record { says = says_last refl }
-start_row_tells desk body (Some r) is = record { says = start_says desk body.outlet body.kept (in_row_is body.intake in_input.Start r is) }
+start_row_tells desk body (Some r) is =
+    record { says = start_says desk body.outlet body.kept (in_row_is body.intake in_input.Start r is) }
 
 start_tells : (desk : Desk) (test : Bool) (body : Body) → Tells body (start_by desk test body)
 start_tells desk true body = start_row_tells desk body (intake_row body.intake in_input.Start) refl
 start_tells desk false body = record { says = says_last refl }
 
-tells_both : (body : Body) (first : Done) (next : Body → Done) → Quiet body first → Tells first.body (next first.body) → Tells body (and_then first next)
-tells_both body first next a b = record { says = says_more first.acts (next first.body).acts a.silent (subst (λ (own : Own). Announces own (next first.body).acts (own_of (next first.body).body)) a.same b.says) }
+tells_both : (body : Body) (first : Done) (next : Body → Done) → Quiet body first
+    → Tells first.body (next first.body) → Tells body (and_then first next)
+tells_both body first next a b = record {
+  says =
+      says_more first.acts (next first.body).acts a.silent
+      (subst (λ (own : Own). Announces own (next first.body).acts (own_of (next first.body).body))
+      a.same b.says);
+}
 
 announces_tells : (desk : Desk) (body : Body) → Tells body (announces desk body)
 announces_tells desk body =
@@ -549,10 +553,17 @@ announces_tells desk body =
     let two = (unready desk one).body in
     let three = (offer desk two).body in
     let four = (ready desk three).body in
-    tells_both body (revoke desk body) (λ (b : Body). and_then (unready desk b) (λ c. and_then (offer desk c) (λ d. and_then (ready desk d) (start desk)))) (revoke_quiet desk (revokes_now body) body)
-    (tells_both one (unready desk one) (λ (c : Body). and_then (offer desk c) (λ d. and_then (ready desk d) (start desk))) (unready_quiet desk (unreadies_now desk one) one)
-    (tells_both two (offer desk two) (λ (d : Body). and_then (ready desk d) (start desk)) (offer_quiet desk (offers_now two) (slice_get two.kept 0) two)
-    (tells_both three (ready desk three) (start desk) (ready_quiet desk (readies_now desk three) three) (start_tells desk (starts_now four) four))))
+    tells_both body (revoke desk body) (λ (b : Body). and_then (unready desk b) (λ c.
+    and_then (offer desk c) (λ d. and_then (ready desk d) (start desk))))
+    (quiet (revoke_made desk (revokes_now body) body refl))
+    (tells_both one (unready desk one) (λ (c : Body). and_then (offer desk c) (λ d.
+    and_then (ready desk d) (start desk)))
+    (quiet (unready_made desk (unreadies_now desk one) one refl))
+    (tells_both two (offer desk two) (λ (d : Body). and_then (ready desk d) (start desk))
+    (quiet (offer_made desk (offers_now two) (slice_get two.kept 0) two refl refl))
+    (tells_both three (ready desk three) (start desk)
+    (quiet (ready_made desk (readies_now desk three) three refl))
+    (start_tells desk (starts_now four) four))))
 
 -- ---- the step, but for what the supervisor is told
 
@@ -563,12 +574,4 @@ pub step_did : {New : ℕ → Type 0} (desk : Desk) (unread : List Seen) (event 
 step_did desk unread event body new =
     let one = (all_read desk unread body).body in
     let two = (event_did desk event one).body in
-    did (all_read desk unread body).acts (event_did desk event one).acts (announces desk two).acts (all_read_walks desk unread body).walk (event_meets desk event one new).hand (announces_tells desk two).says
-
-pub silent_by : (one front both : Bool) → (one && front) ≡ true → (front ≡ true → both ≡ true) → (one && both) ≡ true
-silent_by true front both is next = next is
-silent_by false front both is next = cc
-
-pub both_silent : (first rest : List Act) → are_silent first ≡ true → are_silent rest ≡ true → are_silent (first ++ rest) ≡ true
-both_silent [] rest one other = other
-both_silent (act ∷ first) rest one other = silent_by (is_silent act) (are_silent first) (are_silent (first ++ rest)) one (λ is. both_silent first rest is other)
+    did (all_read desk unread body).acts (event_did desk event one).acts (announces desk two).acts (walks (all_read_made desk unread body) tt).walk (event_meets desk event one new).hand (announces_tells desk two).says

@@ -1,15 +1,13 @@
 -- What a machine owns goes from place to place as the acts of an event say, of which none is of a
 -- sensor: so nothing leaves the exit and nothing is lost there, nothing starts, and a board that
--- is dropped was dropped as its sensor had seen it before. One lemma for each definition of the
--- event, in the order of the definitions.
+-- is dropped was dropped as its sensor had seen it before. So it is of each piece of
+-- which the event is made.
 use Rattle.std.proofs.Common.{
-  if◌then◌else◌,
   ◌&&◌,
   subst,
   ◌≡◌,
   ◌∙◌,
   ◌++◌,
-  ◌==◌,
   ℕ,
   Bool,
   true,
@@ -25,7 +23,7 @@ use Rattle.std.proofs.Common.{
   ap,
   append_assoc,
 }
-use Rattle.std.specs.Prelude.{is_some, slice_get}
+use Rattle.std.specs.Prelude.{slice_get}
 use Rattle.std.specs.List.{list_all}
 use Rattle.std.proofs.lemmas.Bool.{and_parts}
 use Rattle.node_core.proofs.Sound.{ids_behind}
@@ -40,29 +38,14 @@ use Rattle.line_base.specs.declared.states.Transfer.{Transfer}
 use Rattle.line_base.specs.declared.states.Transfer.TheVariants as said
 use Rattle.board_record.specs.declared.record.Record.{Record}
 use Rattle.board_record.specs.Record.{plain_record}
-use Rattle.hermes_horizontal.specs.declared.message.Message.{Message}
-use Rattle.hermes_horizontal.specs.Parts.{kind_of}
-use Rattle.session_core.specs.declared.actions.Action.{Action}
-use Rattle.session_core.specs.declared.actions.Actions.{Actions}
-use Rattle.session_core.specs.declared.actions.Action.TheVariants.{
-  SendService,
-  Pong,
-  Ping,
-  Tell,
-  Close,
-  Stand,
-  Pass,
-}
-use Rattle.session_core.specs.Breach.{unexpected}
 use Rattle.session_core.specs.End.{SessionEnd, at_rest}
-use Rattle.session_core.specs.Input.{heard, opened, second, tick, shutdown}
-use Rattle.session_core.specs.Row.{SessionRow, session_row}
+use Rattle.session_core.specs.Input.{heard}
 use Rattle.transfer_state.specs.declared.intake.InEnd.TheVariants.{Keep, Drop, Wait}
 use Rattle.transfer_state.specs.Intake.{in_ends}
 use Rattle.handover_out.specs.declared.input.OutInput.{OutInput}
 use Rattle.handover_out.specs.declared.input.OutInput.TheVariants as out_input
 use Rattle.handover_out.specs.State.{OutState, held, would_open}
-use Rattle.handover_out.specs.Row.{OutRow, outlet_row}
+use Rattle.handover_out.specs.Row.{OutRow}
 use Rattle.handover_out.specs.Table.{
   IsOutletRow,
   opens as out_opens,
@@ -84,7 +67,6 @@ use Rattle.handover_out.specs.Table.{
   offers,
   revokes,
 }
-use Rattle.handover_out.proofs.Rows.{row_is}
 use Rattle.handover_in.specs.declared.input.InInput.{InInput}
 use Rattle.handover_in.specs.declared.input.InInput.TheVariants as in_input
 use Rattle.handover_in.specs.declared.phase.Phase.{Phase as InPhase}
@@ -125,101 +107,106 @@ use Rattle.handover_in.proofs.Rows.{row_is as in_row_is}
 use Rattle.node_core.specs.Desk.{Desk}
 use Rattle.node_core.specs.declared.act.Act.{Act}
 use Rattle.node_core.specs.declared.act.Act.TheVariants as acts
+use Rattle.node_core.specs.declared.act.Setting.{Setting}
 use Rattle.node_core.specs.declared.act.Deed.TheVariants as deeds
 use Rattle.node_core.specs.declared.lane.Body.{Body}
-use Rattle.node_core.specs.declared.word.Word.{Word}
-use Rattle.node_core.specs.declared.word.Word.TheVariants.{Says, Wrong}
-use Rattle.node_core.specs.declared.word.ExitWord.{ExitWord}
-use Rattle.node_core.specs.declared.word.ExitWord.TheVariants as exits
-use Rattle.node_core.specs.declared.word.EntryWord.{EntryWord}
-use Rattle.node_core.specs.declared.word.EntryWord.TheVariants as entries
 use Rattle.node_core.specs.Done.{Done, done, stays, behind, and_then}
 use Rattle.node_core.specs.Told.{out_told, in_told, sends, notification}
-use Rattle.node_core.specs.Sides.{session_at, with_session, is_open}
+use Rattle.node_core.specs.Sides.{session_at, with_session}
 use Rattle.node_core.specs.Halves.{
   given_back,
   settled,
-  outlet_row_did,
   intake_row_did,
-  half_closed,
-  ended,
   opening_board,
   behind_opening,
 }
-use Rattle.node_core.specs.Session.{action_did, maybe_did, actions_did, session_did, breaches}
-use Rattle.node_core.specs.Hears.{
-  rowed,
-  taken,
-  passed,
-  exit_took,
-  entry_took,
-  outlet_took,
-  intake_took,
-  exit_word,
-  entry_word,
-}
-use Rattle.node_core.specs.Words.{word_did, all_heard}
-use Rattle.node_core.specs.Connect.{if_open, opens, notices, ticks, shuts_down}
-use Rattle.node_core.specs.Boards.{
-  without,
-  with_instead,
-  with_mark,
-  is_kept,
-  if_kept,
-  faults,
-  wills,
-}
+use Rattle.node_core.specs.Boards.{without, with_instead, with_mark, is_kept, if_kept, with_kept}
 use Rattle.node_core.specs.Announces.{
   revokes_now,
-  revoke_by,
   revoke,
   unreadies_now,
-  unready_by,
   unready,
   offers_now,
-  offer_by,
   offer,
   readies_now,
-  ready_by,
   ready,
   starts_now,
   start_by,
   start,
   announces,
 }
-use Rattle.node_core.specs.Event.{
-  Event,
-  Nothing,
-  Connect,
-  Accepted,
-  Second,
-  Words,
-  Notice,
-  Tick,
-  Shutdown,
-  Fault,
-  Will,
-  Insert,
-  Remove,
-  Replace,
-  Mark,
-  event_did,
-  Level,
-  Forecast,
-  Query,
-  Supervised,
-}
+use Rattle.node_core.specs.Event.{Event, Insert, Remove, Replace, event_did, Supervised}
 use Rattle.node_core.specs.Supervising.{Supervision, supervision_act}
 use Rattle.node_core.specs.Own.{with_id_instead, without_id, Own, own_by, own_of, ids_of, id_of}
-use Rattle.node_core.specs.Bridge.{failed_front, fails, sets_level, tells_level}
-use Rattle.node_core.specs.Information.{forecasts}
-use Rattle.smema_bridge.specs.declared.line.SegmentLine.{SegmentLine}
-use Rattle.smema_bridge.specs.declared.line.SegmentLine.TheVariants.{Available, Failed, Ready}
+use Rattle.smema_bridge.specs.declared.line.SegmentLine.TheVariants.{Failed, Ready}
 use Rattle.standings.specs.Marks.{has_id}
-use Rattle.one_standing.proofs.LedgerWalk.{is_silent, kept_ids, own_parts, ids_without, ids_instead, ids_marked, silent_by}
+use Rattle.one_standing.proofs.LedgerWalk.{
+  is_silent,
+  kept_ids,
+  own_parts,
+  ids_without,
+  ids_instead,
+  ids_marked,
+  silent_by,
+}
 use Rattle.line_history.proofs.OfferingStep.{IsNoHand}
 use Rattle.line_history.proofs.Stepping.{IsJustStarted}
 use Rattle.supervisor_replay.proofs.Tells.{is_quiet}
+use Rattle.step_rules.specs.Causes.{
+  Announcing,
+  ByHand,
+  Cause,
+  Hearing,
+  Meeting,
+  Reading,
+  SetsWill,
+  Tells as TellsAct,
+  ToIntake,
+  ToOutlet,
+  hand_fails,
+  hand_inserts,
+  hand_marks,
+  hand_removes,
+  hand_replaces,
+  in_closed,
+  in_ready,
+  in_sensed,
+  in_stand,
+  in_start,
+  in_unready,
+  out_closed,
+  out_offer,
+  out_revoke,
+  out_sensed,
+  tells_alive,
+  tells_answer,
+  tells_notice,
+  tells_question,
+  tells_reading,
+  tells_service,
+  tells_supervise,
+  will_available,
+  will_itself,
+  will_ready,
+}
+use Rattle.step_rules.specs.Made.{
+  Made,
+  made_act,
+  made_both,
+  made_breach,
+  made_by_hand,
+  made_close,
+  made_intake,
+  made_none,
+  made_notice,
+  made_outlet,
+  made_passed,
+  made_row,
+  made_start,
+  made_will,
+  made_word,
+}
+use Rattle.step_rules.proofs.Steps.{event_made, offer_made, ready_made, revoke_made, unready_made}
 
 -- ---- acts that move no record, and of which nothing is told
 
@@ -495,234 +482,6 @@ in_row_goes desk outlet kept (closed_gone {heard = true}) plain = turn_quiet _ _
 in_row_goes desk outlet kept (closed_gone {heard = false}) plain = turn_quiet _ _ _ refl
 in_row_goes desk outlet kept _ plain = turn_quiet _ _ _ refl
 
-outlet_goes : (desk : Desk) (body : Body) (input : OutInput) (found : Option OutRow)
-    → IsMetOut input → outlet_row body.outlet input ≡ found
-    → Goes body (outlet_row_did desk body found)
-outlet_goes desk body input None plain is = goes_still body
-outlet_goes desk body input (Some r) plain is =
-    record {
-      turn = record {
-        course = row_goes desk body.intake body.kept
-            (row_is body.outlet input r is) plain;
-        keeps = seen_same;
-      };
-    }
-
-intake_goes : (desk : Desk) (body : Body) (input : InInput) (found : Option InRow) → IsMetIn input
-    → intake_row body.intake input ≡ found → Goes body (intake_row_did desk body found)
-intake_goes desk body input None plain is = goes_still body
-intake_goes desk body input (Some r) plain is =
-    record {
-      turn = in_row_goes desk body.outlet body.kept
-          (in_row_is body.intake input r is) plain;
-    }
-
-at_outlet_goes : (desk : Desk) (input : OutInput) (body : Body) → IsMetOut input
-    → Goes body (outlet_row_did desk body (outlet_row body.outlet input))
-at_outlet_goes desk input body plain =
-    outlet_goes desk body input (outlet_row body.outlet input) plain refl
-
-at_intake_goes : (desk : Desk) (input : InInput) (body : Body) → IsMetIn input
-    → Goes body (intake_row_did desk body (intake_row body.intake input))
-at_intake_goes desk input body plain =
-    intake_goes desk body input (intake_row body.intake input) plain refl
-
-half_closed_goes : (desk : Desk) (side : Side) (body : Body)
-    → Goes body (half_closed desk side body)
-half_closed_goes desk Entry body = at_intake_goes desk in_input.Closed body tt
-half_closed_goes desk Exit body = at_outlet_goes desk out_input.Closed body tt
-
-ended_goes : (desk : Desk) (side : Side) (body : Body) → Goes body (ended desk side body)
-ended_goes desk side body =
-    goes_session side (at_rest (session_at side body).role) body (ended desk side body)
-    (half_closed_goes desk side (with_session side (at_rest (session_at side body).role) body))
-
--- ---- sessions
-
-action_goes : (desk : Desk) (side : Side) (action : Action) (body : Body)
-    → Goes body (action_did desk side action body)
-action_goes desk side SendService body = goes_told body _ refl
-action_goes desk side (Pong _) body = goes_told body _ refl
-action_goes desk side (Ping _) body = goes_told body _ refl
-action_goes desk side (Tell _) body = goes_told body _ refl
-action_goes desk side Close body =
-    goes_behind body (acts.Closes side ∷ []) refl (half_closed desk side body)
-    (half_closed_goes desk side body)
-action_goes desk side Stand body = at_intake_goes desk in_input.Stand body tt
-action_goes desk side (Pass _) body = goes_still body
-
-maybe_goes : (desk : Desk) (side : Side) (action : Option Action) (body : Body)
-    → Goes body (maybe_did desk side action body)
-maybe_goes desk side None body = goes_still body
-maybe_goes desk side (Some action) body = action_goes desk side action body
-
-actions_goes : (desk : Desk) (side : Side) (actions : Actions) (body : Body)
-    → Goes body (actions_did desk side actions body)
-actions_goes desk side actions body =
-    let one = maybe_did desk side actions.first body in
-    goes_both body one (λ (b : Body). and_then (maybe_did desk side actions.second b)
-    (maybe_did desk side actions.third)) (maybe_goes desk side actions.first body)
-    (goes_both one.body (maybe_did desk side actions.second one.body)
-    (maybe_did desk side actions.third) (maybe_goes desk side actions.second one.body)
-    (maybe_goes desk side actions.third (maybe_did desk side actions.second one.body).body))
-
-session_goes : (desk : Desk) (side : Side) (body : Body) (found : Option SessionRow)
-    → Goes body (session_did desk side found body)
-session_goes desk side body None = goes_still body
-session_goes desk side body (Some r) =
-    goes_session side r.after body (session_did desk side (Some r) body)
-    (actions_goes desk side r.actions (with_session side r.after body))
-
-breaches_goes : (desk : Desk) (side : Side) (text : List ℕ) (body : Body)
-    → Goes body (breaches desk side text body)
-breaches_goes desk side text body =
-    goes_behind body (acts.Breaches side text ∷ (sends desk side (notification 1 Fatal text)
-    ++ acts.Closes side ∷ [])) refl (ended desk side body) (ended_goes desk side body)
-
--- ---- messages
-
--- what a half took, if it has a row
-data GoesAny (body : Body) : Option Done → Type 0 where
-  goes_none : GoesAny body None
-  goes_some : {d : Done} → Goes body d → GoesAny body (Some d)
-
-outlet_took_goes : (desk : Desk) (body : Body) (input : OutInput) (found : Option OutRow)
-    → IsMetOut input → outlet_row body.outlet input ≡ found
-    → GoesAny body (outlet_took desk body found)
-outlet_took_goes desk body input None plain is = goes_none
-outlet_took_goes desk body input (Some r) plain is =
-    goes_some (outlet_goes desk body input (Some r) plain is)
-
-start_took_goes : (desk : Desk) (body : Body) (named : ℕ) (opening : Bool) (found : Option OutRow)
-    → outlet_row body.outlet (out_input.Start named (opening_board opening body.kept)) ≡ found
-    → GoesAny body
-    (outlet_took desk (record body { kept = behind_opening opening body.kept }) found)
-start_took_goes desk body named opening None is = goes_none
-start_took_goes desk body named opening (Some r) is =
-    goes_some
-    (record {
-      turn = record {
-        course = start_goes desk body.intake opening body.kept
-            (row_is body.outlet (out_input.Start named (opening_board opening body.kept)) r is);
-        keeps = seen_same;
-      };
-    })
-
-exit_goes : (desk : Desk) (word : ExitWord) (body : Body) → GoesAny body (exit_took desk word body)
-exit_goes desk exits.Ready body =
-    outlet_took_goes desk body out_input.MachineReady
-    (outlet_row body.outlet out_input.MachineReady) tt refl
-exit_goes desk exits.Unready body =
-    outlet_took_goes desk body out_input.RevokeMachineReady
-    (outlet_row body.outlet out_input.RevokeMachineReady) tt refl
-exit_goes desk (exits.Start named) body =
-    start_took_goes desk body named (would_open body.outlet named)
-    (outlet_row body.outlet
-    (out_input.Start named (opening_board (would_open body.outlet named) body.kept))) refl
-exit_goes desk (exits.Stop state named) body =
-    outlet_took_goes desk body (out_input.Stop state named)
-    (outlet_row body.outlet (out_input.Stop state named)) tt refl
-exit_goes desk (exits.Query top bottom) body = goes_some (goes_told body _ refl)
-exit_goes desk exits.Nothing body = goes_some (goes_still body)
-
-intake_took_goes : (desk : Desk) (body : Body) (input : InInput) (found : Option InRow)
-    → IsMetIn input → intake_row body.intake input ≡ found
-    → GoesAny body (intake_took desk body found)
-intake_took_goes desk body input None plain is = goes_none
-intake_took_goes desk body input (Some r) plain is =
-    goes_some (intake_goes desk body input (Some r) plain is)
-
-entry_goes : (desk : Desk) (word : EntryWord) (body : Body)
-    → GoesAny body (entry_took desk word body)
-entry_goes desk (entries.Available board) body =
-    intake_took_goes desk body (in_input.BoardAvailable board)
-    (intake_row body.intake (in_input.BoardAvailable board)) tt refl
-entry_goes desk entries.Revoked body =
-    intake_took_goes desk body in_input.RevokeBoardAvailable
-    (intake_row body.intake in_input.RevokeBoardAvailable) tt refl
-entry_goes desk (entries.Finished state named) body =
-    intake_took_goes desk body (in_input.Finished state named)
-    (intake_row body.intake (in_input.Finished state named)) tt refl
-entry_goes desk entries.Nothing body = goes_some (goes_still body)
-
-passed_goes : (desk : Desk) (side : Side) (message : Message) (body : Body) (found : Option Done)
-    → GoesAny body found → Goes body (passed desk side message body found)
-passed_goes desk side message body None k =
-    breaches_goes desk side (unexpected (kind_of message.body)) body
-passed_goes desk side message body (Some d) (goes_some k) =
-    goes_behind body (acts.Hears side message ∷ []) refl d k
-
-heard_by_session : (desk : Desk) (side : Side) (message : Message) (actions : Actions)
-    (body : Body)
-    → Goes body (behind (acts.Hears side message ∷ []) (actions_did desk side actions body))
-heard_by_session desk side message actions body =
-    goes_behind body (acts.Hears side message ∷ []) refl (actions_did desk side actions body)
-    (actions_goes desk side actions body)
-
-taken_goes : (desk : Desk) (side : Side) (message : Message) (first : Option Action)
-    (actions : Actions) (body : Body) → Goes body (taken desk side message first actions body)
-taken_goes desk Entry message (Some (Pass what)) actions body =
-    passed_goes desk Entry message body (entry_took desk (entry_word what) body)
-    (entry_goes desk (entry_word what) body)
-taken_goes desk Exit message (Some (Pass what)) actions body =
-    passed_goes desk Exit message body (exit_took desk (exit_word what) body)
-    (exit_goes desk (exit_word what) body)
-taken_goes desk side message None actions body = heard_by_session desk side message actions body
-taken_goes desk side message (Some SendService) actions body =
-    heard_by_session desk side message actions body
-taken_goes desk side message (Some (Pong _)) actions body =
-    heard_by_session desk side message actions body
-taken_goes desk side message (Some (Ping _)) actions body =
-    heard_by_session desk side message actions body
-taken_goes desk side message (Some (Tell _)) actions body =
-    heard_by_session desk side message actions body
-taken_goes desk side message (Some Close) actions body =
-    heard_by_session desk side message actions body
-taken_goes desk side message (Some Stand) actions body =
-    heard_by_session desk side message actions body
-
-rowed_goes : (desk : Desk) (side : Side) (message : Message) (body : Body)
-    (found : Option SessionRow) → Goes body (rowed desk side message body found)
-rowed_goes desk side message body None =
-    breaches_goes desk side (unexpected (kind_of message.body)) body
-rowed_goes desk side message body (Some r) =
-    goes_session side r.after body (rowed desk side message body (Some r))
-    (taken_goes desk side message r.actions.first r.actions (with_session side r.after body))
-
-word_goes : (desk : Desk) (side : Side) (word : Word) (body : Body)
-    → Goes body (word_did desk side word body)
-word_goes desk side (Says message) body =
-    rowed_goes desk side message body
-    (session_row (session_at side body) (heard message.body (is_some (held body.outlet))))
-word_goes desk side (Wrong text) body = breaches_goes desk side text body
-
-if_goes : (test : Bool) (d : Done) (body : Body) → Goes body d → Goes body (if_open test d body)
-if_goes true d body k = k
-if_goes false d body k = goes_still body
-
-heard_goes : (desk : Desk) (side : Side) (words : List Word) (body : Body)
-    → Goes body (all_heard desk side words body)
-heard_goes desk side [] body = goes_still body
-heard_goes desk side (w ∷ ws) body =
-    if_goes (is_open side body)
-    (and_then (word_did desk side w body) (all_heard desk side ws)) body
-    (goes_both body (word_did desk side w body) (all_heard desk side ws)
-    (word_goes desk side w body) (heard_goes desk side ws (word_did desk side w body).body))
-
-wills_goes : (side : Side) (on : Bool) (body : Body) → Goes body (wills side on body)
-wills_goes Entry on body = record { turn = turn_quiet _ _ _ refl }
-wills_goes Exit on body = record { turn = turn_quiet _ _ _ refl }
-
-faults_goes : (desk : Desk) (side : Side) (body : Body) → Goes body (faults desk side body)
-faults_goes desk Entry body = at_intake_goes desk in_input.Fault body tt
-faults_goes desk Exit body = at_outlet_goes desk out_input.Fault body tt
-
-notices_goes : (desk : Desk) (side : Side) (body : Body) → Goes body (notices desk side body)
-notices_goes desk side body =
-    if_goes (is_open side body) (behind (acts.Notices side ∷ []) (ended desk side body)) body
-    (goes_behind body (acts.Notices side ∷ []) refl (ended desk side body)
-    (ended_goes desk side body))
-
 -- ---- by hand
 
 -- what becomes of a machine as it meets an event
@@ -782,10 +541,48 @@ replaces_by desk old new body true is =
     }
 replaces_by desk old new body false is = meets_calm (calm_course (goes_still body))
 
-marks_by : (id : ℕ) (quality : Quality) (body : Body) (test : Bool)
-    → Goes body (if_kept test (record body { kept = with_mark id quality body.kept })
-    (acts.Marks id quality) body)
-marks_by id quality body true = record {
+-- ---- the pieces of an event, but by hand
+
+abbrev IsMet : Cause → Type 0
+IsMet Reading = ⊥
+IsMet (Hearing side word) = Unit {0}
+IsMet (Announcing starting) = ⊥
+IsMet (Meeting (Insert id barcode)) = ⊥
+IsMet (Meeting (Remove id)) = ⊥
+IsMet (Meeting (Replace old new)) = ⊥
+IsMet (Meeting (Supervised what)) = ⊥
+IsMet (Meeting event) = Unit {0}
+
+met_out : {cause : Cause} {body : Body} {input : OutInput} → ToOutlet cause body input
+    → IsMet cause → IsMetOut input
+met_out out_sensed met = absurd met
+met_out (out_offer now is) met = absurd met
+met_out _ met = tt
+
+met_in : {desk : Desk} {cause : Cause} {body : Body} {input : InInput}
+    → ToIntake desk cause body input → IsMet cause → IsMetIn input
+met_in in_sensed met = absurd met
+met_in (in_start now) met = absurd met
+met_in _ met = tt
+
+act_aside : {desk : Desk} {cause : Cause} {body : Body} {act : Act}
+    → TellsAct desk cause body act → IsMet cause → are_aside (act ∷ []) ≡ true
+act_aside tells_reading met = absurd met
+act_aside tells_supervise met = absurd met
+act_aside tells_question met = absurd met
+act_aside tells_answer met = absurd met
+act_aside _ met = refl
+
+set_aside : {event : Event} {side : Side} {on : Bool} {setting : Setting}
+    → SetsWill event side on setting → are_aside (acts.Sets setting ∷ []) ≡ true
+set_aside will_itself = refl
+set_aside will_ready = refl
+set_aside will_available = refl
+
+marks_goes : (id : ℕ) (quality : Quality) (body : Body)
+    → Goes body (done (with_kept (with_mark id quality body.kept) body)
+    (acts.Marks id quality ∷ []))
+marks_goes id quality body = record {
   turn = record {
     course = subst
         (λ (ids : List ℕ). Course (seen_of body) (own_of body) (acts.Marks id quality ∷ [])
@@ -794,90 +591,81 @@ marks_by id quality body true = record {
     keeps = seen_same;
   };
 }
-marks_by id quality body false = goes_still body
+
+hand_goes : {desk : Desk} {event : Event} {body : Body} {kept : List Record} {act : Act}
+    → ByHand desk event body kept act → IsMet (Meeting event)
+    → Goes body (done (with_kept kept body) (act ∷ []))
+hand_goes hand_inserts met = absurd met
+hand_goes (hand_removes is) met = absurd met
+hand_goes (hand_replaces is) met = absurd met
+hand_goes (hand_marks {id = id} {quality = quality} {body = body} is) met =
+    marks_goes id quality body
+hand_goes (hand_fails {id = id} {body = body} front is) met = marks_goes id qualities.Failed body
+
+goes : {desk : Desk} {cause : Cause} {body : Body} {d : Done} → Made desk cause body d
+    → IsMet cause → Goes body d
+goes {body = body} made_none met = goes_still body
+goes (made_both one two) met = record { turn = turn_both (goes one met).turn (goes two met).turn }
+goes (made_word is on made) met = goes made tt
+goes {body = body} (made_act {act = act} tells) met =
+    goes_told body (act ∷ []) (act_aside tells met)
+goes (made_row {side = side} {row = row} {body = body} to shape made) met =
+    goes_session side row.after body _ (goes made met)
+goes (made_passed {side = side} {row = row} {body = body} shape first on made) met =
+    goes_session side row.after body _ (goes made met)
+goes {body = body} (made_close {side = side} talk made) met =
+    goes_behind body (acts.Closes side ∷ []) refl _ (goes made met)
+goes (made_notice {side = side} {body = body} on made) met =
+    goes_behind body (acts.Notices side ∷ []) refl _
+    (goes_session side (at_rest (session_at side body).role) body _ (goes made met))
+goes {desk = desk} (made_breach {side = side} {text = text} {body = body} made) met =
+    goes_behind body (acts.Breaches side text ∷ (sends desk side (notification 1 Fatal text)
+    ++ acts.Closes side ∷ [])) refl _
+    (goes_session side (at_rest (session_at side body).role) body _ (goes made met))
+goes {desk = desk} (made_start {id = id} {body = body} says on shape) met = record {
+  turn = record {
+    course = start_goes desk body.intake (would_open body.outlet id) body.kept shape;
+    keeps = seen_same;
+  };
+}
+goes {desk = desk} (made_outlet {body = body} to shape) met = record {
+  turn = record {
+    course = row_goes desk body.intake body.kept shape (met_out to met);
+    keeps = seen_same;
+  };
+}
+goes {desk = desk} (made_intake {body = body} to shape) met =
+    record { turn = in_row_goes desk body.outlet body.kept shape (met_in to met) }
+goes (made_by_hand hand) met = hand_goes hand met
+goes (made_will {side = Entry} {setting = setting} {body = body} sets) met =
+    record {
+      turn = turn_quiet (seen_of body) (own_of body) (acts.Sets setting ∷ []) (set_aside sets);
+    }
+goes (made_will {side = Exit} {setting = setting} {body = body} sets) met =
+    record {
+      turn = turn_quiet (seen_of body) (own_of body) (acts.Sets setting ∷ []) (set_aside sets);
+    }
 
 -- ---- THE EVENT
-
-fails_goes : (found : Option ℕ) (body : Body) → Goes body (fails found body)
-fails_goes None body = goes_still body
-fails_goes (Some id) body = marks_by id qualities.Failed body (is_kept id body.kept)
-
-tells_goes : (line : SegmentLine) (on : Bool) (body : Body) → Goes body (tells_level line on body)
-tells_goes Ready on body = record { turn = turn_quiet _ _ _ refl }
-tells_goes Available on body = record { turn = turn_quiet _ _ _ refl }
-tells_goes Failed on body = goes_told body _ refl
-
-levels_goes : (desk : Desk) (line : SegmentLine) (on : Bool) (body : Body)
-    → Goes body (sets_level desk line on body)
-levels_goes desk line on body =
-    let one : Body = (tells_level line on body).body in
-    goes_both body (tells_level line on body)
-    (λ (b : Body). fails (failed_front desk.bridge line on b) b) (tells_goes line on body)
-    (fails_goes (failed_front desk.bridge line on one) one)
-
-forecasts_quiet : (desk : Desk) (front : Option Record) → are_aside (forecasts desk front) ≡ true
-forecasts_quiet desk None = refl
-forecasts_quiet desk (Some board) = refl
 
 -- that is no change by hand
 pub event_calm : (desk : Desk) (event : Event) (body : Body) → IsNoHand event
     → Calms body (event_did desk event body)
-event_calm desk Nothing body plain = calm_course (goes_still body)
-event_calm desk Connect body plain =
-    calm_course (goes_behind body (acts.Connects ∷ []) refl (opens desk Entry body)
-    (session_goes desk Entry body (session_row (session_at Entry body) opened)))
-event_calm desk Accepted body plain =
-    calm_course (session_goes desk Exit body (session_row (session_at Exit body) opened))
-event_calm desk Second body plain =
-    calm_course (session_goes desk Exit body (session_row (session_at Exit body) second))
-event_calm desk (Words side words) body plain = calm_course (heard_goes desk side words body)
-event_calm desk (Notice side) body plain = calm_course (notices_goes desk side body)
-event_calm desk Tick body plain =
-    calm_course
-    (goes_both body (ticks desk Entry body) (ticks desk Exit)
-    (session_goes desk Entry body (session_row (session_at Entry body) tick))
-    (let b = (ticks desk Entry body).body in session_goes desk Exit b
-    (session_row (session_at Exit b) tick)))
-event_calm desk Shutdown body plain =
-    calm_course (goes_both body (shuts_down desk Entry body) (shuts_down desk Exit)
-    (session_goes desk Entry body (session_row (session_at Entry body) shutdown))
-    (let b = (shuts_down desk Entry body).body in session_goes desk Exit b
-    (session_row (session_at Exit b) shutdown)))
-event_calm desk (Fault side) body plain = calm_course (faults_goes desk side body)
-event_calm desk (Will side on) body plain = calm_course (wills_goes side on body)
-event_calm desk Forecast body plain =
-    calm_course (goes_told body _ (forecasts_quiet desk (slice_get body.kept 0)))
-event_calm desk (Query barcode) body plain = calm_course (goes_told body _ refl)
 event_calm desk (Supervised what) body plain =
     record { calm = calm_asks desk what; keeps = seen_same }
-event_calm desk (Level line on) body plain = absurd plain
 event_calm desk (Insert id barcode) body plain = absurd plain
 event_calm desk (Remove id) body plain = absurd plain
 event_calm desk (Replace old new) body plain = absurd plain
-event_calm desk (Mark id quality) body plain = absurd plain
+event_calm desk event body plain = calm_course (goes (event_made desk event body) tt)
 
 pub event_meets : (desk : Desk) (event : Event) (body : Body)
     → Meets body (event_did desk event body)
-event_meets desk (Level line on) body = meets_calm (calm_course (levels_goes desk line on body))
 event_meets desk (Insert id barcode) body = inserts_meets id desk barcode body
 event_meets desk (Remove id) body = removes_by id body (is_kept id body.kept) refl
 event_meets desk (Replace old new) body =
     replaces_by desk old new body (is_kept old body.kept) refl
-event_meets desk (Mark id quality) body =
-    meets_calm (calm_course (marks_by id quality body (is_kept id body.kept)))
-event_meets desk Nothing body = meets_calm (event_calm desk Nothing body tt)
-event_meets desk Connect body = meets_calm (event_calm desk Connect body tt)
-event_meets desk Accepted body = meets_calm (event_calm desk Accepted body tt)
-event_meets desk Second body = meets_calm (event_calm desk Second body tt)
-event_meets desk (Words side words) body = meets_calm (event_calm desk (Words side words) body tt)
-event_meets desk (Notice side) body = meets_calm (event_calm desk (Notice side) body tt)
-event_meets desk Tick body = meets_calm (event_calm desk Tick body tt)
-event_meets desk Shutdown body = meets_calm (event_calm desk Shutdown body tt)
-event_meets desk (Fault side) body = meets_calm (event_calm desk (Fault side) body tt)
-event_meets desk (Will side on) body = meets_calm (event_calm desk (Will side on) body tt)
-event_meets desk Forecast body = meets_calm (event_calm desk Forecast body tt)
-event_meets desk (Query barcode) body = meets_calm (event_calm desk (Query barcode) body tt)
 event_meets desk (Supervised what) body = meets_calm (event_calm desk (Supervised what) body tt)
+event_meets desk event body = meets_calm (calm_course (goes (event_made desk event body) tt))
 
 -- ---- the announcements: the last one may be a start
 
@@ -915,71 +703,37 @@ unready_quiet_row : (desk : Desk) (outlet : OutState) {s : InState} {r : InRow}
     × (own_of_phase r.after.phase ≡ own_of_phase s.phase))
 unready_quiet_row desk outlet kept gets_unready = (refl, (refl, refl))
 
-revoke_row_quiet : (desk : Desk) (body : Body) (found : Option OutRow)
-    → outlet_row body.outlet out_input.Revoke ≡ found → Quiet body (outlet_row_did desk body found)
-revoke_row_quiet desk body None is = quiet_still body
-revoke_row_quiet desk body (Some r) is = let two =
-    revoke_quiet_row desk body.intake body.kept
-    (row_is body.outlet out_input.Revoke r is) in record {
-      quiet = two.0;
-      same = two.1;
-      seen = refl;
+-- all but a start
+quiet_by : {desk : Desk} {body : Body} {d : Done} → Made desk (Announcing false) body d
+    → Quiet body d
+quiet_by {body = body} made_none = quiet_still body
+quiet_by (made_both {one = one} {two = two} first next) =
+    let a = quiet_by first in
+    let b = quiet_by next in record {
+      quiet = both_aside one.acts two.acts a.quiet b.quiet;
+      same = b.same ∙ a.same;
+      seen = b.seen ∙ a.seen;
     }
-
-offer_row_quiet : (desk : Desk) (body : Body) (id : ℕ) (found : Option OutRow)
-    → outlet_row body.outlet (out_input.Offer id) ≡ found
-    → Quiet body (outlet_row_did desk body found)
-offer_row_quiet desk body id None is = quiet_still body
-offer_row_quiet desk body id (Some r) is = let two =
-    offer_quiet_row desk body.intake body.kept
-    (row_is body.outlet (out_input.Offer id) r is) in record {
-      quiet = two.0;
-      same = two.1;
-      seen = refl;
-    }
-
-ready_row_quiet : (desk : Desk) (body : Body) (found : Option InRow)
-    → intake_row body.intake in_input.Ready ≡ found → Quiet body (intake_row_did desk body found)
-ready_row_quiet desk body None is = quiet_still body
-ready_row_quiet desk body (Some r) is = let three =
-    ready_quiet_row desk body.outlet body.kept
-    (in_row_is body.intake in_input.Ready r is) in record {
-      quiet = three.0;
-      same = three.1.0;
-      seen = three.1.1;
-    }
-
-unready_row_quiet : (desk : Desk) (body : Body) (found : Option InRow)
-    → intake_row body.intake in_input.Unready ≡ found → Quiet body (intake_row_did desk body found)
-unready_row_quiet desk body None is = quiet_still body
-unready_row_quiet desk body (Some r) is = let three =
-    unready_quiet_row desk body.outlet body.kept
-    (in_row_is body.intake in_input.Unready r is) in record {
-      quiet = three.0;
-      same = three.1.0;
-      seen = three.1.1;
-    }
-
-revoke_quiet : (desk : Desk) (test : Bool) (body : Body) → Quiet body (revoke_by desk test body)
-revoke_quiet desk true body =
-    revoke_row_quiet desk body (outlet_row body.outlet out_input.Revoke) refl
-revoke_quiet desk false body = quiet_still body
-
-unready_quiet : (desk : Desk) (test : Bool) (body : Body) → Quiet body (unready_by desk test body)
-unready_quiet desk true body =
-    unready_row_quiet desk body (intake_row body.intake in_input.Unready) refl
-unready_quiet desk false body = quiet_still body
-
-offer_quiet : (desk : Desk) (test : Bool) (front : Option Record) (body : Body)
-    → Quiet body (offer_by desk test front body)
-offer_quiet desk true (Some front) body =
-    offer_row_quiet desk body front.id (outlet_row body.outlet (out_input.Offer front.id)) refl
-offer_quiet desk true None body = quiet_still body
-offer_quiet desk false front body = quiet_still body
-
-ready_quiet : (desk : Desk) (test : Bool) (body : Body) → Quiet body (ready_by desk test body)
-ready_quiet desk true body = ready_row_quiet desk body (intake_row body.intake in_input.Ready) refl
-ready_quiet desk false body = quiet_still body
+quiet_by (made_act (tells_service talk)) = absurd talk
+quiet_by (made_act (tells_alive talk)) = absurd talk
+quiet_by (made_act (tells_notice talk)) = absurd talk
+quiet_by (made_row to shape made) = elim to [ ]
+quiet_by (made_close talk made) = absurd talk
+quiet_by (made_outlet (out_closed talk) shape) = absurd talk
+quiet_by {desk = desk} (made_outlet {body = body} (out_revoke now) shape) =
+    let two = revoke_quiet_row desk body.intake body.kept shape in
+    record { quiet = two.0; same = two.1; seen = refl }
+quiet_by {desk = desk} (made_outlet {body = body} (out_offer now is) shape) =
+    let two = offer_quiet_row desk body.intake body.kept shape in
+    record { quiet = two.0; same = two.1; seen = refl }
+quiet_by (made_intake (in_closed talk) shape) = absurd talk
+quiet_by (made_intake (in_stand talk) shape) = absurd talk
+quiet_by {desk = desk} (made_intake {body = body} (in_unready now) shape) =
+    let three = unready_quiet_row desk body.outlet body.kept shape in
+    record { quiet = three.0; same = three.1.0; seen = three.1.1 }
+quiet_by {desk = desk} (made_intake {body = body} (in_ready now) shape) =
+    let three = ready_quiet_row desk body.outlet body.kept shape in
+    record { quiet = three.0; same = three.1.0; seen = three.1.1 }
 
 -- a transport starts, of which nothing was seen before
 pub record Started (own end : Own) (was : Option Seen) (i : InPhase)
@@ -1079,13 +833,13 @@ announces_tells desk body =
     let four = (ready desk three).body in
     tells_both body (revoke desk body) (λ (b : Body). and_then (unready desk b) (λ c.
     and_then (offer desk c) (λ d. and_then (ready desk d) (start desk))))
-    (revoke_quiet desk (revokes_now body) body)
+    (quiet_by (revoke_made desk (revokes_now body) body refl))
     (tells_both one (unready desk one) (λ (c : Body). and_then (offer desk c) (λ d.
-    and_then (ready desk d) (start desk))) (unready_quiet desk (unreadies_now desk one) one)
+    and_then (ready desk d) (start desk))) (quiet_by (unready_made desk (unreadies_now desk one) one refl))
     (tells_both two (offer desk two) (λ (d : Body). and_then (ready desk d) (start desk))
-    (offer_quiet desk (offers_now two) (slice_get two.kept 0) two)
+    (quiet_by (offer_made desk (offers_now two) (slice_get two.kept 0) two refl refl))
     (tells_both three (ready desk three) (start desk)
-    (ready_quiet desk (readies_now desk three) three)
+    (quiet_by (ready_made desk (readies_now desk three) three refl))
     (start_tells desk (starts_now four) four))))
 
 pub announced : (desk : Desk) (body : Body)

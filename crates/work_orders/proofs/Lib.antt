@@ -1,4 +1,3 @@
-pub mod Walk
 pub mod Book
 pub mod Told
 pub mod Steps

@@ -73,10 +73,12 @@ use Rattle.line_step.proofs.Numbers.{
   same_or_not,
 }
 use Rattle.line_step.proofs.WithTells.{flat_with_tells}
+use Rattle.step_rules.specs.Acts.{OfEvent, Usual}
+use Rattle.step_rules.proofs.Acts.{All, acts_hold, told_acts_hold}
+use Rattle.step_rules.proofs.Steps.{all_read_made, announces_made}
 use Rattle.work_orders.specs.Answers.{Answers, GetsAnswer, answers_of, kept_in, word_in}
 use Rattle.work_orders.proofs.Book.{asking_keeps, was_open}
 use Rattle.work_orders.proofs.Told.{Silent, acts_words, if_own, own_none}
-use Rattle.work_orders.proofs.Walk.{All, OfEvent, Plain, acts_all, announces_all, read_all}
 
 -- an input that is no answer
 abbrev pub NoAnswer : Input → Type 0
@@ -85,24 +87,16 @@ NoAnswer _ = Unit {0}
 
 -- ---- the words of its acts
 
-plain_none : (query : ℕ) → Plain (λ act. word_in query act ≡ [])
-plain_none query = record {
+usual_none : (query : ℕ) → Usual (λ act. word_in query act ≡ [])
+usual_none query = record {
   reads = λ side event. refl;
   hears = λ side message. refl;
   breaches = λ side text. refl;
   sends = λ side message. refl;
   closes = λ side. refl;
   notices = λ side. refl;
-  connects = refl;
   deed = λ deed. refl;
   drive = λ side on. refl;
-  signals = λ signal on. refl;
-  marks = λ id quality. refl;
-  inserts = λ id. refl;
-  removes = λ id. refl;
-  replaces = λ old new. refl;
-  tells = λ message. refl;
-  sets = λ setting. refl;
 }
 
 no_words : (query : ℕ) (told : List Act) → All (λ act. word_in query act ≡ []) told
@@ -122,14 +116,12 @@ event_none : (query : ℕ) (desk : Desk) (maker : Maker) (input : Input) (words 
     → OfEvent (λ act. word_in query act ≡ []) desk (event_of maker input words)
 event_none query desk maker (inputs.Insert barcode) words none =
     new_event (λ act. word_in query act ≡ []) desk (next_id maker) (λ id. Insert id barcode) (λ id.
-    tt)
+    refl)
 event_none query desk maker (inputs.Replace old) words none =
-    new_event (λ act. word_in query act ≡ []) desk (next_id maker) (Replace old) (λ id. tt)
-event_none query desk maker (inputs.Supervise on) words none = refl
-event_none query desk maker (inputs.Ask question) words none = refl
+    new_event (λ act. word_in query act ≡ []) desk (next_id maker) (Replace old) (λ id. refl)
 event_none query desk maker (inputs.Answer number order) words none = absurd none
+event_none query desk maker (inputs.Level line on) words none = (refl, λ id. refl)
 event_none query desk maker inputs.Nothing words none = tt
-event_none query desk maker inputs.Connect words none = tt
 event_none query desk maker inputs.Accepted words none = tt
 event_none query desk maker inputs.Second words none = tt
 event_none query desk maker (inputs.Bytes side piece) words none = tt
@@ -137,12 +129,9 @@ event_none query desk maker (inputs.Notice side) words none = tt
 event_none query desk maker inputs.Tick words none = tt
 event_none query desk maker inputs.Shutdown words none = tt
 event_none query desk maker (inputs.Fault side) words none = tt
-event_none query desk maker (inputs.Will side on) words none = tt
-event_none query desk maker (inputs.Level line on) words none = tt
-event_none query desk maker (inputs.Remove id) words none = tt
-event_none query desk maker (inputs.Mark id quality) words none = tt
 event_none query desk maker inputs.Forecast words none = tt
 event_none query desk maker (inputs.Query barcode) words none = tt
+event_none query desk maker _ words none = refl
 
 -- a step of an input that is no answer tells none
 none_words : (query number machine : ℕ) (input : Input) (before after : LineState)
@@ -162,7 +151,8 @@ none_words query number machine input before after told steps none =
     steps.steps.told ∙ ap (λ (xs : List Act). xs ++ own) steps.steps.lane.told in
     ap (flat_map (word_in query)) is
     ∙ no_words query (made ++ own)
-    (acts_all (plain_none query) desk (watch_of desk body)
+    (told_acts_hold (usual_none query) (λ message. refl) (λ signal on. refl) desk
+    (watch_of desk body)
     (unread_by machine before.world) event body
     node.bridge steps.next.lane.body
     (event_none query desk node.maker input steps.steps.lane.words none))
@@ -179,9 +169,11 @@ plain_words query number order desk unread body =
     let word : List (List ℕ) = word_in query (acts.Answered number order) in
     flat_map-append (word_in query) read.acts (acts.Answered number order ∷ last)
     ∙ ap (λ (words : List (List ℕ)). words ++ (word ++ flat_map (word_in query) last))
-    (no_words query read.acts (read_all (plain_none query) desk unread body))
+    (no_words query read.acts
+    (acts_hold (usual_none query) (all_read_made desk unread body) tt))
     ∙ ap (λ (words : List (List ℕ)). word ++ words)
-    (no_words query last (announces_all (plain_none query) desk read.body))
+    (no_words query last
+    (acts_hold (usual_none query) (announces_made desk read.body) tt))
     ∙ append-nil word
 
 one_word : (query number machine asked : ℕ) (order : List ℕ) (before after : LineState)

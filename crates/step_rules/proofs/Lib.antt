@@ -1,0 +1,4 @@
+pub mod Passing
+pub mod Inputs
+pub mod Steps
+pub mod Acts
