@@ -1,0 +1,98 @@
+-- A link step that can be done is done: it tells no reason and nothing that was not so, disturbs nothing, and its line is fit.
+use Rattle.std.proofs.Common.{◌≡◌, ◌+◌, ◌++◌, ◌&&◌, not, ℕ, Bool, true, false, List, [], ◌∷◌, None, Result, Ok, Err, eqb-true, refl, subst, sym}
+use Rattle.std.specs.List.{AllByRecursion}
+use Rattle.std.specs.Prelude.{IsOk}
+use Rattle.line_base.specs.declared.states.Side.TheVariants.{Entry, Exit}
+use Rattle.line_report.specs.declared.happening.Happening.{Happening}
+use Rattle.line_script.specs.declared.line.ScriptLine.{ScriptLine}
+use Rattle.line_script.specs.declared.line.ScriptLine.TheVariants as lines
+use Rattle.line_step.specs.Lies.{has_lie, tells_lie}
+use Rattle.line_step.specs.Lines.{Becomes, Flows, LineDoes, LineSteps, Unless, arrived, move_told, moved}
+use Rattle.line_step.specs.Reasons.{May, may_do, may_flow, may_sense}
+use Rattle.line_step.specs.Runs.{IsRun, Point}
+use Rattle.line_step.specs.Shown.{standings_told}
+use Rattle.line_step.specs.State.{LineState}
+use Rattle.line_step.specs.Steps.{MachineSteps, is_second, read_by}
+use Rattle.line_world.specs.FloorPlan.{FloorPlan}
+use Rattle.line_world.specs.Moves.{floor_move}
+use Rattle.line_world.specs.declared.moves.Move.{Move}
+use Rattle.line_world.specs.declared.moves.Move.TheVariants as moves
+use Rattle.line_world.specs.declared.moves.MoveNo.{MoveNo}
+use Rattle.node_core.specs.declared.input.Input.{Input}
+use Rattle.node_core.specs.declared.input.Input.TheVariants as inputs
+use Rattle.one_standing.specs.Standing.{IsFitLine}
+use Rattle.twelve_steps.specs.Undisturbed.{AreUndisturbed, IsPossible, IsUndisturbed, begins, enters, flows_down, flows_up, is_link_step, is_of_link, leaves, more, none, senses, tells_no}
+use Rattle.whoever_goes_on.specs.Play.{AreEnabled}
+use Rattle.whoever_goes_on.proofs.Told.{AreDone, IsCalm, acts_done, done_calm, done_join, neither, standings_done}
+
+-- ---- a line that can be done
+
+done_by : (may : May) (before after : LineState) (told : List Happening) (Done : Type 0) → may ≡ may_do → Unless may before after told Done → Done
+done_by (Ok _) before after told Done can does = does
+done_by (Err reason) before after told Done can does = absurd cc
+
+machine_done : (number machine : ℕ) (input : Input) (before after : LineState) (told : List Happening) → MachineSteps number machine input before after told → AreDone told
+machine_done number machine input before after told steps = subst (λ (hs : List Happening). AreDone hs) (sym steps.told_is) (acts_done (is_second input) machine steps.acts (read_by machine before.world))
+
+move_done : (gap : ℕ) (step : Move) (answer : Result FloorPlan MoveNo) (s after : LineState) (told : List Happening) → IsOk answer → Becomes (moved answer s) (move_told gap step answer) after told → AreDone told
+move_done gap step (Ok floor) s after told can becomes = subst (λ (hs : List Happening). AreDone hs) (sym becomes.told_is) (tt, tt)
+move_done gap step (Err why) s after told can becomes = absurd cc
+
+does_done : (number : ℕ) (line : ScriptLine) (s next : LineState) (told : List Happening) → IsPossible s line → LineDoes number line s next told → AreDone told
+does_done number (lines.Flow machine side count) s next told can does =
+    let flows : Flows number machine side count s next told = done_by (may_flow machine side s) s next told (Flows number machine side count s next told) can does in
+    machine_done number machine (inputs.Bytes side flows.piece) (arrived machine side count s) next told flows.steps
+does_done number (lines.Begin gap) s next told can does = move_done gap moves.Begin (floor_move gap moves.Begin s.world.floor) s next told can does
+does_done number (lines.Left gap) s next told can does = move_done gap moves.Left (floor_move gap moves.Left s.world.floor) s next told can does
+does_done number (lines.Enter gap) s next told can does = move_done gap moves.Enter (floor_move gap moves.Enter s.world.floor) s next told can does
+does_done number (lines.Sense machine) s next told can does =
+    machine_done number machine inputs.Nothing s next told (done_by (may_sense machine s) s next told (MachineSteps number machine inputs.Nothing s next told) can does)
+does_done number _ s next told can does = absurd can
+
+pub step_calm : (number : ℕ) (line : ScriptLine) (s after : LineState) (told : List Happening) → IsPossible s line → LineSteps number line s after told → IsCalm told
+step_calm number line s after told can steps =
+    subst (λ (hs : List Happening). IsCalm hs) (sym steps.told_is)
+    (done_calm (steps.done ++ standings_told s steps.next) (done_join steps.done (standings_told s steps.next) (does_done number line s steps.next steps.done can steps.does) (standings_done s steps.next)))
+
+-- ---- its form
+
+calm_line : (k : ℕ) (s : LineState) (line : ScriptLine) → is_of_link k s line ≡ true → IsUndisturbed k line
+calm_line k s (lines.Flow machine Exit None) is = subst (λ (m : ℕ). IsUndisturbed k (lines.Flow m Exit None)) (sym (eqb-true machine k is)) flows_up
+calm_line k s (lines.Flow machine Entry None) is = subst (λ (m : ℕ). IsUndisturbed k (lines.Flow m Entry None)) (sym (eqb-true machine (k + 1) is)) flows_down
+calm_line k s (lines.Begin gap) is = subst (λ (m : ℕ). IsUndisturbed k (lines.Begin m)) (sym (eqb-true gap k is)) begins
+calm_line k s (lines.Left gap) is = subst (λ (m : ℕ). IsUndisturbed k (lines.Left m)) (sym (eqb-true gap k is)) leaves
+calm_line k s (lines.Enter gap) is = subst (λ (m : ℕ). IsUndisturbed k (lines.Enter m)) (sym (eqb-true gap k is)) enters
+calm_line k s (lines.Sense machine) is = senses
+calm_line k s _ is = absurd cc
+
+fit_line : (k : ℕ) (s : LineState) (line : ScriptLine) → is_of_link k s line ≡ true → IsFitLine line
+fit_line k s (lines.Insert machine barcode) is = absurd cc
+fit_line k s (lines.Query machine barcode) is = absurd cc
+fit_line k s _ is = tt
+
+-- ---- a play
+
+pub play_fit : (k : ℕ) (s : LineState) (asked : List ScriptLine) (points : List Point) → AreEnabled k s asked points → AllByRecursion IsFitLine asked
+play_fit k s [] points enabled = tt
+play_fit k s (line ∷ asked) [] enabled = absurd enabled
+play_fit k s (line ∷ asked) (point ∷ points) enabled = (fit_line k s line enabled.0, play_fit k point.after asked points enabled.2)
+
+pub play_calm : (k : ℕ) (s : LineState) (asked : List ScriptLine) (points : List Point) → AreEnabled k s asked points → AreUndisturbed k asked
+play_calm k s [] points enabled = none
+play_calm k s (line ∷ asked) [] enabled = absurd enabled
+play_calm k s (line ∷ asked) (point ∷ points) enabled = more (calm_line k s line enabled.0) (play_calm k point.after asked points enabled.2)
+
+pub play_honest : (k : ℕ) (s : LineState) (asked : List ScriptLine) (points : List Point) → IsRun s asked points → AreEnabled k s asked points → has_lie points ≡ false
+play_honest k s [] [] run enabled = refl
+play_honest k s [] (point ∷ points) run enabled = absurd run
+play_honest k s (line ∷ asked) [] run enabled = absurd run
+play_honest k s (line ∷ asked) (point ∷ points) run enabled =
+    neither (tells_lie point.told) (has_lie points) (step_calm (s.lines + 1) line s point.after point.told enabled.1 run.0).lie (play_honest k point.after asked points run.1 enabled.2)
+
+step_by : (of_link refuses : Bool) → of_link ≡ true → refuses ≡ false → (of_link && not refuses) ≡ true
+step_by true false is calm = refl
+step_by true true is calm = absurd cc
+step_by false refuses is calm = absurd cc
+
+pub step_is : (k number : ℕ) (line : ScriptLine) (s after : LineState) (told : List Happening) → is_of_link k s line ≡ true → IsPossible s line → LineSteps number line s after told → is_link_step k s line told ≡ true
+step_is k number line s after told is can steps = step_by (is_of_link k s line) (tells_no told) is (step_calm number line s after told can steps).no
