@@ -49,6 +49,7 @@ use Rattle.running_line.specs.RunSteps.{Moves}
 use Rattle.running_line.specs.Reading.{Reading}
 use Rattle.running_line.specs.Running.{Running, unread_by, with_floor}
 use Rattle.running_line.specs.Stands.{AreInRelation, Stands, between_of, line_of, node_in}
+use Rattle.running_line.proofs.Relation.{fit_aside}
 
 -- ---- no board moves above an intake that is free in a session that stands
 
@@ -122,7 +123,7 @@ entry_stays (left_is_taken {seen = seen}) = entry_other seen _
 
 -- ---- where boards lie, and what is gone
 
-to_line : (t : Trace) (s : Running) {x : ℕ} {p : Spot} → LiesAt (stand_of (line_of s)) (between_of t s) x p → LiesAt (stand_of (line_of s)) (line_between t (line_of s)) x p
+pub to_line : (t : Trace) (s : Running) {x : ℕ} {p : Spot} → LiesAt (stand_of (line_of s)) (between_of t s) x p → LiesAt (stand_of (line_of s)) (line_between t (line_of s)) x p
 to_line t s (lies_at lies) = lies_at lies
 to_line t s (lies_in lies) = lies_in lies
 
@@ -258,8 +259,10 @@ move_stands i step t s plan gone st is_done grow taken each =
           may_come = w.may_come;
           free = still_read i step t s plan k st done (same_or_not k (i + 1)) (same_or_not (k + 1) (i + 1));
         });
-        carried = λ k. record { up = (st.carried k).up; down = (st.carried k).down; quiet = (st.carried k).quiet; none_up = (st.carried k).none_up; none_down = (st.carried k).none_down };
+        carried = λ k. record { up = (st.carried k).up; down = (st.carried k).down; quiet = (st.carried k).quiet; called = (st.carried k).called; none_up = (st.carried k).none_up; none_down = (st.carried k).none_down };
         rest = λ k none. record { outlet = (st.rest k none).outlet; intake = (st.rest k none).intake; exit = (st.rest k none).exit; entry = (st.rest k none).entry; wires = (st.rest k none).wires };
+        fit = λ k. fit_aside s now k refl (st.fit k);
+        sound = st.sound;
         many = machines_kept (i + 1) step s.floor plan is_done ∙ st.many;
         whole = whole_after (i + 1) step s.floor plan st.whole is_done;
         differ = moves_differ (i + 1) step s.floor plan st.whole is_done st.differ;
@@ -269,7 +272,7 @@ move_stands i step t s plan gone st is_done grow taken each =
 
 -- ---- all but a hand leave what is gone
 
-same_gone : (gap : ℕ) (t : Trace) (k x : ℕ) → (k ≡ gap) ⊎ (k ≢ gap) → put gap (t.gone gap) t.gone k x ≡ t.gone k x
+pub same_gone : (gap : ℕ) (t : Trace) (k x : ℕ) → (k ≡ gap) ⊎ (k ≢ gap) → put gap (t.gone gap) t.gone k x ≡ t.gone k x
 same_gone gap t k x (inl is) = rw is (ap (λ (f : ℕ → Bool). f x) (put_same gap (t.gone gap) t.gone))
 same_gone gap t k x (inr apart) = ap (λ (f : ℕ → Bool). f x) (put_other gap k (t.gone gap) t.gone apart)
 

@@ -6,3 +6,11 @@ pub mod FloorMoves
 pub mod TurnSteps
 pub mod TurnLinks
 pub mod OneStand
+pub mod TurnFloor
+pub mod TurnJoined
+pub mod TurnKeeps
+pub mod TurnShape
+pub mod TurnStands
+pub mod TurnLeaves
+pub mod TurnInto
+pub mod TurnGoesOn

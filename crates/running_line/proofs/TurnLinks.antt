@@ -40,7 +40,7 @@ use Rattle.running_line.proofs.Waiting.{all_at, tested}
 
 -- ---- which ends have a connection
 
-any_weaker : (test other : Wire → Bool) → ((wire : Wire) → test wire ≡ false → other wire ≡ false) → (wires : List Wire) → list_any test wires ≡ false → list_any other wires ≡ false
+pub any_weaker : (test other : Wire → Bool) → ((wire : Wire) → test wire ≡ false → other wire ≡ false) → (wires : List Wire) → list_any test wires ≡ false → list_any other wires ≡ false
 any_weaker test other weaker [] none = refl
 any_weaker test other weaker (wire ∷ wires) none = or_from _ _ (weaker wire (or_parts _ _ none).0) (any_weaker test other weaker wires (or_parts _ _ none).1)
 
@@ -52,15 +52,15 @@ none_at test [] place wire is none = cc
 none_at test (first ∷ wires) zero wire is none = sym (same_test test first wire is) ∙ (or_parts _ _ none).0
 none_at test (first ∷ wires) (suc place) wire is none = none_at test wires place wire is (or_parts _ _ none).1
 
-none_had : (wires : List Wire) → ((place : ℕ) (wire : Wire) → slice_get wires place ≡ Some wire → has wire.above ≡ false) → list_any had_above wires ≡ false
+pub none_had : (wires : List Wire) → ((place : ℕ) (wire : Wire) → slice_get wires place ≡ Some wire → has wire.above ≡ false) → list_any had_above wires ≡ false
 none_had [] each = refl
 none_had (wire ∷ wires) each = or_from _ _ (each zero wire refl) (none_had wires (λ place other is. each (suc place) other is))
 
-and_first : (a b : Bool) → a ≡ false → (a && b) ≡ false
+pub and_first : (a b : Bool) → a ≡ false → (a && b) ≡ false
 and_first true b is = absurd (false≢true (sym is))
 and_first false b is = refl
 
-and_second : (a b : Bool) → b ≡ false → (a && b) ≡ false
+pub and_second : (a b : Bool) → b ≡ false → (a && b) ≡ false
 and_second true b is = is
 and_second false b is = refl
 
@@ -73,7 +73,7 @@ kept_awaits : (wire : Wire) → wire.below ≡ Awaits → kept_below wire ≡ fa
 kept_awaits wire awaits not = false≢true (sym not ∙ ap is_of_below awaits)
 
 -- while the entry awaits one, it has none
-alone_below : {wires : List Wire} → AtMostOne kept_below wires → (place : ℕ) (wire : Wire) → slice_get wires place ≡ Some wire → wire.below ≡ Awaits → list_any had_below wires ≡ false
+pub alone_below : {wires : List Wire} → AtMostOne kept_below wires → (place : ℕ) (wire : Wire) → slice_get wires place ≡ Some wire → wire.below ≡ Awaits → list_any had_below wires ≡ false
 alone_below none_passes place wire is awaits = refl
 alone_below (passes_not {wire = first} fails others) zero wire is awaits = absurd (kept_awaits wire awaits (sym (same_test kept_below first wire is) ∙ fails))
 alone_below (passes_not {wire = first} fails others) (suc place) wire is awaits = or_from _ _ (had_of first.below fails) (alone_below others place wire is awaits)

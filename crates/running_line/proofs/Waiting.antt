@@ -86,7 +86,7 @@ untaken_still above Awaits up down untaken is = let u = untaken is in record { s
 untaken_still above Has up down untaken is = untaken is
 untaken_still above Left up down untaken is = untaken is
 
-called_still : {A : Type 0} (above below : Hold) (up down : List Coming) → (above ≡ Awaits → below ≡ Has → A)
+pub called_still : {A : Type 0} (above below : Hold) (up down : List Coming) → (above ≡ Awaits → below ≡ Has → A)
     → (given_up Entry (wire_of above below up down)).above ≡ Awaits → (given_up Entry (wire_of above below up down)).below ≡ Has → A
 called_still above Awaits up down called is has_it = let never : Left ≡ Has = has_it in cc
 called_still above Has up down called is has_it = called is has_it

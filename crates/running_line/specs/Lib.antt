@@ -8,3 +8,4 @@ pub mod Waits
 pub mod New
 pub mod Stands
 pub mod Steady
+pub mod Turned

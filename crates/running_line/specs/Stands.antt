@@ -11,6 +11,7 @@ use Rattle.handover_in.specs.declared.phase.Phase.TheVariants as inn
 use Rattle.line_world.specs.FloorPlan.{IsWhole, gap_at}
 use Rattle.line_world.specs.Ids.{IdsDiffer}
 use Rattle.node_core.specs.Node.{NodeState}
+use Rattle.node_core.specs.Sound.{IsSound}
 use Rattle.custody.specs.Bytes.{Flows, texts_of}
 use Rattle.link_messages.specs.Fit.{AreFit}
 use Rattle.link_messages.specs.Heard.{bodies}
@@ -18,7 +19,7 @@ use Rattle.line_step.specs.Numbered.{node_at}
 use Rattle.line_step.specs.Reasons.{has_link}
 use Rattle.line_step.specs.State.{LineState, no_line}
 use Rattle.line_step.specs.World.{no_world}
-use Rattle.one_standing.specs.Carried.{Trace, stand_of}
+use Rattle.one_standing.specs.Carried.{IsFitMachine, Trace, stand_of}
 use Rattle.one_standing.specs.Kept.{Keeps}
 use Rattle.one_standing.specs.Relation.{Between}
 use Rattle.running_line.specs.New.{NumbersDiffer}
@@ -64,7 +65,7 @@ pub record Carries (waiting : List ℕ) (coming : List Coming) (messages : List 
   pub are : messages ≡ bodies said
 
 -- the messages that are sent and not heard come on the connection that their side has; to a side
--- without one there are none, and none to an exit on one that has not come below
+-- without one there are none, and none on one that has not come, or was not taken, at the other end
 pub record Carried (above below : NodeState) (upward downward : List Horizontal)
     (wires : List Wire) : Type 0 where
   pub up : AllByRecursion
@@ -73,6 +74,8 @@ pub record Carried (above below : NodeState) (upward downward : List Horizontal)
       (λ (wire : Wire). wire.below ≡ Has → Carries below.lane.entry_bytes wire.down downward) wires
   pub quiet : AllByRecursion
       (λ (wire : Wire). wire.above ≡ Has → wire.below ≡ Awaits → upward ≡ []) wires
+  pub called : AllByRecursion
+      (λ (wire : Wire). wire.above ≡ Awaits → wire.below ≡ Has → downward ≡ []) wires
   pub none_up : list_any had_above wires ≡ false → upward ≡ []
   pub none_down : list_any had_below wires ≡ false → downward ≡ []
 
@@ -94,6 +97,9 @@ pub record Stands (t : Trace) (s : Running) : Type 0 where
   pub carried : (link : ℕ)
       → Carried (node_in s link) (node_in s (link + 1)) (t.up link) (t.down link) (s.wires link)
   pub rest : (link : ℕ) → has_link link (line_of s) ≡ false → IsAtRest s link
+  -- the records of each machine are fit to be told of, and it is sound between its steps
+  pub fit : (machine : ℕ) → IsFitMachine (line_of s) machine
+  pub sound : (machine : ℕ) → IsSound (node_in s machine).capacity (node_in s machine).lane.body
   pub many : length s.floor.machines ≡ length s.machines
   pub whole : IsWhole s.floor
   pub differ : IdsDiffer s.floor

@@ -1,6 +1,6 @@
 //! What is computed of running machines. Each law is a contract over the definitions of specs/.
 
-ghost use Rattle.std.specs.Prelude.{◌≡◌, ◌+◌, ◌++◌, ◌∷◌, [], List, Some, map, slice_get, slice_set, ℕ};
+ghost use Rattle.std.specs.Prelude.{◌≡◌, ◌+◌, ◌++◌, ◌∷◌, [], List, Some, map, slice_get, slice_set, ℕ, ℤ};
 ghost use Rattle.line_base.specs.declared.states.Side.{Side};
 ghost use Rattle.line_base.specs.declared.states.Side.TheVariants.{Entry, Exit};
 ghost use Rattle.board_record.specs.declared.sensed.Sensed.{Sensed as Sight};
@@ -10,6 +10,8 @@ ghost use Rattle.node_core.specs.Event.{Accepted, Connect, Event, Nothing, Secon
 ghost use Rattle.node_core.specs.May.{may_do, may_of};
 ghost use Rattle.node_core.specs.Node.{NodeState};
 ghost use Rattle.node_core.specs.Step.{machine_step};
+ghost use Rattle.node_core.specs.declared.act.Act.{Act};
+ghost use Rattle.node_core.specs.declared.input.Input.{Input};
 ghost use Rattle.node_core.specs.declared.input.Input.TheVariants as inputs;
 ghost use Rattle.node_core.specs.declared.lane.Body.{Body as Machine};
 ghost use Rattle.machine_custody.specs.Ahead.{IsFreeRead};
@@ -18,12 +20,13 @@ ghost use Rattle.one_standing.specs.Carried.{Trace};
 ghost use Rattle.one_standing.specs.Standing.{HasOneStanding};
 ghost use Rattle.running_line.specs.Doubled.{IsDoubled, IsHeldBehind};
 ghost use Rattle.running_line.specs.New.{IsNew, NumbersDiffer};
-ghost use Rattle.running_line.specs.Reading.{Reading, ReadsFront};
+ghost use Rattle.running_line.specs.Reading.{Reading, ReadsFront, Strictly};
 ghost use Rattle.running_line.specs.Running.{Running, unread_by};
 ghost use Rattle.running_line.specs.RunSteps.{Asks, LetsBe, Moves, given_up, let_be};
 ghost use Rattle.running_line.specs.Stands.{AreInRelation, Stands, line_of, node_in};
 ghost use Rattle.running_line.specs.Steady.{FindsIt, IsSteady, RefusesIt, TakesIt, scene_of};
-ghost use Rattle.running_line.specs.Turns.{HasNone, IsAt};
+ghost use Rattle.running_line.specs.Turned.{IsHandless, IsHeard, TurnsTo};
+ghost use Rattle.running_line.specs.Turns.{HasNone, IsAt, Turns};
 ghost use Rattle.running_line.specs.Waits.{Waits};
 ghost use Rattle.running_line.specs.Wire.{Awaits, Wire, asked_for};
 
@@ -106,6 +109,18 @@ pub fn a_connection_in_a_turn_keeps_both_links()
     ensures second { (t : Trace) (s : Running) (j : ℕ) (desk : Desk) (read : List Sight)
         → Stands t s → ReadsFront (unread_by (j + 1) s) read []
         → RefusesIt t s j (machine_step desk read Second (node_in s (j + 1)).lane.body) }
+{}
+
+/// In a turn that has read all before it takes an input, and in which no board is changed by hand, all
+/// of the relation goes on but what is on the connections: of each link and each machine, where
+/// boards lie and what is gone, and that a link stands where both its ends have one connection. What
+/// is between the machine and its neighbours is then what its scene says behind its acts. Of bytes it
+/// is asked that they are heard as the oldest messages on their way.
+pub fn a_turn_keeps_all_but_what_is_on_connections()
+    ensures { (t : Trace) (j : ℕ) (input : Input) (moment : ℤ) (before after : Running)
+        (told : List Act) → Stands t before
+        → (turn : Turns Strictly (j + 1) input moment before after told) → IsHandless input
+        → IsHeard input turn.steps.lane.words (scene_of t before j) → TurnsTo j t turn }
 {}
 
 /// Where running machines stand in the relation, each board's record has one standing: with one
