@@ -13,4 +13,8 @@ pub mod TurnShape
 pub mod TurnStands
 pub mod TurnLeaves
 pub mod TurnInto
+pub mod TurnHands
+pub mod TurnHeard
+pub mod TurnByHand
 pub mod TurnGoesOn
+pub mod RunsOn
