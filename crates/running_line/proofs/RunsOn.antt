@@ -1,7 +1,5 @@
 -- A run under the reading that reads all first: where the relation goes on in each turn it goes on along the run.
-use Rattle.std.proofs.Common.{List, Ok, arith, subst, sym, ℕ, ℤ, ◌++◌, ◌+◌, ◌-◌, ◌≡◌, ◌≤◌}
-use Rattle.line_world.specs.FloorPlan.{FloorPlan}
-use Rattle.line_world.specs.Moves.{floor_move}
+use Rattle.std.proofs.Common.{List, ℕ, ℤ}
 use Rattle.line_world.specs.declared.moves.Move.TheVariants.{Begin}
 use Rattle.node_core.specs.declared.act.Act.{Act}
 use Rattle.node_core.specs.declared.input.Input.{Input}
@@ -9,7 +7,7 @@ use Rattle.node_core.specs.declared.input.Input.TheVariants as inputs
 use Rattle.running_line.specs.Reading.{Strictly}
 use Rattle.running_line.specs.Running.{Running, with_floor}
 use Rattle.running_line.specs.RunSteps.{RunSteps, RunsTo, asks, at_rest, goes_on, lets_be, lets_go, moves, turns}
-use Rattle.running_line.specs.Stands.{AreInRelation, Stands}
+use Rattle.running_line.specs.Stands.{AreInRelation}
 use Rattle.running_line.specs.Turns.{Turns}
 use Rattle.running_line.proofs.FloorMoves.{moved_stand, moves_stand}
 use Rattle.running_line.proofs.Relation.{asks_stand, lets_be_stand}

@@ -1,10 +1,9 @@
 -- A turn in which a board is put in, taken out or replaced by hand: the relation goes on but for what is on the connections.
-use Rattle.std.proofs.Common.{Bool, List, None, Option, Result, Ok, Err, Some, [], ap, arith, eq-eqb, eqb-true, false, inl, inr, length, refl, subst, sym, true, ℕ, ℤ, ◌++◌, ◌+◌, ◌∙◌, ◌∷◌, ◌≡◌, ◌≢◌, ◌≤◌, ◌||◌, ◌⊎◌}
-use Rattle.std.specs.Prelude.{cond, nat_eq, nat_le, not}
+use Rattle.std.proofs.Common.{Bool, List, None, Option, Result, Ok, Err, Some, [], ap, arith, eq-eqb, eqb-true, false, inl, inr, length, refl, subst, sym, true, ℕ, ℤ, ◌++◌, ◌+◌, ◌∙◌, ◌∷◌, ◌≡◌, ◌≢◌, ◌≤◌, ◌⊎◌}
+use Rattle.std.specs.Prelude.{cond, nat_eq, not}
 use Rattle.std.proofs.lemmas.Bool.{false≢true, or_cases, or_left, or_right}
 use Rattle.board_record.specs.Maker.{Maker, made_id, next_id}
 use Rattle.board_record.specs.declared.maker.IdsUsedUp.{IdsUsedUp}
-use Rattle.board_record.specs.declared.record.Record.{Record}
 use Rattle.board_record.specs.declared.sensed.Sensed.{Sensed}
 use Rattle.handover_in.specs.State.{name_of_phase}
 use Rattle.handover_in.specs.declared.phase.Phase.{Phase as In}
@@ -15,8 +14,7 @@ use Rattle.line_world.specs.declared.board.Board.{Board}
 use Rattle.node_core.specs.Announces.{is_free, is_intake_free}
 use Rattle.node_core.specs.Boards.{if_kept, is_kept, with_instead, with_kept, without}
 use Rattle.node_core.specs.Desk.{Desk}
-use Rattle.node_core.specs.Done.{Done}
-use Rattle.node_core.specs.Event.{Event, Insert, Remove, Replace, event_did, with_new}
+use Rattle.node_core.specs.Event.{Insert, Replace, event_did, with_new}
 use Rattle.node_core.specs.May.{is_used_up, may_do, no_if}
 use Rattle.node_core.specs.Node.{NodeState, desk_of}
 use Rattle.node_core.specs.Reads.{all_read}
@@ -31,7 +29,6 @@ use Rattle.board_record.specs.Record.{plain_record}
 use Rattle.machine_custody.specs.ByHand.{AreHere, Grows}
 use Rattle.machine_custody.specs.Good.{Good, Lies, lies_first, lies_later}
 use Rattle.machine_custody.specs.Scene.{Scene, all_met}
-use Rattle.machine_custody.specs.Unique.{IsApart}
 use Rattle.machine_custody.proofs.Step.{insert_goes, remove_goes, replace_goes}
 use Rattle.machine_custody.proofs.StillKept.{read_kept}
 use Rattle.line_step.proofs.Numbers.{same_or_not}
@@ -50,7 +47,7 @@ use Rattle.running_line.proofs.FloorMoves.{same_gone, taken_gone, to_line, with_
 use Rattle.running_line.proofs.Relation.{within_of}
 use Rattle.running_line.proofs.TurnHands.{Fewer, Hand, fresh, hand_in, hand_of, inserts_fewer, kept_lies, none_gone, one_gone, removes_fewer, replaces_fewer}
 use Rattle.running_line.proofs.TurnInto.{GoesAs, IsNoJoint, IsTaken, front_all, into_by, plain_acts, plain_joins, read_all}
-use Rattle.running_line.proofs.TurnLeaves.{done_in, event_in, fit_then, rests_then}
+use Rattle.running_line.proofs.TurnLeaves.{done_in, fit_then, rests_then}
 use Rattle.running_line.proofs.TurnShape.{made_then, own_node}
 use Rattle.running_line.proofs.TurnStands.{LeavesAll, TurnsInto, own_scene, trace_then}
 use Rattle.running_line.proofs.TurnSteps.{all_before}

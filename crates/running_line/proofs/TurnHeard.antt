@@ -1,8 +1,7 @@
 -- The words that a turn's bytes bring are the oldest messages on their way to their side.
-use Rattle.std.proofs.Common.{Bool, List, Some, ap, map, refl, slice_get, subst, sym, ℕ, ℤ, ◌++◌, ◌+◌, ◌-◌, ◌∙◌, ◌∷◌, ◌≡◌, [], length}
+use Rattle.std.proofs.Common.{Bool, List, Some, ap, refl, slice_get, subst, sym, ℕ, ℤ, ◌++◌, ◌+◌, ◌∙◌, ◌∷◌, ◌≡◌, [], length}
 use Rattle.std.specs.Prelude.{drop, take}
 use Rattle.std.proofs.lemmas.List.{take-append-drop}
-use Rattle.line_base.specs.declared.states.Side.{Side}
 use Rattle.line_base.specs.declared.states.Side.TheVariants.{Entry, Exit}
 use Rattle.hermes_horizontal.specs.declared.message.Horizontal.{Horizontal}
 use Rattle.node_core.specs.Node.{NodeState}
@@ -20,11 +19,11 @@ use Rattle.one_standing.proofs.Carrying.{SaysAlone}
 use Rattle.one_standing.proofs.MirroringEnds.{before_one}
 use Rattle.running_line.specs.Reading.{Reading}
 use Rattle.running_line.specs.Running.{Running}
-use Rattle.running_line.specs.Stands.{Carries, Stands, node_in}
+use Rattle.running_line.specs.Stands.{Carries, Stands}
 use Rattle.running_line.specs.Steady.{scene_of}
 use Rattle.running_line.specs.Turned.{IsHeard}
 use Rattle.running_line.specs.Turns.{Turns}
-use Rattle.running_line.specs.Wire.{Coming, Has, Wire, bytes_of}
+use Rattle.running_line.specs.Wire.{Coming, Wire, bytes_of}
 use Rattle.running_line.proofs.TurnShape.{own_node}
 use Rattle.running_line.proofs.Waiting.{all_at}
 
