@@ -14,3 +14,9 @@ pub mod TurnStands
 pub mod TurnLeaves
 pub mod TurnInto
 pub mod TurnGoesOn
+pub mod WiresParts
+pub mod WiresActs
+pub mod WiresStep
+pub mod WiresWalk
+pub mod WiresTaken
+pub mod WiresTurn
