@@ -20,3 +20,9 @@ pub mod WiresStep
 pub mod WiresWalk
 pub mod WiresTaken
 pub mod WiresTurn
+pub mod WiresLink
+pub mod WiresBytes
+pub mod WiresConnect
+pub mod WiresSecond
+pub mod WiresCalls
+pub mod WiresBehind
