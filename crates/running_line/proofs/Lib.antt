@@ -13,6 +13,9 @@ pub mod TurnShape
 pub mod TurnStands
 pub mod TurnLeaves
 pub mod TurnInto
+pub mod TurnHands
+pub mod TurnHeard
+pub mod TurnByHand
 pub mod TurnGoesOn
 pub mod WiresParts
 pub mod WiresActs
@@ -26,3 +29,4 @@ pub mod WiresConnect
 pub mod WiresSecond
 pub mod WiresCalls
 pub mod WiresBehind
+pub mod RunsOn

@@ -1,12 +1,13 @@
 -- New machines stand in the relation of running machines, with a trace of nothing.
 use Rattle.std.proofs.Common.{Bool, List, [], ap, arith, false, length, length-append, refl, subst, suc, sym, true, zero, ℕ, ◌++◌, ◌+◌, ◌-◌, ◌∙◌, ◌∷◌, ◌≡◌, ◌≤◌}
-use Rattle.std.specs.Prelude.{cond, nat_lt, slice_index_or}
+use Rattle.std.specs.Prelude.{cond, filter, nat_lt, slice_index_or}
 use Rattle.std.specs.List.{AllByRecursion, list_any}
+use Rattle.std.proofs.lemmas.Bool.{false≢true}
 use Rattle.line_base.specs.Text.{IsText}
 use Rattle.line_base.specs.declared.states.Side.TheVariants.{Entry, Exit}
 use Rattle.line_link.specs.Link.{LinkParts, no_link}
 use Rattle.line_world.specs.Boards.{boards_along, boards_on}
-use Rattle.line_world.specs.FloorPlan.{AtMachine, IsWhole, empty_machine, free_gap, gap_at, gaps_before, machine_at, no_floor}
+use Rattle.line_world.specs.FloorPlan.{AtMachine, IsWhole, empty_machine, free_gap, gap_at, gaps_before, has_id, machine_at, no_floor}
 use Rattle.line_world.specs.Ids.{IdsDiffer}
 use Rattle.line_world.specs.declared.gap.AtGap.{AtGap}
 use Rattle.line_world.proofs.Along.{along_more}
@@ -117,6 +118,9 @@ floor_free (suc count) = more_free (new_floor count).machines (new_floor count).
 
 floor_differ : (count : ℕ) → IdsDiffer (new_floor count)
 floor_differ count = record { once = λ id. rw (floor_free count) (omega arith) }
+
+none_counted : (count id : ℕ) → length (filter (has_id id) (boards_on (new_floor count))) ≡ 0
+none_counted count id = rw (floor_free count) refl
 
 -- ---- the machines, but for what they are willing to do
 
@@ -245,5 +249,7 @@ new_stand s new differ = record {
     whole = subst (λ f. IsWhole f) (sym new.floor) (floor_whole (length s.machines));
     differ = subst (λ f. IdsDiffer f) (sym new.floor) (floor_differ (length s.machines));
     numbers = differ;
+    made = λ id some. absurd (omega (arith, some, ap (λ f. length (filter (has_id id) (boards_on f))) new.floor, none_counted (length s.machines) id));
+    olds = λ link id gone. absurd (false≢true gone);
   };
 }

@@ -22,7 +22,7 @@ use Rattle.one_standing.proofs.RestLine.{node_there}
 use Rattle.one_standing.proofs.RestMore.{same_keeps}
 use Rattle.running_line.specs.RunSteps.{Asks, LetsBe, given_up, let_be}
 use Rattle.running_line.specs.Running.{Running, at_place, node_of, unread_by, with_wires}
-use Rattle.running_line.specs.Stands.{Carried, Carries, Stands, between_of, is_joined, line_of, node_in}
+use Rattle.running_line.specs.Stands.{Carried, Carries, IsMade, Stands, between_of, is_joined, line_of, node_in}
 use Rattle.running_line.specs.Waits.{Waits, had_above, had_below}
 use Rattle.running_line.specs.Wire.{Awaits, Coming, Has, Hold, Left, Wire, asked_for, end_at, has}
 use Rattle.running_line.proofs.Waiting.{all_at, all_given, all_set, any_given, any_set, awaits_not, called_still, entry_lets_be, exit_lets_be, node_asks, same_above, same_had, wire_of}
@@ -44,6 +44,13 @@ by_link P link change s here each k = by (same_or_not k link)
 -- what is known of a machine by itself doesn't look at connections, and not at the floor
 pub fit_aside : (s s2 : Running) (machine : ℕ) → ◌≡◌ {A = NodeState} (node_in s2 machine) (node_in s machine) → IsFitMachine (line_of s) machine → IsFitMachine (line_of s2) machine
 fit_aside s s2 machine is fit = fit_machine (line_of s) (line_of s2) machine is fit
+
+node_by : (s s2 : Running) (k : ℕ) → s2.machines ≡ s.machines → node_of k s2 ≡ node_of k s
+node_by s s2 zero is = refl
+node_by s s2 (suc place) is = ap (λ (ms : List NodeState). slice_get ms place) is
+
+pub made_aside : (s s2 : Running) (id : ℕ) → s2.machines ≡ s.machines → IsMade s id → IsMade s2 id
+made_aside s s2 id is m = record { machine = m.machine; node = m.node; there = node_by s s2 m.machine is ∙ m.there; count = m.count; used = m.used; small = m.small; is = m.is }
 
 abbrev with_stands : Trace → Running → ℕ → Bool → Between
 with_stands t s k b = record { ghost = t.ghost k; stands = b; gap = gap_at s.floor k; up = t.up k; down = t.down k; gone = t.gone k }
@@ -69,6 +76,8 @@ rewired link change t s st is joined waits carried = record {
   whole = st.whole;
   differ = st.differ;
   numbers = record { apart = st.numbers.apart };
+  made = λ id some. made_aside s (with_wires link change s) id refl (st.made id some);
+  olds = λ k id gone. made_aside s (with_wires link change s) id refl (st.olds k id gone);
 }
 
 -- ---- which links are there

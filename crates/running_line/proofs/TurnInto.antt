@@ -77,7 +77,7 @@ told_as {input = input} turn wire c =
     ∙ acts_passed input wire c turn.steps.made turn.node.bridge turn.next.lane.body
     ∙ ap (λ (done : List Act). acts_met input wire done c) turn.steps.lane.told
 
-into_by : {elsewhere gone : ℕ → Bool} {reading : Reading} {j : ℕ} {input : Input} {moment : ℤ} {before after : Running} {told : List Act} (t : Trace) (wire : Wire) (c : Scene) (turn : Turns reading (j + 1) input moment before after told) → IsOwn t before j c
+pub into_by : {elsewhere gone : ℕ → Bool} {reading : Reading} {j : ℕ} {input : Input} {moment : ℤ} {before after : Running} {told : List Act} (t : Trace) (wire : Wire) (c : Scene) (turn : Turns reading (j + 1) input moment before after told) → IsOwn t before j c
     → Goes (afar_of elsewhere (between_of t before j) gone) (node_in before j).lane.body.kept turn.rest (t.ghost j) (t.ghost (j + 1)) (scene_of t before j) (done_in turn).body (acts_met input wire (done_in turn).acts c)
     → StandsAs j after (acts_met input wire told c) → TurnsInto j t wire c gone turn
 into_by {elsewhere} {gone} {j = j} {input = input} {before = before} {told = told} t wire c turn own goes joins =
@@ -156,11 +156,11 @@ all_free rest body none = record { read = λ stands idle. ap (λ (us : List Sens
 
 -- ---- IT TAKES WHAT MAKES NO CONNECTION AND CHANGES NO BOARD BY HAND
 
-plain_acts : (input : Input) (wire : Wire) (told : List Act) (c : Scene) → IsNoJoint input → all_met told c ≡ acts_met input wire told c
+pub plain_acts : (input : Input) (wire : Wire) (told : List Act) (c : Scene) → IsNoJoint input → all_met told c ≡ acts_met input wire told c
 plain_acts inputs.Second wire told c plain = absurd plain
 plain_acts input wire told c plain = refl
 
-abbrev GoesAs : Trace → Running → ℕ → (ℕ → Bool) → List Sensed → Body → Scene → (ℕ → Bool) → Type 0
+abbrev pub GoesAs : Trace → Running → ℕ → (ℕ → Bool) → List Sensed → Body → Scene → (ℕ → Bool) → Type 0
 GoesAs t s j elsewhere rest body d gone = Goes (afar_of elsewhere (between_of t s j) gone) (node_in s j).lane.body.kept rest (t.ghost j) (t.ghost (j + 1)) (scene_of t s j) body d
 
 steady_into : {j : ℕ} {input : Input} {moment : ℤ} {before after : Running} {told : List Act} (t : Trace) (turn : Turns Strictly (j + 1) input moment before after told) → IsTaken input → IsNoJoint input

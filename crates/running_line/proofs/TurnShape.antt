@@ -4,7 +4,7 @@ use Rattle.std.specs.Prelude.{cond, nat_eq, nat_le, nat_lt, slice_index_or}
 use Rattle.std.proofs.lemmas.List.{get_or-set_other}
 use Rattle.line_base.specs.declared.states.Side.{Side}
 use Rattle.line_base.specs.declared.states.Side.TheVariants.{Entry, Exit}
-use Rattle.board_record.specs.Maker.{Maker}
+use Rattle.board_record.specs.Maker.{Maker, made_id}
 use Rattle.hermes_horizontal.specs.Canonical.{canonical}
 use Rattle.hermes_horizontal.specs.declared.message.Message.{Message}
 use Rattle.line_world.specs.FloorPlan.{with_unread}
@@ -26,7 +26,7 @@ use Rattle.one_standing.proofs.RestLine.{node_there}
 use Rattle.running_line.specs.New.{NumbersDiffer}
 use Rattle.running_line.specs.Reading.{Reading}
 use Rattle.running_line.specs.Running.{Running, at_place, count_beyond, node_of, with_floor, with_node, with_reading, with_wires}
-use Rattle.running_line.specs.Stands.{line_of, node_in}
+use Rattle.running_line.specs.Stands.{IsMade, line_of, node_in}
 use Rattle.running_line.specs.Turns.{Turns, act_did, answered, did, met, sent_by}
 use Rattle.running_line.specs.Wire.{Has, Left, Wire, given, left, read_at, said, text_behind, with_end}
 use Rattle.running_line.proofs.TurnFloor.{did_floor, did_nodes, floor_world, met_floor, met_nodes}
@@ -79,6 +79,14 @@ other_nodes {machine = machine} {before = before} {after = after} turn k apart =
 pub own_node : {reading : Reading} {machine : ℕ} {input : Input} {moment : ℤ} {before after : Running} {told : List Act} (turn : Turns reading machine input moment before after told) → node_in before machine ≡ turn.node
 own_node {machine = machine} {before = before} turn = node_there machine (line_of before) turn.node turn.there
 
+pub next_in : {reading : Reading} {machine : ℕ} {input : Input} {moment : ℤ} {before after : Running} {told : List Act} (turn : Turns reading machine input moment before after told) → node_of machine after ≡ Some turn.next
+next_in {machine = machine} {before = before} {after = after} turn =
+    in_by (line_of after) (with_next turn) (nodes_are turn) machine ∙ machine_set_own machine (line_of before) turn.node turn.next turn.there
+
+pub other_in : {reading : Reading} {machine : ℕ} {input : Input} {moment : ℤ} {before after : Running} {told : List Act} (turn : Turns reading machine input moment before after told) (k : ℕ) → k ≢ machine → node_of k after ≡ node_of k before
+other_in {machine = machine} {before = before} {after = after} turn k apart =
+    in_by (line_of after) (with_next turn) (nodes_are turn) k ∙ machine_set_other machine k (line_of before) turn.next (machine_within machine (line_of before) turn.node turn.there).0 apart
+
 pub many_nodes : {reading : Reading} {machine : ℕ} {input : Input} {moment : ℤ} {before after : Running} {told : List Act} → Turns reading machine input moment before after told → length after.machines ≡ length before.machines
 many_nodes {machine = machine} {before = before} turn = ap (λ (ms : List NodeState). length ms) (nodes_are turn) ∙ length-set before.machines (machine - 1) turn.next
 
@@ -129,6 +137,37 @@ numbers_differ {machine = machine} turn differ = record {
       let b = was_there turn other next then (same_or_not other machine) in
       differ.apart one other a.was b.was a.there b.there (a.same ∙ same ∙ sym b.same));
 }
+
+-- ---- what was made stays made
+
+full_more : (test : Bool) (maker : Maker) → maker.used ≤ (cond test maker (record maker { used = maker.used + 1 })).used
+full_more true maker = omega arith
+full_more false maker = omega arith
+
+used_more : (input : Input) (maker : Maker) → maker.used ≤ (maker_after input maker).used
+used_more (inputs.Insert barcode) maker = full_more (nat_le 281474976710655 maker.used) maker
+used_more (inputs.Replace id) maker = full_more (nat_le 281474976710655 maker.used) maker
+used_more input maker = omega arith
+
+pub made_then : {reading : Reading} {machine : ℕ} {input : Input} {moment : ℤ} {before after : Running} {told : List Act} (turn : Turns reading machine input moment before after told) (id : ℕ) → IsMade before id → IsMade after id
+made_then {machine = machine} {input = input} {before = before} {after = after} turn id m = by (same_or_not m.machine machine)
+  where
+    by : (m.machine ≡ machine) ⊎ (m.machine ≢ machine) → IsMade after id
+    by (inl is) =
+        let own : m.node ≡ turn.node = same_some (sym m.there ∙ ap (λ (k : ℕ). node_of k before) is ∙ turn.there) in
+        let most : m.count ≤ turn.node.maker.used = subst (λ (n : NodeState). m.count ≤ n.maker.used) own m.used in
+        let more : turn.node.maker.used ≤ turn.next.maker.used = subst (λ (k : Maker). turn.node.maker.used ≤ k.used) (sym turn.steps.lane.made) (used_more input turn.node.maker) in
+        let number : turn.node.maker.machine ≡ turn.next.maker.machine = sym (number_stays input turn.node.maker) ∙ ap (λ (k : Maker). k.machine) (sym turn.steps.lane.made) in
+        record {
+          machine = machine;
+          node = turn.next;
+          there = next_in turn;
+          count = m.count;
+          used = omega (arith, most, more);
+          small = m.small;
+          is = m.is ∙ ap (λ (n : NodeState). made_id n.maker.machine m.count) own ∙ ap (λ (k : ℕ). made_id k m.count) number;
+        }
+    by (inr apart) = record { machine = m.machine; node = m.node; there = other_in turn m.machine apart ∙ m.there; count = m.count; used = m.used; small = m.small; is = m.is }
 
 -- ---- where there are no connections there are none behind the turn
 

@@ -40,7 +40,7 @@ use Rattle.one_standing.proofs.Steps.{SameAbove, SameBelow, afar_of}
 use Rattle.one_standing.proofs.Traces.{put_other, put_same}
 use Rattle.running_line.specs.Reading.{Reading}
 use Rattle.running_line.specs.Running.{Running, unread_by}
-use Rattle.running_line.specs.Stands.{Carried, IsAtRest, Stands, between_of, is_joined, line_of, node_in}
+use Rattle.running_line.specs.Stands.{Carried, IsAtRest, IsMade, Stands, between_of, is_joined, line_of, node_in}
 use Rattle.running_line.specs.Steady.{scene_of}
 use Rattle.running_line.specs.Turned.{StandsBut, acts_met, turned}
 use Rattle.running_line.specs.Turns.{Turns}
@@ -173,13 +173,20 @@ pub record TurnsInto (j : ℕ) {reading : Reading} {input : Input} {moment : ℤ
 abbrev pub trace_then : {reading : Reading} {j : ℕ} {input : Input} {moment : ℤ} {before after : Running} {told : List Act} {t : Trace} {wire : Wire} {c : Scene} {gone : ℕ → Bool} {turn : Turns reading (j + 1) input moment before after told} → TurnsInto j t wire c gone turn → Trace
 trace_then {j = j} {input = input} {told = told} {t = t} {wire = wire} {c = c} {gone = gone} into = turned j into.goes.a into.goes.b gone (acts_met input wire told c) t
 
-floor_then : {reading : Reading} {j : ℕ} {input : Input} {moment : ℤ} {before after : Running} {told : List Act} {c : Scene} (t : Trace) → Stands t before → (turn : Turns reading (j + 1) input moment before after told) → IsOwn t before j c
+pub floor_then : {reading : Reading} {j : ℕ} {input : Input} {moment : ℤ} {before after : Running} {told : List Act} {c : Scene} (t : Trace) → Stands t before → (turn : Turns reading (j + 1) input moment before after told) → IsOwn t before j c
     → FloorThen j turn.rest before.floor after.floor (all_met told c)
 floor_then {j = j} {input = input} {before = before} {after = after} {told = told} {c = c} t st turn own =
     let within = within_of (j + 1) before turn.node turn.there in
     let many = st.many in
     let most = within.1 in
     floor_behind j (is_second input) told turn.rest before.floor after.floor c (record { within = omega (arith, many, most) }) (sym own.boards) (λ there. sym own.gap_above) (λ there. sym own.gap_below) (floor_is turn)
+
+-- what is unread at the machine, and at the one below it
+pub unread_then : (j : ℕ) {reading : Reading} {input : Input} {moment : ℤ} {before after : Running} {told : List Act} (t : Trace) → Stands t before → (turn : Turns reading (j + 1) input moment before after told) → unread_by (j + 1) after ≡ turn.rest
+unread_then j {before = before} t st turn = ap (λ (m : AtMachine). m.unread) (floor_then t st turn (own_scene t before j)).place
+
+pub unread_below : (j : ℕ) {reading : Reading} {input : Input} {moment : ℤ} {before after : Running} {told : List Act} (t : Trace) → Stands t before → (turn : Turns reading (j + 1) input moment before after told) → unread_by (j + 1 + 1) after ≡ unread_by (j + 1 + 1) before
+unread_below j {before = before} t st turn = (let last : j + 1 + 1 ≢ j + 1 = omega arith in ap (λ (m : AtMachine). m.unread) ((floor_then t st turn (own_scene t before j)).other_places (j + 1 + 1) last))
 
 -- the gaps on both sides are as the scene has them behind the acts
 record GapsThen (j : ℕ) (after : Running) (d : Scene) : Type 0 where
@@ -273,7 +280,7 @@ pub record AreLinked (j : ℕ) (s : Running) (d : Scene) : Type 0 where
   pub above : IsLinked s j d.above.up d.above.down
   pub below : IsLinked s (j + 1) d.below.up d.below.down
 
-abbrev linked_by : NodeState → NodeState → List Sensed → List Wire → List Horizontal → List Horizontal → Type 0
+abbrev pub linked_by : NodeState → NodeState → List Sensed → List Wire → List Horizontal → List Horizontal → Type 0
 linked_by above below unread wires up down = Waits above.lane.body below.lane.body unread wires × Carried above below up down wires
 
 linked_as : (a a2 b b2 : NodeState) (u u2 : List Sensed) (w w2 : List Wire) (up up2 down down2 : List Horizontal) → a2 ≡ a → b2 ≡ b → u2 ≡ u → w2 ≡ w → up2 ≡ up → down2 ≡ down → linked_by a b u w up down → linked_by a2 b2 u2 w2 up2 down2
@@ -284,6 +291,23 @@ linked_as a a2 b b2 u u2 w w2 up up2 down down2 ea eb eu ew eup edown l =
     (subst (λ (x : List Wire). linked_by a b u x up2 down2) (sym ew)
     (subst (λ (x : List Horizontal). linked_by a b u w x down2) (sym eup)
     (subst (λ (x : List Horizontal). linked_by a b u w up x) (sym edown) l)))))
+
+-- from what a turn leaves of both links, by the machine's step
+pub linked_of : {reading : Reading} {j : ℕ} {input : Input} {moment : ℤ} {before after : Running} {told : List Act} {t : Trace} {wire : Wire} {c : Scene} {gone : ℕ → Bool} (turn : Turns reading (j + 1) input moment before after told)
+    → Stands t before → (into : TurnsInto j t wire c gone turn)
+    → linked_by (node_in before j) turn.next turn.rest (after.wires j) (acts_met input wire told c).above.up (acts_met input wire told c).above.down
+    → linked_by turn.next (node_in before (j + 1 + 1)) (unread_by (j + 1 + 1) before) (after.wires (j + 1)) (acts_met input wire told c).below.up (acts_met input wire told c).below.down
+    → AreLinked j after (acts_met input wire told c)
+linked_of {j = j} {input = input} {before = before} {after = after} {told = told} {t = t} {wire = wire} {c = c} turn st into above below =
+    let d : Scene = acts_met input wire told c in
+    let f : FloorThen j turn.rest before.floor after.floor (all_met told c) = floor_then t st turn into.own in
+    let first : j ≢ j + 1 = omega arith in
+    let last : j + 1 + 1 ≢ j + 1 = omega arith in
+    let one = linked_as (node_in before j) (node_in after j) turn.next (node_in after (j + 1)) turn.rest (unread_by (j + 1) after) (after.wires j) (after.wires j) d.above.up d.above.up d.above.down d.above.down
+    (other_nodes turn j first) (next_there turn) (ap (λ (m : AtMachine). m.unread) f.place) refl refl refl above in
+    let two = linked_as turn.next (node_in after (j + 1)) (node_in before (j + 1 + 1)) (node_in after (j + 1 + 1)) (unread_by (j + 1 + 1) before) (unread_by (j + 1 + 1) after) (after.wires (j + 1)) (after.wires (j + 1)) d.below.up d.below.up d.below.down d.below.down
+    (next_there turn) (other_nodes turn (j + 1 + 1) last) (ap (λ (m : AtMachine). m.unread) (f.other_places (j + 1 + 1) last)) refl refl refl below in
+    record { above = record { waits = one.0; carried = one.1 }; below = record { waits = two.0; carried = two.1 } }
 
 each_link : {reading : Reading} {j : ℕ} {input : Input} {moment : ℤ} {before after : Running} {told : List Act} {t : Trace} {wire : Wire} {c : Scene} {gone : ℕ → Bool} (turn : Turns reading (j + 1) input moment before after told)
     → Stands t before → (into : TurnsInto j t wire c gone turn) → AreLinked j after (acts_met input wire told c) → (k : ℕ) → (k ≡ j) ⊎ (k ≢ j) → (k ≡ j + 1) ⊎ (k ≢ j + 1)
@@ -316,6 +340,8 @@ pub record LeavesAll (s : Running) (t : Trace) : Type 0 where
   pub gone : AreGone t s
   pub fit : (machine : ℕ) → IsFitMachine (line_of s) machine
   pub rest : RestsThen s
+  pub made : (id : ℕ) → 1 ≤ counted id (boards_on s.floor) → IsMade s id
+  pub olds : (link id : ℕ) → t.gone link id ≡ true → IsMade s id
 
 pub turn_but : {reading : Reading} {j : ℕ} {input : Input} {moment : ℤ} {before after : Running} {told : List Act} {t : Trace} {wire : Wire} {c : Scene} {gone : ℕ → Bool} (turn : Turns reading (j + 1) input moment before after told)
     → Stands t before → (into : TurnsInto j t wire c gone turn) → LeavesAll after (trace_then into) → StandsBut (trace_then into) after
@@ -331,6 +357,8 @@ turn_but {j = j} {input = input} {before = before} {after = after} {told = told}
       whole = whole;
       differ = leaves.differ;
       numbers = numbers_differ turn st.numbers;
+      made = leaves.made;
+      olds = leaves.olds;
     }
 
 pub turn_stands : {reading : Reading} {j : ℕ} {input : Input} {moment : ℤ} {before after : Running} {told : List Act} {t : Trace} {wire : Wire} {c : Scene} {gone : ℕ → Bool} (turn : Turns reading (j + 1) input moment before after told)
@@ -348,4 +376,6 @@ turn_stands {j = j} turn st into linked leaves =
       whole = but.whole;
       differ = but.differ;
       numbers = but.numbers;
+      made = but.made;
+      olds = but.olds;
     }

@@ -1,14 +1,16 @@
 -- THE RELATION OF RUNNING MACHINES, of their whole state: that of each link and each machine by
 -- numbers, as a line of a script has it, and beside it what waits on each link and which messages
 -- the bytes on their way are.
-use Rattle.std.specs.Prelude.{ℕ, Bool, false, List, [], length, ◌&&◌, ◌+◌, ◌≡◌}
+use Rattle.std.specs.Prelude.{ℕ, Bool, false, true, List, [], Some, filter, length, ◌&&◌, ◌+◌, ◌^◌, ◌<◌, ◌≡◌, ◌≤◌}
 use Rattle.std.specs.List.{AllByRecursion, list_any}
+use Rattle.board_record.specs.Maker.{made_id}
 use Rattle.session_core.specs.declared.state.SessionState.TheVariants.{NotConnected}
 use Rattle.hermes_horizontal.specs.declared.message.Horizontal.{Horizontal}
 use Rattle.hermes_horizontal.specs.declared.message.Message.{Message}
 use Rattle.handover_out.specs.declared.phase.Phase.TheVariants as out
 use Rattle.handover_in.specs.declared.phase.Phase.TheVariants as inn
-use Rattle.line_world.specs.FloorPlan.{IsWhole, gap_at}
+use Rattle.line_world.specs.Boards.{boards_on}
+use Rattle.line_world.specs.FloorPlan.{IsWhole, gap_at, has_id}
 use Rattle.line_world.specs.Ids.{IdsDiffer}
 use Rattle.node_core.specs.Node.{NodeState}
 use Rattle.node_core.specs.Sound.{IsSound}
@@ -23,7 +25,7 @@ use Rattle.one_standing.specs.Carried.{IsFitMachine, Trace, stand_of}
 use Rattle.one_standing.specs.Kept.{Keeps}
 use Rattle.one_standing.specs.Relation.{Between}
 use Rattle.running_line.specs.New.{NumbersDiffer}
-use Rattle.running_line.specs.Running.{Running, unread_by}
+use Rattle.running_line.specs.Running.{Running, node_of, unread_by}
 use Rattle.running_line.specs.Waits.{Waits, had_above, had_below}
 use Rattle.running_line.specs.Wire.{Awaits, Coming, Has, Wire, bytes_of, has}
 
@@ -79,6 +81,19 @@ pub record Carried (above below : NodeState) (upward downward : List Horizontal)
   pub none_up : list_any had_above wires ≡ false → upward ≡ []
   pub none_down : list_any had_below wires ≡ false → downward ≡ []
 
+-- ---- ids
+
+-- a machine that is there made the id: it bears the machine's number, and a count that the machine
+-- has used
+pub record IsMade (s : Running) (id : ℕ) : Type 0 where
+  pub machine : ℕ
+  pub node : NodeState
+  pub there : node_of machine s ≡ Some node
+  pub count : ℕ
+  pub used : count ≤ node.maker.used
+  pub small : count < 2 ^ 48
+  pub is : id ≡ made_id node.maker.machine count
+
 -- ---- and all of it
 
 -- where there is no link no board is handed over, and there is no connection
@@ -104,6 +119,9 @@ pub record Stands (t : Trace) (s : Running) : Type 0 where
   pub whole : IsWhole s.floor
   pub differ : IdsDiffer s.floor
   pub numbers : NumbersDiffer s
+  -- the id of each board on the floor was made by a machine, and so was each that went from it
+  pub made : (id : ℕ) → 1 ≤ length (filter (has_id id) (boards_on s.floor)) → IsMade s id
+  pub olds : (link id : ℕ) → t.gone link id ≡ true → IsMade s id
 
 -- running machines stand in it, with some trace
 pub record AreInRelation (s : Running) : Type 0 where

@@ -1,9 +1,10 @@
 -- THE TRACE BEHIND A TURN of machine j + 1: what is between it and its two neighbours is what is there
 -- in its scene behind its acts. All that is between others is as it was.
-use Rattle.std.specs.Prelude.{ℕ, ℤ, Bool, List, false, length, ◌+◌, ◌≡◌}
+use Rattle.std.specs.Prelude.{ℕ, ℤ, Bool, List, false, filter, length, true, ◌+◌, ◌≡◌, ◌≤◌}
 use Rattle.line_base.specs.declared.states.Side.TheVariants.{Entry, Exit}
 use Rattle.hermes_horizontal.specs.declared.message.Message.{Message}
-use Rattle.line_world.specs.FloorPlan.{IsWhole}
+use Rattle.line_world.specs.Boards.{boards_on}
+use Rattle.line_world.specs.FloorPlan.{IsWhole, has_id}
 use Rattle.line_world.specs.Ids.{IdsDiffer}
 use Rattle.node_core.specs.Sound.{IsSound}
 use Rattle.node_core.specs.declared.act.Act.{Act}
@@ -23,7 +24,7 @@ use Rattle.one_standing.proofs.Traces.{put}
 use Rattle.running_line.specs.New.{NumbersDiffer}
 use Rattle.running_line.specs.Reading.{Strictly}
 use Rattle.running_line.specs.Running.{Running}
-use Rattle.running_line.specs.Stands.{IsAtRest, between_of, line_of, node_in}
+use Rattle.running_line.specs.Stands.{IsAtRest, IsMade, between_of, line_of, node_in}
 use Rattle.running_line.specs.Steady.{scene_of, unless_joined}
 use Rattle.running_line.specs.Turns.{Turns}
 use Rattle.running_line.specs.Wire.{Awaits, Has, Hold, Left, Wire, has}
@@ -80,6 +81,8 @@ pub record StandsBut (t : Trace) (s : Running) : Type 0 where
   pub whole : IsWhole s.floor
   pub differ : IdsDiffer s.floor
   pub numbers : NumbersDiffer s
+  pub made : (id : ℕ) → 1 ≤ length (filter (has_id id) (boards_on s.floor)) → IsMade s id
+  pub olds : (link id : ℕ) → t.gone link id ≡ true → IsMade s id
 
 -- ---- WHAT A TURN COMES TO
 
@@ -103,5 +106,6 @@ pub record TurnsTo (j : ℕ) {input : Input} {moment : ℤ} {before after : Runn
   pub said : List Message
   pub a : Ghost
   pub b : Ghost
+  pub gone : ℕ → Bool
   pub stands : StandsBut
-      (turned j a b (t.gone (j + 1)) (scene_behind input wire said told t before j) t) after
+      (turned j a b gone (scene_behind input wire said told t before j) t) after

@@ -25,7 +25,7 @@ ghost use Rattle.running_line.specs.Running.{Running, unread_by};
 ghost use Rattle.running_line.specs.RunSteps.{Asks, LetsBe, Moves, given_up, let_be};
 ghost use Rattle.running_line.specs.Stands.{AreInRelation, Stands, line_of, node_in};
 ghost use Rattle.running_line.specs.Steady.{FindsIt, IsSteady, RefusesIt, TakesIt, scene_of};
-ghost use Rattle.running_line.specs.Turned.{IsHandless, IsHeard, TurnsTo};
+ghost use Rattle.running_line.specs.Turned.{TurnsTo};
 ghost use Rattle.running_line.specs.Turns.{HasNone, IsAt, Turns};
 ghost use Rattle.running_line.specs.Waits.{Waits};
 ghost use Rattle.running_line.specs.Wire.{Awaits, Wire, asked_for};
@@ -111,17 +111,21 @@ pub fn a_connection_in_a_turn_keeps_both_links()
         → RefusesIt t s j (machine_step desk read Second (node_in s (j + 1)).lane.body) }
 {}
 
-/// In a turn that has read all before it takes an input, and in which no board is changed by hand, all
-/// of the relation goes on but what is on the connections: of each link and each machine, where
-/// boards lie and what is gone, and that a link stands where both its ends have one connection. What
-/// is between the machine and its neighbours is then what its scene says behind its acts. Of bytes it
-/// is asked that they are heard as the oldest messages on their way.
+/// In a turn that has read all before it takes an input, all of the relation goes on but what is on
+/// the connections: of each link and each machine, where boards lie and what is gone, that each id
+/// was made by a machine, and that a link stands where both its ends have one connection. What is
+/// between the machine and its neighbours is then what its scene says behind its acts.
 pub fn a_turn_keeps_all_but_what_is_on_connections()
     ensures { (t : Trace) (j : ℕ) (input : Input) (moment : ℤ) (before after : Running)
         (told : List Act) → Stands t before
-        → (turn : Turns Strictly (j + 1) input moment before after told) → IsHandless input
-        → IsHeard input turn.steps.lane.words (scene_of t before j) → TurnsTo j t turn }
-{}
+        → (turn : Turns Strictly (j + 1) input moment before after told) → TurnsTo j t turn }
+{
+    link_messages::laws::the_words_of_a_piece_are_the_oldest_messages();
+    link_messages::laws::a_frame_with_a_nul_is_a_wrong_word();
+    link_messages::laws::fit_messages_are_sayable();
+    link_messages::laws::the_words_of_fit_messages_are_fit();
+    link_messages::laws::the_words_behind_a_nul_are_fit();
+}
 
 /// Where running machines stand in the relation, each board's record has one standing: with one
 /// machine, or in one handover between two neighbours.
