@@ -30,3 +30,7 @@ pub mod WiresSecond
 pub mod WiresCalls
 pub mod WiresBehind
 pub mod RunsOn
+pub mod WiresMet
+pub mod WiresCome
+pub mod WiresRefused
+pub mod WiresWhole
