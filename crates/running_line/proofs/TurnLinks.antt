@@ -23,7 +23,6 @@ use Rattle.machine_custody.specs.Joined.{with_link}
 use Rattle.machine_custody.specs.Scene.{Scene, all_met}
 use Rattle.machine_custody.proofs.Answering.{lefts_go, seconds_go}
 use Rattle.machine_custody.proofs.ComingLast.{comes_alone_go, comes_go}
-use Rattle.machine_custody.proofs.Joining.{first_accepts}
 use Rattle.machine_custody.proofs.TakingAlone.{takes_go}
 use Rattle.one_standing.specs.Carried.{Trace, stand_of}
 use Rattle.one_standing.proofs.Elsewhere.{elsewhere_of}
@@ -37,6 +36,7 @@ use Rattle.running_line.specs.Waits.{AtMostOne, IsUncome, IsUntaken, SaidUp, had
 use Rattle.running_line.specs.Wire.{Awaits, Has, Hold, Left, Wire, has}
 use Rattle.running_line.proofs.TurnSteps.{all_before}
 use Rattle.running_line.proofs.Waiting.{all_at, tested}
+use Rattle.running_line.proofs.WiresTaken.{called_go}
 
 -- ---- which ends have a connection
 
@@ -92,7 +92,7 @@ taken_by : {afar : Afar} {above : List Record} {ga gb : Ghost} {hold : Hold} {sa
     → Goes afar above [] ga gb c (machine_step desk read Accepted body).body (all_met (machine_step desk read Accepted body).acts (with_link Exit (has hold) said (unless_joined hold c.below.down) c))
 taken_by {afar} {above} {ga} {gb} desk read body c not_come good away off shakes =
     subst (λ (b : Bool). Goes afar above [] ga gb c (machine_step desk read Accepted body).body (all_met (machine_step desk read Accepted body).acts (with_link Exit b [] c.below.down c))) off (takes_go desk read body c [] good away call_awaited)
-taken_by desk read body c (has_come {service = service}) good away off shakes = first_accepts desk read body c service good away (shakes refl)
+taken_by desk read body c (has_come {said = said} says) good away off shakes = called_go desk read body c said says good away (shakes refl)
 taken_by {afar} {above} {ga} {gb} desk read body c (was_left {said = said} call) good away off shakes =
     subst (λ (b : Bool). Goes afar above [] ga gb c (machine_step desk read Accepted body).body (all_met (machine_step desk read Accepted body).acts (with_link Exit b said c.below.down c))) off (takes_go desk read body c said good away call)
 

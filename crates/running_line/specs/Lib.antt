@@ -9,3 +9,4 @@ pub mod New
 pub mod Stands
 pub mod Steady
 pub mod Turned
+pub mod Off
