@@ -34,3 +34,4 @@ pub mod WiresMet
 pub mod WiresCome
 pub mod WiresRefused
 pub mod WiresWhole
+pub mod TurnWhole

@@ -22,7 +22,7 @@ ghost use Rattle.running_line.specs.Doubled.{IsDoubled, IsHeldBehind};
 ghost use Rattle.running_line.specs.New.{IsNew, NumbersDiffer};
 ghost use Rattle.running_line.specs.Reading.{Reading, ReadsFront, Strictly};
 ghost use Rattle.running_line.specs.Running.{Running, unread_by};
-ghost use Rattle.running_line.specs.RunSteps.{Asks, LetsBe, Moves, given_up, let_be};
+ghost use Rattle.running_line.specs.RunSteps.{Asks, LetsBe, Moves, RunsTo, given_up, let_be};
 ghost use Rattle.running_line.specs.Stands.{AreInRelation, Stands, line_of, node_in};
 ghost use Rattle.running_line.specs.Steady.{FindsIt, IsSteady, RefusesIt, TakesIt, scene_of};
 ghost use Rattle.running_line.specs.Turned.{TurnsTo};
@@ -127,8 +127,38 @@ pub fn a_turn_keeps_all_but_what_is_on_connections()
     link_messages::laws::the_words_behind_a_nul_are_fit();
 }
 
+/// And with what is on the connections, that is all of it: where running machines stand in the
+/// relation before a turn that has read all before it takes an input, they do so behind it, whatever
+/// the input is.
+pub fn the_relation_goes_on_in_a_turn()
+    ensures { (machine : ℕ) (input : Input) (moment : ℤ) (before after : Running)
+        (told : List Act) → Turns Strictly machine input moment before after told
+        → AreInRelation before → AreInRelation after }
+{
+    link_messages::laws::the_words_of_a_piece_are_the_oldest_messages();
+    link_messages::laws::a_frame_with_a_nul_is_a_wrong_word();
+    link_messages::laws::fit_messages_are_sayable();
+    link_messages::laws::the_words_of_fit_messages_are_fit();
+    link_messages::laws::the_words_behind_a_nul_are_fit();
+}
+
 /// Where running machines stand in the relation, each board's record has one standing: with one
 /// machine, or in one handover between two neighbours.
 pub fn one_standing_in_the_relation()
     ensures { (s : Running) → AreInRelation s → HasOneStanding (line_of s) }
 {}
+
+/// THE LAW OVER RUNS: in whatever order the turns of machines fall, and whatever connections between
+/// them break, are refused, half made or made anew: from new machines whose numbers differ, behind
+/// each run in which every machine reads all that its sensors saw before it takes an input, each
+/// board's record has one standing.
+pub fn one_standing_in_each_run_that_reads_first()
+    ensures { (s u : Running) (told : List Act) → IsNew s → NumbersDiffer s
+        → RunsTo Strictly s told u → HasOneStanding (line_of u) }
+{
+    link_messages::laws::the_words_of_a_piece_are_the_oldest_messages();
+    link_messages::laws::a_frame_with_a_nul_is_a_wrong_word();
+    link_messages::laws::fit_messages_are_sayable();
+    link_messages::laws::the_words_of_fit_messages_are_fit();
+    link_messages::laws::the_words_behind_a_nul_are_fit();
+}
