@@ -30,7 +30,7 @@ use Rattle.node_core.specs.declared.input.Input.TheVariants as inputs
 use Rattle.node_core.specs.declared.word.Word.{Word}
 use Rattle.node_core.specs.declared.word.Word.TheVariants.{Says}
 use Rattle.custody.proofs.Texts.{nothing_flows}
-use Rattle.link_messages.specs.Fit.{AreFit, AreFitActs, IsFit, IsFitDesk, more_fit, more_said, none_fit}
+use Rattle.link_messages.specs.Fit.{AreFit, AreFitActs, IsFit, IsFitDesk, IsFitInput, more_fit, more_said, none_fit}
 use Rattle.link_messages.specs.Heard.{AreSayable, IsSayable, more_sayable}
 use Rattle.link_messages.proofs.SayingWhat.{sent, service_fits}
 use Rattle.line_step.specs.Steps.{is_second}
@@ -69,9 +69,9 @@ moment_fits = (record { le = tt }, record { le = tt })
 
 turn_by : (reading : Reading) (machine : ℕ) (node : NodeState) (read rest : List Sensed) (input : Input) (words : List Word) (place : ℕ) (s : Running)
     → node_of machine s ≡ Some node → ReadsFront (unread_by machine s) read rest → Meets machine input place s → MayTake reading input (said_behind machine input place (with_reading machine read rest s)) rest
-    → may_of node input ≡ may_do → Brings input node.lane (next_by node read input words).lane words
+    → may_of node input ≡ may_do → Brings input node.lane (next_by node read input words).lane words → IsFitInput input
     → Turns reading machine input now s (turned machine node read rest input words place s) (acts_by node read input words)
-turn_by reading machine node read rest input words place s there front meets in_time may brings = record {
+turn_by reading machine node read rest input words place s there front meets in_time may brings texts = record {
   node = node;
   next = next_by node read input words;
   there = there;
@@ -83,6 +83,7 @@ turn_by reading machine node read rest input words place s there front meets in_
   in_time = in_time;
   may = may;
   moments = moment_fits;
+  texts = texts;
   steps = record {
     made = (done_by node read input words).acts;
     lane = record { words = words; brings = brings; body = refl; told = refl; made = refl };
@@ -269,23 +270,23 @@ first_moves = moves_by moves.Begin transporting printer refl refl
 settles : SaysSo → To Freely answered settled
 settles alone = step_to (turns (turn_by Freely 2 printer_calls [] [] (inputs.Bytes Entry piece_down) (Says loader_says ∷ []) 1 answered refl (record { exit = refl; entry = refl })
     (record { at = record { wire = _; there = refl; held = refl }; some = some_bytes alone loader_says loader_fits; front = front_comes 0 (canonical loader_says) _ })
-    tt refl (hears_one alone loader_says loader_fits _, refl))) here
+    tt refl (hears_one alone loader_says loader_fits _, refl) tt)) here
 
 answers : SaysSo → To Freely taken settled
 answers alone = step_to (turns (turn_by Freely 1 loader_takes [] seen_above (inputs.Bytes Exit piece_up) (Says printer_says ∷ []) 1 taken refl (record { exit = refl; entry = refl })
     (record { at = record { wire = _; there = refl; held = refl }; some = some_bytes alone printer_says printer_fits; front = read_comes 2 0 (canonical printer_says) })
-    tt refl (hears_one alone printer_says printer_fits _, refl))) (settles alone)
+    tt refl (hears_one alone printer_says printer_fits _, refl) tt)) (settles alone)
 
 connects : SaysSo → To Freely waiting settled
 connects alone = step_to (asks (record { above = loader_returns; above_there = refl; below = printer_waits; below_there = refl; may = refl; after_is = refl }))
-    (step_to (turns (turn_by Freely 2 printer_waits [] [] inputs.Connect [] 1 asked refl (record { exit = refl; entry = refl }) (record { wire = _; there = refl; held = refl }) tt refl (refl, refl)))
-    (step_to (turns (turn_by Freely 1 loader_returns [] seen_above inputs.Accepted [] 1 come refl (record { exit = refl; entry = refl }) (record { wire = _; there = refl; held = refl }, none_above _ _ refl refl) tt refl (refl, refl)))
+    (step_to (turns (turn_by Freely 2 printer_waits [] [] inputs.Connect [] 1 asked refl (record { exit = refl; entry = refl }) (record { wire = _; there = refl; held = refl }) tt refl (refl, refl) tt))
+    (step_to (turns (turn_by Freely 1 loader_returns [] seen_above inputs.Accepted [] 1 come refl (record { exit = refl; entry = refl }) (record { wire = _; there = refl; held = refl }, none_above _ _ refl refl) tt refl (refl, refl) tt))
     (answers alone)))
 
 closes : SaysSo → To Freely inside settled
-closes alone = step_to (turns (turn_by Freely 2 printer seen_below [] inputs.Nothing [] 0 inside refl (record { exit = refl; entry = refl }) tt tt refl (refl, refl)))
-    (step_to (turns (turn_by Freely 1 loader [] seen_above (inputs.Notice Exit) [] 0 stopped refl (record { exit = refl; entry = refl }) (record { wire = _; there = refl; held = refl }) tt refl (refl, refl)))
-    (step_to (turns (turn_by Freely 2 printer_stops [] [] (inputs.Notice Entry) [] 0 returned refl (record { exit = refl; entry = refl }) (record { wire = _; there = refl; held = refl }) tt refl (refl, refl)))
+closes alone = step_to (turns (turn_by Freely 2 printer seen_below [] inputs.Nothing [] 0 inside refl (record { exit = refl; entry = refl }) tt tt refl (refl, refl) tt))
+    (step_to (turns (turn_by Freely 1 loader [] seen_above (inputs.Notice Exit) [] 0 stopped refl (record { exit = refl; entry = refl }) (record { wire = _; there = refl; held = refl }) tt refl (refl, refl) tt))
+    (step_to (turns (turn_by Freely 2 printer_stops [] [] (inputs.Notice Entry) [] 0 returned refl (record { exit = refl; entry = refl }) (record { wire = _; there = refl; held = refl }) tt refl (refl, refl) tt))
     (connects alone)))
 
 pub is_doubled : SaysSo → IsDoubled
@@ -326,9 +327,9 @@ is_held_behind =
       read = refl;
       floor = moved moves.Begin transporting.floor;
       begins = refl;
-      turns = turn_by Behind 1 loader (exit_sees sensors.Begun ∷ []) [] inputs.Nothing [] 0 begun refl (record { exit = refl; entry = refl }) tt refl refl (refl, refl);
+      turns = turn_by Behind 1 loader (exit_sees sensors.Begun ∷ []) [] inputs.Nothing [] 0 begun refl (record { exit = refl; entry = refl }) tt refl refl (refl, refl) tt;
       reads = refl;
-    })) (step_to (turns (turn_by Behind 1 loader_reads [] [] (inputs.Notice Exit) [] 0 begun_read refl (record { exit = refl; entry = refl }) (record { wire = _; there = refl; held = refl }) refl refl (refl, refl))) here) in
+    })) (step_to (turns (turn_by Behind 1 loader_reads [] [] (inputs.Notice Exit) [] 0 begun_read refl (record { exit = refl; entry = refl }) (record { wire = _; there = refl; held = refl }) refl refl (refl, refl) tt)) here) in
     record {
       told = lets.told;
       after = closed;

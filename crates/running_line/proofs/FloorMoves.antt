@@ -49,6 +49,7 @@ use Rattle.running_line.specs.RunSteps.{Moves}
 use Rattle.running_line.specs.Reading.{Reading}
 use Rattle.running_line.specs.Running.{Running, unread_by, with_floor}
 use Rattle.running_line.specs.Stands.{AreInRelation, Stands, between_of, line_of, node_in}
+use Rattle.running_line.proofs.Relation.{fit_aside, made_aside}
 
 -- ---- no board moves above an intake that is free in a session that stands
 
@@ -122,7 +123,7 @@ entry_stays (left_is_taken {seen = seen}) = entry_other seen _
 
 -- ---- where boards lie, and what is gone
 
-to_line : (t : Trace) (s : Running) {x : ℕ} {p : Spot} → LiesAt (stand_of (line_of s)) (between_of t s) x p → LiesAt (stand_of (line_of s)) (line_between t (line_of s)) x p
+pub to_line : (t : Trace) (s : Running) {x : ℕ} {p : Spot} → LiesAt (stand_of (line_of s)) (between_of t s) x p → LiesAt (stand_of (line_of s)) (line_between t (line_of s)) x p
 to_line t s (lies_at lies) = lies_at lies
 to_line t s (lies_in lies) = lies_in lies
 
@@ -258,18 +259,22 @@ move_stands i step t s plan gone st is_done grow taken each =
           may_come = w.may_come;
           free = still_read i step t s plan k st done (same_or_not k (i + 1)) (same_or_not (k + 1) (i + 1));
         });
-        carried = λ k. record { up = (st.carried k).up; down = (st.carried k).down; quiet = (st.carried k).quiet; none_up = (st.carried k).none_up; none_down = (st.carried k).none_down };
+        carried = λ k. record { up = (st.carried k).up; down = (st.carried k).down; quiet = (st.carried k).quiet; called = (st.carried k).called; none_up = (st.carried k).none_up; none_down = (st.carried k).none_down };
         rest = λ k none. record { outlet = (st.rest k none).outlet; intake = (st.rest k none).intake; exit = (st.rest k none).exit; entry = (st.rest k none).entry; wires = (st.rest k none).wires };
+        fit = λ k. fit_aside s now k refl (st.fit k);
+        sound = st.sound;
         many = machines_kept (i + 1) step s.floor plan is_done ∙ st.many;
         whole = whole_after (i + 1) step s.floor plan st.whole is_done;
         differ = moves_differ (i + 1) step s.floor plan st.whole is_done st.differ;
         numbers = record { apart = st.numbers.apart };
+        made = λ x some. made_aside s now x refl (st.made x (omega (arith, some, kept_count step (gap_at s.floor (i + 1)).lies x (boards_on s.floor) (boards_on plan) (keeps_boards (i + 1) step s.floor plan st.whole is_done))));
+        olds = λ k x is. made_aside s now x refl (elim (each k x is) [ inl was ↦ st.olds k x was | inr own ↦ st.made x own.1.was ]);
       };
     }
 
 -- ---- all but a hand leave what is gone
 
-same_gone : (gap : ℕ) (t : Trace) (k x : ℕ) → (k ≡ gap) ⊎ (k ≢ gap) → put gap (t.gone gap) t.gone k x ≡ t.gone k x
+pub same_gone : (gap : ℕ) (t : Trace) (k x : ℕ) → (k ≡ gap) ⊎ (k ≢ gap) → put gap (t.gone gap) t.gone k x ≡ t.gone k x
 same_gone gap t k x (inl is) = rw is (ap (λ (f : ℕ → Bool). f x) (put_same gap (t.gone gap) t.gone))
 same_gone gap t k x (inr apart) = ap (λ (f : ℕ → Bool). f x) (put_other gap k (t.gone gap) t.gone apart)
 
@@ -299,10 +304,10 @@ taken_count x lies old new board is some loss =
     rw (loss.before, loss.after) (omega (arith, less, single_by (has_id x board) x board refl own))
 
 -- what is gone then
-abbrev with_gone : (ℕ → Bool) → ℕ → ℕ → Bool
+abbrev pub with_gone : (ℕ → Bool) → ℕ → ℕ → Bool
 with_gone gone x y = gone y || nat_eq y x
 
-taken_gone : (gap x : ℕ) (t : Trace) (k y : ℕ) → (k ≡ gap) ⊎ (k ≢ gap) → put gap (with_gone (t.gone gap) x) t.gone k y ≡ true → (t.gone k y ≡ true) ⊎ ((k ≡ gap) × (y ≡ x))
+pub taken_gone : (gap x : ℕ) (t : Trace) (k y : ℕ) → (k ≡ gap) ⊎ (k ≢ gap) → put gap (with_gone (t.gone gap) x) t.gone k y ≡ true → (t.gone k y ≡ true) ⊎ ((k ≡ gap) × (y ≡ x))
 taken_gone gap x t k y (inl is) gone =
     let here : put gap (with_gone (t.gone gap) x) t.gone gap y ≡ true = subst (λ (n : ℕ). put gap (with_gone (t.gone gap) x) t.gone n y ≡ true) is gone in
     let own : with_gone (t.gone gap) x y ≡ true = sym (ap (λ (f : ℕ → Bool). f y) (put_same gap (with_gone (t.gone gap) x) t.gone)) ∙ here in
@@ -332,8 +337,11 @@ each_stands i moves.Enter t s plan st is_done = other_stands i moves.Enter t s p
 each_stands i moves.Back t s plan st is_done = other_stands i moves.Back t s plan st tt is_done
 each_stands i moves.HandIn t s plan st is_done = other_stands i moves.HandIn t s plan st tt is_done
 
+pub moved_stand : (gap : ℕ) (step : Move) (t : Trace) (s : Running) (plan : FloorPlan) → Stands t s → floor_move gap step s.floor ≡ Ok plan → AreInRelation (with_floor plan s)
+moved_stand gap step t s plan st moved =
+    let done : Done gap step s.floor plan = done_of gap step s.floor plan moved in
+    let same : gap - 1 + 1 ≡ gap = less_one gap (is_gap_of s.floor gap done.there).counted in
+    each_stands (gap - 1) step t s plan st (subst (λ (n : ℕ). floor_move n step s.floor ≡ Ok plan) (sym same) moved)
+
 pub moves_stand : {reading : Reading} {gap : ℕ} {step : Move} {before after : Running} (t : Trace) → Stands t before → Moves reading gap step before after → AreInRelation after
-moves_stand {gap = gap} {step = step} {before = before} t st m =
-    let done : Done gap step before.floor m.floor = done_of gap step before.floor m.floor m.moved in
-    let same : gap - 1 + 1 ≡ gap = less_one gap (is_gap_of before.floor gap done.there).counted in
-    subst AreInRelation (sym m.after_is) (each_stands (gap - 1) step t before m.floor st (subst (λ (n : ℕ). floor_move n step before.floor ≡ Ok m.floor) (sym same) m.moved))
+moves_stand {gap = gap} {step = step} {before = before} t st m = subst AreInRelation (sym m.after_is) (moved_stand gap step t before m.floor st m.moved)

@@ -1,24 +1,29 @@
 -- New machines stand in the relation of running machines, with a trace of nothing.
-use Rattle.std.proofs.Common.{Bool, List, [], ap, arith, false, length, length-append, refl, subst, suc, sym, true, zero, ℕ, ◌++◌, ◌+◌, ◌-◌, ◌∙◌, ◌∷◌, ◌≡◌}
-use Rattle.std.specs.Prelude.{cond, nat_lt, slice_index_or}
+use Rattle.std.proofs.Common.{Bool, List, [], ap, arith, false, length, length-append, refl, subst, suc, sym, true, zero, ℕ, ◌++◌, ◌+◌, ◌-◌, ◌∙◌, ◌∷◌, ◌≡◌, ◌≤◌}
+use Rattle.std.specs.Prelude.{cond, filter, nat_lt, slice_index_or}
 use Rattle.std.specs.List.{AllByRecursion, list_any}
+use Rattle.std.proofs.lemmas.Bool.{false≢true}
+use Rattle.line_base.specs.Text.{IsText}
 use Rattle.line_base.specs.declared.states.Side.TheVariants.{Entry, Exit}
 use Rattle.line_link.specs.Link.{LinkParts, no_link}
 use Rattle.line_world.specs.Boards.{boards_along, boards_on}
-use Rattle.line_world.specs.FloorPlan.{AtMachine, IsWhole, empty_machine, free_gap, gap_at, gaps_before, machine_at, no_floor}
+use Rattle.line_world.specs.FloorPlan.{AtMachine, IsWhole, empty_machine, free_gap, gap_at, gaps_before, has_id, machine_at, no_floor}
 use Rattle.line_world.specs.Ids.{IdsDiffer}
 use Rattle.line_world.specs.declared.gap.AtGap.{AtGap}
 use Rattle.line_world.proofs.Along.{along_more}
 use Rattle.node_core.specs.Node.{NodeState}
 use Rattle.node_core.specs.Sides.{is_open}
+use Rattle.node_core.specs.Sound.{IsSound}
 use Rattle.node_core.specs.declared.lane.Lane.{Lane}
 use Rattle.custody.specs.Words.{events_at}
+use Rattle.link_messages.specs.Fit.{IsFitBody, IsFitMaker}
+use Rattle.link_messages.proofs.Eventing.{first_body_fits}
 use Rattle.line_step.specs.Numbered.{no_node, node_at}
-use Rattle.line_step.specs.State.{no_line}
+use Rattle.line_step.specs.State.{LineState, no_line}
 use Rattle.line_step.specs.World.{link_at, no_world}
 use Rattle.line_step.proofs.Changing.{more_gaps}
 use Rattle.line_step.proofs.Numbers.{number_more}
-use Rattle.one_standing.specs.Carried.{between_of as line_between, stand_of}
+use Rattle.one_standing.specs.Carried.{IsFitMachine, between_of as line_between, stand_of}
 use Rattle.one_standing.specs.Places.{LiesAt, Spot, lies_at, lies_in}
 use Rattle.one_standing.specs.Relation.{Between, Neighbours, Owns, Stand}
 use Rattle.one_standing.specs.Kept.{Keeps}
@@ -114,6 +119,9 @@ floor_free (suc count) = more_free (new_floor count).machines (new_floor count).
 floor_differ : (count : ℕ) → IdsDiffer (new_floor count)
 floor_differ count = record { once = λ id. rw (floor_free count) (omega arith) }
 
+none_counted : (count id : ℕ) → length (filter (has_id id) (boards_on (new_floor count))) ≡ 0
+none_counted count id = rw (floor_free count) refl
+
 -- ---- the machines, but for what they are willing to do
 
 nodes_new : (nodes : List NodeState) (place : ℕ) → AllByRecursion IsNewNode nodes → lane_aside (slice_index_or nodes place no_node).lane ≡ lane_aside no_node.lane
@@ -177,7 +185,7 @@ waits_new s new link = subst (λ (wires : List Wire). Waits (node_in s link).lan
     })
 
 carried_new : (s : Running) → IsNew s → (link : ℕ) → Carried (node_in s link) (node_in s (link + 1)) [] [] (s.wires link)
-carried_new s new link = subst (λ (wires : List Wire). Carried (node_in s link) (node_in s (link + 1)) [] [] wires) (sym (new.wires link)) (record { up = tt; down = tt; quiet = tt; none_up = λ none. refl; none_down = λ none. refl })
+carried_new s new link = subst (λ (wires : List Wire). Carried (node_in s link) (node_in s (link + 1)) [] [] wires) (sym (new.wires link)) (record { up = tt; down = tt; quiet = tt; called = tt; none_up = λ none. refl; none_down = λ none. refl })
 
 rest_new : (s : Running) → IsNew s → (link : ℕ) → IsAtRest s link
 rest_new s new link = record {
@@ -188,6 +196,44 @@ rest_new s new link = record {
   wires = new.wires link;
 }
 
+-- ---- each machine by itself
+
+any_new : (P : NodeState → Type 0) → ((node : NodeState) → IsNewNode node → P node) → P no_node → (nodes : List NodeState) (place : ℕ) → AllByRecursion IsNewNode nodes → P (slice_index_or nodes place no_node)
+any_new P new none [] place all = none
+any_new P new none (node ∷ nodes) zero all = new node all.0
+any_new P new none (node ∷ nodes) (suc place) all = any_new P new none nodes place all.1
+
+each_new : (P : NodeState → Type 0) → ((node : NodeState) → IsNewNode node → P node) → P no_node → (s : Running) → IsNew s → (machine : ℕ) → P (node_in s machine)
+each_new P new none s is zero = none
+each_new P new none s is (suc place) = any_new P new none s.machines place is.nodes
+
+pub record IsFitNode (node : NodeState) : Type 0 where
+  pub body : IsFitBody node.lane.body
+  pub maker : IsFitMaker node.maker
+  pub name : IsText node.name
+  pub lane : node.number ≤ 999_999_999
+
+pub as_node : (s : LineState) (machine : ℕ) → IsFitMachine s machine → IsFitNode (node_at s machine)
+as_node s machine k = record { body = k.body; maker = k.maker; name = k.name; lane = k.lane }
+
+pub as_machine : (s : LineState) (machine : ℕ) → IsFitNode (node_at s machine) → IsFitMachine s machine
+as_machine s machine k = record { body = k.body; maker = k.maker; name = k.name; lane = k.lane }
+
+node_fits : (node : NodeState) → IsNewNode node → IsFitNode node
+node_fits node new = subst (λ (n : NodeState). IsFitNode n) (sym new.is) (record { body = first_body_fits new.profile.bridge; maker = record { small = new.number }; name = new.name; lane = new.lane })
+
+none_fits : IsFitNode no_node
+none_fits = as_node no_line 0 (none_stands.fit 0)
+
+fit_new : (s : Running) → IsNew s → (machine : ℕ) → IsFitMachine (line_of s) machine
+fit_new s new machine = as_machine (line_of s) machine (each_new IsFitNode node_fits none_fits s new machine)
+
+node_is_sound : (node : NodeState) → IsNewNode node → IsSound node.capacity node.lane.body
+node_is_sound node new = subst (λ (n : NodeState). IsSound n.capacity n.lane.body) (sym new.is) (record { offers = tt; entry = refl; exit = refl; places = omega arith })
+
+sound_new : (s : Running) → IsNew s → (machine : ℕ) → IsSound (node_in s machine).capacity (node_in s machine).lane.body
+sound_new s new machine = each_new (λ (n : NodeState). IsSound n.capacity n.lane.body) node_is_sound (none_stands.sound 0) s new machine
+
 -- NEW MACHINES
 pub new_stand : (s : Running) → IsNew s → NumbersDiffer s → AreInRelation s
 new_stand s new differ = record {
@@ -197,9 +243,13 @@ new_stand s new differ = record {
     waits = waits_new s new;
     carried = carried_new s new;
     rest = λ link none. rest_new s new link;
+    fit = fit_new s new;
+    sound = sound_new s new;
     many = ap (λ f. length f.machines) new.floor ∙ floor_counted (length s.machines);
     whole = subst (λ f. IsWhole f) (sym new.floor) (floor_whole (length s.machines));
     differ = subst (λ f. IdsDiffer f) (sym new.floor) (floor_differ (length s.machines));
     numbers = differ;
+    made = λ id some. absurd (omega (arith, some, ap (λ f. length (filter (has_id id) (boards_on f))) new.floor, none_counted (length s.machines) id));
+    olds = λ link id gone. absurd (false≢true gone);
   };
 }

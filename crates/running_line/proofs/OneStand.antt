@@ -42,7 +42,7 @@ is_handover (marks.Kept machine) = false
 is_handover (marks.Outlet machine) = true
 is_handover (marks.Intake machine) = true
 
-has_end : (t : Trace) (s : Running) → Stands t s → HasEnd (stand_of (line_of s))
+pub has_end : (t : Trace) (s : Running) → Stands t s → HasEnd (stand_of (line_of s))
 has_end t s st = record { kept = refl; outlet = refl; intake = ap held_in (st.rest 0 refl).intake }
 
 intake_link : {t : Trace} {s : Running} {x : ℕ} (m k : ℕ) {r : Record} → Stands t s → m ≡ k + 1 → held_in (node_in s m).lane.body.intake.phase ≡ Some r → r.id ≡ x → AtLink (stand_of (line_of s)) (between_of t s) x k true

@@ -15,16 +15,17 @@ use Rattle.node_core.specs.declared.lane.Body.{Body as Machine}
 use Rattle.line_step.specs.Reasons.{has_link}
 use Rattle.line_step.specs.World.{link_of}
 use Rattle.line_step.proofs.Numbers.{same_or_not}
-use Rattle.one_standing.specs.Carried.{Trace, stand_of}
+use Rattle.one_standing.specs.Carried.{IsFitMachine, Trace, stand_of}
 use Rattle.one_standing.specs.Relation.{Between}
+use Rattle.one_standing.proofs.Behind.{fit_machine}
 use Rattle.one_standing.proofs.RestLine.{node_there}
 use Rattle.one_standing.proofs.RestMore.{same_keeps}
 use Rattle.running_line.specs.RunSteps.{Asks, LetsBe, given_up, let_be}
 use Rattle.running_line.specs.Running.{Running, at_place, node_of, unread_by, with_wires}
-use Rattle.running_line.specs.Stands.{Carried, Carries, Stands, between_of, is_joined, line_of, node_in}
+use Rattle.running_line.specs.Stands.{Carried, Carries, IsMade, Stands, between_of, is_joined, line_of, node_in}
 use Rattle.running_line.specs.Waits.{Waits, had_above, had_below}
 use Rattle.running_line.specs.Wire.{Awaits, Coming, Has, Hold, Left, Wire, asked_for, end_at, has}
-use Rattle.running_line.proofs.Waiting.{all_at, all_given, all_set, any_given, any_set, awaits_not, entry_lets_be, exit_lets_be, node_asks, same_above, same_had, wire_of}
+use Rattle.running_line.proofs.Waiting.{all_at, all_given, all_set, any_given, any_set, awaits_not, called_still, entry_lets_be, exit_lets_be, node_asks, same_above, same_had, wire_of}
 
 -- ---- the connections of one link, changed
 
@@ -39,6 +40,17 @@ by_link P link change s here each k = by (same_or_not k link)
     by : (k ≡ link) ⊎ (k ≢ link) → P k (cond (nat_eq k link) (change (s.wires k)) (s.wires k))
     by (inl is) = subst (λ (n : ℕ). P n (cond (nat_eq n link) (change (s.wires n)) (s.wires n))) (sym is) (subst (λ (b : Bool). P link (cond b (change (s.wires link)) (s.wires link))) (sym (eq-eqb link link refl)) here)
     by (inr apart) = subst (λ (b : Bool). P k (cond b (change (s.wires k)) (s.wires k))) (sym (ne_eqb k link apart)) (each k)
+
+-- what is known of a machine by itself doesn't look at connections, and not at the floor
+pub fit_aside : (s s2 : Running) (machine : ℕ) → ◌≡◌ {A = NodeState} (node_in s2 machine) (node_in s machine) → IsFitMachine (line_of s) machine → IsFitMachine (line_of s2) machine
+fit_aside s s2 machine is fit = fit_machine (line_of s) (line_of s2) machine is fit
+
+node_by : (s s2 : Running) (k : ℕ) → s2.machines ≡ s.machines → node_of k s2 ≡ node_of k s
+node_by s s2 zero is = refl
+node_by s s2 (suc place) is = ap (λ (ms : List NodeState). slice_get ms place) is
+
+pub made_aside : (s s2 : Running) (id : ℕ) → s2.machines ≡ s.machines → IsMade s id → IsMade s2 id
+made_aside s s2 id is m = record { machine = m.machine; node = m.node; there = node_by s s2 m.machine is ∙ m.there; count = m.count; used = m.used; small = m.small; is = m.is }
 
 abbrev with_stands : Trace → Running → ℕ → Bool → Between
 with_stands t s k b = record { ghost = t.ghost k; stands = b; gap = gap_at s.floor k; up = t.up k; down = t.down k; gone = t.gone k }
@@ -58,10 +70,14 @@ rewired link change t s st is joined waits carried = record {
     entry = (st.rest k none).entry;
     wires = by_link (λ (n : ℕ) (wires : List Wire). has_link n (line_of s) ≡ false → wires ≡ []) link change s (λ never. absurd (false≢true (sym never ∙ is))) (λ n no. (st.rest n no).wires) k none;
   };
+  fit = λ k. fit_aside s (with_wires link change s) k refl (st.fit k);
+  sound = st.sound;
   many = st.many;
   whole = st.whole;
   differ = st.differ;
   numbers = record { apart = st.numbers.apart };
+  made = λ id some. made_aside s (with_wires link change s) id refl (st.made id some);
+  olds = λ k id gone. made_aside s (with_wires link change s) id refl (st.olds k id gone);
 }
 
 -- ---- which links are there
@@ -76,7 +92,7 @@ link_there : (link count : ℕ) → 1 ≤ link → link + 1 ≤ count → (nat_l
 link_there link count counted within = grind (arith, nat_tests, counted, within)
 
 -- where there is a connection there is a link
-no_wire : (place : ℕ) (wires : List Wire) (wire : Wire) → wires ≡ [] → slice_get wires place ≡ Some wire → ⊥
+pub no_wire : (place : ℕ) (wires : List Wire) (wire : Wire) → wires ≡ [] → slice_get wires place ≡ Some wire → ⊥
 no_wire place wires wire none there = let never : slice_get [] place ≡ Some wire = subst (λ (ws : List Wire). slice_get ws place ≡ Some wire) none there in cc
 
 link_by : (test : Bool) (link place : ℕ) (t : Trace) (s : Running) (wire : Wire) → Stands t s → slice_get (s.wires link) place ≡ Some wire → has_link link (line_of s) ≡ test → has_link link (line_of s) ≡ true
@@ -114,6 +130,7 @@ asked_carries {above} {below} {up} {down} {wires} c = record {
   up = all_given _ _ (given_up Entry) asked_for (λ wire p. up_still (λ (coming : List Coming). Carries above.lane.exit_bytes coming up) wire.above wire.below wire.up wire.down p) (λ is. absurd (awaits_has is)) wires c.up;
   down = all_given _ _ (given_up Entry) asked_for (λ wire p. down_still (λ (coming : List Coming). Carries below.lane.entry_bytes coming down) wire.above wire.below wire.up wire.down p) (λ is. absurd (awaits_has is)) wires c.down;
   quiet = all_given _ _ (given_up Entry) asked_for (λ wire p has_it is. absurd (awaits_not wire.above wire.below wire.up wire.down is)) (λ is awaits. absurd (awaits_has is)) wires c.quiet;
+  called = all_given _ _ (given_up Entry) asked_for (λ wire p. called_still wire.above wire.below wire.up wire.down p) (λ is has_it. absurd (awaits_has has_it)) wires c.called;
   none_up = λ none. c.none_up (sym (any_given had_above (given_up Entry) asked_for (λ wire. ap has (same_above wire.above wire.below wire.up wire.down)) refl wires) ∙ none);
   none_down = λ none. c.none_down (sym (any_given had_below (given_up Entry) asked_for (λ wire. same_had wire.above wire.below wire.up wire.down) refl wires) ∙ none);
 }
@@ -152,6 +169,7 @@ let_carries Exit {wires = wires} place wire there is c = record {
   up = all_set _ (let_be Exit wire) (λ never. absurd (left_has never)) wires place c.up;
   down = all_set _ (let_be Exit wire) (all_at _ wire wires place there c.down) wires place c.down;
   quiet = all_set _ (let_be Exit wire) (λ never awaits. absurd (left_has never)) wires place c.quiet;
+  called = all_set _ (let_be Exit wire) (λ never has_it. absurd (left_awaits never)) wires place c.called;
   none_up = λ none. c.none_up (sym (any_set had_above wire (let_be Exit wire) (sym (ap has is)) wires place there) ∙ none);
   none_down = λ none. c.none_down (sym (any_set had_below wire (let_be Exit wire) refl wires place there) ∙ none);
 }
@@ -159,6 +177,7 @@ let_carries Entry {wires = wires} place wire there is c = record {
   up = all_set _ (let_be Entry wire) (all_at _ wire wires place there c.up) wires place c.up;
   down = all_set _ (let_be Entry wire) (λ never. absurd (left_has never)) wires place c.down;
   quiet = all_set _ (let_be Entry wire) (λ has_it never. absurd (left_awaits never)) wires place c.quiet;
+  called = all_set _ (let_be Entry wire) (λ awaits never. absurd (left_has never)) wires place c.called;
   none_up = λ none. c.none_up (sym (any_set had_above wire (let_be Entry wire) refl wires place there) ∙ none);
   none_down = λ none. c.none_down (sym (any_set had_below wire (let_be Entry wire) (sym (ap has is)) wires place there) ∙ none);
 }

@@ -23,7 +23,6 @@ use Rattle.machine_custody.specs.Joined.{with_link}
 use Rattle.machine_custody.specs.Scene.{Scene, all_met}
 use Rattle.machine_custody.proofs.Answering.{lefts_go, seconds_go}
 use Rattle.machine_custody.proofs.ComingLast.{comes_alone_go, comes_go}
-use Rattle.machine_custody.proofs.Joining.{first_accepts}
 use Rattle.machine_custody.proofs.TakingAlone.{takes_go}
 use Rattle.one_standing.specs.Carried.{Trace, stand_of}
 use Rattle.one_standing.proofs.Elsewhere.{elsewhere_of}
@@ -37,10 +36,11 @@ use Rattle.running_line.specs.Waits.{AtMostOne, IsUncome, IsUntaken, SaidUp, had
 use Rattle.running_line.specs.Wire.{Awaits, Has, Hold, Left, Wire, has}
 use Rattle.running_line.proofs.TurnSteps.{all_before}
 use Rattle.running_line.proofs.Waiting.{all_at, tested}
+use Rattle.running_line.proofs.WiresTaken.{called_go}
 
 -- ---- which ends have a connection
 
-any_weaker : (test other : Wire → Bool) → ((wire : Wire) → test wire ≡ false → other wire ≡ false) → (wires : List Wire) → list_any test wires ≡ false → list_any other wires ≡ false
+pub any_weaker : (test other : Wire → Bool) → ((wire : Wire) → test wire ≡ false → other wire ≡ false) → (wires : List Wire) → list_any test wires ≡ false → list_any other wires ≡ false
 any_weaker test other weaker [] none = refl
 any_weaker test other weaker (wire ∷ wires) none = or_from _ _ (weaker wire (or_parts _ _ none).0) (any_weaker test other weaker wires (or_parts _ _ none).1)
 
@@ -52,15 +52,15 @@ none_at test [] place wire is none = cc
 none_at test (first ∷ wires) zero wire is none = sym (same_test test first wire is) ∙ (or_parts _ _ none).0
 none_at test (first ∷ wires) (suc place) wire is none = none_at test wires place wire is (or_parts _ _ none).1
 
-none_had : (wires : List Wire) → ((place : ℕ) (wire : Wire) → slice_get wires place ≡ Some wire → has wire.above ≡ false) → list_any had_above wires ≡ false
+pub none_had : (wires : List Wire) → ((place : ℕ) (wire : Wire) → slice_get wires place ≡ Some wire → has wire.above ≡ false) → list_any had_above wires ≡ false
 none_had [] each = refl
 none_had (wire ∷ wires) each = or_from _ _ (each zero wire refl) (none_had wires (λ place other is. each (suc place) other is))
 
-and_first : (a b : Bool) → a ≡ false → (a && b) ≡ false
+pub and_first : (a b : Bool) → a ≡ false → (a && b) ≡ false
 and_first true b is = absurd (false≢true (sym is))
 and_first false b is = refl
 
-and_second : (a b : Bool) → b ≡ false → (a && b) ≡ false
+pub and_second : (a b : Bool) → b ≡ false → (a && b) ≡ false
 and_second true b is = is
 and_second false b is = refl
 
@@ -73,7 +73,7 @@ kept_awaits : (wire : Wire) → wire.below ≡ Awaits → kept_below wire ≡ fa
 kept_awaits wire awaits not = false≢true (sym not ∙ ap is_of_below awaits)
 
 -- while the entry awaits one, it has none
-alone_below : {wires : List Wire} → AtMostOne kept_below wires → (place : ℕ) (wire : Wire) → slice_get wires place ≡ Some wire → wire.below ≡ Awaits → list_any had_below wires ≡ false
+pub alone_below : {wires : List Wire} → AtMostOne kept_below wires → (place : ℕ) (wire : Wire) → slice_get wires place ≡ Some wire → wire.below ≡ Awaits → list_any had_below wires ≡ false
 alone_below none_passes place wire is awaits = refl
 alone_below (passes_not {wire = first} fails others) zero wire is awaits = absurd (kept_awaits wire awaits (sym (same_test kept_below first wire is) ∙ fails))
 alone_below (passes_not {wire = first} fails others) (suc place) wire is awaits = or_from _ _ (had_of first.below fails) (alone_below others place wire is awaits)
@@ -92,7 +92,7 @@ taken_by : {afar : Afar} {above : List Record} {ga gb : Ghost} {hold : Hold} {sa
     → Goes afar above [] ga gb c (machine_step desk read Accepted body).body (all_met (machine_step desk read Accepted body).acts (with_link Exit (has hold) said (unless_joined hold c.below.down) c))
 taken_by {afar} {above} {ga} {gb} desk read body c not_come good away off shakes =
     subst (λ (b : Bool). Goes afar above [] ga gb c (machine_step desk read Accepted body).body (all_met (machine_step desk read Accepted body).acts (with_link Exit b [] c.below.down c))) off (takes_go desk read body c [] good away call_awaited)
-taken_by desk read body c (has_come {service = service}) good away off shakes = first_accepts desk read body c service good away (shakes refl)
+taken_by desk read body c (has_come {said = said} says) good away off shakes = called_go desk read body c said says good away (shakes refl)
 taken_by {afar} {above} {ga} {gb} desk read body c (was_left {said = said} call) good away off shakes =
     subst (λ (b : Bool). Goes afar above [] ga gb c (machine_step desk read Accepted body).body (all_met (machine_step desk read Accepted body).acts (with_link Exit b said c.below.down c))) off (takes_go desk read body c said good away call)
 

@@ -86,7 +86,7 @@ untaken_still above Awaits up down untaken is = let u = untaken is in record { s
 untaken_still above Has up down untaken is = untaken is
 untaken_still above Left up down untaken is = untaken is
 
-called_still : {A : Type 0} (above below : Hold) (up down : List Coming) → (above ≡ Awaits → below ≡ Has → A)
+pub called_still : {A : Type 0} (above below : Hold) (up down : List Coming) → (above ≡ Awaits → below ≡ Has → A)
     → (given_up Entry (wire_of above below up down)).above ≡ Awaits → (given_up Entry (wire_of above below up down)).below ≡ Has → A
 called_still above Awaits up down called is has_it = let never : Left ≡ Has = has_it in cc
 called_still above Has up down called is has_it = called is has_it
@@ -135,7 +135,7 @@ any_set test old new same [] place is = cc
 any_set test old new same (wire ∷ wires) zero is = ap (λ (b : Bool). b || list_any test wires) (same ∙ sym (subst (λ (o : Option Wire). test wire ≡ tested test o) is refl))
 any_set test old new same (wire ∷ wires) (suc place) is = ap (λ (b : Bool). test wire || b) (any_set test old new same wires place is)
 
-most_set : (test : Wire → Bool) (old new : Wire) → test new ≡ test old → {wires : List Wire} (place : ℕ) → slice_get wires place ≡ Some old → AtMostOne test wires
+pub most_set : (test : Wire → Bool) (old new : Wire) → test new ≡ test old → {wires : List Wire} (place : ℕ) → slice_get wires place ≡ Some old → AtMostOne test wires
     → AtMostOne test (slice_set wires place new)
 most_set test old new same place is none_passes = none_passes
 most_set test old new same zero is (passes_not {wire = wire} fails others) = passes_not (same ∙ (sym (subst (λ (o : Option Wire). test wire ≡ tested test o) is refl) ∙ fails)) others
@@ -144,7 +144,7 @@ most_set test old new same zero is (passes_alone none) = passes_alone none
 most_set test old new same (suc place) is (passes_alone {wires = wires} none) = passes_alone (any_set test old new same wires place is ∙ none)
 
 -- one fewer passes
-any_fewer : (test : Wire → Bool) (new : Wire) → test new ≡ false → (wires : List Wire) (place : ℕ) → list_any test wires ≡ false → list_any test (slice_set wires place new) ≡ false
+pub any_fewer : (test : Wire → Bool) (new : Wire) → test new ≡ false → (wires : List Wire) (place : ℕ) → list_any test wires ≡ false → list_any test (slice_set wires place new) ≡ false
 any_fewer test new fails [] place none = refl
 any_fewer test new fails (wire ∷ wires) zero none = or_from _ _ fails (or_parts _ _ none).1
 any_fewer test new fails (wire ∷ wires) (suc place) none = or_from _ _ (or_parts _ _ none).0 (any_fewer test new fails wires place (or_parts _ _ none).1)

@@ -8,3 +8,5 @@ pub mod Waits
 pub mod New
 pub mod Stands
 pub mod Steady
+pub mod Turned
+pub mod Off

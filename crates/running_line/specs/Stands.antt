@@ -1,16 +1,19 @@
 -- THE RELATION OF RUNNING MACHINES, of their whole state: that of each link and each machine by
 -- numbers, as a line of a script has it, and beside it what waits on each link and which messages
 -- the bytes on their way are.
-use Rattle.std.specs.Prelude.{ℕ, Bool, false, List, [], length, ◌&&◌, ◌+◌, ◌≡◌}
+use Rattle.std.specs.Prelude.{ℕ, Bool, false, true, List, [], Some, filter, length, ◌&&◌, ◌+◌, ◌^◌, ◌<◌, ◌≡◌, ◌≤◌}
 use Rattle.std.specs.List.{AllByRecursion, list_any}
+use Rattle.board_record.specs.Maker.{made_id}
 use Rattle.session_core.specs.declared.state.SessionState.TheVariants.{NotConnected}
 use Rattle.hermes_horizontal.specs.declared.message.Horizontal.{Horizontal}
 use Rattle.hermes_horizontal.specs.declared.message.Message.{Message}
 use Rattle.handover_out.specs.declared.phase.Phase.TheVariants as out
 use Rattle.handover_in.specs.declared.phase.Phase.TheVariants as inn
-use Rattle.line_world.specs.FloorPlan.{IsWhole, gap_at}
+use Rattle.line_world.specs.Boards.{boards_on}
+use Rattle.line_world.specs.FloorPlan.{IsWhole, gap_at, has_id}
 use Rattle.line_world.specs.Ids.{IdsDiffer}
 use Rattle.node_core.specs.Node.{NodeState}
+use Rattle.node_core.specs.Sound.{IsSound}
 use Rattle.custody.specs.Bytes.{Flows, texts_of}
 use Rattle.link_messages.specs.Fit.{AreFit}
 use Rattle.link_messages.specs.Heard.{bodies}
@@ -18,11 +21,11 @@ use Rattle.line_step.specs.Numbered.{node_at}
 use Rattle.line_step.specs.Reasons.{has_link}
 use Rattle.line_step.specs.State.{LineState, no_line}
 use Rattle.line_step.specs.World.{no_world}
-use Rattle.one_standing.specs.Carried.{Trace, stand_of}
+use Rattle.one_standing.specs.Carried.{IsFitMachine, Trace, stand_of}
 use Rattle.one_standing.specs.Kept.{Keeps}
 use Rattle.one_standing.specs.Relation.{Between}
 use Rattle.running_line.specs.New.{NumbersDiffer}
-use Rattle.running_line.specs.Running.{Running, unread_by}
+use Rattle.running_line.specs.Running.{Running, node_of, unread_by}
 use Rattle.running_line.specs.Waits.{Waits, had_above, had_below}
 use Rattle.running_line.specs.Wire.{Awaits, Coming, Has, Wire, bytes_of, has}
 
@@ -64,7 +67,7 @@ pub record Carries (waiting : List ℕ) (coming : List Coming) (messages : List 
   pub are : messages ≡ bodies said
 
 -- the messages that are sent and not heard come on the connection that their side has; to a side
--- without one there are none, and none to an exit on one that has not come below
+-- without one there are none, and none on one that has not come, or was not taken, at the other end
 pub record Carried (above below : NodeState) (upward downward : List Horizontal)
     (wires : List Wire) : Type 0 where
   pub up : AllByRecursion
@@ -73,8 +76,23 @@ pub record Carried (above below : NodeState) (upward downward : List Horizontal)
       (λ (wire : Wire). wire.below ≡ Has → Carries below.lane.entry_bytes wire.down downward) wires
   pub quiet : AllByRecursion
       (λ (wire : Wire). wire.above ≡ Has → wire.below ≡ Awaits → upward ≡ []) wires
+  pub called : AllByRecursion
+      (λ (wire : Wire). wire.above ≡ Awaits → wire.below ≡ Has → downward ≡ []) wires
   pub none_up : list_any had_above wires ≡ false → upward ≡ []
   pub none_down : list_any had_below wires ≡ false → downward ≡ []
+
+-- ---- ids
+
+-- a machine that is there made the id: it bears the machine's number, and a count that the machine
+-- has used
+pub record IsMade (s : Running) (id : ℕ) : Type 0 where
+  pub machine : ℕ
+  pub node : NodeState
+  pub there : node_of machine s ≡ Some node
+  pub count : ℕ
+  pub used : count ≤ node.maker.used
+  pub small : count < 2 ^ 48
+  pub is : id ≡ made_id node.maker.machine count
 
 -- ---- and all of it
 
@@ -94,10 +112,16 @@ pub record Stands (t : Trace) (s : Running) : Type 0 where
   pub carried : (link : ℕ)
       → Carried (node_in s link) (node_in s (link + 1)) (t.up link) (t.down link) (s.wires link)
   pub rest : (link : ℕ) → has_link link (line_of s) ≡ false → IsAtRest s link
+  -- the records of each machine are fit to be told of, and it is sound between its steps
+  pub fit : (machine : ℕ) → IsFitMachine (line_of s) machine
+  pub sound : (machine : ℕ) → IsSound (node_in s machine).capacity (node_in s machine).lane.body
   pub many : length s.floor.machines ≡ length s.machines
   pub whole : IsWhole s.floor
   pub differ : IdsDiffer s.floor
   pub numbers : NumbersDiffer s
+  -- the id of each board on the floor was made by a machine, and so was each that went from it
+  pub made : (id : ℕ) → 1 ≤ length (filter (has_id id) (boards_on s.floor)) → IsMade s id
+  pub olds : (link id : ℕ) → t.gone link id ≡ true → IsMade s id
 
 -- running machines stand in it, with some trace
 pub record AreInRelation (s : Running) : Type 0 where

@@ -14,6 +14,7 @@ use Rattle.node_core.specs.declared.act.Act.{Act}
 use Rattle.node_core.specs.declared.act.Act.TheVariants as acts
 use Rattle.node_core.specs.declared.input.Input.{Input}
 use Rattle.node_core.specs.declared.input.Input.TheVariants as inputs
+use Rattle.link_messages.specs.Fit.{IsFitInput}
 use Rattle.line_step.specs.Acts.{answers, changes, drives_on, lays, takes_off}
 use Rattle.line_step.specs.Steps.{is_second}
 use Rattle.line_step.specs.World.{link_of}
@@ -117,6 +118,7 @@ did second machine place (act ∷ others) s =
 
 -- ---- THE TURN
 
+-- the barcodes of the input are texts, and the moment is of the years 1 to 9999
 pub record Turns (reading : Reading) (machine : ℕ) (input : Input) (moment : ℤ)
     (before after : Running) (told : List Act) : Type 0 where
   pub node : NodeState
@@ -131,6 +133,7 @@ pub record Turns (reading : Reading) (machine : ℕ) (input : Input) (moment : �
       (said_behind machine input place (with_reading machine read rest before)) rest
   pub may : may_of node input ≡ may_do
   pub moments : IsMomentMillis moment
+  pub texts : IsFitInput input
   pub steps : Steps node read input moment next told
   pub unspent : next.spent ≡ node.spent
   pub after_is : after

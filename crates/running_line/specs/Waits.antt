@@ -6,16 +6,14 @@ use Rattle.std.specs.List.{AllByRecursion, list_any}
 use Rattle.line_base.specs.declared.states.Side.TheVariants.{Entry, Exit}
 use Rattle.board_record.specs.declared.sensed.Sensed.{Sensed}
 use Rattle.hermes_horizontal.specs.declared.message.Horizontal.{Horizontal}
-use Rattle.hermes_horizontal.specs.declared.message.Horizontal.TheVariants as messages
 use Rattle.hermes_horizontal.specs.declared.message.Message.{Message}
-use Rattle.hermes_horizontal.specs.declared.message.Service.{Service}
 use Rattle.session_core.specs.declared.state.SessionState.TheVariants.{Handshake}
 use Rattle.handover_in.specs.State.{may_connect}
 use Rattle.node_core.specs.Sides.{is_open}
 use Rattle.node_core.specs.declared.lane.Body.{Body as Machine}
 use Rattle.custody.specs.Bytes.{Flows, texts_of}
 use Rattle.custody.specs.Talks.{IsCall}
-use Rattle.custody.specs.Words.{down_words, up_words}
+use Rattle.custody.specs.Words.{DownstreamService, down_words, up_words}
 use Rattle.link_messages.specs.Fit.{AreFit}
 use Rattle.link_messages.specs.Heard.{bodies}
 use Rattle.machine_custody.specs.Ahead.{IsFreeRead}
@@ -49,10 +47,12 @@ pub record Says (coming : List Coming) (said : List Message) : Type 0 where
   pub fit : AreFit said
   pub flows : Flows [] (bytes_of coming) (texts_of said)
 
--- what may have been said up on a connection that the exit has not taken, as the entry stands to it
+-- what may have been said up on a connection that the exit has not taken, as the entry stands to
+-- it: its description, and beside that what no outlet hears, such as a sign of life that is asked
+-- for
 pub data SaidUp : Hold → List Horizontal → Type 0 where
   not_come : SaidUp Awaits []
-  has_come : {service : Service} → SaidUp Has (messages.ServiceDescription service ∷ [])
+  has_come : {said : List Horizontal} → up_words said ≡ DownstreamService ∷ [] → SaidUp Has said
   was_left : {said : List Horizontal} → IsCall (up_words said) → SaidUp Left said
 
 -- a connection that the exit awaits: what the entry said on it, and nothing that the exit did

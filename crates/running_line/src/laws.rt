@@ -1,6 +1,6 @@
 //! What is computed of running machines. Each law is a contract over the definitions of specs/.
 
-ghost use Rattle.std.specs.Prelude.{◌≡◌, ◌+◌, ◌++◌, ◌∷◌, [], List, Some, map, slice_get, slice_set, ℕ};
+ghost use Rattle.std.specs.Prelude.{◌≡◌, ◌+◌, ◌++◌, ◌∷◌, [], List, Some, map, slice_get, slice_set, ℕ, ℤ};
 ghost use Rattle.line_base.specs.declared.states.Side.{Side};
 ghost use Rattle.line_base.specs.declared.states.Side.TheVariants.{Entry, Exit};
 ghost use Rattle.board_record.specs.declared.sensed.Sensed.{Sensed as Sight};
@@ -10,6 +10,8 @@ ghost use Rattle.node_core.specs.Event.{Accepted, Connect, Event, Nothing, Secon
 ghost use Rattle.node_core.specs.May.{may_do, may_of};
 ghost use Rattle.node_core.specs.Node.{NodeState};
 ghost use Rattle.node_core.specs.Step.{machine_step};
+ghost use Rattle.node_core.specs.declared.act.Act.{Act};
+ghost use Rattle.node_core.specs.declared.input.Input.{Input};
 ghost use Rattle.node_core.specs.declared.input.Input.TheVariants as inputs;
 ghost use Rattle.node_core.specs.declared.lane.Body.{Body as Machine};
 ghost use Rattle.machine_custody.specs.Ahead.{IsFreeRead};
@@ -18,12 +20,13 @@ ghost use Rattle.one_standing.specs.Carried.{Trace};
 ghost use Rattle.one_standing.specs.Standing.{HasOneStanding};
 ghost use Rattle.running_line.specs.Doubled.{IsDoubled, IsHeldBehind};
 ghost use Rattle.running_line.specs.New.{IsNew, NumbersDiffer};
-ghost use Rattle.running_line.specs.Reading.{Reading, ReadsFront};
+ghost use Rattle.running_line.specs.Reading.{Reading, ReadsFront, Strictly};
 ghost use Rattle.running_line.specs.Running.{Running, unread_by};
-ghost use Rattle.running_line.specs.RunSteps.{Asks, LetsBe, Moves, given_up, let_be};
+ghost use Rattle.running_line.specs.RunSteps.{Asks, LetsBe, Moves, RunsTo, given_up, let_be};
 ghost use Rattle.running_line.specs.Stands.{AreInRelation, Stands, line_of, node_in};
 ghost use Rattle.running_line.specs.Steady.{FindsIt, IsSteady, RefusesIt, TakesIt, scene_of};
-ghost use Rattle.running_line.specs.Turns.{HasNone, IsAt};
+ghost use Rattle.running_line.specs.Turned.{TurnsTo};
+ghost use Rattle.running_line.specs.Turns.{HasNone, IsAt, Turns};
 ghost use Rattle.running_line.specs.Waits.{Waits};
 ghost use Rattle.running_line.specs.Wire.{Awaits, Wire, asked_for};
 
@@ -108,8 +111,54 @@ pub fn a_connection_in_a_turn_keeps_both_links()
         → RefusesIt t s j (machine_step desk read Second (node_in s (j + 1)).lane.body) }
 {}
 
+/// In a turn that has read all before it takes an input, all of the relation goes on but what is on
+/// the connections: of each link and each machine, where boards lie and what is gone, that each id
+/// was made by a machine, and that a link stands where both its ends have one connection. What is
+/// between the machine and its neighbours is then what its scene says behind its acts.
+pub fn a_turn_keeps_all_but_what_is_on_connections()
+    ensures { (t : Trace) (j : ℕ) (input : Input) (moment : ℤ) (before after : Running)
+        (told : List Act) → Stands t before
+        → (turn : Turns Strictly (j + 1) input moment before after told) → TurnsTo j t turn }
+{
+    link_messages::laws::the_words_of_a_piece_are_the_oldest_messages();
+    link_messages::laws::a_frame_with_a_nul_is_a_wrong_word();
+    link_messages::laws::fit_messages_are_sayable();
+    link_messages::laws::the_words_of_fit_messages_are_fit();
+    link_messages::laws::the_words_behind_a_nul_are_fit();
+}
+
+/// And with what is on the connections, that is all of it: where running machines stand in the
+/// relation before a turn that has read all before it takes an input, they do so behind it, whatever
+/// the input is.
+pub fn the_relation_goes_on_in_a_turn()
+    ensures { (machine : ℕ) (input : Input) (moment : ℤ) (before after : Running)
+        (told : List Act) → Turns Strictly machine input moment before after told
+        → AreInRelation before → AreInRelation after }
+{
+    link_messages::laws::the_words_of_a_piece_are_the_oldest_messages();
+    link_messages::laws::a_frame_with_a_nul_is_a_wrong_word();
+    link_messages::laws::fit_messages_are_sayable();
+    link_messages::laws::the_words_of_fit_messages_are_fit();
+    link_messages::laws::the_words_behind_a_nul_are_fit();
+}
+
 /// Where running machines stand in the relation, each board's record has one standing: with one
 /// machine, or in one handover between two neighbours.
 pub fn one_standing_in_the_relation()
     ensures { (s : Running) → AreInRelation s → HasOneStanding (line_of s) }
 {}
+
+/// THE LAW OVER RUNS: in whatever order the turns of machines fall, and whatever connections between
+/// them break, are refused, half made or made anew: from new machines whose numbers differ, behind
+/// each run in which every machine reads all that its sensors saw before it takes an input, each
+/// board's record has one standing.
+pub fn one_standing_in_each_run_that_reads_first()
+    ensures { (s u : Running) (told : List Act) → IsNew s → NumbersDiffer s
+        → RunsTo Strictly s told u → HasOneStanding (line_of u) }
+{
+    link_messages::laws::the_words_of_a_piece_are_the_oldest_messages();
+    link_messages::laws::a_frame_with_a_nul_is_a_wrong_word();
+    link_messages::laws::fit_messages_are_sayable();
+    link_messages::laws::the_words_of_fit_messages_are_fit();
+    link_messages::laws::the_words_behind_a_nul_are_fit();
+}

@@ -1,0 +1,85 @@
+-- THE WHOLE RELATION GOES ON IN A TURN that has read all before it takes its input.
+use Rattle.std.proofs.Common.{List, Some, [], ap, arith, refl, subst, sym, ℕ, ℤ, ◌+◌, ◌-◌, ◌≡◌, ◌≢◌, ◌≤◌, Bool, ◌++◌}
+use Rattle.hermes_horizontal.specs.declared.message.Message.{Message}
+use Rattle.line_world.specs.FloorPlan.{AtMachine}
+use Rattle.node_core.specs.Signals.{signalled}
+use Rattle.node_core.specs.declared.act.Act.{Act}
+use Rattle.node_core.specs.declared.input.Input.{Input}
+use Rattle.node_core.specs.declared.input.Input.TheVariants as inputs
+use Rattle.line_base.specs.declared.states.Side.TheVariants.{Entry, Exit}
+use Rattle.link_messages.specs.Fit.{AreFitActs}
+use Rattle.link_messages.proofs.Saying.{signals_fit}
+use Rattle.link_messages.proofs.SayingWhat.{both_said}
+use Rattle.machine_custody.specs.Scene.{Scene, all_met}
+use Rattle.one_standing.specs.Carried.{Trace}
+use Rattle.one_standing.specs.Standing.{HasOneStanding}
+use Rattle.one_standing.proofs.Carrying.{SaysAlone}
+use Rattle.running_line.specs.Reading.{Strictly}
+use Rattle.running_line.specs.Running.{Running}
+use Rattle.running_line.specs.New.{IsNew, NumbersDiffer}
+use Rattle.running_line.specs.RunSteps.{RunsTo}
+use Rattle.running_line.specs.Stands.{AreInRelation, Stands, line_of}
+use Rattle.running_line.specs.Steady.{scene_of}
+use Rattle.running_line.specs.Turned.{IsHeard, acts_met, answer_met, scene_met}
+use Rattle.running_line.specs.Turns.{Turns}
+use Rattle.running_line.specs.Waits.{Says}
+use Rattle.running_line.specs.Wire.{Wire}
+use Rattle.running_line.proofs.NewMachines.{new_stand}
+use Rattle.running_line.proofs.OneStand.{one_standing_of}
+use Rattle.running_line.proofs.Relation.{within_of}
+use Rattle.running_line.proofs.RunsOn.{run_stands}
+use Rattle.running_line.proofs.TurnGoesOn.{TurnAll, fit_of, free_then, turn_all}
+use Rattle.running_line.proofs.TurnHeard.{heard_in}
+use Rattle.running_line.proofs.TurnLeaves.{AreHeardFit, node_fit, step_fit}
+use Rattle.running_line.proofs.TurnStands.{AreLinked, own_scene, trace_then, turn_stands, unread_below, unread_then}
+use Rattle.running_line.proofs.WiresWhole.{Unread, linked_down, linked_found, linked_plain, linked_refused, linked_taken, linked_up}
+
+-- ---- all that is told is fit
+
+told_fit : {machine : ℕ} {input : Input} {moment : ℤ} {before after : Running} {told : List Act} (turn : Turns Strictly machine input moment before after told) (t : Trace) → Stands t before → AreHeardFit input turn.steps.lane.words → AreFitActs told
+told_fit turn t st heard =
+    subst (λ (done : List Act). AreFitActs done) (sym turn.steps.told)
+    (both_said (subst (λ (done : List Act). AreFitActs done) (sym turn.steps.lane.told) (step_fit turn (node_fit turn t st) heard).acts) (signals_fit turn.node.bridge turn.next.lane.body))
+
+-- ---- both links, for each input
+
+linked_all : SaysAlone → (j : ℕ) (input : Input) {moment : ℤ} {before after : Running} {told : List Act} (t : Trace) → Stands t before → (turn : Turns Strictly (j + 1) input moment before after told) → AreFitActs told → Unread j turn.rest before after
+    → (all : TurnAll j t turn) → AreLinked j after (acts_met input all.wire told (scene_met input all.wire all.said t before j))
+linked_all alone j inputs.Connect {before = before} {after = after} {told = told} t st turn fit unread all =
+    subst (λ (w : Wire). AreLinked j after (all_met told (scene_met inputs.Connect w all.said t before j))) (sym all.is_met.0)
+    (linked_found alone t j st turn fit (free_then j inputs.Connect t st turn) unread all.said (subst (λ (w : Wire). Says w.down all.said) all.is_met.0 all.is_met.1))
+linked_all alone j inputs.Accepted {before = before} {after = after} {told = told} t st turn fit unread all =
+    subst (λ (w : Wire). AreLinked j after (all_met told (scene_met inputs.Accepted w all.said t before j))) (sym all.is_met.0)
+    (linked_taken alone t j st turn fit (free_then j inputs.Accepted t st turn) unread all.said (subst (λ (w : Wire). Says w.up all.said) all.is_met.0 all.is_met.1))
+linked_all alone j inputs.Second {before = before} {after = after} {told = told} t st turn fit unread all =
+    subst (λ (w : Wire). AreLinked j after (answer_met w.below told (scene_of t before j))) (sym all.is_met) (linked_refused alone t j st turn fit (free_then j inputs.Second t st turn) unread)
+linked_all alone j (inputs.Bytes Entry piece) t st turn fit unread all = linked_down alone t j st turn fit (free_then j (inputs.Bytes Entry piece) t st turn) unread
+linked_all alone j (inputs.Bytes Exit piece) t st turn fit unread all = linked_up alone t j st turn fit (free_then j (inputs.Bytes Exit piece) t st turn) unread
+linked_all alone j inputs.Nothing t st turn fit unread all = linked_plain alone t j st turn fit (free_then j inputs.Nothing t st turn) unread refl refl
+linked_all alone j (inputs.Notice Entry) t st turn fit unread all = linked_plain alone t j st turn fit (free_then j (inputs.Notice Entry) t st turn) unread refl refl
+linked_all alone j (inputs.Notice Exit) t st turn fit unread all = linked_plain alone t j st turn fit (free_then j (inputs.Notice Exit) t st turn) unread refl refl
+linked_all alone j input t st turn fit unread all = linked_plain alone t j st turn fit (free_then j input t st turn) unread refl refl
+
+-- ---- THE TURN
+
+next_stands : SaysAlone → (j : ℕ) (input : Input) (moment : ℤ) (before after : Running) (told : List Act) → Turns Strictly (j + 1) input moment before after told → (t : Trace) → Stands t before → AreInRelation after
+next_stands alone j input moment before after told turn t st =
+    let heard : IsHeard input turn.steps.lane.words (scene_of t before j) = heard_in alone j input t st turn in
+    let all : TurnAll j t turn = turn_all j input t st turn heard in
+    let fit : AreFitActs told = told_fit turn t st (fit_of input turn.steps.lane.words (scene_of t before j) heard) in
+    let unread : Unread j turn.rest before after = record { own = unread_then j t st turn; below = unread_below j t st turn } in
+    record { trace = trace_then all.into; stands = turn_stands turn st all.into (linked_all alone j input t st turn fit unread all) all.leaves }
+
+less_one : (machine : ℕ) → 1 ≤ machine → machine - 1 + 1 ≡ machine
+less_one machine some = omega (arith, some)
+
+pub turn_goes_on : SaysAlone → (machine : ℕ) (input : Input) (moment : ℤ) (before after : Running) (told : List Act) → Turns Strictly machine input moment before after told → AreInRelation before → AreInRelation after
+turn_goes_on alone machine input moment before after told turn r =
+    let same : machine - 1 + 1 ≡ machine = less_one machine (within_of machine before turn.node turn.there).0 in
+    next_stands alone (machine - 1) input moment before after told (subst (λ (m : ℕ). Turns Strictly m input moment before after told) (sym same) turn) r.trace r.stands
+
+-- and along a run
+pub runs_have_one_standing : SaysAlone → (s u : Running) (told : List Act) → IsNew s → NumbersDiffer s → RunsTo Strictly s told u → HasOneStanding (line_of u)
+runs_have_one_standing alone s u told new differ run =
+    let r : AreInRelation u = run_stands (turn_goes_on alone) run (new_stand s new differ) in
+    one_standing_of r.trace u r.stands
