@@ -30,7 +30,7 @@ use Rattle.node_core.specs.Boards.{if_kept, is_kept, with_instead, with_kept, wi
 use Rattle.node_core.specs.Bridge.{failed_front, fails, sets_level, tells_level}
 use Rattle.node_core.specs.Desk.{Desk}
 use Rattle.node_core.specs.Done.{Done, and_then, stays}
-use Rattle.node_core.specs.Event.{Event, Nothing, Connect, Accepted, Second, Words, Notice, Tick, Shutdown, Fault, Will, Level, Insert, Remove, Replace, Mark, Forecast, Query, Supervised, event_did}
+use Rattle.node_core.specs.Event.{Event, Level, Insert, Remove, Replace, Mark, event_did}
 use Rattle.node_core.specs.Halves.{given_back, intake_row_did, outlet_row_did}
 use Rattle.node_core.specs.Reads.{all_read, reads, saw}
 use Rattle.node_core.specs.Step.{plain_step}
@@ -278,20 +278,8 @@ event_hand desk (Insert id barcode) body o plain h = stays_so (settled_offers (S
 event_hand desk (Remove id) body o plain h = removes_hand body id o (is_kept id body.kept) h
 event_hand desk (Replace old new) body o plain h = replaces_hand body old new (plain_record new desk.name None) o (is_kept old body.kept) h
 event_hand desk (Mark id quality) body o plain h = marks_hand body id quality o (is_kept id body.kept) plain h
-event_hand desk Nothing body o plain h = by_walk body o _ (event_walks desk Nothing body tt) h
-event_hand desk Connect body o plain h = by_walk body o _ (event_walks desk Connect body tt) h
-event_hand desk Accepted body o plain h = by_walk body o _ (event_walks desk Accepted body tt) h
-event_hand desk Second body o plain h = by_walk body o _ (event_walks desk Second body tt) h
-event_hand desk (Words side words) body o plain h = by_walk body o _ (event_walks desk (Words side words) body tt) h
-event_hand desk (Notice side) body o plain h = by_walk body o _ (event_walks desk (Notice side) body tt) h
-event_hand desk Tick body o plain h = by_walk body o _ (event_walks desk Tick body tt) h
-event_hand desk Shutdown body o plain h = by_walk body o _ (event_walks desk Shutdown body tt) h
-event_hand desk (Fault side) body o plain h = by_walk body o _ (event_walks desk (Fault side) body tt) h
-event_hand desk (Will side on) body o plain h = by_walk body o _ (event_walks desk (Will side on) body tt) h
 event_hand desk (Level line on) body o plain h = sets_hand desk line on body o h
-event_hand desk Forecast body o plain h = by_walk body o _ (event_walks desk Forecast body tt) h
-event_hand desk (Query barcode) body o plain h = by_walk body o _ (event_walks desk (Query barcode) body tt) h
-event_hand desk (Supervised what) body o plain h = by_walk body o _ (event_walks desk (Supervised what) body tt) h
+event_hand desk event body o plain h = by_walk body o _ (event_walks desk event body tt) h
 
 -- ---- reading leaves what is offered
 
@@ -317,23 +305,7 @@ read_offered desk (s ∷ ss) body = read_offered desk ss (reads desk s body).bod
 
 markable_read : (desk : Desk) (unread : List Seen) (event : Event) (body : Body) (c : Scene) → IsMarkable event body.outlet.touched → IsMarkable event (all_read desk unread body).body.outlet.touched
 markable_read desk unread (Mark id quality) body c plain = read_untouched desk unread body c id plain
-markable_read desk unread Nothing body c plain = tt
-markable_read desk unread Connect body c plain = tt
-markable_read desk unread Accepted body c plain = tt
-markable_read desk unread Second body c plain = tt
-markable_read desk unread (Words side words) body c plain = tt
-markable_read desk unread (Notice side) body c plain = tt
-markable_read desk unread Tick body c plain = tt
-markable_read desk unread Shutdown body c plain = tt
-markable_read desk unread (Fault side) body c plain = tt
-markable_read desk unread (Will side on) body c plain = tt
-markable_read desk unread (Level line on) body c plain = tt
-markable_read desk unread Forecast body c plain = tt
-markable_read desk unread (Query barcode) body c plain = tt
-markable_read desk unread (Supervised what) body c plain = tt
-markable_read desk unread (Insert id barcode) body c plain = tt
-markable_read desk unread (Remove id) body c plain = tt
-markable_read desk unread (Replace old new) body c plain = tt
+markable_read desk unread _ body c plain = tt
 
 -- ---- THE STEP: what is offered
 
@@ -384,20 +356,8 @@ quiet_event desk (Insert id barcode) body none = absurd (let no : true ≡ false
 quiet_event desk (Remove id) body none = hand_rests (is_kept id body.kept) (with_kept (without id body.kept) body) body (acts.Removes id) refl none
 quiet_event desk (Replace old new) body none = hand_rests (is_kept old body.kept) (with_kept (with_instead old (plain_record new desk.name None) body.kept) body) body (acts.Replaces old new) refl none
 quiet_event desk (Mark id quality) body none = hand_rests (is_kept id body.kept) (with_kept (with_mark id quality body.kept) body) body (acts.Marks id quality) refl none
-quiet_event desk Nothing body none = event_walks desk Nothing body tt
-quiet_event desk Connect body none = event_walks desk Connect body tt
-quiet_event desk Accepted body none = event_walks desk Accepted body tt
-quiet_event desk Second body none = event_walks desk Second body tt
-quiet_event desk (Words side words) body none = event_walks desk (Words side words) body tt
-quiet_event desk (Notice side) body none = event_walks desk (Notice side) body tt
-quiet_event desk Tick body none = event_walks desk Tick body tt
-quiet_event desk Shutdown body none = event_walks desk Shutdown body tt
-quiet_event desk (Fault side) body none = event_walks desk (Fault side) body tt
-quiet_event desk (Will side on) body none = event_walks desk (Will side on) body tt
 quiet_event desk (Level line on) body none = sets_rest desk line on body none
-quiet_event desk Forecast body none = event_walks desk Forecast body tt
-quiet_event desk (Query barcode) body none = event_walks desk (Query barcode) body tt
-quiet_event desk (Supervised what) body none = event_walks desk (Supervised what) body tt
+quiet_event desk event body none = event_walks desk event body tt
 
 pub record StepSettles (id : ℕ) (body : Body) (d : Done) : Type 0 where
   pub board : Record

@@ -241,23 +241,7 @@ announces_does desk body k =
 
 heard_still : (desk : Desk) (unread : List Sensed) (event : Event) (body : Machine) (c : Scene) → AreTheirs event c → AreTheirs event (all_met (all_read desk unread body).acts c)
 heard_still desk unread (Words side words) body c theirs = subst (λ ms. AreOldest words ms) (sym (read_leaves side desk unread body c)) theirs
-heard_still desk unread Nothing body c theirs = tt
-heard_still desk unread Connect body c theirs = tt
-heard_still desk unread Accepted body c theirs = tt
-heard_still desk unread Second body c theirs = tt
-heard_still desk unread (Notice side) body c theirs = tt
-heard_still desk unread Tick body c theirs = tt
-heard_still desk unread Shutdown body c theirs = tt
-heard_still desk unread (Fault side) body c theirs = tt
-heard_still desk unread (Will side on) body c theirs = tt
-heard_still desk unread (Level line on) body c theirs = tt
-heard_still desk unread (Insert id barcode) body c theirs = tt
-heard_still desk unread (Remove id) body c theirs = tt
-heard_still desk unread (Replace old new) body c theirs = tt
-heard_still desk unread (Mark id quality) body c theirs = tt
-heard_still desk unread Forecast body c theirs = tt
-heard_still desk unread (Query barcode) body c theirs = tt
-heard_still desk unread (Supervised what) body c theirs = tt
+heard_still desk unread _ body c theirs = tt
 
 -- what the whole step does, and that a board is said to have left in it where the machine reads its events
 pub record StepDoes (P : ℕ → Type 0) (h : Hearing) (desk : Desk) (unread : List Sensed) (event : Event) (body : Machine) : Type 0 where

@@ -67,7 +67,8 @@ use Rattle.node_core.specs.Supervising.{
   with_tells,
 }
 use Rattle.line_step.specs.FloorIds.{AllChange, ChangesBoards, IdsStay, IsFresh, IsNoneOf, KeepsIds, boards_of, handled_by, made_by}
-use Rattle.line_step.proofs.Hands.{AreQuiet, announces-quiet, both_shut-quiet, both_tick-quiet, faults-quiet, heard-quiet, marks-quiet, notices-quiet, opens-quiet, quiet-join, read-quiet, second-quiet, signals-quiet, levels-quiet, forecasts-quiet, hands_with_tells, supervises-quiet, tells_behind-quiet}
+use Rattle.line_step.proofs.Hands.{AreQuiet, IsQuiet, announces-quiet, hands_with_tells, met-quiet, quiet-join, read-quiet, signals-quiet, tells_behind-quiet}
+use Rattle.step_rules.specs.Acts.{OfEvent}
 use Rattle.line_step.proofs.WithTells.{tells_append}
 use Rattle.line_step.proofs.Makers.{AreNumbered, IsOld, numbered-at, numbered-last, numbered-set, old-apart, old-last, old-new, old-set}
 use Rattle.line_step.proofs.OnFloor.{Handles, IsPlain, IsStill, LiesThere, SameBoards, acts-still, all-join, as_many_gaps, changes-changes, handled-join, handles, lays-gains, lies-there_by, made-join, quiet-acts, read-list, same-list, still-join, still-none, takes_off-loses, board-gains, front-loses}
@@ -488,30 +489,19 @@ IsHandless (inputs.Remove id) = ⊥
 IsHandless (inputs.Replace id) = ⊥
 IsHandless _ = Unit {0}
 
-event-quiet : (desk : Desk) (maker : Maker) (input : Input) (words : List Word) (body : Body) → IsHandless input → AreQuiet (event_did desk (event_of maker input words) body).acts
-event-quiet desk maker inputs.Nothing words body handless = tt
-event-quiet desk maker inputs.Connect words body handless = (tt, opens-quiet desk Entry body)
-event-quiet desk maker inputs.Accepted words body handless = opens-quiet desk Exit body
-event-quiet desk maker inputs.Second words body handless = second-quiet desk body
-event-quiet desk maker (inputs.Bytes side piece) words body handless = heard-quiet desk side words body
-event-quiet desk maker (inputs.Notice side) words body handless = notices-quiet desk side body
-event-quiet desk maker inputs.Tick words body handless = both_tick-quiet desk body
-event-quiet desk maker inputs.Shutdown words body handless = both_shut-quiet desk body
-event-quiet desk maker (inputs.Fault side) words body handless = faults-quiet desk side body
-event-quiet desk maker (inputs.Will side on) words body handless = (tt, tt)
-event-quiet desk maker (inputs.Level line on) words body handless = levels-quiet desk line on body
-event-quiet desk maker (inputs.Insert barcode) words body handless = absurd handless
-event-quiet desk maker (inputs.Remove id) words body handless = absurd handless
-event-quiet desk maker (inputs.Replace id) words body handless = absurd handless
-event-quiet desk maker (inputs.Mark id quality) words body handless = marks-quiet (is_kept id body.kept) _ body (acts.Marks id quality) tt
-event-quiet desk maker inputs.Forecast words body handless = forecasts-quiet desk (slice_get body.kept 0)
-event-quiet desk maker (inputs.Query barcode) words body handless = (tt, tt)
-event-quiet desk maker (inputs.Supervise on) words body handless =
-    supervises-quiet desk (Supervise on) body
-event-quiet desk maker (inputs.Ask question) words body handless =
-    supervises-quiet desk (Ask question) body
-event-quiet desk maker (inputs.Answer query order) words body handless =
-    supervises-quiet desk (Answer query order) body
+handless-event : (desk : Desk) (maker : Maker) (input : Input) (words : List Word)
+    → IsHandless input → OfEvent IsQuiet desk (event_of maker input words)
+handless-event desk maker (inputs.Insert barcode) words handless = absurd handless
+handless-event desk maker (inputs.Remove id) words handless = absurd handless
+handless-event desk maker (inputs.Replace id) words handless = absurd handless
+handless-event desk maker (inputs.Level line on) words handless = (tt, λ id. tt)
+handless-event desk maker _ words handless = tt
+
+event-quiet : (desk : Desk) (maker : Maker) (input : Input) (words : List Word) (body : Body)
+    → IsHandless input → AreQuiet (event_did desk (event_of maker input words) body).acts
+event-quiet desk maker input words body handless =
+    met-quiet desk (event_of maker input words) body
+    (handless-event desk maker input words handless)
 
 handless-goes : (number machine : ℕ) (input : Input) (before after : LineState) (told : List Happening) → IsHandless input → Holds before → MachineSteps number machine input before after told → Goes before after told
 handless-goes number machine input before after told handless h steps =

@@ -1,12 +1,10 @@
 -- What a hand takes from the floor is told, and lay there; and a step without one leaves every board where it is.
 use Rattle.std.proofs.Common.{Bool, List, None, Option, Ok, Result, Some, [], ap, arith, length, length-set, refl, slice_set, subst, suc, sym, true, zero, ℕ, ◌++◌, ◌-◌, ◌∙◌, ◌∷◌, ◌≡◌, ◌≤◌, append_assoc}
-use Rattle.std.specs.Prelude.{slice_get}
 use Rattle.std.specs.List.{AllByRecursion}
 use Rattle.board_record.specs.Maker.{Maker, next_id}
 use Rattle.board_record.specs.Record.{plain_record}
 use Rattle.board_record.specs.declared.maker.IdsUsedUp.{IdsUsedUp}
 use Rattle.line_base.specs.declared.states.Quality.{Quality}
-use Rattle.line_base.specs.declared.states.Side.TheVariants.{Entry, Exit}
 use Rattle.line_world.specs.declared.board.Board.{Board}
 use Rattle.line_world.specs.FloorPlan.{AtMachine, IsWhole, has_id, machine_at, place_of}
 use Rattle.line_world.proofs.Differing.{same_differ}
@@ -33,10 +31,11 @@ use Rattle.line_step.specs.State.{LineState, machine_in, with_machine, with_worl
 use Rattle.line_step.specs.Steps.{MachineSteps, is_second, moment_of, read_by, unread_by}
 use Rattle.line_step.specs.World.{WorldParts}
 use Rattle.line_step.proofs.FloorLaws.{Holds}
-use Rattle.line_step.proofs.Hands.{AreQuiet, announces-quiet, both_shut-quiet, both_tick-quiet, faults-quiet, heard-quiet, marks-quiet, notices-quiet, opens-quiet, quiet-join, read-quiet, second-quiet, signals-quiet, levels-quiet, forecasts-quiet, hands_with_tells, supervises-quiet}
+use Rattle.line_step.proofs.Hands.{AreQuiet, IsQuiet, announces-quiet, hands_with_tells, met-quiet, quiet-join, read-quiet, signals-quiet}
+use Rattle.step_rules.specs.Acts.{OfEvent}
 use Rattle.line_step.proofs.WithTells.{tells_append}
 use Rattle.node_core.specs.Step.{plain_step}
-use Rattle.node_core.specs.Supervising.{Answer, Ask, Supervise, tells_behind, watch_after, watch_behind, watch_of, with_tells}
+use Rattle.node_core.specs.Supervising.{tells_behind, watch_after, watch_behind, watch_of, with_tells}
 use Rattle.line_step.proofs.Makers.{AreNumbered, IsOld, numbered-at, numbered-set, old-set}
 use Rattle.line_step.proofs.OnFloor.{LiesThere, as_many_gaps, lies-there_by, quiet-acts}
 use Rattle.one_standing.specs.Carried.{Trace, between_of, stand_of}
@@ -183,27 +182,19 @@ IsHandless (inputs.Remove id) = ⊥
 IsHandless (inputs.Replace id) = ⊥
 IsHandless _ = Unit {0}
 
-event_quiet : (desk : Desk) (maker : Maker) (input : Input) (words : List Word) (body : Body) → IsHandless input → AreQuiet (event_did desk (event_of maker input words) body).acts
-event_quiet desk maker inputs.Nothing words body handless = tt
-event_quiet desk maker inputs.Connect words body handless = (tt, opens-quiet desk Entry body)
-event_quiet desk maker inputs.Accepted words body handless = opens-quiet desk Exit body
-event_quiet desk maker inputs.Second words body handless = second-quiet desk body
-event_quiet desk maker (inputs.Bytes side piece) words body handless = heard-quiet desk side words body
-event_quiet desk maker (inputs.Notice side) words body handless = notices-quiet desk side body
-event_quiet desk maker inputs.Tick words body handless = both_tick-quiet desk body
-event_quiet desk maker inputs.Shutdown words body handless = both_shut-quiet desk body
-event_quiet desk maker (inputs.Fault side) words body handless = faults-quiet desk side body
-event_quiet desk maker (inputs.Will side on) words body handless = (tt, tt)
-event_quiet desk maker (inputs.Level line on) words body handless = levels-quiet desk line on body
-event_quiet desk maker inputs.Forecast words body handless = forecasts-quiet desk (slice_get body.kept 0)
-event_quiet desk maker (inputs.Query barcode) words body handless = (tt, tt)
-event_quiet desk maker (inputs.Supervise on) words body handless = supervises-quiet desk (Supervise on) body
-event_quiet desk maker (inputs.Ask question) words body handless = supervises-quiet desk (Ask question) body
-event_quiet desk maker (inputs.Answer query order) words body handless = supervises-quiet desk (Answer query order) body
-event_quiet desk maker (inputs.Insert barcode) words body handless = absurd handless
-event_quiet desk maker (inputs.Remove id) words body handless = absurd handless
-event_quiet desk maker (inputs.Replace id) words body handless = absurd handless
-event_quiet desk maker (inputs.Mark id quality) words body handless = marks-quiet (is_kept id body.kept) _ body (acts.Marks id quality) tt
+handless_event : (desk : Desk) (maker : Maker) (input : Input) (words : List Word)
+    → IsHandless input → OfEvent IsQuiet desk (event_of maker input words)
+handless_event desk maker (inputs.Insert barcode) words handless = absurd handless
+handless_event desk maker (inputs.Remove id) words handless = absurd handless
+handless_event desk maker (inputs.Replace id) words handless = absurd handless
+handless_event desk maker (inputs.Level line on) words handless = (tt, λ id. tt)
+handless_event desk maker _ words handless = tt
+
+event_quiet : (desk : Desk) (maker : Maker) (input : Input) (words : List Word) (body : Body)
+    → IsHandless input → AreQuiet (event_did desk (event_of maker input words) body).acts
+event_quiet desk maker input words body handless =
+    met-quiet desk (event_of maker input words) body
+    (handless_event desk maker input words handless)
 
 same_maker : (input : Input) (maker : Maker) → IsHandless input → maker_after input maker ≡ maker
 same_maker (inputs.Insert barcode) maker handless = absurd handless

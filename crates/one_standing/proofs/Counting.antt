@@ -1,6 +1,6 @@
 -- HOW MANY MESSAGES A STEP HEARS: as many as the words that arrived, where the side is open behind it, and none else.
 use Rattle.std.proofs.Common.{Bool, List, None, Option, Result, Ok, Err, Some, [], ap, arith, false, refl, suc, sym, true, ℕ, ◌++◌, ◌+◌, ◌∙◌, ◌∷◌, ◌≡◌}
-use Rattle.std.specs.Prelude.{is_some, length, slice_get}
+use Rattle.std.specs.Prelude.{is_some, length}
 use Rattle.std.proofs.lemmas.Bool.{false≢true}
 use Rattle.node_core.proofs.Opened.{breach_closes}
 use Rattle.line_base.specs.declared.states.Side.{Side}
@@ -12,7 +12,7 @@ use Rattle.hermes_horizontal.specs.Parts.{kind_of}
 use Rattle.hermes_horizontal.specs.declared.message.Horizontal.{Horizontal}
 use Rattle.hermes_horizontal.specs.declared.message.Message.{Message}
 use Rattle.session_core.specs.Breach.{unexpected}
-use Rattle.session_core.specs.Input.{heard, opened, second}
+use Rattle.session_core.specs.Input.{heard}
 use Rattle.session_core.specs.Row.{SessionRow, session_row}
 use Rattle.session_core.specs.declared.actions.Action.{Action}
 use Rattle.session_core.specs.declared.actions.Action.TheVariants.{Close, Pass, Ping, Pong, SendService, Stand, Tell}
@@ -23,11 +23,10 @@ use Rattle.handover_out.specs.declared.input.OutInput.TheVariants as out_input
 use Rattle.handover_in.specs.Row.{InRow, intake_row}
 use Rattle.handover_in.specs.declared.input.InInput.TheVariants as in_input
 use Rattle.node_core.specs.Announces.{announces}
-use Rattle.node_core.specs.Boards.{is_kept}
 use Rattle.node_core.specs.Connect.{if_open}
 use Rattle.node_core.specs.Desk.{Desk}
 use Rattle.node_core.specs.Done.{Done, and_then, behind}
-use Rattle.node_core.specs.Event.{Accepted, Connect, Event, Fault, Insert, Mark, Nothing, Notice, Remove, Replace, Second, Shutdown, Tick, Will, Words, event_did, event_of, with_new, Level, Forecast, Query, Supervised}
+use Rattle.node_core.specs.Event.{Event, Insert, Nothing, Replace, Words, event_did, event_of, with_new, Query}
 use Rattle.node_core.specs.Halves.{behind_opening, opening_board}
 use Rattle.node_core.specs.Hears.{entry_took, entry_word, exit_took, exit_word, hears, intake_took, outlet_took, passed, rowed, side_took, taken}
 use Rattle.node_core.specs.Reads.{all_read}
@@ -51,12 +50,20 @@ use Rattle.machine_custody.proofs.HearingAll.{deaf}
 use Rattle.machine_custody.proofs.Quiet.{AllActs, acts_more, acts_none}
 use Rattle.line_step.proofs.Quiet.{announces_leave}
 use Rattle.one_standing.proofs.CarryingSides.{heard_at, heard_in}
-use Rattle.one_standing.proofs.CountingQuiet.{IsDeaf, actions_deaf, announces_deaf, breaches_deaf, deaf_count, faults_deaf, heard_append, if_kept_deaf, intake_deaf, notices_deaf, outlet_deaf, read_deaf, session_deaf, shuts_deaf, supervises_deaf, tells_unheard, ticks_deaf}
-use Rattle.node_core.specs.Bridge.{failed_front, fails, sets_level, tells_level}
-use Rattle.node_core.specs.Information.{forecasts}
-use Rattle.smema_bridge.specs.declared.line.SegmentLine.{SegmentLine}
-use Rattle.line_base.specs.declared.states.Quality.TheVariants as qualities
-use Rattle.board_record.specs.declared.record.Record.{Record}
+use Rattle.one_standing.proofs.CountingQuiet.{
+  IsDeaf,
+  actions_deaf,
+  announces_deaf,
+  breaches_deaf,
+  deaf_by_pieces,
+  deaf_count,
+  heard_append,
+  intake_deaf,
+  outlet_deaf,
+  read_deaf,
+  tells_unheard,
+}
+use Rattle.step_rules.proofs.Steps.{event_made}
 
 -- ---- a message
 
@@ -209,39 +216,13 @@ is_words_to Entry (Words Entry words) = true
 is_words_to Exit (Words Exit words) = true
 is_words_to _ _ = false
 
-fails_deaf : (found : Option ℕ) (body : Body) → AllActs IsDeaf (fails found body).acts
-fails_deaf None body = acts_none
-fails_deaf (Some id) body = if_kept_deaf (is_kept id body.kept) _ body (acts.Marks id qualities.Failed) tt
-
-levels_deaf : (desk : Desk) (line : SegmentLine) (on : Bool) (body : Body) → AllActs IsDeaf (sets_level desk line on body).acts
-levels_deaf desk line on body = acts_more tt (fails_deaf (failed_front desk.bridge line on (tells_level line on body).body) (tells_level line on body).body)
-
-forecasts_deaf : (desk : Desk) (front : Option Record) → AllActs IsDeaf (forecasts desk front)
-forecasts_deaf desk None = acts_none
-forecasts_deaf desk (Some board) = acts_more tt acts_none
-
-event_none : (at : Side) (desk : Desk) (event : Event) (body : Body) → is_words_to at event ≡ false → heard_in at (event_did desk event body).acts ≡ 0
-event_none at desk Nothing body is = refl
-event_none at desk Connect body is = deaf_count at (acts_more {act = acts.Connects} tt (session_deaf desk Entry (session_row (session_at Entry body) opened) body))
-event_none at desk Accepted body is = deaf_count at (session_deaf desk Exit (session_row (session_at Exit body) opened) body)
-event_none at desk Second body is = deaf_count at (session_deaf desk Exit (session_row (session_at Exit body) second) body)
+event_none : (at : Side) (desk : Desk) (event : Event) (body : Body)
+    → is_words_to at event ≡ false → heard_in at (event_did desk event body).acts ≡ 0
 event_none Entry desk (Words Entry words) body is = absurd (false≢true (sym is))
 event_none Exit desk (Words Exit words) body is = absurd (false≢true (sym is))
 event_none Entry desk (Words Exit words) body is = words_other desk Exit words body
 event_none Exit desk (Words Entry words) body is = words_other desk Entry words body
-event_none at desk (Notice side) body is = deaf_count at (notices_deaf desk side (is_open side body) body)
-event_none at desk Tick body is = deaf_count at (ticks_deaf desk body)
-event_none at desk Shutdown body is = deaf_count at (shuts_deaf desk body)
-event_none at desk (Fault side) body is = deaf_count at (faults_deaf desk side body)
-event_none at desk (Will side on) body is = refl
-event_none at desk (Level line on) body is = deaf_count at (levels_deaf desk line on body)
-event_none at desk Forecast body is = deaf_count at (forecasts_deaf desk (slice_get body.kept 0))
-event_none at desk (Query barcode) body is = refl
-event_none at desk (Supervised what) body is = deaf_count at (supervises_deaf desk what body)
-event_none at desk (Insert id barcode) body is = refl
-event_none at desk (Remove id) body is = deaf_count at (if_kept_deaf (is_kept id body.kept) _ body (acts.Removes id) tt)
-event_none at desk (Replace old new) body is = deaf_count at (if_kept_deaf (is_kept old body.kept) _ body (acts.Replaces old new) tt)
-event_none at desk (Mark id quality) body is = deaf_count at (if_kept_deaf (is_kept id body.kept) _ body (acts.Marks id quality) tt)
+event_none at desk event body is = deaf_count at (deaf_by_pieces (event_made desk event body) tt)
 
 -- ---- the step
 

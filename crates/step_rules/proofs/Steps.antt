@@ -564,7 +564,8 @@ revoke_made desk true body is = at_outlet_made out_input.Revoke body (out_revoke
 revoke_made desk false body is = made_none
 
 pub unready_made : {starting : Bool} (desk : Desk) (due : Bool) (body : Body)
-    → unreadies_now desk body ≡ due → Made desk (Announcing starting) body (unready_by desk due body)
+    → unreadies_now desk body ≡ due
+    → Made desk (Announcing starting) body (unready_by desk due body)
 unready_made desk true body is = at_intake_made in_input.Unready body (in_unready is)
 unready_made desk false body is = made_none
 

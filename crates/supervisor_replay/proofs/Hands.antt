@@ -1,10 +1,30 @@
 -- Which boards are put in and taken out by hand in a machine's step, and which of it the report tells.
-use Rattle.std.proofs.Common.{◌≡◌, ◌∙◌, ◌++◌, ◌==◌, ◌||◌, ℕ, Bool, true, false, List, [], ◌∷◌, Option, Some, None, refl, sym, ap, subst, eqb-true}
+use Rattle.std.proofs.Common.{
+  ◌≡◌,
+  ◌∙◌,
+  ◌++◌,
+  ◌==◌,
+  ◌||◌,
+  ℕ,
+  Bool,
+  true,
+  false,
+  List,
+  [],
+  ◌∷◌,
+  Option,
+  Some,
+  None,
+  refl,
+  sym,
+  ap,
+  subst,
+  eqb-true,
+}
 use Rattle.std.specs.List.{AllByRecursion, flat_map, list_any}
 use Rattle.std.proofs.lemmas.Bool.{false≢true}
 use Rattle.std.proofs.lemmas.List.Folds.{list_any-append}
 use Rattle.line_base.specs.declared.states.Side.{Side}
-use Rattle.line_base.specs.declared.states.Side.TheVariants.{Entry, Exit}
 use Rattle.board_record.specs.declared.sensed.Sensed.{Sensed}
 use Rattle.hermes_horizontal.specs.Canonical.{canonical}
 use Rattle.hermes_horizontal.specs.declared.message.Message.{Message}
@@ -17,25 +37,12 @@ use Rattle.node_core.specs.Boards.{if_kept, is_kept}
 use Rattle.node_core.specs.Bridge.{sets_level}
 use Rattle.node_core.specs.Desk.{Desk}
 use Rattle.node_core.specs.Event.{
-  Accepted,
-  Connect,
   Event,
-  Fault,
-  Forecast,
   Insert,
   Level,
-  Mark,
-  Nothing,
-  Notice,
-  Query,
   Remove,
   Replace,
-  Second,
-  Shutdown,
   Supervised,
-  Tick,
-  Will,
-  Words,
   event_did,
   event_of,
 }
@@ -64,20 +71,10 @@ use Rattle.line_step.specs.World.{WorldParts, end_of, link_at, link_of}
 use Rattle.line_step.proofs.Hands.{
   AreQuiet,
   announces-quiet,
-  both_shut-quiet,
-  both_tick-quiet,
-  faults-quiet,
-  forecasts-quiet,
-  heard-quiet,
-  levels-quiet,
-  marks-quiet,
-  notices-quiet,
-  opens-quiet,
+  met-quiet,
   read-quiet,
-  second-quiet,
-  supervises-quiet,
+  supervision-quiet,
 }
-use Rattle.std.specs.Prelude.{slice_get}
 use Rattle.line_history.proofs.Offering.{or_join}
 use Rattle.one_standing.proofs.MirroringEnds.{vacuous}
 use mathlib.Core.Bool.{or-false}
@@ -189,25 +186,16 @@ outs_are id desk (Remove old) body is = removed_by id old (is_kept old body.kept
 outs_are id desk (Replace old new) body is =
     replaced_out id old new (is_kept old body.kept) _ body is
 outs_are id desk (Insert new barcode) body is = absurd (false≢true is)
-outs_are id desk Nothing body is = absurd (false≢true is)
-outs_are id desk Connect body is = vacuous (quiet_out id _ (opens-quiet desk Entry body)) is
-outs_are id desk Accepted body is = vacuous (quiet_out id _ (opens-quiet desk Exit body)) is
-outs_are id desk Second body is = vacuous (quiet_out id _ (second-quiet desk body)) is
-outs_are id desk (Words side words) body is =
-    vacuous (quiet_out id _ (heard-quiet desk side words body)) is
-outs_are id desk (Notice side) body is = vacuous (quiet_out id _ (notices-quiet desk side body)) is
-outs_are id desk Tick body is = vacuous (quiet_out id _ (both_tick-quiet desk body)) is
-outs_are id desk Shutdown body is = vacuous (quiet_out id _ (both_shut-quiet desk body)) is
-outs_are id desk (Fault side) body is = vacuous (quiet_out id _ (faults-quiet desk side body)) is
-outs_are id desk (Will side on) body is = absurd (false≢true is)
-outs_are id desk (Level line on) body is = vacuous (quiet_out id (sets_level desk line on body).acts (levels-quiet desk line on body)) is
-outs_are id desk (Mark other quality) body is =
-    vacuous (quiet_out id _ (marks-quiet (is_kept other body.kept) _ body (acts.Marks other quality) tt)) is
-outs_are id desk Forecast body is =
-    vacuous (quiet_out id _ (forecasts-quiet desk (slice_get body.kept 0))) is
-outs_are id desk (Query barcode) body is = absurd (false≢true is)
+outs_are id desk (Level line on) body is =
+    vacuous
+    (quiet_out id (sets_level desk line on body).acts
+    (met-quiet desk (Level line on) body (tt, λ marked. tt))) is
 outs_are id desk (Supervised what) body is =
-    vacuous (quiet_out id (supervises desk what body).acts (supervises-quiet desk what body)) is
+    vacuous
+    (quiet_out id (supervises desk what body).acts
+    (met-quiet desk (Supervised what) body (supervision-quiet desk what))) is
+outs_are id desk event body is =
+    vacuous (quiet_out id (event_did desk event body).acts (met-quiet desk event body tt)) is
 
 pub ins_are : (id : ℕ) (desk : Desk) (event : Event) (body : Machine)
     → list_any (brings_in id) (event_did desk event body).acts ≡ true → BringsIn id event
@@ -215,25 +203,16 @@ ins_are id desk (Remove old) body is = vacuous (removed_in id old (is_kept old b
 ins_are id desk (Replace old new) body is = replaced_in id old new (is_kept old body.kept) _ body is
 ins_are id desk (Insert new barcode) body is =
     subst (λ (n : ℕ). BringsIn id (Insert n barcode)) (sym (eqb-true new id (or_nothing (new == id) is))) in_inserted
-ins_are id desk Nothing body is = absurd (false≢true is)
-ins_are id desk Connect body is = vacuous (quiet_in id _ (opens-quiet desk Entry body)) is
-ins_are id desk Accepted body is = vacuous (quiet_in id _ (opens-quiet desk Exit body)) is
-ins_are id desk Second body is = vacuous (quiet_in id _ (second-quiet desk body)) is
-ins_are id desk (Words side words) body is =
-    vacuous (quiet_in id _ (heard-quiet desk side words body)) is
-ins_are id desk (Notice side) body is = vacuous (quiet_in id _ (notices-quiet desk side body)) is
-ins_are id desk Tick body is = vacuous (quiet_in id _ (both_tick-quiet desk body)) is
-ins_are id desk Shutdown body is = vacuous (quiet_in id _ (both_shut-quiet desk body)) is
-ins_are id desk (Fault side) body is = vacuous (quiet_in id _ (faults-quiet desk side body)) is
-ins_are id desk (Will side on) body is = absurd (false≢true is)
-ins_are id desk (Level line on) body is = vacuous (quiet_in id (sets_level desk line on body).acts (levels-quiet desk line on body)) is
-ins_are id desk (Mark other quality) body is =
-    vacuous (quiet_in id _ (marks-quiet (is_kept other body.kept) _ body (acts.Marks other quality) tt)) is
-ins_are id desk Forecast body is =
-    vacuous (quiet_in id _ (forecasts-quiet desk (slice_get body.kept 0))) is
-ins_are id desk (Query barcode) body is = absurd (false≢true is)
+ins_are id desk (Level line on) body is =
+    vacuous
+    (quiet_in id (sets_level desk line on body).acts
+    (met-quiet desk (Level line on) body (tt, λ marked. tt))) is
 ins_are id desk (Supervised what) body is =
-    vacuous (quiet_in id (supervises desk what body).acts (supervises-quiet desk what body)) is
+    vacuous
+    (quiet_in id (supervises desk what body).acts
+    (met-quiet desk (Supervised what) body (supervision-quiet desk what))) is
+ins_are id desk event body is =
+    vacuous (quiet_in id (event_did desk event body).acts (met-quiet desk event body tt)) is
 
 -- ---- what the report tells of it
 
