@@ -66,8 +66,12 @@ static int32_t with_used(uint64_t used) {
 }
 
 static void show(const char *what, const hermes_view *v) {
-    printf("%s: size %u bridge %u state %u %u held %u %u supervised %u zero %u kept %llu\n", what, v->size, v->bridge,
-           v->state[0], v->state[1], v->held[0], v->held[1], v->supervised, v->zero, (unsigned long long)v->kept);
+    printf("%s: size %u spent %u bridge %u supervised %u state %u %u held %u %u drive %u %u signal %u %u %u %u close %u %u %u %u"
+           " kept %llu acts %llu unsent %llu %llu %llu %llu\n", what, v->size, v->spent, v->bridge, v->supervised, v->state[0],
+           v->state[1], v->held[0], v->held[1], v->drive[0], v->drive[1], v->signal[0], v->signal[1], v->signal[2], v->signal[3],
+           v->close[0], v->close[1], v->close[2], v->close[3], (unsigned long long)v->kept, (unsigned long long)v->acts,
+           (unsigned long long)v->unsent[0], (unsigned long long)v->unsent[1], (unsigned long long)v->unsent[2],
+           (unsigned long long)v->unsent[3]);
 }
 
 static void profiles(void) {
@@ -145,11 +149,153 @@ static void shortages(void) {
     printf("live %zu\n", live);
 }
 
+static const hermes_input nothing = {sizeof(hermes_input), HERMES_NOTHING, 0, 0, 0, 0, {0}};
+static const int64_t noon = INT64_C(1790000000000);
+
+static int32_t told(hermes_machine *m, uint32_t kind, uint32_t side, uint32_t what, const char *bytes) {
+    hermes_input i = nothing;
+    i.kind = kind;
+    i.side = side;
+    i.what = what;
+    return hermes_machine_step(m, &i, (const uint8_t *)bytes, strlen(bytes), noon);
+}
+
+static int32_t at_moment(hermes_machine *m, int64_t now) {
+    return hermes_machine_step(m, &nothing, (const uint8_t *)"", 0, now);
+}
+
+static void say(const char *what, int32_t answer) {
+    printf("%s: %d\n", what, answer);
+}
+
+static void look(const char *what, hermes_machine *m) {
+    hermes_view v = {.size = sizeof v};
+    hermes_machine_view(m, &v);
+    show(what, &v);
+}
+
+/* each kind with a number out of its range, and what stands before it */
+static void bad_inputs(void) {
+    hermes_machine m = {0};
+    hermes_input i = nothing;
+    uint8_t bytes[HERMES_MOST_BYTES + 1] = {0};
+    printf("step of none: %d\n", at_moment(&m, noon));
+    new_of(&m, good, "Loader");
+    i.size = 39;
+    printf("size: %d", hermes_machine_step(&m, &i, bytes, 0, noon));
+    i = nothing;
+    i.zero = 1;
+    printf(" zero: %d\n", hermes_machine_step(&m, &i, bytes, 0, noon));
+    printf("kind: %d %d\n", told(&m, 17, 0, 0, ""), told(&m, UINT32_MAX, 0, 0, ""));
+    printf("sides: %d %d %d %d %d %d %d %d\n", told(&m, HERMES_CONNECTED, 2, 0, ""), told(&m, HERMES_SECOND, 0, 0, ""),
+           told(&m, HERMES_BYTES, 2, 0, ""), told(&m, HERMES_CLOSED, 3, 0, ""), told(&m, HERMES_SENSED, 2, 0, ""),
+           told(&m, HERMES_FAULT, 2, 0, ""), told(&m, HERMES_WILL, 2, 0, ""), told(&m, HERMES_LEVEL, 3, 0, ""));
+    printf("seen: %d %d %d %d\n", told(&m, HERMES_SENSED, HERMES_ENTRY, HERMES_SAW_LEFT, ""),
+           told(&m, HERMES_SENSED, HERMES_EXIT, HERMES_SAW_FULL, ""), told(&m, HERMES_SENSED, HERMES_ENTRY, 5, ""),
+           told(&m, HERMES_SENSED, HERMES_EXIT, HERMES_SAW_TAKEN, ""));
+    printf("levels: %d %d %d %d\n", told(&m, HERMES_WILL, 0, 2, ""), told(&m, HERMES_LEVEL, 0, 2, ""),
+           told(&m, HERMES_INSERT, 0, 2, ""), told(&m, HERMES_MARK, 0, 3, ""));
+    printf("moments: %d %d %d %d\n", at_moment(&m, INT64_C(-62135596800001)), at_moment(&m, INT64_C(-62135596800000)),
+           at_moment(&m, INT64_C(253402300799999)), at_moment(&m, INT64_C(253402300800000)));
+    printf("bytes: %d %d\n", hermes_machine_step(&m, &nothing, bytes, HERMES_MOST_BYTES, noon),
+           hermes_machine_step(&m, &nothing, bytes, HERMES_MOST_BYTES + 1, noon));
+    printf("texts: %d %d %d\n", told(&m, HERMES_INSERT, 0, 1, "\xff"), told(&m, HERMES_QUERY, 0, 0, "\x01"),
+           told(&m, HERMES_INSERT, 0, 0, "\xff"));
+    look("behind", &m);
+    hermes_machine_free(&m);
+}
+
+/* a reason of each kind of input that has one here */
+static void reasons(void) {
+    hermes_machine m = {0}, n = {0};
+    hermes_profile bridge = good;
+    bridge.bridge = 1;
+    new_of(&m, good, "Loader");
+    new_of(&n, bridge, "Bridge");
+    printf("not connected: %d %d %d\n", told(&m, HERMES_BYTES, 0, 0, "a"), told(&m, HERMES_TICK, 0, 0, ""),
+           told(&m, HERMES_SHUTDOWN, 0, 0, ""));
+    printf("closed, of none: %d %d\n", told(&m, HERMES_CLOSED, 0, 0, ""), told(&m, HERMES_CLOSED, 1, 0, ""));
+    printf("no handover: %d same: %d not a bridge: %d bridge: %d\n", told(&m, HERMES_FAULT, 0, 0, ""),
+           told(&m, HERMES_WILL, 0, 1, ""), told(&m, HERMES_LEVEL, 0, 1, ""), told(&n, HERMES_WILL, 0, 1, ""));
+    printf("not kept: %d %d %d\n", told(&m, HERMES_REMOVE, 0, 0, ""), told(&m, HERMES_REPLACE, 0, 0, ""),
+           told(&m, HERMES_MARK, 0, 1, ""));
+    printf("not standing: %d %d\n", told(&m, HERMES_FORECAST, 0, 0, ""), told(&m, HERMES_QUERY, 0, 0, "x"));
+    for (int i = 0; i < 4; i++) told(&m, HERMES_INSERT, 0, 1, "x");
+    printf("full: %d\n", told(&m, HERMES_INSERT, 0, 0, ""));
+    look("full", &m);
+    hermes_machine_free(&m);
+    hermes_machine_free(&n);
+}
+
+/* all that waits on a way goes over to another machine, some bytes at a time */
+static void carry(hermes_machine *from, uint32_t way, hermes_machine *to, uint32_t side, size_t piece) {
+    uint8_t bytes[64];
+    hermes_input i = nothing;
+    int64_t n;
+    i.kind = HERMES_BYTES;
+    i.side = side;
+    while ((n = hermes_machine_unsent(from, way, bytes, piece)) > 0) {
+        hermes_machine_sent(from, way, (size_t)n);
+        hermes_machine_step(to, &i, bytes, (size_t)n, noon);
+    }
+}
+
+/* a board goes from one machine to another; bytes go to and fro until none waits */
+static void handover(void) {
+    hermes_machine a = {0}, b = {0};
+    hermes_profile second = good;
+    hermes_view v = {.size = sizeof v};
+    second.number = 8;
+    new_of(&a, good, "Loader");
+    new_of(&b, second, "Printer");
+    printf("insert: %d\n", told(&a, HERMES_INSERT, 0, 1, "4711"));
+    say("connect below", told(&b, HERMES_CONNECTED, HERMES_ENTRY, 0, ""));
+    say("above", told(&a, HERMES_CONNECTED, HERMES_EXIT, 0, ""));
+    say("again below", told(&b, HERMES_CONNECTED, HERMES_ENTRY, 0, ""));
+    say("above", told(&a, HERMES_CONNECTED, HERMES_EXIT, 0, ""));
+    for (int turn = 0; turn < 8; turn++) {
+        carry(&b, HERMES_ENTRY, &a, HERMES_EXIT, 64);
+        carry(&a, HERMES_EXIT, &b, HERMES_ENTRY, 7);
+    }
+    look("open above", &a);
+    look("open below", &b);
+    say("begun above", told(&a, HERMES_SENSED, HERMES_EXIT, HERMES_SAW_BEGUN, ""));
+    say("below", told(&b, HERMES_SENSED, HERMES_ENTRY, HERMES_SAW_BEGUN, ""));
+    say("left above", told(&a, HERMES_SENSED, HERMES_EXIT, HERMES_SAW_LEFT, ""));
+    say("in below", told(&b, HERMES_SENSED, HERMES_ENTRY, HERMES_SAW_FULL, ""));
+    for (int turn = 0; turn < 8; turn++) {
+        carry(&b, HERMES_ENTRY, &a, HERMES_EXIT, 64);
+        carry(&a, HERMES_EXIT, &b, HERMES_ENTRY, 7);
+    }
+    look("over above", &a);
+    look("over below", &b);
+    printf("second: %d\n", told(&a, HERMES_SECOND, HERMES_EXIT, 0, ""));
+    hermes_machine_view(&a, &v);
+    say("its text waits", v.unsent[HERMES_REFUSAL] > 0);
+    say("sent", hermes_machine_sent(&a, HERMES_REFUSAL, SIZE_MAX));
+    hermes_machine_view(&a, &v);
+    say("its text waits", v.unsent[HERMES_REFUSAL] > 0);
+    printf("no way: %lld %d\n", (long long)hermes_machine_unsent(&a, 2, (uint8_t *)&v, 1), hermes_machine_sent(&a, 4, 1));
+    printf("shut down: %d\n", told(&a, HERMES_SHUTDOWN, 0, 0, ""));
+    hermes_machine_view(&a, &v);
+    printf("to be closed: %u waits: %d accepted: %d\n", v.close[HERMES_EXIT], v.unsent[HERMES_EXIT] > 0,
+           told(&a, HERMES_CONNECTED, HERMES_EXIT, 0, ""));
+    printf("closed: %d\n", told(&a, HERMES_CLOSED, HERMES_EXIT, 0, ""));
+    look("closed", &a);
+    say("accepted", told(&a, HERMES_CONNECTED, HERMES_EXIT, 0, ""));
+    say("free", hermes_machine_free(&a));
+    say("free", hermes_machine_free(&b));
+    printf("live %zu\n", live);
+}
+
 int main(void) {
     printf("abi: %d\n", hermes_machine_abi() == HERMES_MACHINE_ABI);
     profiles();
     names();
     views();
     shortages();
+    bad_inputs();
+    reasons();
+    handover();
     return 0;
 }

@@ -5,7 +5,7 @@
 int main(void) {
     hermes_machine m = {0};
     hermes_profile p = {sizeof p, 7, 1, 4, 0, 0, 0};
-    hermes_view v = {sizeof v, 0, {0, 0}, {0, 0}, 0, 0, 0};
+    hermes_view v = {.size = sizeof v};
     if (hermes_machine_abi() != HERMES_MACHINE_ABI) return 1;
     if (hermes_machine_new(&m, &p, (const uint8_t *)"Loader", 6) != HERMES_DONE) return 1;
     if (hermes_machine_view(&m, &v) != HERMES_DONE) return 1;

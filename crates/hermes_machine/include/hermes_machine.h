@@ -1,7 +1,10 @@
 /* hermes_machine.h: one machine of a circuit board line that hands boards on as The Hermes Standard
  * (IPC-HERMES-9852, version 1.5) says, as a library for a control program.
  *
- * SO FAR a machine can be made, seen and freed. No call gives it an input yet.
+ * A control program owns sockets, time and sensors; the library owns sessions, handovers and records. What happens is told by
+ * hermes_machine_step; what is to be done is read back by hermes_machine_view and hermes_machine_unsent. These are levels, no
+ * edges: nothing is lost where several steps are made before they are read. SO FAR a machine has no supervisor's way, and
+ * its acts and records aren't told apart, but for their number.
  *
  * WHOSE IS WHAT. The library opens nothing, waits for nothing, starts no thread, calls nothing of yours but the three
  * calls of memory below, and keeps nothing outside the handle and what it takes by these.
@@ -43,7 +46,7 @@ extern "C" {
 #endif
 
 /* Raised by each change of a struct, a number or a call. Compare it with hermes_machine_abi() once. */
-#define HERMES_MACHINE_ABI 1u
+#define HERMES_MACHINE_ABI 2u
 
 /* A handle: a machine, or, all zero, none. Its fields are the library's. */
 typedef struct hermes_machine {
@@ -51,9 +54,30 @@ typedef struct hermes_machine {
     void *at;
 } hermes_machine;
 
-/* ---- answers ---- */
+/* ---- answers: 0, a reason above it, or an error below it ---- */
 enum {
     HERMES_DONE = 0,
+    /* why an input can't be taken now: the first of its reasons, in this order */
+    HERMES_NO_INTAKE_OPEN = 1,      /* a board is being taken */
+    HERMES_NO_FULL = 2,             /* no place for one board more */
+    HERMES_NO_IDS_USED_UP = 3,      /* all ids are made */
+    HERMES_NO_NOT_KEPT = 4,         /* no record of this board is kept */
+    HERMES_NO_OFFERED = 5,          /* the board was offered: its record may be known downstream */
+    HERMES_NO_SAME = 6,             /* it is so already */
+    HERMES_NO_CONNECTED = 7,        /* that side has a connection, or the one before is still to be closed */
+    HERMES_NO_INTAKE_UNSETTLED = 8, /* a board lies between the intake and its neighbour */
+    HERMES_NO_NOT_CONNECTED = 9,    /* that side, or each, has no connection */
+    HERMES_NO_NO_HANDOVER = 10,     /* no board moves at that side */
+    HERMES_NO_BRIDGE = 11,          /* a bridge's segment says what it is willing to do */
+    HERMES_NO_NOT_A_BRIDGE = 12,
+    HERMES_NO_NOT_STANDING = 13,    /* the session of that side doesn't stand */
+    HERMES_NO_NOT_SUPPORTED = 14,   /* the neighbour lists no such feature */
+    HERMES_NO_NOTHING_KEPT = 15,
+    HERMES_NO_NOT_SUPERVISED = 16,
+    HERMES_NO_QUERIES_FULL = 17,    /* 256 questions wait for an answer */
+    HERMES_NO_UNKNOWN_QUERY = 18,
+    HERMES_NO_ANSWERED = 19,
+    /* errors */
     HERMES_EMPTY = -1,     /* the handle has no machine */
     HERMES_MEMORY = -2,    /* memory was wanting */
     HERMES_BAD_INPUT = -3, /* a size or a number that is none */
@@ -61,10 +85,11 @@ enum {
     HERMES_NOT_EMPTY = -5  /* hermes_machine_new: the handle has a machine already */
 };
 
-/* ---- sides: the places of a pair in a view ---- */
+/* ---- sides and ways. A machine's two sides have the numbers of their ways ---- */
 enum {
-    HERMES_ENTRY = 0, /* boards come in here, from the upstream neighbour */
-    HERMES_EXIT = 1   /* boards go out here, to the downstream neighbour */
+    HERMES_ENTRY = 0,  /* boards come in here; the way to the upstream neighbour, to which this machine connects */
+    HERMES_EXIT = 1,   /* boards go out here; the way of the downstream neighbour, whose connection it accepts */
+    HERMES_REFUSAL = 3 /* for hermes_machine_unsent and _sent alone: the text for a second connection */
 };
 
 /* ---- who a machine is ---- */
@@ -92,13 +117,58 @@ enum {
 };
 typedef struct hermes_view {
     uint32_t size;       /* sizeof(hermes_view), set by the caller */
+    uint32_t spent;      /* 1 where memory was wanting in a step: then both drives are 0 and both connections to be closed */
     uint32_t bridge;     /* as in the profile */
+    uint32_t supervised; /* 1 while a supervisor's session stands */
     uint32_t state[2];   /* HERMES_STATE_.. of entry and exit */
     uint32_t held[2];    /* 1 where the intake, the outlet holds the record of a board between two machines */
-    uint32_t supervised; /* 1 while a supervisor's session stands */
-    uint32_t zero;       /* 0 */
+    uint32_t drive[2];   /* 1 while the drive of entry, of exit is to run: a level, set it after each step */
+    uint32_t signal[4];  /* of a bridge, levels: Board Available, Failed Board Available at its entry, Machine Ready at its
+                            exit; then 0 */
+    uint32_t close[4];   /* 1 where the connection of entry, of exit is to be closed, once its text is sent; then 0 */
     uint64_t kept;       /* how many records are kept */
+    uint64_t acts;       /* how many acts the last step had */
+    uint64_t unsent[4];  /* bytes that wait to be sent, by the number of the way */
 } hermes_view;
+
+/* ---- what happens. Fields that a kind doesn't name are passed over. `bytes` are those of the call ---- */
+enum {
+    HERMES_NOTHING = 0,
+    HERMES_CONNECTED = 1, /* side: a connection was made or accepted there. HERMES_NO_CONNECTED also where the one before it
+                             is still to be closed (view.close): close that first, then tell CLOSED */
+    HERMES_SECOND = 2,    /* side = EXIT: a second one was accepted: send it HERMES_REFUSAL's text, then close it */
+    HERMES_BYTES = 3,     /* side, bytes: these came there, at most HERMES_MOST_BYTES in a call */
+    HERMES_CLOSED = 4,    /* side: its connection is closed, by whomever. What waits there is dropped. Always taken; a step
+                             is made where the machine has a connection there still */
+    HERMES_TICK = 5,      /* once a second, say: behind two silent ticks it sends a CheckAlive */
+    HERMES_SENSED = 6,    /* side, what = HERMES_SAW_..: a sensor at that gap saw this: BEGUN, FULL, BACK or TAKEN at the
+                             entry, BEGUN, LEFT, BACK or TAKEN at the exit */
+    HERMES_FAULT = 7,     /* side: its drive failed */
+    HERMES_WILL = 8,      /* side, what = 0 or 1: from now on boards are handed over there, or not */
+    HERMES_LEVEL = 9,     /* side = HERMES_LINE_.., what = 0 or 1: a bridge's segment has this level now */
+    HERMES_INSERT = 10,   /* what = 0, or 1 with bytes, its top barcode: a board was put in by hand, at the back */
+    HERMES_REMOVE = 11,   /* id: it was taken out by hand */
+    HERMES_REPLACE = 12,  /* id: another was put into its place by hand */
+    HERMES_MARK = 13,     /* id, what = HERMES_UNKNOWN, _GOOD, _FAILED */
+    HERMES_SHUTDOWN = 14, /* both connections are to end */
+    HERMES_FORECAST = 15, /* the downstream neighbour is told which board comes next */
+    HERMES_QUERY = 16     /* bytes, a top barcode: the upstream neighbour is asked for that board */
+};
+enum { HERMES_SAW_BEGUN = 0, HERMES_SAW_LEFT = 1, HERMES_SAW_FULL = 2, HERMES_SAW_BACK = 3, HERMES_SAW_TAKEN = 4 };
+enum { HERMES_LINE_READY = 0, HERMES_LINE_AVAILABLE = 1, HERMES_LINE_FAILED = 2 };
+enum { HERMES_UNKNOWN = 0, HERMES_GOOD = 1, HERMES_FAILED = 2 };
+
+#define HERMES_MOST_BYTES 4096u
+
+typedef struct hermes_input {
+    uint32_t size; /* sizeof(hermes_input) */
+    uint32_t kind;
+    uint32_t side;
+    uint32_t what;
+    uint32_t slot;  /* no kind names it yet */
+    uint32_t zero;  /* 0 */
+    uint8_t id[16]; /* a board's id, the most significant byte first, as a UUID is written */
+} hermes_input;
 
 /* ==== the calls ==== */
 
@@ -115,6 +185,28 @@ int32_t hermes_machine_new(hermes_machine *m, const hermes_profile *profile, con
 /* Frees the machine and empties the handle. HERMES_EMPTY where it is empty; so freeing twice does no harm.
  * Proved: which answer, and that the handle is empty. */
 int32_t hermes_machine_free(hermes_machine *m);
+
+/* ONE STEP: something happened. The machine reads the sensor's event or takes the input, and makes the announcements that are due
+ * (offers its front board, says that it is ready, starts a transport); a bridge sets its signals. Its messages wait on their
+ * ways behind what waits there, the levels of drives and signals are those of the last act at each, and a way that it
+ * closes is to be closed. Give the bytes of a connection in order, and tell CLOSED behind its last.
+ * The first of these that holds is the answer: HERMES_EMPTY; HERMES_BAD_INPUT (size, kind, side, what, the moment, more than
+ * HERMES_MOST_BYTES); HERMES_BAD_TEXT (a barcode that is no text of at most 1,024 bytes); the reason why the machine can't take it now;
+ * HERMES_DONE. HERMES_MEMORY may stand in place of the last two: where it comes of the step itself the machine is spent.
+ * Proved: which answer; at HERMES_DONE, that state and acts are those of the machine step (docs/standard/machine.md), with all
+ * that is promised of it, that each way's text is the old one and the text of each message that was sent there, in order, and that
+ * drives, signals and ways to be closed are those of the acts; at the others but HERMES_MEMORY, unchanged. */
+int32_t hermes_machine_step(hermes_machine *m, const hermes_input *input, const uint8_t *bytes, size_t len, int64_t now_ms);
+
+/* Copies the front of what waits on a way into `to`, and answers how many bytes: the least of `room` and what waits.
+ * HERMES_EMPTY, or else HERMES_BAD_INPUT (the number is no way's). Proved: which answer; the bytes; that the rest of `to` is as it
+ * was; unchanged. */
+int64_t hermes_machine_unsent(hermes_machine *m, uint32_t way, uint8_t *to, size_t room);
+
+/* So many bytes from the front of that way's text were sent, all where there are fewer: they wait no more. HERMES_EMPTY, or else
+ * HERMES_BAD_INPUT (way); else HERMES_DONE. Proved: which answer; that the text is the old one without its first `count`
+ * bytes, and nothing else changes. */
+int32_t hermes_machine_sent(hermes_machine *m, uint32_t way, size_t count);
 
 /* How things stand. The first of these that holds is the answer: HERMES_EMPTY; HERMES_BAD_INPUT (view->size); else
  * HERMES_DONE. Proved: which answer; at HERMES_DONE, each field; at the others, that `view` is as it was; unchanged. */

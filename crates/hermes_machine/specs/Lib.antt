@@ -1,3 +1,6 @@
 pub mod Owned
 pub mod Made
 pub mod Seen
+pub mod Numbers
+pub mod Meanings
+pub mod Calls

@@ -1,4 +1,9 @@
-//! What the calls answer: 0, or an error below it.
+//! What the calls answer: 0, a reason above it, or an error below it.
+
+ghost use Rattle.std.specs.Prelude.{◌≡◌};
+ghost use Rattle.hermes_machine.specs.Numbers.{number_of_no};
+
+use node_core::No;
 
 /// It is done.
 pub const DONE: i32 = 0;
@@ -17,3 +22,30 @@ pub const BAD_TEXT: i32 = -4;
 
 /// The handle holds a machine already.
 pub const NOT_EMPTY: i32 = -5;
+
+/// The number of a reason why an input can't be taken now.
+pub fn number_of_no(why: No) -> i32
+    ensures { result ≡ number_of_no why }
+{
+    match why {
+        No::IntakeOpen => 1,
+        No::Full => 2,
+        No::IdsUsedUp => 3,
+        No::NotKept => 4,
+        No::Offered => 5,
+        No::Same => 6,
+        No::Connected => 7,
+        No::IntakeUnsettled => 8,
+        No::NotConnected => 9,
+        No::NoHandover => 10,
+        No::Bridge => 11,
+        No::NotABridge => 12,
+        No::NotStanding => 13,
+        No::NotSupported => 14,
+        No::NothingKept => 15,
+        No::NotSupervised => 16,
+        No::QueriesFull => 17,
+        No::UnknownQuery => 18,
+        No::Answered(_) => 19,
+    }
+}

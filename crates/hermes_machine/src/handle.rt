@@ -1,9 +1,8 @@
 ghost use Rattle.std.specs.Prelude.{◌≡◌, ◌==◌, Option, None, Some, is_some, option_map};
-ghost use Rattle.node_core.specs.Node.{NodeState};
 
 use crate::slot::Slot;
 use held::Loose;
-use node_core::Node;
+use machine_port::Port;
 use std::alloc::Global;
 use std::mem;
 
@@ -28,7 +27,7 @@ impl HermesMachine {
     }
 
     /// Takes the machine out; `None` exactly where there is none.
-    pub fn take(&mut self, alloc: Global) -> Option<Box<Node>>
+    pub fn take(&mut self, alloc: Global) -> Option<Box<Port>>
         ensures taken { option_map (λ machine. machine.value) result ≡ self.old.slot.held }
         ensures empty { self.new.slot.held ≡ None }
     {
@@ -41,7 +40,7 @@ impl HermesMachine {
     }
 
     /// Puts a machine into an empty handle.
-    pub fn put(&mut self, machine: Box<Node>)
+    pub fn put(&mut self, machine: Box<Port>)
         requires { self.old.slot.held ≡ None }
         ensures { self.new.slot.held ≡ Some machine.value }
     {

@@ -5,33 +5,44 @@
 //! handle without a machine, a number out of its range and bytes that are no text have their answer.
 #![tactic(auto)]
 
-ghost use Rattle.std.specs.Prelude.{◌≡◌, ◌==◌, true, false, None, Some, IfSome, is_some};
-ghost use Rattle.node_core.specs.Node.{new_node};
+ghost use Rattle.std.specs.Prelude.{◌≡◌, ◌==◌, true, false, None, Some, IfSome, is_some, option_map};
+ghost use Rattle.machine_port.specs.Port.{new_port};
+ghost use Rattle.hermes_machine.specs.Calls.{AnswersStep, IsCopied, sent_on, unsent_on};
 ghost use Rattle.hermes_machine.specs.Made.{IsIdText, is_profile, profile_of};
 ghost use Rattle.hermes_machine.specs.Seen.{view_of};
 
 mod answer;
 mod handle;
+mod happening;
+mod input;
+mod meaning;
 mod profile;
 mod slot;
+mod step;
 mod view;
+mod ways;
 
 pub use answer::{BAD_INPUT, BAD_TEXT, DONE, EMPTY, MEMORY, NOT_EMPTY};
 pub use handle::HermesMachine;
-use node_core::Node;
+pub use happening::Happening;
+pub use input::HermesInput;
+use machine_port::Port;
+pub use meaning::Meaning;
 pub use profile::HermesProfile;
 use profile::{NotMade, made};
 pub use slot::{Opaque, Slot};
 use std::alloc::Global;
+use step::tell;
 pub use view::HermesView;
 use view::{VIEW_BYTES, view_of};
+use ways::{copy_unsent, take_sent};
 
 /// The number of this library's structs, numbers and calls. A change of any raises it.
 #[unsafe(no_mangle)]
 pub extern "C" fn hermes_machine_abi() -> u32
-    ensures { result ≡ 1 }
+    ensures { result ≡ 2 }
 {
-    1
+    2
 }
 
 /// Puts a new machine into an empty handle: it keeps nothing, has no connection, and is willing on
@@ -55,7 +66,7 @@ pub extern "C" fn hermes_machine_new(
     ensures memory { is_some m.old.slot.held ≡ false → is_profile profile.now ≡ true
         → IsIdText name.now → ¬ (result ≡ DONE) → result ≡ MEMORY }
     ensures made { result ≡ DONE
-        → m.new.slot.held ≡ Some (new_node (profile_of profile.now name.now)) }
+        → m.new.slot.held ≡ Some (new_port (profile_of profile.now name.now)) }
     ensures stays { ¬ (result ≡ DONE) → m.new.slot.held ≡ m.old.slot.held }
 {
     if let Some(there) = m.take(alloc) {
@@ -89,6 +100,87 @@ pub extern "C" fn hermes_machine_free(alloc: Global, m: &mut HermesMachine) -> i
     }
 }
 
+/// ONE STEP: something happened.
+///
+/// The first of these that holds is the answer: `EMPTY`; `BAD_INPUT` where the input says another size
+/// than its own, a number of it or the moment is out of its range, or there are more than 4,096
+/// bytes; `BAD_TEXT` where it wants a text and the bytes are none; the number of the reason for which
+/// the machine can't take it now; else done. `MEMORY` may be the answer in place of a reason and of
+/// done, and nothing else changes then, or the machine is spent. At any answer but done and
+/// `MEMORY` the machine is as it was.
+#[unsafe(no_mangle)]
+pub extern "C" fn hermes_machine_step(
+    alloc: Global,
+    m: &mut HermesMachine,
+    input: &HermesInput,
+    bytes: &[u8],
+    now_ms: i64,
+) -> i32
+    ensures empty { is_some m.old.slot.held ≡ false → result ≡ EMPTY }
+    ensures nothing { is_some m.old.slot.held ≡ false → m.new.slot.held ≡ None }
+    ensures answers { IfSome m.old.slot.held (λ s. IfSome m.new.slot.held
+        (λ t. AnswersStep input.now bytes.entry now_ms s t result)) }
+    ensures full { is_some m.new.slot.held ≡ is_some m.old.slot.held }
+{
+    let Some(mut port) = m.take(alloc) else {
+        return EMPTY;
+    };
+    let answer = tell(alloc, &mut port, input, bytes, now_ms);
+    m.put(port);
+    answer
+}
+
+/// Copies the front of the text that waits on a way into `to`: as many bytes as there is room for,
+/// or as wait. It answers how many. `EMPTY`, or else `BAD_INPUT` where the number is no way's.
+#[unsafe(no_mangle)]
+pub extern "C" fn hermes_machine_unsent(
+    alloc: Global,
+    m: &mut HermesMachine,
+    way: u32,
+    to: &mut [u8],
+) -> i64
+    ensures empty { is_some m.old.slot.held ≡ false → result ≡ EMPTY }
+    ensures bad_input { IfSome m.old.slot.held (λ s. is_some (unsent_on way s) ≡ false
+        → result ≡ BAD_INPUT) }
+    ensures copied { IfSome m.old.slot.held (λ s. IfSome (unsent_on way s)
+        (λ text. IsCopied text to.old to.new result)) }
+    ensures nowhere { is_some m.old.slot.held ≡ false → to.new ≡ to.old }
+    ensures uncopied { IfSome m.old.slot.held (λ s. is_some (unsent_on way s) ≡ false
+        → to.new ≡ to.old) }
+    ensures stays { m.new.slot.held ≡ m.old.slot.held }
+{
+    let Some(port) = m.take(alloc) else {
+        return -1;
+    };
+    let answer = copy_unsent(&port, way, to);
+    m.put(port);
+    answer
+}
+
+/// So many bytes from the front of a way's text were sent, all where there are fewer: they wait no
+/// more. `EMPTY`, or else `BAD_INPUT` where the number is no way's.
+#[unsafe(no_mangle)]
+pub extern "C" fn hermes_machine_sent(
+    alloc: Global,
+    m: &mut HermesMachine,
+    way: u32,
+    count: usize,
+) -> i32
+    ensures empty { is_some m.old.slot.held ≡ false → result ≡ EMPTY }
+    ensures bad_input { IfSome m.old.slot.held (λ s. is_some (unsent_on way s) ≡ false
+        → result ≡ BAD_INPUT) }
+    ensures done { IfSome m.old.slot.held (λ s. is_some (unsent_on way s) ≡ true
+        → result ≡ DONE) }
+    ensures sent { m.new.slot.held ≡ option_map (sent_on way count) m.old.slot.held }
+{
+    let Some(mut port) = m.take(alloc) else {
+        return EMPTY;
+    };
+    let answer = take_sent(&mut port, way, count);
+    m.put(port);
+    answer
+}
+
 /// How the machine stands. `EMPTY` where the handle has none; else `BAD_INPUT` where the view says
 /// another size than its own; else done. But where it is done the view is as it was.
 #[unsafe(no_mangle)]
@@ -106,16 +198,16 @@ pub extern "C" fn hermes_machine_view(
     ensures unseen { ¬ (result ≡ DONE) → view.new ≡ view.old }
     ensures stays { m.new.slot.held ≡ m.old.slot.held }
 {
-    let Some(node) = m.take(alloc) else {
+    let Some(seen) = m.take(alloc) else {
         return EMPTY;
     };
-    let answer = see(&node, view);
-    m.put(node);
+    let answer = see(&seen, view);
+    m.put(seen);
     answer
 }
 
 /// Writes how a machine stands, where the view has its size.
-fn see(machine: &Node, view: &mut HermesView) -> i32
+fn see(machine: &Port, view: &mut HermesView) -> i32
     ensures bad_input { (view.old.size == VIEW_BYTES) ≡ false → result ≡ BAD_INPUT }
     ensures done { (view.old.size == VIEW_BYTES) ≡ true → result ≡ DONE }
     ensures seen { result ≡ DONE → view.new ≡ view_of machine.now }

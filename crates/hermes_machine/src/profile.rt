@@ -1,9 +1,10 @@
 ghost use Rattle.std.specs.Prelude.{◌≡◌, ◌≤◌, ◌<◌, ◌^◌, true, false, Err, IfOk, IfErr, OnOk};
-ghost use Rattle.node_core.specs.Node.{new_node};
+ghost use Rattle.machine_port.specs.Port.{new_port};
 ghost use Rattle.hermes_machine.specs.Made.{IsIdText, is_profile, profile_of};
 
 use line_base::{Memory, Text, TextError};
-use node_core::{Node, NodeProfile};
+use machine_port::Port;
+use node_core::NodeProfile;
 use std::alloc::Global;
 
 /// How many bytes a profile has.
@@ -79,9 +80,9 @@ fn id_text(alloc: Global, bytes: &[u8]) -> Result<Text, NotMade>
 }
 
 /// The machine of a profile and the bytes of its id text.
-pub fn made(alloc: Global, profile: &HermesProfile, name: &[u8]) -> Result<Box<Node>, NotMade>
+pub fn made(alloc: Global, profile: &HermesProfile, name: &[u8]) -> Result<Box<Port>, NotMade>
     ensures made { IfOk result
-        (λ machine. machine.value ≡ new_node (profile_of profile.now name.now)) }
+        (λ machine. machine.value ≡ new_port (profile_of profile.now name.now)) }
     ensures bad_profile { is_profile profile.now ≡ false → result ≡ Err NotMade.BadProfile }
     ensures bad_text { is_profile profile.now ≡ true → ¬ (IsIdText name.now)
         → result ≡ Err NotMade.BadText }
@@ -101,11 +102,11 @@ pub fn made(alloc: Global, profile: &HermesProfile, name: &[u8]) -> Result<Box<N
 }
 
 /// The machine of a profile and its id text, on the heap.
-fn named(alloc: Global, profile: &HermesProfile, machine: Text) -> Result<Box<Node>, Memory>
+fn named(alloc: Global, profile: &HermesProfile, machine: Text) -> Result<Box<Port>, Memory>
     requires least { 1 ≤ profile.now.capacity }
     requires most { profile.now.capacity ≤ 1024 }
     requires used { profile.now.used < 2 ^ 48 }
-    ensures { IfOk result (λ node. node.value ≡ new_node (profile_of profile.now machine)) }
+    ensures { IfOk result (λ port. port.value ≡ new_port (profile_of profile.now machine)) }
 {
     let whole = NodeProfile {
         number: profile.number,
@@ -115,12 +116,12 @@ fn named(alloc: Global, profile: &HermesProfile, machine: Text) -> Result<Box<No
         used: profile.used,
         bridge: profile.bridge == 1,
     };
-    boxed(alloc, Node::new(alloc, whole)?)
+    boxed(alloc, Port::new(alloc, whole)?)
 }
 
 /// A machine on the heap.
-fn boxed(alloc: Global, node: Node) -> Result<Box<Node>, Memory>
-    ensures { IfOk result (λ machine. machine.value ≡ node) }
+fn boxed(alloc: Global, port: Port) -> Result<Box<Port>, Memory>
+    ensures { IfOk result (λ machine. machine.value ≡ port) }
 {
-    Ok(Box::new(alloc, node)?)
+    Ok(Box::new(alloc, port)?)
 }

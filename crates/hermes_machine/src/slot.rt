@@ -1,8 +1,8 @@
 ghost use Rattle.std.specs.Prelude.{◌≡◌, true, Option, Some, None, is_some};
-ghost use Rattle.node_core.specs.Node.{NodeState};
+ghost use Rattle.machine_port.specs.Port.{PortState};
 
 use held::Loose;
-use node_core::Node;
+use machine_port::Port;
 use std::alloc::Global;
 use std::marker::Model;
 
@@ -17,12 +17,12 @@ pub struct Opaque {
 #[repr(C)]
 pub struct Slot {
     at: *mut Opaque,
-    pub ghost held: { Option NodeState },
+    pub ghost held: { Option PortState },
 }
 
 impl Model for Slot {
     ghost use Rattle.hermes_machine.specs.Owned.{slot_owns};
-    ghost use Rattle.node_core.specs.contracts.node.Node.{the_row as machine_row};
+    ghost use Rattle.machine_port.specs.contracts.port.Port.{the_row as machine_row};
 
     ghost also_owns = { λ slot. slot_owns machine_row slot.at slot.held };
 }
@@ -36,14 +36,14 @@ impl Slot {
         }
     }
 
-    pub fn full(loose: Loose<Node, Global>) -> Slot
+    pub fn full(loose: Loose<Port, Global>) -> Slot
         ensures { result.held ≡ Some loose.value }
     {
         let Loose { at, alloc: _alloc } = loose;
         Slot { at: at.cast() }
     }
 
-    pub fn into_loose(self, alloc: Global) -> Loose<Node, Global>
+    pub fn into_loose(self, alloc: Global) -> Loose<Port, Global>
         requires { is_some self.held ≡ true }
         ensures { self.held ≡ Some result.value }
     {

@@ -24,14 +24,14 @@ use Rattle.core.proofs.alloc.Calls.{Goes-blank, Al, handle_tells}
 use Rattle.std.proofs.raw_atomic.Walks.{proved_at, leaves}
 use Rattle.std.specs.Prelude.{Option, Some, None, true, false, is_some}
 use Rattle.std.proofs.lemmas.Bool.{false≢true}
-use Rattle.node_core.specs.Node.{NodeState}
+use Rattle.machine_port.specs.Port.{PortState}
 use Rattle.std.specs.Box.Ownership.{box_owns}
 use Rattle.std.specs.contracts.alloc.Global as heap
 use Rattle.std.specs.contracts.impls.GlobalAllocator.TheImpl.{ghosts}
 use Rattle.std.proofs.alloc.Global.TheLaws as heap_laws
 use Rattle.held.proofs.Values.{both, loose_good, loose_in}
 use Rattle.hermes_machine.specs.Owned.{slot_owns}
-use Rattle.node_core.specs.contracts.node.Node.{the_row as R}
+use Rattle.machine_port.specs.contracts.port.Port.{the_row as R}
 use Rattle.hermes_machine.specs.contracts.slot.Slot as slot
 use Rattle.hermes_machine.specs.contracts.slot.Slot.into_loose.{ended, clauses}
 use Rattle.hermes_machine.specs.contracts.slot.Slot.into_loose.Key.{name as #self}
@@ -50,10 +50,10 @@ into_loose_spec 𝓤 𝓛 𝓜 𝓡 wired =
     let hs : Stays ended.signature.params ended.kept = (stay_dropped (plain (λ _. slot.the_row)) ended.kept.0, (stay_dropped (plain (λ _. Z)) ended.kept.1.0, tt)) in
     proved_at 𝓛 ended hs c 𝓜 𝓡 (Goes-blank 𝓛 0 (plain (λ _. slot.the_row)) ended.kept.0 (λ κs x f. tt), (Goes-blank 𝓛 0 (plain (λ _. Z)) ended.kept.1.0 (λ κs x f. tt), tt)) #self fn (code.unfolded 𝓤 H 𝓜 𝓡 wired) (λ z are.
     let s = z.0.3.0 in let a = z.0.3.1.0 in let Post : Val → SProp 𝓤 = (walk_of 𝓛 ended hs c).post z in let Run : List Val → SProp 𝓤 = λ ws. WpFn 𝓤 H 𝓣.C 𝓣.Λ fn ws Post in
-    qed 𝓛 ((raw (alive 𝓛 ended.signature z.0.0 z.0.1) ⊛ ‵ (owns (types_at ended.signature.params z.0.0) z.0.3 z.0.4)) ∷ raw (fact 𝓤 (is_some s.held ≡ true)) ∷ []) ∵ move ! (1 ∷ []) $ heard ! (is_some s.held ≡ true) (λ some. let value : NodeState = (value_of s.held some).0 in let full : s.held ≡ Some value = (value_of s.held some).1 in
+    qed 𝓛 ((raw (alive 𝓛 ended.signature z.0.0 z.0.1) ⊛ ‵ (owns (types_at ended.signature.params z.0.0) z.0.3 z.0.4)) ∷ raw (fact 𝓤 (is_some s.held ≡ true)) ∷ []) ∵ move ! (1 ∷ []) $ heard ! (is_some s.held ≡ true) (λ some. let value : PortState = (value_of s.held some).0 in let full : s.held ≡ Some value = (value_of s.held some).1 in
     split ! $ move ! (1 ∷ []) $ fsplit ! $ fsplit ! $ fpick ! (λ vss. fsplit ! $ feq_l ! (λ ev. fsplit ! $ feq_l ! (λ ep. drop ! $
     -- [what the slot owns; what the allocator owns; the tokens]
-    rewrite ! 0 (λ (o : Option NodeState). ‵ (slot_owns R s.at o)) full refl $ fpick ! (λ ga.
+    rewrite ! 0 (λ (o : Option PortState). ‵ (slot_owns R s.at o)) full refl $ fpick ! (λ ga.
     in_a_block ! s.at (λ p. box_owns (ghosts.dealloc_token a) R p value) (fst∗ 𝓤 (never 𝓤) (sem 𝓛 (ghosts.dealloc_token a (bare (lone R.mir)) null_ptr))) (λ b o e.
     move ! (1 ∷ []) $ fsplit ! $ handle_tells al ! a z.0.4.1.0 (λ h eh fits.
     -- [the allocator; nothing; the box; the tokens]
