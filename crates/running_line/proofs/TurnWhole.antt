@@ -20,7 +20,7 @@ use Rattle.running_line.specs.New.{IsNew, NumbersDiffer}
 use Rattle.running_line.specs.RunSteps.{RunsTo}
 use Rattle.running_line.specs.Stands.{AreInRelation, Stands, line_of}
 use Rattle.running_line.specs.Steady.{scene_of}
-use Rattle.running_line.specs.Turned.{IsHeard, acts_met, answer_met, scene_met}
+use Rattle.running_line.specs.Turned.{TurnsTo, acts_met, answer_met, scene_behind, scene_met, turned}
 use Rattle.running_line.specs.Turns.{Turns}
 use Rattle.running_line.specs.Waits.{Says}
 use Rattle.running_line.specs.Wire.{Wire}
@@ -30,7 +30,7 @@ use Rattle.running_line.proofs.Relation.{within_of}
 use Rattle.running_line.proofs.RunsOn.{run_stands}
 use Rattle.running_line.proofs.TurnGoesOn.{TurnAll, fit_of, free_then, turn_all}
 use Rattle.running_line.proofs.TurnHeard.{heard_in}
-use Rattle.running_line.proofs.TurnLeaves.{AreHeardFit, node_fit, step_fit}
+use Rattle.running_line.proofs.TurnLeaves.{AreHeardFit, IsHeard, node_fit, step_fit}
 use Rattle.running_line.proofs.TurnStands.{AreLinked, own_scene, trace_then, turn_stands, unread_below, unread_then}
 use Rattle.running_line.proofs.WiresWhole.{Unread, linked_down, linked_found, linked_plain, linked_refused, linked_taken, linked_up}
 
@@ -62,13 +62,18 @@ linked_all alone j input t st turn fit unread all = linked_plain alone t j st tu
 
 -- ---- THE TURN
 
-next_stands : SaysAlone → (j : ℕ) (input : Input) (moment : ℤ) (before after : Running) (told : List Act) → Turns Strictly (j + 1) input moment before after told → (t : Trace) → Stands t before → AreInRelation after
-next_stands alone j input moment before after told turn t st =
+pub turns_to : SaysAlone → (t : Trace) (j : ℕ) (input : Input) (moment : ℤ) (before after : Running) (told : List Act) → Stands t before → (turn : Turns Strictly (j + 1) input moment before after told) → TurnsTo j t turn
+turns_to alone t j input moment before after told st turn =
     let heard : IsHeard input turn.steps.lane.words (scene_of t before j) = heard_in alone j input t st turn in
     let all : TurnAll j t turn = turn_all j input t st turn heard in
     let fit : AreFitActs told = told_fit turn t st (fit_of input turn.steps.lane.words (scene_of t before j) heard) in
     let unread : Unread j turn.rest before after = record { own = unread_then j t st turn; below = unread_below j t st turn } in
-    record { trace = trace_then all.into; stands = turn_stands turn st all.into (linked_all alone j input t st turn fit unread all) all.leaves }
+    record { wire = all.wire; said = all.said; a = all.into.goes.a; b = all.into.goes.b; gone = all.gone; stands = turn_stands turn st all.into (linked_all alone j input t st turn fit unread all) all.leaves }
+
+next_stands : SaysAlone → (j : ℕ) (input : Input) (moment : ℤ) (before after : Running) (told : List Act) → Turns Strictly (j + 1) input moment before after told → (t : Trace) → Stands t before → AreInRelation after
+next_stands alone j input moment before after told turn t st =
+    let to : TurnsTo j t turn = turns_to alone t j input moment before after told st turn in
+    record { trace = turned j to.a to.b to.gone (scene_behind input to.wire to.said told t before j) t; stands = to.stands }
 
 less_one : (machine : ℕ) → 1 ≤ machine → machine - 1 + 1 ≡ machine
 less_one machine some = omega (arith, some)
