@@ -45,6 +45,7 @@ use Rattle.one_standing.proofs.ApartFloor.{counted, floor_lies, lies_counted, li
 use Rattle.one_standing.proofs.LineMoves.{less_one, moved_trace}
 use Rattle.one_standing.proofs.Moving.{AreTaken, IsMoved, LiftedAt, lifted_at, move_keeps}
 use Rattle.one_standing.proofs.Traces.{put, put_other, put_same}
+use Rattle.one_standing.proofs.ApartStep.{same_count}
 use Rattle.running_line.specs.RunSteps.{Moves}
 use Rattle.running_line.specs.Reading.{Reading}
 use Rattle.running_line.specs.Running.{Running, unread_by, with_floor}
@@ -139,9 +140,6 @@ gone_nowhere t s k x st gone = elim (none_or_one (counted x (boards_on s.floor))
 ]
 
 -- a move makes no board
-same_count : (x : ℕ) (old new : List Board) → new ≡ old → counted x new ≤ counted x old
-same_count x old new same = rw same (omega arith)
-
 kept_count : (step : Move) (lies : Gap) (x : ℕ) (old new : List Board) → KeepsBoards step lies old new → counted x new ≤ counted x old
 kept_count moves.Begin lies x old new kept = same_count x old new kept
 kept_count moves.Left lies x old new kept = same_count x old new kept

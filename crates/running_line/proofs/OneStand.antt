@@ -26,16 +26,11 @@ use Rattle.one_standing.specs.Relation.{link_between}
 use Rattle.one_standing.specs.Standing.{HasOneStanding, IsHandedOver, IsListed, is_held_at, is_kept_at}
 use Rattle.one_standing.proofs.MarksOf.{Among, HasMark, Passes, all_pass, any_passes, first_among, has_intake, has_kept, has_outlet, id_held, id_kept, mark_is_there, mark_stands, one_or_none, passing}
 use Rattle.one_standing.proofs.MarksPlace.{AtLink, HasEnd, in_middle, intake_at, kept_at, kept_unheld, one_link, outlet_at, part_lies_at}
+use Rattle.one_standing.proofs.OneStand.{link_of}
 use Rattle.running_line.specs.Running.{Running}
 use Rattle.running_line.specs.Stands.{Stands, between_of, line_of, node_in}
 
 -- ---- the link of a mark
-
--- the link of the handover that a mark is in; of a kept one the link below the machine
-abbrev link_of : Mark → ℕ
-link_of (marks.Kept machine) = machine
-link_of (marks.Outlet machine) = machine
-link_of (marks.Intake machine) = machine - 1
 
 abbrev is_handover : Mark → Bool
 is_handover (marks.Kept machine) = false

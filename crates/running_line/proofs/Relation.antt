@@ -1,9 +1,8 @@
 -- A step that changes the connections of one link alone: the relation of running machines goes on, where that link keeps it.
 use Rattle.std.proofs.Common.{Bool, List, Some, [], ap, arith, eq-eqb, false, inl, inr, length, ne_eqb, refl, slice_get, slice_set, subst, suc, sym, true, zero, ℕ, ◌&&◌, ◌++◌, ◌+◌, ◌∙◌, ◌∷◌, ◌≡◌, ◌≢◌, ◌≤◌, ◌⊎◌, map}
-use Rattle.std.specs.Prelude.{cond, nat_eq, nat_le, nat_lt}
+use Rattle.std.specs.Prelude.{cond, nat_eq}
 use Rattle.std.specs.List.{list_any}
 use Rattle.std.proofs.lemmas.Bool.{false≢true}
-use Rattle.std.proofs.lemmas.Bool.Decides.{nat_tests}
 use Rattle.std.proofs.lemmas.Option.{slice_get_within}
 use Rattle.line_base.specs.declared.states.Side.{Side}
 use Rattle.line_base.specs.declared.states.Side.TheVariants.{Entry, Exit}
@@ -20,6 +19,7 @@ use Rattle.one_standing.specs.Relation.{Between}
 use Rattle.one_standing.proofs.Behind.{fit_machine}
 use Rattle.one_standing.proofs.RestLine.{node_there}
 use Rattle.one_standing.proofs.RestMore.{same_keeps}
+use Rattle.one_standing.proofs.MirroringFlow.{link_there}
 use Rattle.running_line.specs.RunSteps.{Asks, LetsBe, given_up, let_be}
 use Rattle.running_line.specs.Running.{Running, at_place, node_of, unread_by, with_wires}
 use Rattle.running_line.specs.Stands.{Carried, Carries, IsMade, Stands, between_of, is_joined, line_of, node_in}
@@ -87,9 +87,6 @@ within_of zero s node there = absurd (cc)
 within_of (suc place) s node there =
     let within = slice_get_within s.machines place node there in
     (omega arith, omega (arith, within))
-
-link_there : (link count : ℕ) → 1 ≤ link → link + 1 ≤ count → (nat_le 1 link && nat_lt link count) ≡ true
-link_there link count counted within = grind (arith, nat_tests, counted, within)
 
 -- where there is a connection there is a link
 pub no_wire : (place : ℕ) (wires : List Wire) (wire : Wire) → wires ≡ [] → slice_get wires place ≡ Some wire → ⊥

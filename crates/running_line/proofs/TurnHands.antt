@@ -41,6 +41,7 @@ use Rattle.line_step.proofs.WithTells.{tells_append}
 use Rattle.one_standing.specs.Carried.{Trace}
 use Rattle.one_standing.proofs.ApartFloor.{counted}
 use Rattle.one_standing.proofs.MarksPlace.{in_middle, part_lies_at}
+use Rattle.one_standing.proofs.Mirroring.{same_some}
 use Rattle.running_line.specs.New.{NumbersDiffer}
 use Rattle.running_line.specs.Reading.{Reading}
 use Rattle.running_line.specs.Running.{Running, node_of}
@@ -183,9 +184,6 @@ next_of maker id is = next_by (nat_le 281474976710655 maker.used) maker id refl 
 -- ids of one number and count are made under it
 same_made : (machine other count more : ℕ) → count < 281474976710656 → more < 281474976710656 → made_id machine count ≡ made_id other more → (machine ≡ other) × (count ≡ more)
 same_made machine other count more small little is = (omega (arith, small, little, is), omega (arith, small, little, is))
-
-same_some : {a b : NodeState} → ◌≡◌ {A = Option NodeState} (Some a) (Some b) → a ≡ b
-same_some is = cc
 
 -- the next id of a machine is none that was made
 pub fresh : (s : Running) (machine : ℕ) (node : NodeState) (id x : ℕ) → NumbersDiffer s → node_of machine s ≡ Some node → next_id node.maker ≡ Ok id → IsMade s x → x ≢ id

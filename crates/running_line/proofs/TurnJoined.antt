@@ -88,7 +88,7 @@ pub any_map : (test : Wire → Bool) (change : Wire → Wire) → ((wire : Wire)
 any_map test change same [] = refl
 any_map test change same (wire ∷ wires) = rw (same wire, any_map test change same wires) refl
 
-none_map : (test : Wire → Bool) (change : Wire → Wire) → ((wire : Wire) → test (change wire) ≡ false) → (wires : List Wire) → list_any test (map change wires) ≡ false
+pub none_map : (test : Wire → Bool) (change : Wire → Wire) → ((wire : Wire) → test (change wire) ≡ false) → (wires : List Wire) → list_any test (map change wires) ≡ false
 none_map test change none [] = refl
 none_map test change none (wire ∷ wires) = or_from _ _ (none wire) (none_map test change none wires)
 

@@ -6,9 +6,7 @@ use Rattle.line_base.specs.declared.states.Side.TheVariants.{Entry, Exit}
 use Rattle.board_record.specs.declared.record.Record.{Record}
 use Rattle.board_record.specs.declared.sensed.Sensed.{Sensed}
 use Rattle.hermes_horizontal.specs.declared.message.Horizontal.{Horizontal}
-use Rattle.session_core.specs.End.{is_connected_state}
-use Rattle.session_core.specs.declared.state.SessionState.{SessionState}
-use Rattle.session_core.specs.declared.state.SessionState.TheVariants.{Handshake, NotConnected, Standing}
+use Rattle.session_core.specs.declared.state.SessionState.TheVariants.{Handshake, NotConnected}
 use Rattle.handover_in.specs.State.{may_connect}
 use Rattle.node_core.specs.Desk.{Desk}
 use Rattle.node_core.specs.Event.{Accepted, Connect, Second}
@@ -27,6 +25,7 @@ use Rattle.machine_custody.proofs.TakingAlone.{takes_go}
 use Rattle.one_standing.specs.Carried.{Trace, stand_of}
 use Rattle.one_standing.proofs.Elsewhere.{elsewhere_of}
 use Rattle.one_standing.proofs.MirroringEnds.{before_one}
+use Rattle.node_core.proofs.Opened.{is_off}
 use Rattle.running_line.specs.Reading.{ReadsFront}
 use Rattle.running_line.specs.Running.{Running, unread_by}
 use Rattle.running_line.specs.Stands.{Stands, is_joined, line_of, node_in}
@@ -64,7 +63,7 @@ pub and_second : (a b : Bool) → b ≡ false → (a && b) ≡ false
 and_second true b is = is
 and_second false b is = refl
 
-had_of : (hold : Hold) → is_of_below hold ≡ false → has hold ≡ false
+pub had_of : (hold : Hold) → is_of_below hold ≡ false → has hold ≡ false
 had_of Awaits is = refl
 had_of Has is = is
 had_of Left is = refl
@@ -79,11 +78,6 @@ alone_below (passes_not {wire = first} fails others) zero wire is awaits = absur
 alone_below (passes_not {wire = first} fails others) (suc place) wire is awaits = or_from _ _ (had_of first.below fails) (alone_below others place wire is awaits)
 alone_below (passes_alone {wire = first} {wires = wires} none) zero wire is awaits = or_from _ _ (same_test had_below first wire is ∙ ap has awaits) (any_weaker kept_below had_below (λ other not. had_of other.below not) wires none)
 alone_below (passes_alone {wires = wires} none) (suc place) wire is awaits = absurd (kept_awaits wire awaits (none_at kept_below wires place wire is none))
-
-closed : (state : SessionState) → is_connected_state state ≡ false → state ≡ NotConnected
-closed NotConnected is = refl
-closed Handshake is = absurd (false≢true (sym is))
-closed Standing is = absurd (false≢true (sym is))
 
 -- ---- IT IS TAKEN ABOVE
 
@@ -107,7 +101,7 @@ accepted_steady t s j desk read place st front at none =
       elsewhere = elsewhere_of (stand_of (line_of s) (j + 1)).place.boards;
       said = u.said;
       says = u.says;
-      goes = taken_by desk read (node_in s (j + 1)).lane.body (scene_of t s j) u.call (all_before j read st front) (closed _ (sym w.exit_open ∙ no_above))
+      goes = taken_by desk read (node_in s (j + 1)).lane.body (scene_of t s j) u.call (all_before j read st front) (is_off _ (sym w.exit_open ∙ no_above))
           (any_weaker had_above is_joined (λ wire not. and_first (has wire.above) (has wire.below) not) wires no_above) (all_at _ at.wire wires place at.there w.called at.held);
     }
 
@@ -138,7 +132,7 @@ found_steady t s j desk read place st front at =
       elsewhere = elsewhere_of (stand_of (line_of s) (j + 1)).place.boards;
       said = u.said;
       says = u.says;
-      goes = found_by at.wire.above (bodies u.said) desk read (node_in s (j + 1)).lane.body (scene_of t s j) (all_before j read st front) (closed _ (sym w.entry_open ∙ no_below)) (all_at _ at.wire wires place there w.may_come at.held)
+      goes = found_by at.wire.above (bodies u.said) desk read (node_in s (j + 1)).lane.body (scene_of t s j) (all_before j read st front) (is_off _ (sym w.entry_open ∙ no_below)) (all_at _ at.wire wires place there w.may_come at.held)
           (any_weaker had_below is_joined (λ wire not. and_second (has wire.above) (has wire.below) not) wires no_below) u.quiet (λ is. all_at _ at.wire wires place there w.taken_first is at.held) (λ is. all_at _ at.wire wires place there (st.carried j).quiet is at.held);
     }
 

@@ -1,5 +1,5 @@
 -- WHAT A TURN LEAVES, part by part: its machine is as its step left it, the floor as its acts say, and all others as before.
-use Rattle.std.proofs.Common.{Bool, List, Option, Some, [], ap, arith, false, inl, inr, length, length-set, map, refl, slice_get, slice_set, subst, suc, sym, true, zero, ℕ, ℤ, ◌&&◌, ◌+◌, ◌-◌, ◌∙◌, ◌∷◌, ◌≡◌, ◌≢◌, ◌≤◌, ◌⊎◌}
+use Rattle.std.proofs.Common.{Bool, List, Some, [], ap, arith, false, inl, inr, length, length-set, map, refl, slice_get, slice_set, subst, suc, sym, true, zero, ℕ, ℤ, ◌&&◌, ◌+◌, ◌-◌, ◌∙◌, ◌∷◌, ◌≡◌, ◌≢◌, ◌≤◌, ◌⊎◌}
 use Rattle.std.specs.Prelude.{cond, nat_eq, nat_le, nat_lt, slice_index_or}
 use Rattle.std.proofs.lemmas.List.{get_or-set_other}
 use Rattle.line_base.specs.declared.states.Side.{Side}
@@ -23,6 +23,7 @@ use Rattle.line_step.specs.Steps.{is_second}
 use Rattle.line_step.specs.World.{link_of}
 use Rattle.line_step.proofs.Numbers.{machine_set_other, machine_set_own, machine_within, same_or_not}
 use Rattle.one_standing.proofs.RestLine.{node_there}
+use Rattle.one_standing.proofs.Mirroring.{same_some}
 use Rattle.running_line.specs.New.{NumbersDiffer}
 use Rattle.running_line.specs.Reading.{Reading}
 use Rattle.running_line.specs.Running.{Running, at_place, count_beyond, node_of, with_floor, with_node, with_reading, with_wires}
@@ -109,9 +110,6 @@ number_stays : (input : Input) (maker : Maker) → (maker_after input maker).mac
 number_stays (inputs.Insert barcode) maker = full_stays (nat_le 281474976710655 maker.used) maker
 number_stays (inputs.Replace id) maker = full_stays (nat_le 281474976710655 maker.used) maker
 number_stays input maker = refl
-
-same_some : {a b : NodeState} → ◌≡◌ {A = Option NodeState} (Some a) (Some b) → a ≡ b
-same_some is = cc
 
 was_there : {reading : Reading} {machine : ℕ} {input : Input} {moment : ℤ} {before after : Running} {told : List Act} (turn : Turns reading machine input moment before after told) (k : ℕ) (node : NodeState) → node_of k after ≡ Some node
     → (k ≡ machine) ⊎ (k ≢ machine) → WasThere before k node

@@ -1,8 +1,8 @@
 -- ACTS AT ONE SIDE of a machine, and the connections of the link there: what they carry goes along with the messages of the
 -- machine's scene.
-use Rattle.std.proofs.Common.{Bool, List, Option, Some, [], ap, append_assoc, append-nil, false, map, refl, slice_get, slice_set, subst, suc, sym, true, zero, ℕ, ◌++◌, ◌∙◌, ◌∷◌, ◌≡◌}
+use Rattle.std.proofs.Common.{Bool, List, [], ap, append_assoc, false, map, refl, subst, suc, sym, true, zero, ℕ, ◌++◌, ◌∙◌, ◌∷◌, ◌≡◌}
 use Rattle.std.specs.Prelude.{drop}
-use Rattle.std.proofs.lemmas.Bool.{false≢true, or_from, or_parts}
+use Rattle.std.proofs.lemmas.Bool.{false≢true}
 use Rattle.std.specs.List.{AllByRecursion, list_any}
 use Rattle.line_base.specs.declared.states.Side.{Side}
 use Rattle.line_base.specs.declared.states.Side.TheVariants.{Entry, Exit}
@@ -17,17 +17,19 @@ use Rattle.custody.specs.Talks.{IsCall, call_awaited, call_described}
 use Rattle.custody.specs.Words.{DownstreamService, UpWord, down_words, sent, up_words}
 use Rattle.custody.proofs.Lists.{down_words-append, up_words-append}
 use Rattle.custody.proofs.Messages.{sends_a_message}
-use Rattle.link_messages.specs.Fit.{AreFit, AreFitActs, IsFit, IsFitAct, more_fit, more_said, none_fit, none_said, sent_on}
+use Rattle.link_messages.specs.Fit.{AreFitActs, IsFit, IsFitAct, more_fit, more_said, none_fit, none_said, sent_on}
 use Rattle.link_messages.specs.Heard.{AreSayable, bodies, more_sayable}
 use Rattle.link_messages.proofs.Fitting.{both_fit}
 use Rattle.machine_custody.specs.Scene.{Scene, all_met, met}
 use Rattle.line_step.specs.Opened.{open_act, open_after}
 use Rattle.one_standing.proofs.Carrying.{SaysAlone, bodies_append}
-use Rattle.one_standing.proofs.CarryingSides.{drop_none, heard_by, heard_in}
-use Rattle.running_line.specs.Stands.{Carries, is_joined}
+use Rattle.one_standing.proofs.CarryingSides.{heard_by, heard_in}
+use Rattle.running_line.specs.Stands.{Carries}
 use Rattle.running_line.specs.Waits.{AtMostOne, Says}
 use Rattle.running_line.specs.Wire.{Awaits, Coming, Has, Hold, Left, Wire, bytes_of, coming_to, end_at, end_beyond, has, left, said, text_behind}
-use Rattle.running_line.proofs.WiresParts.{Of, all_as, all_mapped, any_mapped, awaits_has, both_have, bytes_both, far_has, far_held, going_from, gone_of, has_awaits, held_far, held_own, joined_by, left_awaits, left_far, left_has, left_held, left_joins_none, left_own, most_mapped, none_at_all, own_has, own_held, said_of, said_test, text_bytes}
+use Rattle.running_line.proofs.WiresParts.{Of, all_as, all_mapped, awaits_has, both_have, bytes_both, far_has, far_held, going_from, gone_of, has_awaits, held_far, held_own, joined_by, left_awaits, left_far, left_has, left_held, left_joins_none, left_own, most_mapped, own_has, own_held, said_of, said_test, text_bytes}
+use Rattle.running_line.proofs.TurnJoined.{any_map, none_map}
+use Rattle.running_line.proofs.TurnLinks.{any_weaker}
 
 -- ---- a text goes on its way
 
@@ -408,10 +410,6 @@ far_of Entry own Awaits none = refl
 far_of Entry own Has none = absurd (false≢true (sym none))
 far_of Entry own Left none = refl
 
-pub any_less : (test other : Wire → Bool) → ((wire : Wire) → test wire ≡ false → other wire ≡ false) → (wires : List Wire) → list_any test wires ≡ false → list_any other wires ≡ false
-any_less test other less [] none = refl
-any_less test other less (wire ∷ wires) none = or_from _ _ (less wire (or_parts _ _ none).0) (any_less test other less wires (or_parts _ _ none).1)
-
 mid_said : SaysAlone → {new far : List ℕ} {own_open far_open : Bool} {l : Seen} {wires : List Wire} (side : Side) (n : ℕ) (message : Message) (rest : List Act) → IsFit message
     → IsMid side (acts.Sends side message ∷ rest) new far own_open far_open l wires → IsMid side rest new far own_open far_open (said_seen message.body l) (map (said side (text_behind n (canonical message))) wires)
 mid_said alone {new} {far} {own_open} {far_open} {l} {wires} side n message rest fit m =
@@ -419,11 +417,11 @@ mid_said alone {new} {far} {own_open} {far_open} {l} {wires} side n message rest
     let same : (test : Hold → Hold → Bool) (wire : Wire) → test (end_at side (change wire)) (end_beyond side (change wire)) ≡ test (end_at side wire) (end_beyond side wire) = λ test wire. said_test test side (text_behind n (canonical message)) wire in
     record {
       fine = all_mapped (Of side (IsFine side (acts.Sends side message ∷ rest) new far l)) (Of side (IsFine side rest new far (said_seen message.body l))) change (λ wire k. fine_said alone side n message rest fit wire k) wires m.fine;
-      own = any_mapped (own_has side) change (same (λ own beyond. has own)) wires ∙ m.own;
-      beyond = any_mapped (far_has side) change (same (λ own beyond. has beyond)) wires ∙ m.beyond;
-      joined = any_mapped (both_have side) change (same (joined_by side)) wires ∙ m.joined;
+      own = any_map (own_has side) change (same (λ own beyond. has own)) wires ∙ m.own;
+      beyond = any_map (far_has side) change (same (λ own beyond. has beyond)) wires ∙ m.beyond;
+      joined = any_map (both_have side) change (same (joined_by side)) wires ∙ m.joined;
       none_home = m.none_home;
-      none_away = λ none. sent_off_it message.body l.stands l.away (sym m.joined ∙ any_less (far_has side) (both_have side) (λ wire not. far_of side (end_at side wire) (end_beyond side wire) not) wires (m.beyond ∙ none)) ∙ m.none_away none;
+      none_away = λ none. sent_off_it message.body l.stands l.away (sym m.joined ∙ any_weaker (far_has side) (both_have side) (λ wire not. far_of side (end_at side wire) (end_beyond side wire) not) wires (m.beyond ∙ none)) ∙ m.none_away none;
       one_own = most_mapped (own_held side) change (λ wire fails. same (λ own beyond. held_own side own) wire ∙ fails) m.one_own;
       one_far = most_mapped (far_held side) change (λ wire fails. same (λ own beyond. held_far side beyond) wire ∙ fails) m.one_far;
     }
@@ -432,9 +430,9 @@ mid_gone : {new far : List ℕ} {own_open far_open : Bool} {l : Seen} {wires : L
     → IsMid side rest new far false far_open (gone_seen l) (map (left side) wires)
 mid_gone {new} {far} {l = l} {wires = wires} side act rest m = record {
   fine = all_mapped (Of side (IsFine side (act ∷ rest) new far l)) (Of side (IsFine side rest new far (gone_seen l))) (left side) (λ wire k. fine_gone side act rest wire k) wires m.fine;
-  own = none_at_all (own_has side) (left side) (left_own side) wires;
-  beyond = any_mapped (far_has side) (left side) (left_far has side) wires ∙ m.beyond;
-  joined = none_at_all (both_have side) (left side) (left_joins_none side) wires;
+  own = none_map (own_has side) (left side) (left_own side) wires;
+  beyond = any_map (far_has side) (left side) (left_far has side) wires ∙ m.beyond;
+  joined = none_map (both_have side) (left side) (left_joins_none side) wires;
   none_home = λ none. refl;
   none_away = m.none_away;
   one_own = most_mapped (own_held side) (left side) (left_held side) m.one_own;

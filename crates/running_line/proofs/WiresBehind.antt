@@ -1,15 +1,13 @@
 -- BEHIND A TURN of machine j + 1: what waits on its two links and what they carry.
-use Rattle.std.proofs.Common.{Bool, List, Option, Some, [], ap, arith, false, length, map, refl, slice_get, slice_set, subst, sym, true, ℕ, ℤ, ◌++◌, ◌+◌, ◌-◌, ◌∙◌, ◌∷◌, ◌≡◌, ◌≢◌}
+use Rattle.std.proofs.Common.{Bool, List, [], ap, arith, false, length, map, refl, subst, sym, true, ℕ, ℤ, ◌+◌, ◌∙◌, ◌∷◌, ◌≡◌, ◌≢◌}
 use Rattle.std.proofs.lemmas.Bool.{false≢true}
 use Rattle.line_base.specs.declared.states.Side.{Side}
 use Rattle.line_base.specs.declared.states.Side.TheVariants.{Entry, Exit}
-use Rattle.board_record.specs.declared.sensed.Sensed.{Sensed}
 use Rattle.hermes_horizontal.specs.Canonical.{canonical}
 use Rattle.hermes_horizontal.specs.declared.message.Message.{Message}
 use Rattle.session_core.specs.End.{is_connected_state}
 use Rattle.session_core.specs.declared.state.SessionState.{SessionState}
 use Rattle.session_core.specs.declared.state.SessionState.TheVariants.{Handshake, NotConnected, Standing}
-use Rattle.handover_in.specs.State.{may_connect}
 use Rattle.node_core.specs.Node.{NodeState}
 use Rattle.node_core.specs.Sides.{is_open}
 use Rattle.node_core.specs.declared.act.Act.{Act}
@@ -21,24 +19,24 @@ use Rattle.link_messages.specs.Fit.{AreFitActs}
 use Rattle.machine_custody.specs.Ahead.{IsFreeRead}
 use Rattle.machine_custody.specs.Scene.{Scene, all_met}
 use Rattle.line_step.specs.Acts.{answers}
-use Rattle.line_step.specs.Opened.{open_after, opened_by}
+use Rattle.line_step.specs.Opened.{open_after}
 use Rattle.line_step.specs.Steps.{is_second}
 use Rattle.line_step.specs.World.{link_of}
 use Rattle.line_step.proofs.Opening.{steps_open}
-use Rattle.one_standing.specs.Carried.{Trace, stand_of}
+use Rattle.one_standing.specs.Carried.{Trace}
 use Rattle.one_standing.proofs.Carrying.{SaysAlone}
 use Rattle.one_standing.proofs.MirroringEnds.{before_one}
 use Rattle.one_standing.proofs.RestLine.{node_there}
-use Rattle.running_line.specs.Off.{AreMute, Off}
+use Rattle.running_line.specs.Off.{Off}
 use Rattle.running_line.specs.Reading.{Reading}
-use Rattle.running_line.specs.Running.{Running, at_place, count_beyond, unread_by, with_node, with_reading, with_wires}
+use Rattle.running_line.specs.Running.{Running, at_place, count_beyond, unread_by, with_node, with_reading}
 use Rattle.running_line.specs.Stands.{Stands, line_of, node_in}
 use Rattle.running_line.specs.Turns.{Turns, act_did, answered, did, met, sent_by}
 use Rattle.running_line.specs.Wire.{Has, Left, Wire, given, left, read_at, said, text_behind, with_end}
 use Rattle.running_line.proofs.WiresActs.{Wired, act_wires, seen, wired_more, wired_none}
 use Rattle.running_line.proofs.WiresLink.{IsLink, link_seen, plain_entry, plain_exit}
 use Rattle.running_line.proofs.WiresTurn.{StepOff, heard_none, is_plain_at, plain_bytes, plain_connect, plain_entry_bytes, plain_exit_bytes, plain_opened, shakes_of, stays_at, step_off, talk_entry, talk_exit}
-use Rattle.running_line.proofs.WiresWalk.{did_wired, read_wires, wires_other, wires_own, wires_sided}
+use Rattle.running_line.proofs.WiresWalk.{did_wired, read_wires, wires_other, wires_sided, count_for}
 
 -- ---- the sides that are off
 
@@ -88,11 +86,7 @@ sent_beside : (j place : ℕ) (test : Bool) (message : Message) (s : Running) �
 sent_beside j place true message s = wires_other (j + 1) (link_of (j + 1) Entry) (at_place place (answered (text_behind (count_beyond (j + 1) Exit s) (canonical message)))) s (apart_links j Entry Exit entry_exit)
 sent_beside j place false message s = wires_sided j Entry Exit (said Exit (text_behind (count_beyond (j + 1) Exit s) (canonical message))) s
 
-abbrev count_said : ℕ → Act → Running → ℕ
-count_said j (acts.Sends at message) s = count_beyond (j + 1) at s
-count_said j act s = 0
-
-act_second : (j place : ℕ) (act : Act) (s : Running) → (act_did true (j + 1) place act s).wires (link_of (j + 1) Entry) ≡ act_wires Entry (count_said j act s) act (s.wires (link_of (j + 1) Entry))
+act_second : (j place : ℕ) (act : Act) (s : Running) → (act_did true (j + 1) place act s).wires (link_of (j + 1) Entry) ≡ act_wires Entry (count_for j act s) act (s.wires (link_of (j + 1) Entry))
 act_second j place (acts.Sends Entry message) s = wires_sided j Entry Entry (said Entry (text_behind (count_beyond (j + 1) Entry s) (canonical message))) s
 act_second j place (acts.Sends Exit message) s = sent_beside j place (answers true Exit message) message s
 act_second j place (acts.Closes at) s = wires_sided j Entry at (left at) s
@@ -103,7 +97,7 @@ entry_wired : (second : Bool) (j place : ℕ) (told : List Act) (s : Running) �
 entry_wired false j place told s = did_wired j place Entry told s
 entry_wired true j place [] s = wired_none
 entry_wired true j place (act ∷ others) s =
-    wired_more (count_said j act s)
+    wired_more (count_for j act s)
     (subst (λ (ws : List Wire). Wired Entry others ws ((did true (j + 1) place others (act_did true (j + 1) place act s)).wires (link_of (j + 1) Entry))) (act_second j place act s)
     (entry_wired true j place others (act_did true (j + 1) place act s)))
 

@@ -1,5 +1,5 @@
 -- BYTES COME TO A SIDE on the connection that it has: what is heard are the oldest messages to it, and the others still come.
-use Rattle.std.proofs.Common.{Bool, List, None, Option, Some, [], ap, false, length, map, refl, slice_get, slice_set, subst, suc, sym, true, zero, ℕ, ◌++◌, ◌∙◌, ◌∷◌, ◌≡◌, ◌≢◌}
+use Rattle.std.proofs.Common.{Bool, List, Some, [], ap, false, length, map, refl, slice_get, slice_set, subst, suc, sym, true, zero, ℕ, ◌++◌, ◌∙◌, ◌∷◌, ◌≡◌, ◌≢◌}
 use Rattle.std.specs.Prelude.{drop, take}
 use Rattle.std.proofs.lemmas.Bool.{false≢true}
 use Rattle.std.proofs.lemmas.List.{take-append-drop}
@@ -8,7 +8,6 @@ use Rattle.line_base.specs.declared.states.Side.{Side}
 use Rattle.line_base.specs.declared.states.Side.TheVariants.{Entry, Exit}
 use Rattle.board_record.specs.declared.sensed.Sensed.{Sensed}
 use Rattle.hermes_horizontal.specs.declared.message.Horizontal.{Horizontal}
-use Rattle.hermes_horizontal.specs.declared.message.Message.{Message}
 use Rattle.session_core.specs.declared.state.SessionState.TheVariants.{Handshake}
 use Rattle.handover_in.specs.State.{may_connect}
 use Rattle.node_core.specs.Node.{NodeState}
@@ -29,13 +28,14 @@ use Rattle.one_standing.proofs.CarryingSides.{heard_in}
 use Rattle.one_standing.proofs.Counting.{HearsAll}
 use Rattle.one_standing.proofs.MirroringFlow.{bodies_drop}
 use Rattle.running_line.specs.Running.{at_place}
-use Rattle.running_line.specs.Stands.{Carried, Carries, is_joined}
+use Rattle.running_line.specs.Stands.{Carries, is_joined}
 use Rattle.running_line.specs.Waits.{AtMostOne, IsUncome, IsUntaken, Waits, had_above, had_below, is_of_below, kept_below, none_passes, passes_alone, passes_not}
-use Rattle.running_line.specs.Wire.{Awaits, Coming, Has, Hold, Left, Wire, bytes_of, coming_to, end_at, end_beyond, given, has, read_at}
+use Rattle.running_line.specs.Wire.{Awaits, Coming, Has, Hold, Left, Wire, bytes_of, given, has, read_at}
 use Rattle.running_line.proofs.Waiting.{all_set, any_set, most_set, wire_of}
 use Rattle.running_line.proofs.WiresActs.{Home, IsBare, IsFine, IsMid, Seen, Wired, acts_each, acts_mid, home_closes, home_hears, seen, with_comes}
 use Rattle.running_line.proofs.WiresLink.{Amid, AsideEntry, AsideExit, IsLink, all_from, amid_first, amid_later, aside_entry, aside_exit, at_amid, bare_entry, bare_exit, end_entry, end_exit, entries_read, entry_leaves, entry_more, exit_leaves, exit_more, exits_read, has_is, link_seen, mid_read, none_amid, of_is}
 use Rattle.running_line.proofs.WiresParts.{Of, awaits_has, bytes_both, has_awaits, left_has}
+use Rattle.running_line.proofs.TurnJoined.{placed}
 
 -- ---- what a piece comes to
 
@@ -105,9 +105,6 @@ alone_set test P Q next new q (passes_not {wire = first} not others) (suc place)
 alone_set test P Q next new q (passes_alone {wires = wires} none) zero wire is passes all = (q, not_others test P Q next wires none all.1)
 alone_set test P Q next new q (passes_alone {wires = wires} none) (suc place) wire is passes all = absurd (false≢true (sym (none_amid test (amid_get wires place wire is) none) ∙ passes))
 
-pub placed_at : (place : ℕ) (change : Wire → Wire) (wires : List Wire) (wire : Wire) → slice_get wires place ≡ Some wire → at_place place change wires ≡ slice_set wires place (change wire)
-placed_at place change wires wire there = rw (there, at_place) refl
-
 none_taken : (n : ℕ) → bytes_of (take n []) ≡ []
 none_taken zero = refl
 none_taken (suc n) = refl
@@ -170,7 +167,7 @@ bytes_exit alone a a2 b {unread} {up} {down} {wires} {later} k told c place wire
       one_own = most_set had_above wire w2 refl place there w.one_above;
       one_far = most_set kept_below wire w2 refl place there w.one_below;
     } in
-    let set : at_place place (given Exit n) wires ≡ slice_set wires place w2 = placed_at place (given Exit n) wires wire there ∙ ap (slice_set wires place) (given_exit n wire.above wire.below wire.up wire.down own) in
+    let set : at_place place (given Exit n) wires ≡ slice_set wires place w2 = placed place (given Exit n) wires wire there ∙ ap (slice_set wires place) (given_exit n wire.above wire.below wire.up wire.down own) in
     let wired2 : Wired Exit told (map (read_at Exit k) (slice_set wires place w2)) later = subst (λ (ws : List Wire). Wired Exit told (map (read_at Exit k) ws) later) set wired in
     let start : IsMid Exit told a2.lane.exit_bytes b.lane.entry_bytes (is_open Exit a.lane.body) (is_open Entry b.lane.body) (seen Exit c) (map (read_at Exit k) (slice_set wires place w2)) =
     subst (λ (s : Seen). IsMid Exit told a2.lane.exit_bytes b.lane.entry_bytes (is_open Exit a.lane.body) (is_open Entry b.lane.body) s (map (read_at Exit k) (slice_set wires place w2))) (sym is) (mid_read Exit told k m) in
@@ -211,7 +208,7 @@ bytes_entry alone a b b2 {unread} {rest} {up} {down} {wires} {later} k told c pl
       one_own = most_set kept_below wire w2 refl place there w.one_below;
       one_far = most_set had_above wire w2 refl place there w.one_above;
     } in
-    let set : at_place place (given Entry n) wires ≡ slice_set wires place w2 = placed_at place (given Entry n) wires wire there ∙ ap (slice_set wires place) (given_entry n wire.above wire.below wire.up wire.down own) in
+    let set : at_place place (given Entry n) wires ≡ slice_set wires place w2 = placed place (given Entry n) wires wire there ∙ ap (slice_set wires place) (given_entry n wire.above wire.below wire.up wire.down own) in
     let wired2 : Wired Entry told (map (read_at Entry k) (slice_set wires place w2)) later = subst (λ (ws : List Wire). Wired Entry told (map (read_at Entry k) ws) later) set wired in
     let start : IsMid Entry told b2.lane.entry_bytes a.lane.exit_bytes (is_open Entry b.lane.body) (is_open Exit a.lane.body) (seen Entry c) (map (read_at Entry k) (slice_set wires place w2)) =
     subst (λ (s : Seen). IsMid Entry told b2.lane.entry_bytes a.lane.exit_bytes (is_open Entry b.lane.body) (is_open Exit a.lane.body) s (map (read_at Entry k) (slice_set wires place w2))) (sym is) (mid_read Entry told k m) in

@@ -1,10 +1,9 @@
 -- A CONNECTION COMES to a side that has none: the exit takes one that it awaits, or the entry finds one made that it awaits.
-use Rattle.std.proofs.Common.{Bool, List, Option, Some, [], ap, false, map, refl, slice_get, slice_set, subst, suc, sym, true, zero, ℕ, ◌++◌, ◌∙◌, ◌∷◌, ◌≡◌, ◌&&◌}
+use Rattle.std.proofs.Common.{Bool, List, Some, [], ap, false, map, refl, slice_get, slice_set, subst, suc, sym, true, zero, ℕ, ◌++◌, ◌∙◌, ◌∷◌, ◌≡◌, ◌&&◌}
 use Rattle.std.specs.Prelude.{drop}
-use Rattle.std.proofs.lemmas.Bool.{false≢true, or_from, or_parts}
+use Rattle.std.proofs.lemmas.Bool.{false≢true, or_parts}
 use Rattle.std.specs.List.{AllByRecursion, list_any}
 use Rattle.hermes_stream.specs.Frames.{Frames}
-use Rattle.line_base.specs.declared.states.Side.{Side}
 use Rattle.line_base.specs.declared.states.Side.TheVariants.{Entry, Exit}
 use Rattle.board_record.specs.declared.sensed.Sensed.{Sensed}
 use Rattle.hermes_horizontal.specs.declared.message.Horizontal.{Horizontal}
@@ -16,7 +15,7 @@ use Rattle.node_core.specs.Sides.{is_open}
 use Rattle.node_core.specs.declared.act.Act.{Act}
 use Rattle.custody.specs.Bytes.{Flows, texts_of}
 use Rattle.custody.proofs.Texts.{nothing_flows}
-use Rattle.custody.specs.Words.{DownstreamService, UpWord, down_words, up_words}
+use Rattle.custody.specs.Words.{DownstreamService, up_words}
 use Rattle.link_messages.specs.Fit.{AreFitActs, sent_on}
 use Rattle.link_messages.specs.Heard.{bodies}
 use Rattle.machine_custody.specs.Ahead.{IsFreeRead}
@@ -25,15 +24,16 @@ use Rattle.line_step.specs.Opened.{open_after}
 use Rattle.one_standing.proofs.Carrying.{SaysAlone}
 use Rattle.one_standing.proofs.CarryingSides.{heard_in}
 use Rattle.running_line.specs.Off.{AreMute}
-use Rattle.running_line.specs.Stands.{Carried, Carries, is_joined}
+use Rattle.running_line.specs.Stands.{Carries, is_joined}
 use Rattle.running_line.specs.Steady.{unless_joined}
 use Rattle.running_line.specs.Waits.{AtMostOne, IsUncome, IsUntaken, SaidUp, Says, Waits, had_above, had_below, has_come, is_of_below, kept_below, none_passes, not_come, passes_alone, passes_not, was_left}
 use Rattle.running_line.specs.Wire.{Awaits, Coming, Has, Hold, Left, Wire, bytes_of, has, read_at}
-use Rattle.running_line.proofs.Waiting.{all_set, any_fewer, any_set, most_set, wire_of}
-use Rattle.running_line.proofs.WiresActs.{Home, IsFine, IsLone, IsMid, MaySay, Seen, Wired, acts_each, acts_mid, any_less, home_hears, seen}
+use Rattle.running_line.proofs.Waiting.{any_fewer, any_set, most_set}
+use Rattle.running_line.proofs.WiresActs.{IsFine, IsMid, Seen, Wired, acts_each, acts_mid, home_hears, seen}
 use Rattle.running_line.proofs.WiresBytes.{alone_set, amid_get, has_not_false, of_not_false, same_amid}
-use Rattle.running_line.proofs.WiresLink.{Amid, alone_amid, no_joined, no_joint, says_call, AsideEntry, AsideExit, IsLink, all_from, amid_first, amid_later, any_amid, at_amid, end_entry, end_exit, entries_read, entry_leaves, entry_more, exit_leaves, exit_more, exits_read, has_is, is_of_had, joined_is, mid_read, mute_down, none_amid, of_is, says_quiet}
-use Rattle.running_line.proofs.WiresParts.{Of, awaits_has, awaits_left, has_awaits, has_left, has_not, left_awaits, left_has}
+use Rattle.running_line.proofs.WiresLink.{Amid, alone_amid, no_joined, no_joint, says_call, AsideEntry, AsideExit, IsLink, all_from, amid_first, amid_later, any_amid, at_amid, end_entry, end_exit, entries_read, entry_leaves, entry_more, exit_leaves, exit_more, exits_read, has_is, mid_read, mute_down, none_amid, says_quiet}
+use Rattle.running_line.proofs.WiresParts.{Of, awaits_has, awaits_left, has_awaits, has_not, left_awaits, left_has}
+use Rattle.running_line.proofs.TurnLinks.{any_weaker, had_of}
 
 -- ---- a list with one connection changed
 
@@ -148,7 +148,7 @@ taken_exit alone a a2 b {unread} {up} {down} {wires} {later} k told c place wire
     kept_or_left (AllByRecursion Q (slice_set wires place w2)) wire.below
     (λ kept. alone_set kept_below (λ (v : Wire). Amid v wires) Q (λ v not amid. fine_beside {a = a} {b = b} told said wire v link here amid none (λ mine far. of_not_false not far)) w2 own w.one_below place wire there kept each)
     (λ left. all_set_as (λ (v : Wire). Amid v wires) Q (λ v amid. fine_beside {a = a} {b = b} told said wire v link here amid none (λ mine far. of_not_false left mine)) w2 own wires place each) in
-    let none_joined : list_any is_joined wires ≡ false = any_less had_above is_joined (λ v not. no_joint v.above v.below not) wires none in
+    let none_joined : list_any is_joined wires ≡ false = any_weaker had_above is_joined (λ v not. no_joint v.above v.below not) wires none in
     let joined : list_any is_joined (slice_set wires place w2) ≡ has wire.below = joined_set wires place wire there none_joined in
     let m : IsMid Exit told [] b.lane.entry_bytes true (is_open Entry b.lane.body) L (slice_set wires place w2) = record {
       fine = all;
@@ -229,8 +229,8 @@ found_entry alone a b b2 {unread} {rest} {up} {down} {wires} {later} k told c pl
     let Q : Wire → Type 0 = λ (v : Wire). Of Entry (IsFine Entry told [] a.lane.exit_bytes L) v in
     let each : AllByRecursion (λ (v : Wire). Amid v wires) wires = all_from (λ (v : Wire). Amid v wires) wires (λ v amid. amid) in
     let kept : kept_below wire ≡ true = ap is_of_below awaits in
-    let none : list_any had_below wires ≡ false = alone_amid kept_below had_below (λ v not. is_of_had v.below not) w.one_below here kept (ap has awaits) in
-    let none_joined : list_any is_joined wires ≡ false = any_less had_below is_joined (λ v not. no_joined v.above v.below not) wires none in
+    let none : list_any had_below wires ≡ false = alone_amid kept_below had_below (λ v not. had_of v.below not) w.one_below here kept (ap has awaits) in
+    let none_joined : list_any is_joined wires ≡ false = any_weaker had_below is_joined (λ v not. no_joined v.above v.below not) wires none in
     let m : IsMid Entry told [] a.lane.exit_bytes true (is_open Exit a.lane.body) L (slice_set wires place w2) = record {
       fine = alone_set kept_below (λ (v : Wire). Amid v wires) Q (λ v not amid. fine_aside_found {a = a} {b = b} told said wire v link here amid awaits not) w2 (fine_found {a = a} {b = b} told said wire link here awaits says heard calls) w.one_below place wire there kept each;
       own = any_amid had_below (amid_set w2 wires place wire there) refl;

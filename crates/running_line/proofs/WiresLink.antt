@@ -14,9 +14,7 @@ use Rattle.node_core.specs.Node.{NodeState}
 use Rattle.node_core.specs.Sides.{is_open}
 use Rattle.node_core.specs.declared.act.Act.{Act}
 use Rattle.node_core.specs.declared.act.Act.TheVariants as acts
-use Rattle.node_core.specs.declared.lane.Body.{Body as Machine}
 use Rattle.custody.specs.Bytes.{Flows, texts_of}
-use Rattle.custody.specs.Talks.{IsCall}
 use Rattle.custody.specs.Words.{DownWord, DownstreamService, UpWord, down_words, up_words}
 use Rattle.custody.proofs.Lists.{down_words-append, up_words-append}
 use Rattle.link_messages.specs.Fit.{AreFitActs, sent_on}
@@ -29,10 +27,12 @@ use Rattle.one_standing.proofs.CarryingSides.{heard_in}
 use Rattle.running_line.specs.Off.{AreMute, more_mute, none_mute}
 use Rattle.running_line.specs.Stands.{Carried, Carries, is_joined}
 use Rattle.running_line.specs.Waits.{AtMostOne, IsUncome, IsUntaken, SaidUp, Says, Waits, had_above, had_below, has_come, is_of_below, kept_below, none_passes, not_come, passes_alone, passes_not, was_left}
-use Rattle.running_line.specs.Wire.{Awaits, Coming, Has, Hold, Left, Wire, bytes_of, end_at, end_beyond, has, read_at, with_read}
+use Rattle.running_line.specs.Wire.{Awaits, Coming, Has, Hold, Left, Wire, end_at, end_beyond, has, read_at, with_read}
 use Rattle.running_line.proofs.Waiting.{wire_of}
-use Rattle.running_line.proofs.WiresActs.{Home, IsBare, IsFine, IsLone, IsMid, MaySay, Seen, Wired, acts_each, acts_mid, any_less, home_closes, home_hears, seen, with_comes}
-use Rattle.running_line.proofs.WiresParts.{Of, all_mapped, any_mapped, awaits_has, both_have, far_has, far_held, has_awaits, has_left, held_far, held_own, joined_by, left_awaits, left_has, most_mapped, own_has, own_held, read_bytes, read_none}
+use Rattle.running_line.proofs.WiresActs.{Home, IsBare, IsFine, IsMid, MaySay, Seen, Wired, acts_each, acts_mid, home_closes, home_hears, seen, with_comes}
+use Rattle.running_line.proofs.WiresParts.{Of, all_mapped, both_have, far_has, far_held, has_awaits, held_far, held_own, joined_by, left_awaits, left_has, most_mapped, own_has, own_held, read_bytes, read_none}
+use Rattle.running_line.proofs.TurnJoined.{any_map}
+use Rattle.running_line.proofs.TurnLinks.{any_weaker, had_of}
 
 -- ---- one among the connections of a link
 
@@ -70,7 +70,7 @@ pub alone_amid : (test other : Wire → Bool) → ((wire : Wire) → test wire �
 alone_amid test other less none_passes there is fails = elim there [ ]
 alone_amid test other less (passes_not not others) amid_first is fails = absurd (false≢true (sym not ∙ is))
 alone_amid test other less (passes_not {wire = first} not others) (amid_later there) is fails = or_from _ _ (less first not) (alone_amid test other less others there is fails)
-alone_amid test other less (passes_alone {wires = wires} none) amid_first is fails = or_from _ _ fails (any_less test other less wires none)
+alone_amid test other less (passes_alone {wires = wires} none) amid_first is fails = or_from _ _ fails (any_weaker test other less wires none)
 alone_amid test other less (passes_alone none) (amid_later there) is fails = absurd (false≢true (sym (none_amid test there none) ∙ is))
 
 -- ---- words that are mute
@@ -88,11 +88,6 @@ mute_up (acts.Sends Entry message ∷ others) (more_mute mute more) =
 mute_up (act ∷ others) (more_mute mute more) = mute_up others more
 
 -- ---- BEFORE THE ACTS, at the exit of the machine above
-
-pub is_of_had : (hold : Hold) → is_of_below hold ≡ false → has hold ≡ false
-is_of_had Awaits is = refl
-is_of_had Has is = is
-is_of_had Left is = refl
 
 pub has_is : {hold : Hold} → hold ≡ Has → has hold ≡ true
 has_is is = ap has is
@@ -154,7 +149,7 @@ bare_exit {a} {b} {unread} {up} {down} {wires} told w c mute wire there = record
     none = u.up;
   };
   on = λ has_it far. any_amid is_joined there (joined_is wire has_it far);
-  off = λ far not. alone_amid kept_below is_joined (λ other none. no_joined other.above other.below (is_of_had other.below none)) w.one_below there (of_is far) (apart_is wire.above wire.below not);
+  off = λ far not. alone_amid kept_below is_joined (λ other none. no_joined other.above other.below (had_of other.below none)) w.one_below there (of_is far) (apart_is wire.above wire.below not);
 }
 
 pub bare_entry : {a b : NodeState} {unread : List Sensed} {up down : List Horizontal} {wires : List Wire} (told : List Act) → Waits a.lane.body b.lane.body unread wires → Carried a b up down wires
@@ -239,9 +234,9 @@ mid_read {new} {far} {l = l} {wires = wires} side told n m =
     let same : (test : Hold → Hold → Bool) (wire : Wire) → test (end_at side (read_at side n wire)) (end_beyond side (read_at side n wire)) ≡ test (end_at side wire) (end_beyond side wire) = λ test wire. read_test test side n wire in
     record {
       fine = all_mapped (Of side (IsFine side told new far l)) (Of side (IsFine side told new far l)) (read_at side n) (λ wire k. read_of side (IsFine side told new far l) n wire (fine_read side told n k)) wires m.fine;
-      own = any_mapped (own_has side) (read_at side n) (same (λ own beyond. has own)) wires ∙ m.own;
-      beyond = any_mapped (far_has side) (read_at side n) (same (λ own beyond. has beyond)) wires ∙ m.beyond;
-      joined = any_mapped (both_have side) (read_at side n) (same (joined_by side)) wires ∙ m.joined;
+      own = any_map (own_has side) (read_at side n) (same (λ own beyond. has own)) wires ∙ m.own;
+      beyond = any_map (far_has side) (read_at side n) (same (λ own beyond. has beyond)) wires ∙ m.beyond;
+      joined = any_map (both_have side) (read_at side n) (same (joined_by side)) wires ∙ m.joined;
       none_home = m.none_home;
       none_away = m.none_away;
       one_own = most_mapped (own_held side) (read_at side n) (λ wire fails. same (λ own beyond. held_own side own) wire ∙ fails) m.one_own;
@@ -373,7 +368,7 @@ aside_entry a b {wires = wires} S M w shakes may = all_from _ wires (λ wire the
   uncome = at_amid _ there w.uncome;
   called = shakes wire there;
   first = at_amid _ there w.taken_first;
-  may = λ awaits. may (sym w.entry_open ∙ alone_amid kept_below had_below (λ other none. is_of_had other.below none) w.one_below there (ap is_of_below awaits) (ap has awaits)) (at_amid _ there w.may_come awaits);
+  may = λ awaits. may (sym w.entry_open ∙ alone_amid kept_below had_below (λ other none. had_of other.below none) w.one_below there (ap is_of_below awaits) (ap has awaits)) (at_amid _ there w.may_come awaits);
 })
 
 pub exits_read : (S H M : Type 0) (n : ℕ) (wires : List Wire) → AllByRecursion (Of Exit (AsideExit S H M)) wires → AllByRecursion (Of Exit (AsideExit S H M)) (map (read_at Exit n) wires)

@@ -1,15 +1,10 @@
 -- BEHIND A TURN that meets a connection at one of its machine's sides: bytes come on it, it is taken, or it is found made.
-use Rattle.std.proofs.Common.{Bool, List, None, Option, Some, [], ap, arith, false, length, map, refl, slice_get, slice_set, subst, suc, sym, true, zero, ℕ, ℤ, ◌++◌, ◌+◌, ◌-◌, ◌∙◌, ◌∷◌, ◌≡◌}
+use Rattle.std.proofs.Common.{Bool, List, None, Option, Some, [], ap, arith, false, length, map, refl, slice_get, slice_set, subst, suc, sym, true, zero, ℕ, ℤ, ◌+◌, ◌∙◌, ◌∷◌, ◌≡◌}
 use Rattle.std.specs.Borrow.{Bor}
-use Rattle.std.specs.Prelude.{drop, take}
-use Rattle.std.proofs.lemmas.Bool.{false≢true}
-use Rattle.std.specs.List.{list_any}
+use Rattle.std.specs.Prelude.{drop}
 use Rattle.line_base.specs.declared.states.Side.{Side}
 use Rattle.line_base.specs.declared.states.Side.TheVariants.{Entry, Exit}
 use Rattle.board_record.specs.declared.sensed.Sensed.{Sensed}
-use Rattle.hermes_horizontal.specs.declared.message.Message.{Message}
-use Rattle.session_core.specs.declared.state.SessionState.{SessionState}
-use Rattle.session_core.specs.declared.state.SessionState.TheVariants.{Handshake, NotConnected, Standing}
 use Rattle.node_core.specs.Desk.{Desk}
 use Rattle.node_core.specs.Event.{Words}
 use Rattle.node_core.specs.Node.{NodeState, desk_of}
@@ -19,12 +14,10 @@ use Rattle.node_core.specs.declared.act.Act.{Act}
 use Rattle.node_core.specs.declared.input.Input.{Input}
 use Rattle.node_core.specs.declared.input.Input.TheVariants as inputs
 use Rattle.node_core.specs.declared.lane.Body.{Body as Machine}
-use Rattle.node_core.specs.declared.word.Word.{Word}
 use Rattle.custody.specs.Words.{events_at}
-use Rattle.link_messages.specs.Fit.{AreFitActs, AreFitWords}
+use Rattle.link_messages.specs.Fit.{AreFitActs}
 use Rattle.machine_custody.specs.Ahead.{IsFreeRead}
-use Rattle.machine_custody.specs.Flight.{AreOldest, unheard}
-use Rattle.machine_custody.specs.Scene.{Scene, all_met}
+use Rattle.machine_custody.specs.Scene.{all_met}
 use Rattle.line_step.specs.Opened.{open_after}
 use Rattle.line_step.specs.World.{link_of}
 use Rattle.line_step.proofs.Opening.{steps_open}
@@ -39,12 +32,12 @@ use Rattle.running_line.specs.Reading.{Reading}
 use Rattle.running_line.specs.Running.{Running, at_place, unread_by, with_node, with_reading, with_wires}
 use Rattle.running_line.specs.Stands.{Stands, line_of, node_in}
 use Rattle.running_line.specs.Steady.{scene_of}
-use Rattle.running_line.specs.Turns.{Turns, did, met}
+use Rattle.running_line.specs.Turns.{Turns, did}
 use Rattle.running_line.specs.Waits.{had_above, had_below}
 use Rattle.running_line.specs.Wire.{Awaits, Coming, Has, Hold, Left, Wire, given, read_at, with_end, with_read}
 use Rattle.running_line.proofs.Waiting.{wire_of}
 use Rattle.running_line.proofs.WiresActs.{Wired}
-use Rattle.running_line.proofs.WiresBytes.{Arrives, amid_get, arrives, bytes_entry, bytes_exit, parted, placed_at}
+use Rattle.running_line.proofs.WiresBytes.{Arrives, amid_get, arrives, bytes_entry, bytes_exit, parted}
 use Rattle.running_line.proofs.WiresLink.{IsLink, any_amid, at_amid, has_is}
 use Rattle.running_line.proofs.WiresWalk.{did_wired, read_wires, wires_own}
 

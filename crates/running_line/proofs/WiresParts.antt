@@ -1,5 +1,5 @@
 -- The connections of a link as one side stands to them: what a side says, and that it leaves, part by part.
-use Rattle.std.proofs.Common.{Bool, List, [], ap, false, map, refl, sym, true, ℕ, ◌&&◌, ◌++◌, ◌∙◌, ◌∷◌, ◌≡◌}
+use Rattle.std.proofs.Common.{Bool, List, [], ap, false, map, refl, ℕ, ◌&&◌, ◌++◌, ◌∷◌, ◌≡◌}
 use Rattle.std.proofs.lemmas.Bool.{or_from, or_parts}
 use Rattle.std.proofs.lemmas.List.{map-append}
 use Rattle.std.specs.List.{AllByRecursion, list_any}
@@ -112,17 +112,9 @@ pub all_two : (P Q R : Wire → Type 0) → ((wire : Wire) → P wire → Q wire
 all_two P Q R next [] all more = tt
 all_two P Q R next (wire ∷ wires) all more = (next wire all.0 more.0, all_two P Q R next wires all.1 more.1)
 
-pub any_mapped : (test : Wire → Bool) (change : Wire → Wire) → ((wire : Wire) → test (change wire) ≡ test wire) → (wires : List Wire) → list_any test (map change wires) ≡ list_any test wires
-any_mapped test change same [] = refl
-any_mapped test change same (wire ∷ wires) = rw (same wire, any_mapped test change same wires) refl
-
 pub none_mapped : (test : Wire → Bool) (change : Wire → Wire) → ((wire : Wire) → test wire ≡ false → test (change wire) ≡ false) → (wires : List Wire) → list_any test wires ≡ false → list_any test (map change wires) ≡ false
 none_mapped test change fewer [] none = refl
 none_mapped test change fewer (wire ∷ wires) none = or_from _ _ (fewer wire (or_parts _ _ none).0) (none_mapped test change fewer wires (or_parts _ _ none).1)
-
-pub none_at_all : (test : Wire → Bool) (change : Wire → Wire) → ((wire : Wire) → test (change wire) ≡ false) → (wires : List Wire) → list_any test (map change wires) ≡ false
-none_at_all test change never [] = refl
-none_at_all test change never (wire ∷ wires) = or_from _ _ (never wire) (none_at_all test change never wires)
 
 pub most_mapped : (test : Wire → Bool) (change : Wire → Wire) → ((wire : Wire) → test wire ≡ false → test (change wire) ≡ false) → {wires : List Wire} → AtMostOne test wires → AtMostOne test (map change wires)
 most_mapped test change fewer none_passes = none_passes

@@ -1,12 +1,9 @@
 -- BEHIND A TURN in which the exit refuses a second connection.
-use Rattle.std.proofs.Common.{Bool, List, Option, Some, [], ap, false, length, map, refl, slice_get, slice_set, subst, sym, true, ℕ, ℤ, ◌&&◌, ◌++◌, ◌+◌, ◌∙◌, ◌∷◌, ◌≡◌}
+use Rattle.std.proofs.Common.{Bool, List, Some, [], ap, false, length, map, refl, slice_get, slice_set, subst, sym, true, ℕ, ℤ, ◌&&◌, ◌++◌, ◌+◌, ◌∙◌, ◌∷◌, ◌≡◌}
 use Rattle.std.specs.Prelude.{cond}
-use Rattle.std.specs.List.{AllByRecursion, list_any}
-use Rattle.line_base.specs.declared.states.Side.{Side}
+use Rattle.std.specs.List.{AllByRecursion}
 use Rattle.line_base.specs.declared.states.Side.TheVariants.{Entry, Exit}
-use Rattle.board_record.specs.declared.sensed.Sensed.{Sensed}
 use Rattle.hermes_horizontal.specs.Canonical.{canonical}
-use Rattle.hermes_horizontal.specs.declared.message.Horizontal.{Horizontal}
 use Rattle.hermes_horizontal.specs.declared.message.Message.{Message}
 use Rattle.session_core.specs.declared.state.SessionState.TheVariants.{Handshake}
 use Rattle.handover_in.specs.State.{may_connect}
@@ -18,16 +15,15 @@ use Rattle.node_core.specs.declared.input.Input.TheVariants as inputs
 use Rattle.custody.specs.Words.{events_at}
 use Rattle.link_messages.specs.Fit.{AreFitActs}
 use Rattle.machine_custody.specs.Scene.{Scene}
-use Rattle.line_step.specs.Acts.{answers, is_answer as is_told_answer}
+use Rattle.line_step.specs.Acts.{is_answer as is_told_answer}
 use Rattle.line_step.specs.Opened.{open_after}
-use Rattle.line_step.specs.World.{link_of}
 use Rattle.line_step.proofs.Opening.{steps_open}
 use Rattle.one_standing.specs.Carried.{Trace}
 use Rattle.one_standing.proofs.Carrying.{SaysAlone}
 use Rattle.one_standing.proofs.RestLine.{node_there}
 use Rattle.running_line.specs.Off.{Off}
 use Rattle.running_line.specs.Reading.{Reading}
-use Rattle.running_line.specs.Running.{Running, at_place, count_beyond, unread_by, with_node, with_reading, with_wires}
+use Rattle.running_line.specs.Running.{Running, at_place, count_beyond, unread_by, with_node, with_reading}
 use Rattle.running_line.specs.Stands.{Stands, is_joined, line_of, node_in}
 use Rattle.running_line.specs.Steady.{scene_of}
 use Rattle.running_line.specs.Turned.{answer_met}
@@ -37,14 +33,15 @@ use Rattle.running_line.specs.Wire.{Awaits, Coming, Has, Hold, Left, Wire, has, 
 use Rattle.running_line.proofs.Waiting.{any_set, most_set}
 use Rattle.running_line.proofs.WiresActs.{IsFine, IsLone, IsMid, Seen, deals, seen}
 use Rattle.running_line.proofs.WiresBehind.{exit_entry, exit_off, shaking_not}
-use Rattle.running_line.proofs.WiresBytes.{amid_get, placed_at}
+use Rattle.running_line.proofs.WiresBytes.{amid_get}
 use Rattle.running_line.proofs.WiresConnect.{all_set_as}
 use Rattle.running_line.proofs.WiresLink.{AsideExit, IsLink, aside_exit, at_amid, end_exit, exit_leaves, exit_more, exits_read, link_seen, mid_exit, mid_read}
 use Rattle.running_line.proofs.WiresMet.{at_map, held_read}
 use Rattle.running_line.proofs.WiresParts.{Of, awaits_has, has_awaits, left_awaits, left_has}
-use Rattle.running_line.proofs.WiresSecond.{IsTwice, WiredTwice, act_twice, all_met_by, get_map, get_set, met_is, second_mid, twice_acts, twice_answered, twice_each, twice_more, twice_none, twice_said}
+use Rattle.running_line.proofs.WiresSecond.{IsTwice, WiredTwice, act_twice, all_met_by, get_set, met_is, second_mid, twice_acts, twice_answered, twice_each, twice_more, twice_none, twice_said}
 use Rattle.running_line.proofs.WiresTurn.{StepOff, heard_none, shakes_of, stays_at, step_off}
-use Rattle.running_line.proofs.WiresWalk.{read_wires, wires_own, wires_sided}
+use Rattle.running_line.proofs.WiresWalk.{read_wires, wires_own, wires_sided, count_for}
+use Rattle.running_line.proofs.TurnJoined.{got_map, placed}
 
 -- ---- the acts, as the definition has them
 
@@ -53,11 +50,7 @@ sent_twice : (j place : ℕ) (test : Bool) (m : Message) (s : Running) → (sent
 sent_twice j place true m s = wires_own (j + 1) (at_place place (answered (text_behind (count_beyond (j + 1) Exit s) (canonical m)))) s
 sent_twice j place false m s = wires_sided j Exit Exit (said Exit (text_behind (count_beyond (j + 1) Exit s) (canonical m))) s
 
-abbrev count_twice : ℕ → Act → Running → ℕ
-count_twice j (acts.Sends at m) s = count_beyond (j + 1) at s
-count_twice j act s = 0
-
-act_is_twice : (j place : ℕ) (act : Act) (s : Running) → (act_did true (j + 1) place act s).wires (j + 1) ≡ act_twice place (count_twice j act s) act (s.wires (j + 1))
+act_is_twice : (j place : ℕ) (act : Act) (s : Running) → (act_did true (j + 1) place act s).wires (j + 1) ≡ act_twice place (count_for j act s) act (s.wires (j + 1))
 act_is_twice j place (acts.Sends Exit m) s = sent_twice j place (is_told_answer m.body) m s
 act_is_twice j place (acts.Sends Entry m) s = wires_sided j Exit Entry (said Entry (text_behind (count_beyond (j + 1) Entry s) (canonical m))) s
 act_is_twice j place (acts.Closes at) s = wires_sided j Exit at (left at) s
@@ -67,7 +60,7 @@ act_is_twice j place _ s = refl
 did_twice : (j place : ℕ) (told : List Act) (s : Running) → WiredTwice place told (s.wires (j + 1)) ((did true (j + 1) place told s).wires (j + 1))
 did_twice j place [] s = twice_none
 did_twice j place (act ∷ others) s =
-    twice_more (count_twice j act s)
+    twice_more (count_for j act s)
     (subst (λ (ws : List Wire). WiredTwice place others ws ((did true (j + 1) place others (act_did true (j + 1) place act s)).wires (j + 1))) (act_is_twice j place act s)
     (did_twice j place others (act_did true (j + 1) place act s)))
 
@@ -149,12 +142,12 @@ below_refused alone {t} j {moment = moment} {before = before} {after = after} {t
     let step : (a.lane.body.exit.session.state ≡ Handshake) → StepOff Exit a a2 told = λ shakes. step_off Exit turn.steps (stays_at Exit a.maker inputs.Second turn.steps.lane.words refl (λ is. absurd (exit_entry is))) (off shakes) in
     let m : IsMid Exit told a2.lane.exit_bytes b.lane.entry_bytes (is_open Exit a.lane.body) (is_open Entry b.lane.body) (link_seen wires (t.up (j + 1)) (t.down (j + 1))) wires = mid_exit told a2.lane.exit_bytes here.waits here.carried (heard_none Exit turn.steps refl) turn.steps.lane.brings.1 (λ shakes. (step shakes).mute) in
     let start : IsMid Exit told a2.lane.exit_bytes b.lane.entry_bytes (is_open Exit a.lane.body) (is_open Entry b.lane.body) (seen Exit c) (map (read_at Exit n) (slice_set wires place w2)) = mid_read Exit told n (mid_refused told place wire turn.meets.there turn.meets.held m) in
-    let twice : IsTwice place wire.below (map (read_at Exit n) (slice_set wires place w2)) = record { wire = read_at Exit n w2; there = get_map (read_at Exit n) (slice_set wires place w2) place w2 (get_set wires place wire w2 turn.meets.there); gone = refl; stands = refl } in
+    let twice : IsTwice place wire.below (map (read_at Exit n) (slice_set wires place w2)) = record { wire = read_at Exit n w2; there = got_map (read_at Exit n) (slice_set wires place w2) place w2 (get_set wires place wire w2 turn.meets.there); gone = refl; stands = refl } in
     let read : Running = with_node (j + 1) turn.next (with_reading (j + 1) turn.read turn.rest before) in
     let s : Running = met (j + 1) inputs.Second place read in
     let first : s.wires (j + 1) ≡ map (read_at Exit n) (slice_set wires place w2) =
     wires_own (j + 1) (at_place place (with_end Exit Left)) read ∙ ap (at_place place (with_end Exit Left)) (read_wires j Exit turn.next turn.read turn.rest before) ∙ at_map (with_end Exit Left) (read_at Exit n) (λ w. held_read Exit Left n w) place wires
-    ∙ ap (map (read_at Exit n)) (placed_at place (with_end Exit Left) wires wire turn.meets.there) in
+    ∙ ap (map (read_at Exit n)) (placed place (with_end Exit Left) wires wire turn.meets.there) in
     let wired : WiredTwice place told (map (read_at Exit n) (slice_set wires place w2)) (after.wires (j + 1)) =
     subst (λ (ws : List Wire). WiredTwice place told ws (after.wires (j + 1))) first (subst (λ (ws : List Wire). WiredTwice place told (s.wires (j + 1)) ws) (sym (ap (λ (r : Running). r.wires (j + 1)) turn.after_is)) (did_twice j place told s)) in
     let S : Type 0 = is_open Exit a2.lane.body ≡ true → a2.lane.body.exit.session.state ≡ Handshake in

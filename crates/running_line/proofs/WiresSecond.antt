@@ -1,10 +1,9 @@
 -- THE EXIT REFUSES A SECOND CONNECTION: it has left that one, the answer goes down on it to an entry that hasn't left it, and the
 -- first goes on.
-use Rattle.std.proofs.Common.{Bool, List, None, Option, Some, [], ap, append-nil, false, length, map, refl, slice_get, slice_set, subst, suc, sym, true, zero, ℕ, ℤ, ◌++◌, ◌+◌, ◌∙◌, ◌∷◌, ◌≡◌, ◌&&◌}
+use Rattle.std.proofs.Common.{Bool, List, Some, [], ap, append-nil, false, map, refl, slice_get, slice_set, subst, suc, sym, true, zero, ℕ, ◌++◌, ◌+◌, ◌∙◌, ◌∷◌, ◌≡◌, ◌&&◌}
 use Rattle.std.specs.Prelude.{cond}
 use Rattle.std.proofs.lemmas.Bool.{false≢true}
 use Rattle.std.specs.List.{AllByRecursion, list_any}
-use Rattle.line_base.specs.declared.states.Side.{Side}
 use Rattle.line_base.specs.declared.states.Side.TheVariants.{Entry, Exit}
 use Rattle.hermes_horizontal.specs.Canonical.{canonical}
 use Rattle.hermes_horizontal.specs.declared.message.Horizontal.{Horizontal}
@@ -22,17 +21,18 @@ use Rattle.line_step.specs.Acts.{is_answer as is_told_answer}
 use Rattle.line_step.specs.Opened.{open_act, open_after}
 use Rattle.one_standing.proofs.Carrying.{SaysAlone, bodies_append}
 use Rattle.running_line.specs.Running.{at_place}
-use Rattle.running_line.specs.Stands.{Carries, is_joined}
+use Rattle.running_line.specs.Stands.{is_joined}
 use Rattle.running_line.specs.Turned.{answer_met}
 use Rattle.running_line.specs.Turns.{answered}
 use Rattle.running_line.specs.Waits.{AtMostOne, had_above, had_below, is_of_below, kept_below}
 use Rattle.running_line.specs.Wire.{Awaits, Coming, Has, Hold, Left, Wire, has, left, said, text_behind}
 use Rattle.running_line.proofs.Waiting.{all_set, any_set, most_set, wire_of}
 use Rattle.running_line.proofs.WiresActs.{Deals, Home, IsFine, IsLone, IsMid, MaySay, Seen, act_each, act_mid, act_wires, carries_said, deals, deals_aside, deals_closes, deals_hears, deals_notices, deals_sends, home_on, says_more, seen}
-use Rattle.running_line.proofs.WiresBytes.{alone_set, amid_get, has_not_false, placed_at}
+use Rattle.running_line.proofs.WiresBytes.{alone_set, amid_get, has_not_false}
 use Rattle.running_line.proofs.WiresLink.{at_amid, none_amid}
 use Rattle.running_line.proofs.WiresConnect.{all_set_as, not_kept}
 use Rattle.running_line.proofs.WiresParts.{Of, awaits_has, awaits_left, has_awaits, has_left, left_awaits, left_has}
+use Rattle.running_line.proofs.TurnJoined.{got_map, placed}
 
 -- ---- what an act of that step does
 
@@ -182,15 +182,6 @@ get_set [] place old new is = absurd (cc)
 get_set (wire ∷ wires) zero old new is = refl
 get_set (wire ∷ wires) (suc place) old new is = get_set wires place old new is
 
-pub get_map : (change : Wire → Wire) (wires : List Wire) (place : ℕ) (wire : Wire) → slice_get wires place ≡ Some wire → slice_get (map change wires) place ≡ Some (change wire)
-get_map change [] place wire is = absurd (cc)
-get_map change (first ∷ wires) zero wire is = ap (λ (o : Option Wire). changed o) is
-  where
-    changed : Option Wire → Option Wire
-    changed None = None
-    changed (Some w) = Some (change w)
-get_map change (first ∷ wires) (suc place) wire is = get_map change wires place wire is
-
 at_place_of : (P : Wire → Type 0) (wires : List Wire) (place : ℕ) (wire : Wire) → slice_get wires place ≡ Some wire → AllByRecursion P wires → P wire
 at_place_of P wires place wire there all = at_amid P (amid_get wires place wire there) all
 
@@ -251,7 +242,7 @@ answer_mid alone {new} {far} {own_open} {far_open} {l} {wires} place n m rest ho
     let c : List Coming = text_behind n (canonical m) in
     let w : Wire = twice.wire in
     let w2 : Wire = answered c w in
-    let set : at_place place (answered c) wires ≡ slice_set wires place w2 = placed_at place (answered c) wires w twice.there in
+    let set : at_place place (answered c) wires ≡ slice_set wires place w2 = placed place (answered c) wires w twice.there in
     let set_is : IsMid Exit rest new far own_open far_open (answer_seen hold m.body l) (slice_set wires place w2) = record {
       fine = answer_fine alone new far l place n m rest hold fit is k.one_far w.above w.below w.up w.down twice.there twice.gone twice.stands k.fine;
       own = any_set had_above w w2 (answered_ends (λ above below. has above) c w) wires place twice.there ∙ k.own;
@@ -279,7 +270,7 @@ left_stays Left below up down is = refl
 twice_map : {place : ℕ} {hold : Hold} {wires : List Wire} (change : Wire → Wire) → (t : IsTwice place hold wires) → change t.wire ≡ t.wire → IsTwice place hold (map change wires)
 twice_map {place} {hold} {wires} change t same = record {
   wire = t.wire;
-  there = get_map change wires place t.wire t.there ∙ ap (λ (w : Wire). Some w) same;
+  there = got_map change wires place t.wire t.there ∙ ap (λ (w : Wire). Some w) same;
   gone = t.gone;
   stands = t.stands;
 }
@@ -291,7 +282,7 @@ twice_gone : {place : ℕ} {hold : Hold} {wires : List Wire} → IsTwice place h
 twice_gone t = twice_map (left Exit) t (left_stays t.wire.above t.wire.below t.wire.up t.wire.down t.gone)
 
 pub twice_answered : {place : ℕ} {hold : Hold} {wires : List Wire} (c : List Coming) → IsTwice place hold wires → IsTwice place hold (at_place place (answered c) wires)
-twice_answered {place} {hold} {wires} c t = subst (λ (ws : List Wire). IsTwice place hold ws) (sym (placed_at place (answered c) wires t.wire t.there)) (record {
+twice_answered {place} {hold} {wires} c t = subst (λ (ws : List Wire). IsTwice place hold ws) (sym (placed place (answered c) wires t.wire t.there)) (record {
   wire = answered c t.wire;
   there = get_set wires place t.wire (answered c t.wire) t.there;
   gone = above_stays c t.wire.above t.wire.below t.wire.up t.wire.down ∙ t.gone;
@@ -406,7 +397,7 @@ second_mid alone place hold told c fit w twice m = (acts_twice alone place hold 
 answer_each : (F : Hold → Hold → List Coming → List Coming → Type 0) → ((beyond : Hold) (to from c : List Coming) → F Left beyond to from → F Left beyond to (from ++ c)) → {hold : Hold} {wires : List Wire} (place : ℕ) (c : List Coming) → IsTwice place hold wires → AllByRecursion (Of Exit F) wires
     → AllByRecursion (Of Exit F) (at_place place (answered c) wires)
 answer_each F goes {hold} {wires} place c t all =
-    subst (λ (ws : List Wire). AllByRecursion (Of Exit F) ws) (sym (placed_at place (answered c) wires t.wire t.there))
+    subst (λ (ws : List Wire). AllByRecursion (Of Exit F) ws) (sym (placed place (answered c) wires t.wire t.there))
     (all_set (Of Exit F) (answered c t.wire) (by t.wire.above t.wire.below t.wire.up t.wire.down t.gone (at_place_of (Of Exit F) wires place t.wire t.there all)) wires place all)
   where
     by : (above below : Hold) (up down : List Coming) → above ≡ Left → F above below up down → Of Exit F (answered c (wire_of above below up down))

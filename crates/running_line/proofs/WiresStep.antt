@@ -43,7 +43,7 @@ use Rattle.handover_out.specs.declared.input.OutInput.TheVariants as out_input
 use Rattle.handover_out.specs.declared.phase.Phase.{Phase as Out}
 use Rattle.handover_out.specs.declared.phase.Phase.TheVariants as out
 use Rattle.handover_in.specs.Links.{is_unlinked_phase as in_unlinked}
-use Rattle.handover_in.specs.Row.{InRow, intake_row, sensed_row, waiting_row}
+use Rattle.handover_in.specs.Row.{InRow, intake_row, waiting_row}
 use Rattle.handover_in.specs.State.{InState, may_connect}
 use Rattle.handover_in.specs.declared.input.InInput.TheVariants as in_input
 use Rattle.handover_in.specs.declared.phase.Phase.{Phase as In}
@@ -59,14 +59,13 @@ use Rattle.node_core.specs.Halves.{behind_opening, ended, half_closed, intake_ro
 use Rattle.node_core.specs.Hears.{entry_took, entry_word, exit_took, exit_word, hears, intake_took, outlet_took, passed, rowed, side_took, taken}
 use Rattle.node_core.specs.Information.{forecasts}
 use Rattle.node_core.specs.Reads.{all_read, reads, saw}
-use Rattle.node_core.specs.Session.{action_did, actions_did, breaches, maybe_did, session_did}
+use Rattle.node_core.specs.Session.{actions_did, breaches, maybe_did, session_did}
 use Rattle.node_core.specs.Sides.{is_open, session_at, with_session, with_will}
 use Rattle.node_core.specs.Step.{machine_step, plain_step}
 use Rattle.node_core.specs.Supervising.{Answer, Ask, Supervise, Supervision, supervises, watch_of}
 use Rattle.node_core.specs.Words.{all_heard, word_did}
 use Rattle.node_core.specs.declared.act.Act.{Act}
 use Rattle.node_core.specs.declared.act.Act.TheVariants as acts
-use Rattle.node_core.specs.declared.act.Deed.{Deed}
 use Rattle.node_core.specs.declared.lane.Body.{Body as Machine}
 use Rattle.node_core.specs.declared.word.EntryWord.{EntryWord}
 use Rattle.node_core.specs.declared.word.EntryWord.TheVariants as entries
@@ -80,10 +79,9 @@ use Rattle.line_base.specs.declared.states.Quality.TheVariants as qualities
 use Rattle.node_core.specs.Told.{in_sends, notification, out_sends, sends}
 use Rattle.handover_in.specs.declared.act.InSend.{InSend}
 use Rattle.handover_out.specs.declared.act.OutSend.{OutSend}
-use Rattle.custody.specs.Words.{down_words, up_words}
 use Rattle.machine_custody.proofs.Quiet.{AllActs, IsPlain, acts_more, acts_none, all_append, all_tells, intake_all, intake_says, outlet_all, outlet_says}
 use Rattle.machine_custody.proofs.Connecting.{calling}
-use Rattle.running_line.specs.Off.{AreMute, HalfOff, IsInOff, IsMute, IsOutOff, Mutes, Off, StaysOff, StillMay, more_mute, none_mute}
+use Rattle.running_line.specs.Off.{AreMute, IsInOff, IsMute, IsOutOff, Mutes, Off, StaysOff, StillMay, more_mute, none_mute}
 
 abbrev role_at : Side → Role
 role_at Entry = Downstream

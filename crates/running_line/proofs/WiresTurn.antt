@@ -1,5 +1,5 @@
 -- A TURN, at each of its machine's two links: what the step of the machine says of the acts there, and which connections it meets.
-use Rattle.std.proofs.Common.{Bool, Err, List, None, Ok, Option, Result, Some, [], ap, arith, false, length, map, refl, slice_get, slice_set, subst, sym, true, ℕ, ℤ, ◌++◌, ◌+◌, ◌-◌, ◌∙◌, ◌∷◌, ◌≡◌}
+use Rattle.std.proofs.Common.{Bool, Err, List, None, Ok, Option, Result, [], ap, arith, false, refl, subst, sym, true, ℕ, ℤ, ◌++◌, ◌+◌, ◌∙◌, ◌∷◌, ◌≡◌}
 use Rattle.std.proofs.lemmas.Bool.{false≢true}
 use Rattle.line_base.specs.declared.states.Side.{Side}
 use Rattle.line_base.specs.declared.states.Side.TheVariants.{Entry, Exit}
@@ -14,12 +14,9 @@ use Rattle.smema_bridge.specs.Levels.{BridgeLevels}
 use Rattle.handover_out.specs.Links.{is_unlinked_phase as out_unlinked}
 use Rattle.handover_out.specs.declared.phase.Phase.{Phase as Out}
 use Rattle.handover_in.specs.Links.{is_unlinked_phase as in_unlinked}
-use Rattle.handover_in.specs.State.{may_connect}
 use Rattle.handover_in.specs.declared.phase.Phase.{Phase as In}
-use Rattle.node_core.specs.Desk.{Desk}
 use Rattle.node_core.specs.Event.{Event, Insert, Replace, event_of, with_new}
 use Rattle.node_core.specs.Node.{NodeState, desk_of}
-use Rattle.node_core.specs.Sides.{is_open, session_at}
 use Rattle.node_core.specs.Signals.{signalled}
 use Rattle.node_core.specs.Step.{Brings, Steps, machine_step}
 use Rattle.node_core.specs.declared.act.Act.{Act}
@@ -29,12 +26,11 @@ use Rattle.node_core.specs.declared.input.Input.TheVariants as inputs
 use Rattle.node_core.specs.declared.lane.Body.{Body as Machine}
 use Rattle.node_core.specs.declared.lane.Lane.{Lane}
 use Rattle.node_core.specs.declared.word.Word.{Word}
-use Rattle.custody.specs.Apart.{Exit as LoneExit, Entry as LoneEntry, away_none, away_shaking, entry_described, entry_described_waiting, entry_none, entry_shaking, entry_shaking_waiting, entry_waits, entry_waits_heard, entry_waits_in, exit_called, exit_called_stuck, exit_described, exit_described_stuck, exit_none, exit_none_stuck, exit_shaking, exit_shaking_stuck}
+use Rattle.custody.specs.Apart.{Exit as LoneExit, Entry as LoneEntry, entry_described, entry_described_waiting, entry_none, entry_shaking, entry_shaking_waiting, entry_waits, entry_waits_heard, entry_waits_in, exit_called, exit_called_stuck, exit_described, exit_described_stuck, exit_none, exit_none_stuck, exit_shaking, exit_shaking_stuck}
 use Rattle.custody.specs.Place.{Place}
 use Rattle.custody.specs.Talks.{Talks, apart, apart_start, apart_start_stop, described, described_waiting, live, shaking_idle, shaking_stuck, shaking_waiting}
 use Rattle.custody.specs.Words.{DownWord, UpWord}
-use Rattle.line_step.specs.Opened.{open_after, opened_by}
-use Rattle.line_step.proofs.Opening.{steps_open}
+use Rattle.line_step.specs.Opened.{opened_by}
 use Rattle.one_standing.proofs.Counting.{input_words, is_bytes_to, step_hears_none}
 use Rattle.one_standing.proofs.CarryingSides.{heard_in}
 use Rattle.one_standing.proofs.Signalled.{signals_unheard}

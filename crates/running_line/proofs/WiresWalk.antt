@@ -1,6 +1,6 @@
 -- THE CONNECTIONS OF A MACHINE'S TWO LINKS behind its acts, as the acts at each side have them.
-use Rattle.std.proofs.Common.{Bool, List, [], ap, arith, eq-eqb, false, map, ne_eqb, refl, subst, sym, true, ℕ, ◌+◌, ◌-◌, ◌∙◌, ◌∷◌, ◌≡◌}
-use Rattle.std.specs.Prelude.{cond, length, nat_eq}
+use Rattle.std.proofs.Common.{Bool, List, [], ap, arith, eq-eqb, false, map, ne_eqb, refl, subst, true, ℕ, ◌+◌, ◌-◌, ◌∙◌, ◌∷◌, ◌≡◌}
+use Rattle.std.specs.Prelude.{cond, length}
 use Rattle.line_base.specs.declared.states.Side.{Side}
 use Rattle.line_base.specs.declared.states.Side.TheVariants.{Entry, Exit}
 use Rattle.hermes_horizontal.specs.Canonical.{canonical}
@@ -44,7 +44,7 @@ wires_sided j Exit Entry change s = wires_other (j + 1 - 1) (j + 1) (map change)
 -- ---- the acts
 
 -- behind how many events a text of an act is said
-abbrev count_for : ℕ → Act → Running → ℕ
+abbrev pub count_for : ℕ → Act → Running → ℕ
 count_for j (acts.Sends at message) s = count_beyond (j + 1) at s
 count_for j act s = 0
 

@@ -5,19 +5,18 @@ use Rattle.std.specs.Borrow.{Bor}
 use Rattle.board_record.specs.declared.sensed.Sensed.{Sensed}
 use Rattle.hermes_horizontal.specs.declared.message.Horizontal.{Horizontal}
 use Rattle.hermes_horizontal.specs.declared.message.Message.{Message}
-use Rattle.line_world.specs.FloorPlan.{AtMachine}
 use Rattle.node_core.specs.Node.{NodeState}
 use Rattle.node_core.specs.declared.act.Act.{Act}
 use Rattle.node_core.specs.declared.act.Act.TheVariants as acts
 use Rattle.node_core.specs.declared.input.Input.{Input}
 use Rattle.node_core.specs.declared.input.Input.TheVariants as inputs
 use Rattle.link_messages.specs.Fit.{AreFitActs}
-use Rattle.link_messages.specs.Heard.{bodies}
 use Rattle.machine_custody.specs.Ahead.{IsFreeRead}
 use Rattle.machine_custody.specs.Joined.{all_met_left, all_met_second, answered as second_said, is_answer, met_left, met_second, unanswered}
 use Rattle.machine_custody.specs.Scene.{Scene, all_met, met}
 use Rattle.one_standing.specs.Carried.{Trace}
 use Rattle.one_standing.proofs.Carrying.{SaysAlone}
+use Rattle.one_standing.proofs.Behind.{before_apart}
 use Rattle.running_line.specs.Reading.{Reading}
 use Rattle.running_line.specs.Running.{Running, unread_by}
 use Rattle.running_line.specs.Stands.{Stands, node_in}
@@ -38,9 +37,6 @@ use Rattle.running_line.proofs.WiresTurn.{is_plain_at}
 
 -- ---- the machines behind the turn
 
-not_next : (j : ℕ) → j ≢ j + 1
-not_next j is = omega (arith, is)
-
 not_last : (j : ℕ) → j + 1 + 1 ≢ j + 1
 not_last j is = omega (arith, is)
 
@@ -59,7 +55,7 @@ pub record Unread (j : ℕ) (rest : List Sensed) (before after : Running) : Type
 both_linked : {j : ℕ} {reading : Reading} {input : Input} {moment : ℤ} {before after : Running} {told : List Act} (d : Scene) (turn : Turns reading (j + 1) input moment before after told) → Unread j turn.rest before after
     → IsLink (node_in before j) turn.next turn.rest d.above.up d.above.down (after.wires j) → IsLink turn.next (node_in before (j + 1 + 1)) (unread_by (j + 1 + 1) before) d.below.up d.below.down (after.wires (j + 1)) → AreLinked j after d
 both_linked {j} d turn unread above below = record {
-  above = linked_of (link_as (other_nodes turn j (not_next j)) (next_there turn) unread.own above);
+  above = linked_of (link_as (other_nodes turn j (before_apart j)) (next_there turn) unread.own above);
   below = linked_of (link_as (next_there turn) (other_nodes turn (j + 1 + 1) (not_last j)) unread.below below);
 }
 

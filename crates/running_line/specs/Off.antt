@@ -1,7 +1,6 @@
 -- A SIDE THAT IS OFF: its session doesn't stand, no handover is under way on a connection of it,
 -- and nothing was announced there.
-use Rattle.std.specs.Prelude.{Bool, List, None, [], false, true, ◌∷◌, ◌≡◌}
-use Rattle.line_base.specs.declared.states.Role.{Role}
+use Rattle.std.specs.Prelude.{List, None, [], false, true, ◌∷◌, ◌≡◌}
 use Rattle.line_base.specs.declared.states.Role.TheVariants.{Downstream, Upstream}
 use Rattle.line_base.specs.declared.states.Side.{Side}
 use Rattle.line_base.specs.declared.states.Side.TheVariants.{Entry, Exit}
