@@ -1,8 +1,5 @@
 -- THE WHOLE RELATION GOES ON IN A TURN that has read all before it takes its input.
-use Rattle.std.proofs.Common.{List, Some, [], ap, arith, refl, subst, sym, ℕ, ℤ, ◌+◌, ◌-◌, ◌≡◌, ◌≢◌, ◌≤◌, Bool, ◌++◌}
-use Rattle.hermes_horizontal.specs.declared.message.Message.{Message}
-use Rattle.line_world.specs.FloorPlan.{AtMachine}
-use Rattle.node_core.specs.Signals.{signalled}
+use Rattle.std.proofs.Common.{List, arith, refl, subst, sym, ℕ, ℤ, ◌+◌, ◌-◌, ◌≡◌, ◌≤◌}
 use Rattle.node_core.specs.declared.act.Act.{Act}
 use Rattle.node_core.specs.declared.input.Input.{Input}
 use Rattle.node_core.specs.declared.input.Input.TheVariants as inputs
@@ -10,7 +7,7 @@ use Rattle.line_base.specs.declared.states.Side.TheVariants.{Entry, Exit}
 use Rattle.link_messages.specs.Fit.{AreFitActs}
 use Rattle.link_messages.proofs.Saying.{signals_fit}
 use Rattle.link_messages.proofs.SayingWhat.{both_said}
-use Rattle.machine_custody.specs.Scene.{Scene, all_met}
+use Rattle.machine_custody.specs.Scene.{all_met}
 use Rattle.one_standing.specs.Carried.{Trace}
 use Rattle.one_standing.specs.Standing.{HasOneStanding}
 use Rattle.one_standing.proofs.Carrying.{SaysAlone}
@@ -31,7 +28,7 @@ use Rattle.running_line.proofs.RunsOn.{run_stands}
 use Rattle.running_line.proofs.TurnGoesOn.{TurnAll, fit_of, free_then, turn_all}
 use Rattle.running_line.proofs.TurnHeard.{heard_in}
 use Rattle.running_line.proofs.TurnLeaves.{AreHeardFit, IsHeard, node_fit, step_fit}
-use Rattle.running_line.proofs.TurnStands.{AreLinked, own_scene, trace_then, turn_stands, unread_below, unread_then}
+use Rattle.running_line.proofs.TurnStands.{AreLinked, turn_stands, unread_below, unread_then}
 use Rattle.running_line.proofs.WiresWhole.{Unread, linked_down, linked_found, linked_plain, linked_refused, linked_taken, linked_up}
 
 -- ---- all that is told is fit
