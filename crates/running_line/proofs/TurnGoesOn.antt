@@ -17,16 +17,16 @@ use Rattle.running_line.specs.Reading.{Strictly}
 use Rattle.running_line.specs.Running.{Running}
 use Rattle.running_line.specs.Stands.{Stands}
 use Rattle.running_line.specs.Steady.{scene_of}
-use Rattle.running_line.specs.Turned.{IsHandless, IsHeard, TurnsTo, scene_met}
+use Rattle.running_line.specs.Turned.{scene_met}
 use Rattle.running_line.specs.Turns.{Meets, Turns}
 use Rattle.running_line.specs.Waits.{Says}
 use Rattle.running_line.specs.Wire.{Wire, asked_for}
 use Rattle.running_line.proofs.FloorMoves.{same_gone}
 use Rattle.running_line.proofs.TurnByHand.{insert_by_hand, remove_by_hand, replace_by_hand}
 use Rattle.running_line.proofs.TurnInto.{accepted_into, all_free, found_into, mark_into, nothing_free, nothing_into, plain_into, read_all, refused_into}
-use Rattle.running_line.proofs.TurnLeaves.{AreHeardFit, boards_stay, differ_then, fit_then, gone_then, rests_then}
+use Rattle.running_line.proofs.TurnLeaves.{AreHeardFit, IsHandless, IsHeard, boards_stay, differ_then, fit_then, gone_then, rests_then}
 use Rattle.running_line.proofs.TurnShape.{made_then}
-use Rattle.running_line.proofs.TurnStands.{LeavesAll, TurnsInto, trace_then, turn_but}
+use Rattle.running_line.proofs.TurnStands.{LeavesAll, TurnsInto, trace_then}
 
 -- ---- the scene that each turn comes to
 
@@ -87,7 +87,7 @@ leaves_of j input {before = before} t st turn handless fit of = record {
   olds = λ link id gone. made_then turn id (st.olds link id (sym (same_gone (j + 1) t link id (same_or_not link (j + 1))) ∙ gone));
 }
 
--- ---- ALL OF THE RELATION BUT WHAT IS ON THE CONNECTIONS
+-- ---- each turn with what it leaves
 
 pub oldest_of : (input : Input) (words : List Word) (c : Scene) → IsHeard input words c → AreHeard input words c
 oldest_of (inputs.Bytes side piece) words c heard = heard.0
@@ -97,7 +97,6 @@ pub fit_of : (input : Input) (words : List Word) (c : Scene) → IsHeard input w
 fit_of (inputs.Bytes side piece) words c heard = heard.1
 fit_of input words c heard = tt
 
--- each turn with what it leaves
 pub record TurnAll (j : ℕ) {input : Input} {moment : ℤ} {before after : Running} {told : List Act} (t : Trace) (turn : Turns Strictly (j + 1) input moment before after told) : Type 0 where
   pub wire : Wire
   pub said : List Message
@@ -120,9 +119,3 @@ turn_all j (inputs.Remove id) t st turn heard = (let hand = remove_by_hand t st 
 turn_all j (inputs.Replace id) t st turn heard = (let hand = replace_by_hand t st turn in record { wire = asked_for; said = []; is_met = tt; gone = hand.gone; into = hand.into; leaves = hand.leaves })
 turn_all j inputs.Nothing t st turn heard = handless_all j inputs.Nothing t st turn tt heard
 turn_all j input t st turn heard = handless_all j input t st turn tt heard
-
-pub turns_to : (t : Trace) (j : ℕ) (input : Input) (moment : ℤ) (before after : Running) (told : List Act) → Stands t before → (turn : Turns Strictly (j + 1) input moment before after told)
-    → IsHeard input turn.steps.lane.words (scene_of t before j) → TurnsTo j t turn
-turns_to t j input moment before after told st turn heard =
-    let all : TurnAll j t turn = turn_all j input t st turn heard in
-    record { wire = all.wire; said = all.said; a = all.into.goes.a; b = all.into.goes.b; gone = all.gone; stands = turn_but turn st all.into all.leaves }

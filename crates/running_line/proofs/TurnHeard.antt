@@ -21,9 +21,9 @@ use Rattle.running_line.specs.Reading.{Reading}
 use Rattle.running_line.specs.Running.{Running}
 use Rattle.running_line.specs.Stands.{Carries, Stands}
 use Rattle.running_line.specs.Steady.{scene_of}
-use Rattle.running_line.specs.Turned.{IsHeard}
 use Rattle.running_line.specs.Turns.{Turns}
 use Rattle.running_line.specs.Wire.{Coming, Wire, bytes_of}
+use Rattle.running_line.proofs.TurnLeaves.{IsHeard}
 use Rattle.running_line.proofs.TurnShape.{own_node}
 use Rattle.running_line.proofs.Waiting.{all_at}
 

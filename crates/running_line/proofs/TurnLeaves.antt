@@ -33,6 +33,8 @@ use Rattle.node_core.specs.declared.word.Word.{Word}
 use Rattle.link_messages.specs.Fit.{AreFitWords, Fits, IsFitBody, IsFitEvent, IsFitInput, IsFitMaker, none_heard}
 use Rattle.link_messages.proofs.Eventing.{event_of_fits, maker_stays_fit}
 use Rattle.link_messages.proofs.Saying.{step_fits}
+use Rattle.machine_custody.specs.Flight.{AreOldest, unheard}
+use Rattle.machine_custody.specs.Scene.{Scene}
 use Rattle.line_step.specs.Reasons.{has_link}
 use Rattle.line_step.specs.Steps.{is_second}
 use Rattle.line_step.specs.World.{link_of}
@@ -46,7 +48,6 @@ use Rattle.one_standing.proofs.RestStep.{IsNoOpening, Rests, step_rests}
 use Rattle.running_line.specs.Reading.{Reading}
 use Rattle.running_line.specs.Running.{Running}
 use Rattle.running_line.specs.Stands.{IsAtRest, Stands, line_of, node_in}
-use Rattle.running_line.specs.Turned.{IsHandless}
 use Rattle.running_line.specs.Turns.{Meets, Turns}
 use Rattle.running_line.proofs.FloorMoves.{gone_nowhere}
 use Rattle.running_line.proofs.NewMachines.{IsFitNode, as_machine, as_node}
@@ -62,6 +63,19 @@ event_in {input = input} turn = event_of turn.node.maker input turn.steps.lane.w
 
 abbrev pub done_in : {reading : Reading} {machine : ℕ} {input : Input} {moment : ℤ} {before after : Running} {told : List Act} → Turns reading machine input moment before after told → Done
 done_in {moment = moment} turn = machine_step (desk_of turn.node moment) turn.read (event_in turn) turn.node.lane.body
+
+-- no board is put in, taken out or changed by hand
+abbrev pub IsHandless : Input → Type 0
+IsHandless (inputs.Insert barcode) = ⊥
+IsHandless (inputs.Remove id) = ⊥
+IsHandless (inputs.Replace id) = ⊥
+IsHandless _ = Unit {0}
+
+-- the words that bytes bring are the oldest messages on their way to their side, and such as fit
+-- messages come to
+abbrev pub IsHeard : Input → List Word → Scene → Type 0
+IsHeard (inputs.Bytes side piece) words c = AreOldest words (unheard side c) × AreFitWords words
+IsHeard input words c = Unit {0}
 
 -- ---- records stay fit
 

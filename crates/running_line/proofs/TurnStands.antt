@@ -42,7 +42,7 @@ use Rattle.running_line.specs.Reading.{Reading}
 use Rattle.running_line.specs.Running.{Running, unread_by}
 use Rattle.running_line.specs.Stands.{Carried, IsAtRest, IsMade, Stands, between_of, is_joined, line_of, node_in}
 use Rattle.running_line.specs.Steady.{scene_of}
-use Rattle.running_line.specs.Turned.{StandsBut, acts_met, turned}
+use Rattle.running_line.specs.Turned.{acts_met, turned}
 use Rattle.running_line.specs.Turns.{Turns}
 use Rattle.running_line.specs.Waits.{Waits}
 use Rattle.running_line.specs.Wire.{Wire}
@@ -280,7 +280,7 @@ pub record AreLinked (j : ℕ) (s : Running) (d : Scene) : Type 0 where
   pub above : IsLinked s j d.above.up d.above.down
   pub below : IsLinked s (j + 1) d.below.up d.below.down
 
-abbrev pub linked_by : NodeState → NodeState → List Sensed → List Wire → List Horizontal → List Horizontal → Type 0
+abbrev linked_by : NodeState → NodeState → List Sensed → List Wire → List Horizontal → List Horizontal → Type 0
 linked_by above below unread wires up down = Waits above.lane.body below.lane.body unread wires × Carried above below up down wires
 
 linked_as : (a a2 b b2 : NodeState) (u u2 : List Sensed) (w w2 : List Wire) (up up2 down down2 : List Horizontal) → a2 ≡ a → b2 ≡ b → u2 ≡ u → w2 ≡ w → up2 ≡ up → down2 ≡ down → linked_by a b u w up down → linked_by a2 b2 u2 w2 up2 down2
@@ -291,23 +291,6 @@ linked_as a a2 b b2 u u2 w w2 up up2 down down2 ea eb eu ew eup edown l =
     (subst (λ (x : List Wire). linked_by a b u x up2 down2) (sym ew)
     (subst (λ (x : List Horizontal). linked_by a b u w x down2) (sym eup)
     (subst (λ (x : List Horizontal). linked_by a b u w up x) (sym edown) l)))))
-
--- from what a turn leaves of both links, by the machine's step
-pub linked_of : {reading : Reading} {j : ℕ} {input : Input} {moment : ℤ} {before after : Running} {told : List Act} {t : Trace} {wire : Wire} {c : Scene} {gone : ℕ → Bool} (turn : Turns reading (j + 1) input moment before after told)
-    → Stands t before → (into : TurnsInto j t wire c gone turn)
-    → linked_by (node_in before j) turn.next turn.rest (after.wires j) (acts_met input wire told c).above.up (acts_met input wire told c).above.down
-    → linked_by turn.next (node_in before (j + 1 + 1)) (unread_by (j + 1 + 1) before) (after.wires (j + 1)) (acts_met input wire told c).below.up (acts_met input wire told c).below.down
-    → AreLinked j after (acts_met input wire told c)
-linked_of {j = j} {input = input} {before = before} {after = after} {told = told} {t = t} {wire = wire} {c = c} turn st into above below =
-    let d : Scene = acts_met input wire told c in
-    let f : FloorThen j turn.rest before.floor after.floor (all_met told c) = floor_then t st turn into.own in
-    let first : j ≢ j + 1 = omega arith in
-    let last : j + 1 + 1 ≢ j + 1 = omega arith in
-    let one = linked_as (node_in before j) (node_in after j) turn.next (node_in after (j + 1)) turn.rest (unread_by (j + 1) after) (after.wires j) (after.wires j) d.above.up d.above.up d.above.down d.above.down
-    (other_nodes turn j first) (next_there turn) (ap (λ (m : AtMachine). m.unread) f.place) refl refl refl above in
-    let two = linked_as turn.next (node_in after (j + 1)) (node_in before (j + 1 + 1)) (node_in after (j + 1 + 1)) (unread_by (j + 1 + 1) before) (unread_by (j + 1 + 1) after) (after.wires (j + 1)) (after.wires (j + 1)) d.below.up d.below.up d.below.down d.below.down
-    (next_there turn) (other_nodes turn (j + 1 + 1) last) (ap (λ (m : AtMachine). m.unread) (f.other_places (j + 1 + 1) last)) refl refl refl below in
-    record { above = record { waits = one.0; carried = one.1 }; below = record { waits = two.0; carried = two.1 } }
 
 each_link : {reading : Reading} {j : ℕ} {input : Input} {moment : ℤ} {before after : Running} {told : List Act} {t : Trace} {wire : Wire} {c : Scene} {gone : ℕ → Bool} (turn : Turns reading (j + 1) input moment before after told)
     → Stands t before → (into : TurnsInto j t wire c gone turn) → AreLinked j after (acts_met input wire told c) → (k : ℕ) → (k ≡ j) ⊎ (k ≢ j) → (k ≡ j + 1) ⊎ (k ≢ j + 1)
@@ -343,13 +326,15 @@ pub record LeavesAll (s : Running) (t : Trace) : Type 0 where
   pub made : (id : ℕ) → 1 ≤ counted id (boards_on s.floor) → IsMade s id
   pub olds : (link id : ℕ) → t.gone link id ≡ true → IsMade s id
 
-pub turn_but : {reading : Reading} {j : ℕ} {input : Input} {moment : ℤ} {before after : Running} {told : List Act} {t : Trace} {wire : Wire} {c : Scene} {gone : ℕ → Bool} (turn : Turns reading (j + 1) input moment before after told)
-    → Stands t before → (into : TurnsInto j t wire c gone turn) → LeavesAll after (trace_then into) → StandsBut (trace_then into) after
-turn_but {j = j} {input = input} {before = before} {after = after} {told = told} {t = t} {c = c} turn st into leaves =
+pub turn_stands : {reading : Reading} {j : ℕ} {input : Input} {moment : ℤ} {before after : Running} {told : List Act} {t : Trace} {wire : Wire} {c : Scene} {gone : ℕ → Bool} (turn : Turns reading (j + 1) input moment before after told)
+    → Stands t before → (into : TurnsInto j t wire c gone turn) → AreLinked j after (acts_met input wire told c) → LeavesAll after (trace_then into) → Stands (trace_then into) after
+turn_stands {j = j} {input = input} {before = before} {after = after} {told = told} {t = t} {c = c} turn st into linked leaves =
     let f : FloorThen j turn.rest before.floor after.floor (all_met told c) = floor_then t st turn into.own in
     let whole : IsWhole after.floor = f.gaps ∙ st.whole ∙ ap (λ (n : ℕ). n - 1) (sym f.machines) in
     record {
       keeps = keeps_then turn st into leaves.rest (apart_then (trace_then into) after whole leaves.differ leaves.gone);
+      waits = λ k. (each_link turn st into linked k (same_or_not k j) (same_or_not k (j + 1))).waits;
+      carried = λ k. (each_link turn st into linked k (same_or_not k j) (same_or_not k (j + 1))).carried;
       rest = leaves.rest;
       fit = leaves.fit;
       sound = each_node (λ (n : NodeState). IsSound n.capacity n.lane.body) turn (sound_own turn st) st.sound;
@@ -359,23 +344,4 @@ turn_but {j = j} {input = input} {before = before} {after = after} {told = told}
       numbers = numbers_differ turn st.numbers;
       made = leaves.made;
       olds = leaves.olds;
-    }
-
-pub turn_stands : {reading : Reading} {j : ℕ} {input : Input} {moment : ℤ} {before after : Running} {told : List Act} {t : Trace} {wire : Wire} {c : Scene} {gone : ℕ → Bool} (turn : Turns reading (j + 1) input moment before after told)
-    → Stands t before → (into : TurnsInto j t wire c gone turn) → AreLinked j after (acts_met input wire told c) → LeavesAll after (trace_then into) → Stands (trace_then into) after
-turn_stands {j = j} turn st into linked leaves =
-    let but = turn_but turn st into leaves in
-    record {
-      keeps = but.keeps;
-      waits = λ k. (each_link turn st into linked k (same_or_not k j) (same_or_not k (j + 1))).waits;
-      carried = λ k. (each_link turn st into linked k (same_or_not k j) (same_or_not k (j + 1))).carried;
-      rest = but.rest;
-      fit = but.fit;
-      sound = but.sound;
-      many = but.many;
-      whole = but.whole;
-      differ = but.differ;
-      numbers = but.numbers;
-      made = but.made;
-      olds = but.olds;
     }

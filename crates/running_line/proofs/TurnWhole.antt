@@ -1,8 +1,5 @@
 -- THE WHOLE RELATION GOES ON IN A TURN that has read all before it takes its input.
-use Rattle.std.proofs.Common.{List, Some, [], ap, arith, refl, subst, sym, ℕ, ℤ, ◌+◌, ◌-◌, ◌≡◌, ◌≢◌, ◌≤◌, Bool, ◌++◌}
-use Rattle.hermes_horizontal.specs.declared.message.Message.{Message}
-use Rattle.line_world.specs.FloorPlan.{AtMachine}
-use Rattle.node_core.specs.Signals.{signalled}
+use Rattle.std.proofs.Common.{List, arith, refl, subst, sym, ℕ, ℤ, ◌+◌, ◌-◌, ◌≡◌, ◌≤◌}
 use Rattle.node_core.specs.declared.act.Act.{Act}
 use Rattle.node_core.specs.declared.input.Input.{Input}
 use Rattle.node_core.specs.declared.input.Input.TheVariants as inputs
@@ -10,7 +7,7 @@ use Rattle.line_base.specs.declared.states.Side.TheVariants.{Entry, Exit}
 use Rattle.link_messages.specs.Fit.{AreFitActs}
 use Rattle.link_messages.proofs.Saying.{signals_fit}
 use Rattle.link_messages.proofs.SayingWhat.{both_said}
-use Rattle.machine_custody.specs.Scene.{Scene, all_met}
+use Rattle.machine_custody.specs.Scene.{all_met}
 use Rattle.one_standing.specs.Carried.{Trace}
 use Rattle.one_standing.specs.Standing.{HasOneStanding}
 use Rattle.one_standing.proofs.Carrying.{SaysAlone}
@@ -20,7 +17,7 @@ use Rattle.running_line.specs.New.{IsNew, NumbersDiffer}
 use Rattle.running_line.specs.RunSteps.{RunsTo}
 use Rattle.running_line.specs.Stands.{AreInRelation, Stands, line_of}
 use Rattle.running_line.specs.Steady.{scene_of}
-use Rattle.running_line.specs.Turned.{IsHeard, acts_met, answer_met, scene_met}
+use Rattle.running_line.specs.Turned.{TurnsTo, acts_met, answer_met, scene_behind, scene_met, turned}
 use Rattle.running_line.specs.Turns.{Turns}
 use Rattle.running_line.specs.Waits.{Says}
 use Rattle.running_line.specs.Wire.{Wire}
@@ -30,8 +27,8 @@ use Rattle.running_line.proofs.Relation.{within_of}
 use Rattle.running_line.proofs.RunsOn.{run_stands}
 use Rattle.running_line.proofs.TurnGoesOn.{TurnAll, fit_of, free_then, turn_all}
 use Rattle.running_line.proofs.TurnHeard.{heard_in}
-use Rattle.running_line.proofs.TurnLeaves.{AreHeardFit, node_fit, step_fit}
-use Rattle.running_line.proofs.TurnStands.{AreLinked, own_scene, trace_then, turn_stands, unread_below, unread_then}
+use Rattle.running_line.proofs.TurnLeaves.{AreHeardFit, IsHeard, node_fit, step_fit}
+use Rattle.running_line.proofs.TurnStands.{AreLinked, turn_stands, unread_below, unread_then}
 use Rattle.running_line.proofs.WiresWhole.{Unread, linked_down, linked_found, linked_plain, linked_refused, linked_taken, linked_up}
 
 -- ---- all that is told is fit
@@ -62,13 +59,18 @@ linked_all alone j input t st turn fit unread all = linked_plain alone t j st tu
 
 -- ---- THE TURN
 
-next_stands : SaysAlone → (j : ℕ) (input : Input) (moment : ℤ) (before after : Running) (told : List Act) → Turns Strictly (j + 1) input moment before after told → (t : Trace) → Stands t before → AreInRelation after
-next_stands alone j input moment before after told turn t st =
+pub turns_to : SaysAlone → (t : Trace) (j : ℕ) (input : Input) (moment : ℤ) (before after : Running) (told : List Act) → Stands t before → (turn : Turns Strictly (j + 1) input moment before after told) → TurnsTo j t turn
+turns_to alone t j input moment before after told st turn =
     let heard : IsHeard input turn.steps.lane.words (scene_of t before j) = heard_in alone j input t st turn in
     let all : TurnAll j t turn = turn_all j input t st turn heard in
     let fit : AreFitActs told = told_fit turn t st (fit_of input turn.steps.lane.words (scene_of t before j) heard) in
     let unread : Unread j turn.rest before after = record { own = unread_then j t st turn; below = unread_below j t st turn } in
-    record { trace = trace_then all.into; stands = turn_stands turn st all.into (linked_all alone j input t st turn fit unread all) all.leaves }
+    record { wire = all.wire; said = all.said; a = all.into.goes.a; b = all.into.goes.b; gone = all.gone; stands = turn_stands turn st all.into (linked_all alone j input t st turn fit unread all) all.leaves }
+
+next_stands : SaysAlone → (j : ℕ) (input : Input) (moment : ℤ) (before after : Running) (told : List Act) → Turns Strictly (j + 1) input moment before after told → (t : Trace) → Stands t before → AreInRelation after
+next_stands alone j input moment before after told turn t st =
+    let to : TurnsTo j t turn = turns_to alone t j input moment before after told st turn in
+    record { trace = turned j to.a to.b to.gone (scene_behind input to.wire to.said told t before j) t; stands = to.stands }
 
 less_one : (machine : ℕ) → 1 ≤ machine → machine - 1 + 1 ≡ machine
 less_one machine some = omega (arith, some)

@@ -1,5 +1,5 @@
 -- BEHIND A TURN in which a connection comes: the exit takes one that it awaits, while it has none; or the entry finds one made.
-use Rattle.std.proofs.Common.{List, Some, [], ap, append-nil, false, length, map, refl, slice_get, slice_set, subst, sym, true, ℕ, ℤ, ◌+◌, ◌∙◌, ◌∷◌, ◌≡◌}
+use Rattle.std.proofs.Common.{List, Some, [], ap, append-nil, false, length, map, refl, slice_get, slice_set, subst, sym, ℕ, ℤ, ◌+◌, ◌∙◌, ◌∷◌, ◌≡◌}
 use Rattle.std.proofs.lemmas.Bool.{false≢true}
 use Rattle.std.specs.List.{list_any}
 use Rattle.line_base.specs.declared.states.Side.TheVariants.{Entry, Exit}

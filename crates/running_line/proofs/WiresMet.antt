@@ -1,5 +1,5 @@
 -- BEHIND A TURN that meets a connection at one of its machine's sides: bytes come on it, it is taken, or it is found made.
-use Rattle.std.proofs.Common.{Bool, List, None, Option, Some, [], ap, arith, false, length, map, refl, slice_get, slice_set, subst, suc, sym, true, zero, ℕ, ℤ, ◌+◌, ◌∙◌, ◌∷◌, ◌≡◌}
+use Rattle.std.proofs.Common.{Bool, List, None, Option, Some, [], ap, false, length, map, refl, slice_get, slice_set, subst, suc, sym, true, zero, ℕ, ℤ, ◌+◌, ◌∙◌, ◌∷◌, ◌≡◌}
 use Rattle.std.specs.Borrow.{Bor}
 use Rattle.std.specs.Prelude.{drop}
 use Rattle.line_base.specs.declared.states.Side.{Side}

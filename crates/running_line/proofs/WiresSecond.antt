@@ -1,6 +1,6 @@
 -- THE EXIT REFUSES A SECOND CONNECTION: it has left that one, the answer goes down on it to an entry that hasn't left it, and the
 -- first goes on.
-use Rattle.std.proofs.Common.{Bool, List, Some, [], ap, append-nil, false, map, refl, slice_get, slice_set, subst, suc, sym, true, zero, ℕ, ◌++◌, ◌+◌, ◌∙◌, ◌∷◌, ◌≡◌, ◌&&◌}
+use Rattle.std.proofs.Common.{Bool, List, Some, [], ap, append-nil, false, map, refl, slice_get, slice_set, subst, suc, sym, true, zero, ℕ, ◌++◌, ◌∙◌, ◌∷◌, ◌≡◌, ◌&&◌}
 use Rattle.std.specs.Prelude.{cond}
 use Rattle.std.proofs.lemmas.Bool.{false≢true}
 use Rattle.std.specs.List.{AllByRecursion, list_any}

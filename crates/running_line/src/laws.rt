@@ -111,27 +111,14 @@ pub fn a_connection_in_a_turn_keeps_both_links()
         → RefusesIt t s j (machine_step desk read Second (node_in s (j + 1)).lane.body) }
 {}
 
-/// In a turn that has read all before it takes an input, all of the relation goes on but what is on
-/// the connections: of each link and each machine, where boards lie and what is gone, that each id
-/// was made by a machine, and that a link stands where both its ends have one connection. What is
-/// between the machine and its neighbours is then what its scene says behind its acts.
-pub fn a_turn_keeps_all_but_what_is_on_connections()
-    ensures { (t : Trace) (j : ℕ) (input : Input) (moment : ℤ) (before after : Running)
+/// The relation goes on in a turn that has read all before it takes an input, whatever the input is,
+/// a change by hand too: behind it what is between the machine and its neighbours is what its scene
+/// says behind its acts; and so it goes on by the machine's number, with some trace.
+pub fn the_relation_goes_on_in_a_turn()
+    ensures turned { (t : Trace) (j : ℕ) (input : Input) (moment : ℤ) (before after : Running)
         (told : List Act) → Stands t before
         → (turn : Turns Strictly (j + 1) input moment before after told) → TurnsTo j t turn }
-{
-    link_messages::laws::the_words_of_a_piece_are_the_oldest_messages();
-    link_messages::laws::a_frame_with_a_nul_is_a_wrong_word();
-    link_messages::laws::fit_messages_are_sayable();
-    link_messages::laws::the_words_of_fit_messages_are_fit();
-    link_messages::laws::the_words_behind_a_nul_are_fit();
-}
-
-/// And with what is on the connections, that is all of it: where running machines stand in the
-/// relation before a turn that has read all before it takes an input, they do so behind it, whatever
-/// the input is.
-pub fn the_relation_goes_on_in_a_turn()
-    ensures { (machine : ℕ) (input : Input) (moment : ℤ) (before after : Running)
+    ensures related { (machine : ℕ) (input : Input) (moment : ℤ) (before after : Running)
         (told : List Act) → Turns Strictly machine input moment before after told
         → AreInRelation before → AreInRelation after }
 {
