@@ -1,19 +1,22 @@
 //! The cases of two machines: each line has the steps of machine 1 and machine 2, and is written
 //! again with the acts of each step, or the reason against it, and with how both machines stand
-//! then.
+//! then. A line that begins with `each.in` or `each.out` has a name and the steps of machine 1
+//! alone; behind it each kind of message is given, at that side, to a machine that stands so.
 #![tactic(auto)]
 
-ghost use Rattle.std.specs.Prelude.{◌≡◌, ◌<◌, ◌^◌, true};
-ghost use Rattle.line_base.specs.PlainText.{is_plain_text};
+ghost use Rattle.std.specs.Prelude.{◌<◌, ◌^◌};
 
+mod each;
 mod ids;
 mod input;
+mod machine;
 mod messages;
 mod met;
 mod told;
 
-use line_base::{Memory, Text};
-use node_core::{Node, NodeProfile};
+use crate::machine::machine;
+use line_base::Memory;
+use node_core::Node;
 use std::alloc::Global;
 use std::io;
 use std::io::{ErrorKind, Write};
@@ -23,10 +26,19 @@ fn main(rt: HostRuntime) -> io::Result<()> {
     for case in rt.lines(rt.alloc()) {
         let case = case?;
         let mut said = Vec::new(rt.alloc());
-        tell_case(rt.alloc(), case.as_str(), &mut said)?;
+        tell_line(rt.alloc(), case.as_str(), &mut said)?;
         out.write_all(said.as_slice())?;
     }
     Ok(())
+}
+
+/// Appends a case with its answer.
+fn tell_line(alloc: Global, line: &str, to: &mut Vec<u8>) -> io::Result<()> {
+    match line.split_once(' ') {
+        Some(("each.in", steps)) => each::tell(alloc, "in", steps, to),
+        Some(("each.out", steps)) => each::tell(alloc, "out", steps, to),
+        _ => tell_case(alloc, line, to),
+    }
 }
 
 /// Appends a case with its answer, for two new machines.
@@ -58,23 +70,4 @@ fn used_before(case: &str) -> u64
 /// Whether machine 1 is a bridge: where the case begins with `bridge`.
 fn is_bridge(case: &str) -> bool {
     case.split_whitespace().next() == Some("bridge")
-}
-
-/// A machine with two places.
-fn machine(alloc: Global, number: u32, name: &[u8], used: u64, bridge: bool) -> Result<Node, Memory>
-    requires plain { is_plain_text name.now ≡ true }
-    requires used { used < 2 ^ 48 }
-{
-    let machine = Text::plain(alloc, name)?;
-    Node::new(
-        alloc,
-        NodeProfile {
-            number,
-            machine,
-            lane: 1,
-            capacity: 2,
-            used,
-            bridge,
-        },
-    )
 }

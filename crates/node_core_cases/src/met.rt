@@ -45,6 +45,34 @@ fn meet_either(
     }
 }
 
+/// The steps of machine 1, of which nothing is told.
+pub fn bring(alloc: Global, node: &mut Node, steps: &str) -> io::Result<()> {
+    let mut untold = Vec::new(alloc);
+    for word in steps.split_whitespace() {
+        if let Some(("1", step)) = word.split_once(';') {
+            meet(alloc, node, step, &mut untold)?;
+            untold.clear();
+        }
+    }
+    Ok(())
+}
+
+/// A step in which these bytes come, and its acts with the bytes that are sent.
+pub fn hear(node: &mut Node, side: Side, bytes: &[u8], to: &mut Vec<u8>) -> io::Result<()> {
+    let input = Input::Bytes(side, bytes);
+    match node.may(&input) {
+        Ok(()) => hear_open(node, input, to),
+        Err(no) => write!(to, " | no: {no}"),
+    }
+}
+
+fn hear_open(node: &mut Node, input: Input<'_>, to: &mut Vec<u8>) -> io::Result<()>
+    requires { may_of node.old input ≡ may_do }
+{
+    let done = node.step(&[], input, Moment::of_millis(0));
+    told::tell_spelled(&done, to)
+}
+
 fn meet_often(alloc: Global, node: &mut Node, step: &str) -> io::Result<()> {
     let mut untold = Vec::new(alloc);
     for _ in 0..255 {

@@ -2,12 +2,14 @@
 
 use crate::ids;
 use board_record::BoardId;
-use hermes_horizontal::{Horizontal, Info, Ping};
+use handover_in::Intake;
+use handover_out::Outlet;
+use hermes_horizontal::{Horizontal, Info, Message, Ping, write_horizontal};
 use hermes_vertical::{Passage, Question, Vertical};
 use line_base::{Memory, Quality, Side, Text, Transfer};
 use node_core::{Act, Deed, Node, Outputs, SegmentLine, Setting, Signal};
 use std::io;
-use std::io::Write;
+use std::io::{ErrorKind, Write};
 
 /// Appends the acts of a step.
 pub fn tell_done(done: &Result<Outputs, Memory>, to: &mut Vec<u8>) -> io::Result<()> {
@@ -15,6 +17,38 @@ pub fn tell_done(done: &Result<Outputs, Memory>, to: &mut Vec<u8>) -> io::Result
     match done {
         Ok(acts) => tell_acts(acts.list(), to),
         Err(_) => to.write_all(b" out of memory"),
+    }
+}
+
+/// Appends the acts of a step, of each message that is sent its bytes.
+pub fn tell_spelled(done: &Result<Outputs, Memory>, to: &mut Vec<u8>) -> io::Result<()> {
+    to.write_all(b" |")?;
+    match done {
+        Ok(acts) => spell_acts(acts.list(), to),
+        Err(_) => to.write_all(b" out of memory"),
+    }
+}
+
+fn spell_acts(acts: &[Act], to: &mut Vec<u8>) -> io::Result<()> {
+    for (place, act) in acts.iter().enumerate() {
+        match act {
+            Act::Sends(side, message) => spell_sent(place, *side, message, to)?,
+            _ => tell_one(place, act, to)?,
+        }
+    }
+    Ok(())
+}
+
+fn spell_sent(place: usize, side: Side, message: &Message, to: &mut Vec<u8>) -> io::Result<()> {
+    if place > 0 {
+        to.write_all(b",")?;
+    }
+    to.write_all(b" ")?;
+    tell_side("sends", side, to)?;
+    to.write_all(b" ")?;
+    match write_horizontal(message, to) {
+        Ok(()) => Ok(()),
+        Err(Memory) => Err(io::Error::from(ErrorKind::OutOfMemory)),
     }
 }
 
@@ -310,6 +344,56 @@ pub fn stands(node: &Node, to: &mut Vec<u8>) -> io::Result<()> {
     write!(to, "; {entry:?}; {exit:?}")?;
     tell_forecasts(node.forecasts(), to)?;
     tell_supervision(node, to)
+}
+
+/// Appends how a side of a machine stands, with the session and the half of a handover there.
+pub fn stands_open(node: &Node, side: Side, to: &mut Vec<u8>) -> io::Result<()> {
+    stands(node, to)?;
+    let session = node.session(side).state();
+    write!(to, "; {session:?}")?;
+    match side {
+        Side::Entry => tell_intake(node.intake(), to),
+        Side::Exit => tell_outlet(node.outlet(), to),
+    }
+}
+
+fn tell_intake(intake: &Intake, to: &mut Vec<u8>) -> io::Result<()> {
+    let phase = intake.phase();
+    write!(to, ", {phase:?}")?;
+    if let Some(board) = intake.holds() {
+        tell_id(board.id, to)?;
+    }
+    if let Some(own) = intake.own() {
+        write!(to, " {own:?}")?;
+    }
+    tell_where(intake.heard(), "heard", to)?;
+    if let Some(board) = intake.offer() {
+        write!(to, " offer")?;
+        tell_id(board.id, to)?;
+    }
+    tell_where(intake.ready(), "ready", to)
+}
+
+fn tell_outlet(outlet: &Outlet, to: &mut Vec<u8>) -> io::Result<()> {
+    let phase = outlet.phase();
+    write!(to, ", {phase:?}")?;
+    if let Some(board) = outlet.holds() {
+        tell_id(board.id, to)?;
+    }
+    tell_where(outlet.stopped(), "stopped", to)?;
+    if let Some(id) = outlet.offered() {
+        write!(to, " offered")?;
+        tell_id(id, to)?;
+    }
+    tell_where(outlet.ready(), "ready", to)
+}
+
+/// Appends a word where something holds.
+fn tell_where(holds: bool, word: &str, to: &mut Vec<u8>) -> io::Result<()> {
+    if holds {
+        write!(to, " {word}")?;
+    }
+    Ok(())
 }
 
 /// Whether it is supervised, and the answer to its first question.
