@@ -1,3 +1,2 @@
-pub mod Address
 pub mod Value
 pub mod Settings

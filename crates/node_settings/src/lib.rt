@@ -1,7 +1,6 @@
 //! The settings of a machine over TCP: what its file says, or why it is refused.
 #![tactic(auto)]
 
-mod address;
 mod key;
 mod read;
 mod settings;

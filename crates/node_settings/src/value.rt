@@ -5,8 +5,8 @@ ghost use Rattle.node_settings.specs.Settings.{Reads, named};
 ghost use Rattle.node_settings.specs.Value.{number_as, number_in, id_text_as, id_text_of, address_as, switch_as, required, optional};
 ghost use Rattle.node_settings.specs.declared.key.ConfigKey.TheVariants as keys;
 
-use crate::address::address_of;
 use crate::key::{ConfigKey, ConfigWhy, SettingsError};
+use host_address::address_of;
 use line_base::{Text, TextError};
 use line_outside::Address;
 use std::alloc::Global;

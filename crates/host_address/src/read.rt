@@ -1,5 +1,5 @@
 ghost use Rattle.std.specs.Prelude.{◌≡◌, ◌==◌, ◌<◌, IfSome, length, option_map, position};
-ghost use Rattle.node_settings.specs.Address.{cut_at, part_of, port_of, part_before, host_of, address_of};
+ghost use Rattle.host_address.specs.Address.{cut_at, part_of, port_of, part_before, host_of, address_of};
 
 use line_base::read_number;
 use line_outside::Address;
@@ -43,7 +43,8 @@ fn part_of(word: &[u8]) -> Option<u8>
     Some(number as u8)
 }
 
-fn port_of(word: &[u8]) -> Option<u16>
+/// Reads a port: 1 to 9 decimal digits, of a value from 1 to 65,535.
+pub fn port_of(word: &[u8]) -> Option<u16>
     ensures { result ≡ port_of word.now }
 {
     let number = read_number(word)?;

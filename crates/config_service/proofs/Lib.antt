@@ -1,0 +1,4 @@
+pub mod Answering
+pub mod Back
+pub mod Refusals
+pub mod Writing

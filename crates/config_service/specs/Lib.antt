@@ -1,0 +1,6 @@
+pub mod Names
+pub mod Said
+pub mod Spelling
+pub mod Canonical
+pub mod Texts
+pub mod Plans
