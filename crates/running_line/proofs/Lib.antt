@@ -34,4 +34,5 @@ pub mod WiresMet
 pub mod WiresCome
 pub mod WiresRefused
 pub mod WiresWhole
+pub mod UniqueIds
 pub mod TurnWhole

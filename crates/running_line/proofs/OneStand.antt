@@ -44,7 +44,7 @@ intake_link : {t : Trace} {s : Running} {x : ℕ} (m k : ℕ) {r : Record} → S
 intake_link {s = s} m k {r = r} st is e same = intake_at (st.keeps.neighbours.at k) (subst (λ (n : ℕ). held_in (node_in s n).lane.body.intake.phase ≡ Some r) is e) same
 
 -- the board of a mark is at its link
-at_link : {t : Trace} {s : Running} {x : ℕ} {mark : Mark} → Stands t s → HasMark (stand_of (line_of s)) x mark → AtLink (stand_of (line_of s)) (between_of t s) x (link_of mark) true
+pub at_link : {t : Trace} {s : Running} {x : ℕ} {mark : Mark} → Stands t s → HasMark (stand_of (line_of s)) x mark → AtLink (stand_of (line_of s)) (between_of t s) x (link_of mark) true
 at_link st (has_kept k) = kept_at k
 at_link st (has_outlet {m = m} e same) = outlet_at true (st.keeps.neighbours.at m) e same
 at_link st (has_intake {m = zero} {r = r} e same) = absurd (none-some r e)

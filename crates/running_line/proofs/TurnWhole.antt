@@ -13,6 +13,7 @@ use Rattle.one_standing.specs.Standing.{HasOneStanding}
 use Rattle.one_standing.proofs.Carrying.{SaysAlone}
 use Rattle.running_line.specs.Reading.{Strictly}
 use Rattle.running_line.specs.Running.{Running}
+use Rattle.running_line.specs.Ids.{HasUniqueIds}
 use Rattle.running_line.specs.New.{IsNew, NumbersDiffer}
 use Rattle.running_line.specs.RunSteps.{RunsTo}
 use Rattle.running_line.specs.Stands.{AreInRelation, Stands, line_of}
@@ -29,6 +30,7 @@ use Rattle.running_line.proofs.TurnGoesOn.{TurnAll, fit_of, free_then, turn_all}
 use Rattle.running_line.proofs.TurnHeard.{heard_in}
 use Rattle.running_line.proofs.TurnLeaves.{AreHeardFit, IsHeard, node_fit, step_fit}
 use Rattle.running_line.proofs.TurnStands.{AreLinked, turn_stands, unread_below, unread_then}
+use Rattle.running_line.proofs.UniqueIds.{unique_ids_of}
 use Rattle.running_line.proofs.WiresWhole.{Unread, linked_down, linked_found, linked_plain, linked_refused, linked_taken, linked_up}
 
 -- ---- all that is told is fit
@@ -81,7 +83,11 @@ turn_goes_on alone machine input moment before after told turn r =
     next_stands alone (machine - 1) input moment before after told (subst (λ (m : ℕ). Turns Strictly m input moment before after told) (sym same) turn) r.trace r.stands
 
 -- and along a run
+run_in_relation : SaysAlone → {s u : Running} {told : List Act} → IsNew s → NumbersDiffer s → RunsTo Strictly s told u → AreInRelation u
+run_in_relation alone {s} new differ run = run_stands (turn_goes_on alone) run (new_stand s new differ)
+
 pub runs_have_one_standing : SaysAlone → (s u : Running) (told : List Act) → IsNew s → NumbersDiffer s → RunsTo Strictly s told u → HasOneStanding (line_of u)
-runs_have_one_standing alone s u told new differ run =
-    let r : AreInRelation u = run_stands (turn_goes_on alone) run (new_stand s new differ) in
-    one_standing_of r.trace u r.stands
+runs_have_one_standing alone s u told new differ run = (let r : AreInRelation u = run_in_relation alone new differ run in one_standing_of r.trace u r.stands)
+
+pub runs_have_unique_ids : SaysAlone → (s u : Running) (told : List Act) → IsNew s → NumbersDiffer s → RunsTo Strictly s told u → HasUniqueIds u
+runs_have_unique_ids alone s u told new differ run = (let r : AreInRelation u = run_in_relation alone new differ run in unique_ids_of r.trace u r.stands)

@@ -10,3 +10,4 @@ pub mod Stands
 pub mod Steady
 pub mod Turned
 pub mod Off
+pub mod Ids

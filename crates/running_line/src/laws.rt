@@ -19,6 +19,7 @@ ghost use Rattle.machine_custody.specs.Flight.{IsPlain};
 ghost use Rattle.one_standing.specs.Carried.{Trace};
 ghost use Rattle.one_standing.specs.Standing.{HasOneStanding};
 ghost use Rattle.running_line.specs.Doubled.{IsDoubled, IsHeldBehind};
+ghost use Rattle.running_line.specs.Ids.{HasUniqueIds};
 ghost use Rattle.running_line.specs.New.{IsNew, NumbersDiffer};
 ghost use Rattle.running_line.specs.Reading.{Reading, ReadsFront, Strictly};
 ghost use Rattle.running_line.specs.Running.{Running, unread_by};
@@ -138,10 +139,13 @@ pub fn one_standing_in_the_relation()
 /// THE LAW OVER RUNS: in whatever order the turns of machines fall, and whatever connections between
 /// them break, are refused, half made or made anew: from new machines whose numbers differ, behind
 /// each run in which every machine reads all that its sensors saw before it takes an input, each
-/// board's record has one standing.
+/// board's record has one standing; no two boards share an id; and each id of a board or a record
+/// was made by one of the machines.
 pub fn one_standing_in_each_run_that_reads_first()
-    ensures { (s u : Running) (told : List Act) → IsNew s → NumbersDiffer s
+    ensures standing { (s u : Running) (told : List Act) → IsNew s → NumbersDiffer s
         → RunsTo Strictly s told u → HasOneStanding (line_of u) }
+    ensures ids { (s u : Running) (told : List Act) → IsNew s → NumbersDiffer s
+        → RunsTo Strictly s told u → HasUniqueIds u }
 {
     link_messages::laws::the_words_of_a_piece_are_the_oldest_messages();
     link_messages::laws::a_frame_with_a_nul_is_a_wrong_word();
