@@ -1,5 +1,5 @@
 -- How a run goes on, and how it ends.
-use Rattle.std.proofs.Common.{◌≡◌, ◌≤◌, ◌+◌, inl, inr, ℕ, Bool, List, [], ◌++◌, Option, None, Some, Ok, Err, is_some, option_map, refl, sym, ap, subst, ◌∙◌, append_assoc, append-nil, arith}
+use Rattle.std.proofs.Common.{◌≡◌, ◌≤◌, ◌+◌, ℕ, Bool, List, [], ◌++◌, Option, None, Some, Ok, Err, is_some, option_map, refl, sym, ap, subst, ◌∙◌, append_assoc, append-nil, arith}
 use Rattle.line_outside.specs.Faults.{Rose}
 use Rattle.line_outside.specs.Sink.{Grows, GrowsInPart, PushesAll}
 use Rattle.line_outside.specs.declared.pushing.Pushed.{Pushed}
@@ -24,6 +24,7 @@ use Rattle.line_cli.specs.declared.script_run.RunError.{RunError}
 use Rattle.line_cli.specs.declared.script_run.RunError.TheVariants as errors
 use Rattle.line_cli.specs.declared.status.Status.{Status}
 use Rattle.line_cli.specs.declared.status.Status.TheVariants as statuses
+use Rattle.line_cli.proofs.Fronts.{first_begins}
 use Rattle.line_cli.proofs.Steps.{behind-behind}
 
 abbrev pub start : Place
@@ -83,7 +84,7 @@ part-none old now text same =
 going-front : (script rest : List ℕ) (old now now' : Option (List ℕ)) (place : Place) (text : List ℕ) → IsGoing script rest old now place text → GrowsInPart now now' text → WritesFront script old now'
 going-front script rest old now now' place text going part = record {
   text = going.shown ++ part.front;
-  begins = inl (record {
+  begins = first_begins script (going.shown ++ part.front) (record {
     lines = going.asked;
     others = (script_behind place rest).lines;
     all = ap (λ (s : Script). s.lines) going.all;
@@ -141,10 +142,10 @@ front-report script text shown refusal end old now now' reports grows part =
     let whole : (shown ++ part.front) ++ part.back ≡ shown ++ text = append_assoc shown part.front part.back ∙ ap (λ t. shown ++ t) part.parts in
     record {
       text = shown ++ part.front;
-      begins = inr (record {
+      begins = record {
         rest = part.back;
         whole = record { points = reports.points; run = reports.run; written = whole ∙ reports-text script (shown ++ text) refusal end reports };
-      });
+      };
       grows = grows_more old now now' shown part.front grows part.grows;
     }
 

@@ -1,8 +1,10 @@
 pub mod LinesLemmas
 pub mod Steps
 pub mod Folding
+pub mod Fronts
 pub mod Going
 pub mod ReadFrames
+pub mod ReadFronts
 pub mod ReadSteps
 pub mod ReadOnce
 pub mod ReportOnce
@@ -10,3 +12,4 @@ pub mod MadeOnce
 pub mod Checked
 pub mod FitScript
 pub mod Copied
+pub mod AnsweredOnce

@@ -1,15 +1,15 @@
 -- How a reading goes on, and how it ends.
-use Rattle.std.proofs.Common.{◌≡◌, ◌≤◌, ◌<◌, ◌+◌, ◌-◌, ℕ, Bool, true, false, List, [], ◌∷◌, ◌++◌, length, take, drop, nat_lt, Option, None, Some, option_map, refl, sym, ap, subst, ◌∙◌, append_assoc, append-nil, arith, length-append, inl, inr}
+use Rattle.std.proofs.Common.{◌≡◌, ◌≤◌, ◌<◌, ◌+◌, ◌-◌, ℕ, Bool, true, false, List, [], ◌++◌, length, take, drop, nat_lt, Option, None, Some, option_map, refl, sym, ap, subst, ◌∙◌, append_assoc, append-nil, arith, length-append}
 use Rattle.std.proofs.lemmas.Bool.Decides.{nat_tests}
 use Rattle.std.proofs.Math.Seq.{take-append-add}
 use Rattle.std.proofs.lemmas.List.{take_all, take-append-drop, length-take-le, length-drop}
 use Rattle.line_outside.specs.Sink.{GrowsInPart, PushesAll}
 use Rattle.line_outside.specs.declared.pushing.Pushed.{Pushed}
 use Rattle.line_outside.specs.declared.pushing.Pushed.TheVariants as pushes
-use Rattle.line_outside.proofs.Growing.{grows_none, grows_more, grows_part, rose_after}
+use Rattle.line_outside.proofs.Growing.{grows_none, grows_more, rose_after}
 use Rattle.hermes_stream.specs.Frames.{Frames, frames_of, behind}
 use Rattle.hermes_stream.specs.Frames as parts
-use Rattle.line_cli.specs.ReadText.{AreFrameLines, AreFirstLines, IsReadText, most_read, ending_text, read_ending}
+use Rattle.line_cli.specs.ReadText.{AreFrameLines, IsReadText, most_read, ending_text, read_ending}
 use Rattle.line_cli.specs.StreamReader.{TakesSome, IsOver, IsRest}
 use Rattle.line_cli.specs.Command.{HasCauses}
 use Rattle.line_cli.specs.Ending.{HasPushed}
@@ -17,20 +17,12 @@ use Rattle.line_cli.specs.Stream.{WritesFront, ReadsStream, Reads, IsReading, Re
 use Rattle.line_cli.specs.declared.stream_reader.Progress.{Progress}
 use Rattle.line_cli.specs.declared.status.Status.{Status}
 use Rattle.line_cli.specs.declared.status.Status.TheVariants as statuses
+use Rattle.line_cli.proofs.ReadFronts.{AreFirstLines, first_lines_begin, lines-join, part_begins, whole_begins}
 
 -- at first nothing was pushed and nothing waits
 pub reads-first : (left old : Option (List ℕ)) (far : Progress) → far.taken ≡ 0 → far.done ≡ 0 → ReadsOn left left old old [] far []
 reads-first None old far taken done = tt
 reads-first (Some stream) old far taken done = record { before = []; parts = refl; counted = sym taken; shown = []; grows = grows_none old; frames = []; done = done; cut = λ later. refl; told = refl }
-
-lines-join : (number : ℕ) (front back : List (List ℕ)) (lines more : List ℕ) → AreFrameLines number front lines → AreFrameLines (number + length front) back more → AreFrameLines number (front ++ back) (lines ++ more)
-lines-join number [] back lines more told next =
-    let here : number + 0 ≡ number = omega arith in
-    let P : List ℕ → Type 0 = λ t. AreFrameLines number back t in
-    subst P (ap (λ t. t ++ more) (sym told)) (rw here at next)
-lines-join number (f ∷ fs) back lines more told next =
-    let here : number + length (f ∷ fs) ≡ number + 1 + length fs = omega arith in
-    (told.0, told.1 ++ more, told.2, lines-join (number + 1) fs back told.1 more told.3 (rw here at next), ap (λ t. t ++ more) told.4 ∙ append_assoc told.0 told.1 more)
 
 behind-join : (front back : List (List ℕ)) (rest : Frames) → behind front (behind back rest) ≡ behind (front ++ back) rest
 behind-join front back rest = ap (λ (m : List (List ℕ)). record { messages = m; rest = rest.rest }) (sym (append_assoc front back rest.messages))
@@ -94,11 +86,15 @@ first-lines stream rest old now waiting far text reading most =
       told = reading.told;
     }
 
+behind-front : (shown front back text : List ℕ) → front ++ back ≡ text → (shown ++ front) ++ back ≡ shown ++ text
+behind-front shown front back text is = append_assoc shown front back ∙ ap (λ t. shown ++ t) is
+
 front-written : (stream rest : List ℕ) (old now now' : Option (List ℕ)) (waiting : List ℕ) (far : Progress) (text : List ℕ) → IsReading stream rest old now waiting far text → far.taken ≤ most_read → GrowsInPart now now' text → WritesFront stream old now'
 front-written stream rest old now now' waiting far text reading most part = record {
-  text = reading.shown ++ text;
-  begins = inl (first-lines stream rest old now waiting far text reading most);
-  grows = grows_part old now now' reading.shown text reading.grows part;
+  text = reading.shown ++ part.front;
+  begins = part_begins stream (reading.shown ++ part.front) part.back (reading.shown ++ text) (behind-front reading.shown part.front part.back text part.parts)
+      (first_lines_begin stream (reading.shown ++ text) (first-lines stream rest old now waiting far text reading most));
+  grows = grows_more old now now' reading.shown part.front reading.grows part.grows;
 }
 
 part-none : (now : Option (List ℕ)) (text : List ℕ) → GrowsInPart now now text
@@ -163,9 +159,11 @@ ended-read stream rest left old now now' waiting far text large before after (st
     (ends.1, ends.2, is-large (length stream) large is_large ends.0, record { text = reading.shown ++ (text ++ ending_text far.done far.too_long (length waiting) large); is = is-read far.too_long stream rest old now waiting far text large reading over whole is_large; grows = grows_more old now now' reading.shown (text ++ ending_text far.done far.too_long (length waiting) large) reading.grows ends.4 })
 ended-read stream rest left old now now' waiting far text large before after statuses.ReadFault reading over whole is_large over_left most ends = absurd ends
 ended-read stream rest left old now now' waiting far text large before after statuses.WriteFault reading over whole is_large over_left most ends = record {
-  text = reading.shown ++ (text ++ ending_text far.done far.too_long (length waiting) large);
-  begins = inr (is-read far.too_long stream rest old now waiting far text large reading over whole is_large);
-  grows = grows_part old now now' reading.shown (text ++ ending_text far.done far.too_long (length waiting) large) reading.grows ends.2;
+  text = reading.shown ++ ends.2.front;
+  begins = part_begins stream (reading.shown ++ ends.2.front) ends.2.back (reading.shown ++ (text ++ ending_text far.done far.too_long (length waiting) large))
+      (behind-front reading.shown ends.2.front ends.2.back (text ++ ending_text far.done far.too_long (length waiting) large) ends.2.parts)
+      (whole_begins stream (reading.shown ++ (text ++ ending_text far.done far.too_long (length waiting) large)) (is-read far.too_long stream rest old now waiting far text large reading over whole is_large));
+  grows = grows_more old now now' reading.shown ends.2.front reading.grows ends.2.grows;
 }
 ended-read stream rest left old now now' waiting far text large before after statuses.Memory reading over whole is_large over_left most ends =
     let P : Option (List ℕ) → Type 0 = λ n. WritesFront stream old n in

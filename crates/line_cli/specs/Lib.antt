@@ -11,3 +11,4 @@ pub mod ReadText
 pub mod Stream
 pub mod StreamReader
 pub mod Premises
+pub mod Answered

@@ -61,6 +61,16 @@ pub record IsMakeText (number : ℕ) (text : List ℕ) : Type 0 where
   pub written : text ≡ last ++ (codes " fold=" ++ decimal (fold_of (report_text points None))
       ++ codes "\n")
 
+-- a number has a make text, and no other text is one
+pub record HasOneMakeText (number : ℕ) : Type 0 where
+  pub text : List ℕ
+  pub is : IsMakeText number text
+  pub only : (other : List ℕ) → IsMakeText number other → other ≡ text
+
+-- THE LAW: of each number
+abbrev pub EachNumberHasOneMakeText : Type 0
+EachNumberHasOneMakeText = (number : ℕ) → HasOneMakeText number
+
 -- it was written
 pub record WritesMakeText (number : ℕ) (old new : Option (List ℕ)) : Type 0 where
   pub text : List ℕ

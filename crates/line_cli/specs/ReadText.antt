@@ -75,13 +75,17 @@ pub record IsReadText (bytes text : List ℕ) : Type 0 where
       ++ read_ending (length (frames_of (take most_read bytes)).messages)
       (frames_of (take most_read bytes)).rest (nat_lt most_read (length bytes))
 
--- the lines of the first frames alone
-pub record AreFirstLines (bytes lines : List ℕ) : Type 0 where
-  pub frames : List (List ℕ)
-  pub others : List (List ℕ)
-  pub all : (frames_of (take most_read bytes)).messages ≡ frames ++ others
-  pub told : AreFrameLines 1 frames lines
+-- what a read text begins with: a front of the read text that the stream has, and nothing else
+pub record BeginsReadText (bytes text : List ℕ) : Type 0 where
+  pub rest : List ℕ
+  pub whole : IsReadText bytes (text ++ rest)
 
--- what the read text begins with: the lines of the first frames, or all of it
-abbrev pub BeginsReadText : List ℕ → List ℕ → Type 0
-BeginsReadText bytes text = AreFirstLines bytes text ⊎ IsReadText bytes text
+-- a stream has a read text, and no other text is one
+pub record HasOneReadText (bytes : List ℕ) : Type 0 where
+  pub text : List ℕ
+  pub is : IsReadText bytes text
+  pub only : (other : List ℕ) → IsReadText bytes other → other ≡ text
+
+-- THE LAW: whatever the bytes of a stream are
+abbrev pub EachStreamHasOneReadText : Type 0
+EachStreamHasOneReadText = (bytes : List ℕ) → HasOneReadText bytes

@@ -1,6 +1,5 @@
 -- THE REPORT of a script: what its lines did, each with its number, and a last line.
-use Rattle.std.specs.Prelude.{◌≡◌, ℕ, ◌++◌, ◌⊎◌, List, Option, None, Some}
-use Rattle.line_script.specs.declared.line.ScriptLine.{ScriptLine}
+use Rattle.std.specs.Prelude.{◌≡◌, ℕ, ◌++◌, List, Option, None, Some}
 use Rattle.line_step.specs.State.{LineState, no_line}
 use Rattle.line_step.specs.Runs.{Point, IsRun, state_behind, told_text}
 use Rattle.line_report.specs.Texts.{summary_text}
@@ -23,21 +22,17 @@ pub record IsReport (bytes text : List ℕ) : Type 0 where
   pub run : IsRun no_line (script_of bytes).lines points
   pub written : text ≡ report_text points (script_of bytes).refusal
 
--- a text is a front of what the first lines of a script are told of
-pub record IsFirstTold (bytes text : List ℕ) : Type 0 where
-  pub lines : List ScriptLine
-  pub others : List ScriptLine
-  pub all : (script_of bytes).lines ≡ lines ++ others
-  pub points : List Point
-  pub run : IsRun no_line lines points
-  pub rest : List ℕ
-  pub front : text ++ rest ≡ told_text 1 points
-
--- a text is a front of a script's report
-pub record IsFrontOfReport (bytes text : List ℕ) : Type 0 where
+-- what a report begins with: a front of the report that the script has, and nothing else
+pub record BeginsReport (bytes text : List ℕ) : Type 0 where
   pub rest : List ℕ
   pub whole : IsReport bytes (text ++ rest)
 
--- what a report begins with
-abbrev pub BeginsReport : List ℕ → List ℕ → Type 0
-BeginsReport bytes text = IsFirstTold bytes text ⊎ IsFrontOfReport bytes text
+-- a script has a report, and no other text is one
+pub record HasOneReport (bytes : List ℕ) : Type 0 where
+  pub text : List ℕ
+  pub is : IsReport bytes text
+  pub only : (other : List ℕ) → IsReport bytes other → other ≡ text
+
+-- THE LAW: whatever bytes a script is read from
+abbrev pub EachScriptHasOneReport : Type 0
+EachScriptHasOneReport = (bytes : List ℕ) → HasOneReport bytes

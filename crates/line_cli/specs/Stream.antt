@@ -18,7 +18,7 @@ pub record WritesReadText (stream : List ℕ) (old new : Option (List ℕ)) : Ty
 pub record WritesFront (stream : List ℕ) (old new : Option (List ℕ)) : Type 0 where
   pub text : List ℕ
   pub begins : BeginsReadText stream text
-  pub grows : GrowsInPart old new text
+  pub grows : Grows old new text
 
 -- what `read` did with a stream: what is left of it, and how the sink's contents grew
 abbrev pub ReadsStream : List ℕ → Option (List ℕ) → Option (List ℕ) → Option (List ℕ) → Status

@@ -14,12 +14,17 @@ ghost use Rattle.one_standing.specs.Replay.{LedgerFollows};
 ghost use Rattle.one_standing.specs.Standing.{OneStanding};
 ghost use Rattle.supervisor_replay.specs.Replay.{ReplayAgrees};
 ghost use Rattle.twelve_steps.specs.Twelve.{EndsWithinTwelveSteps};
+ghost use Rattle.whoever_goes_on.specs.Play.{EndsForWhoeverGoesOn};
 ghost use Rattle.work_orders.specs.Answers.{OneAnswer};
+ghost use Rattle.line_cli.specs.Answered.{EachInputHasOneAnswer, IsAnswered};
 ghost use Rattle.line_cli.specs.Command.{DoesAs, FitsWords, HasCauses, is_word, is_run, is_read, is_check, usage_text};
-ghost use Rattle.line_cli.specs.Making.{made_number};
+ghost use Rattle.line_cli.specs.Making.{EachNumberHasOneMakeText, made_number};
 ghost use Rattle.line_cli.specs.Premises.{ScriptsAreFit};
+ghost use Rattle.line_cli.specs.ReadText.{EachStreamHasOneReadText};
+ghost use Rattle.line_cli.specs.Report.{EachScriptHasOneReport};
 
 use crate::checking::check_merged;
+use crate::laws::{each_input_has_one_answer, one_make_text, one_report, read_once};
 use crate::making::{made_number, write_made};
 use crate::reading::read_stream;
 use crate::running::run_script;
@@ -56,6 +61,20 @@ pub fn line_main<S: Source, K: Sink>(
         (made_number words.now) result }
     ensures causes { HasCauses result (S.faults script.old) (S.faults script.new)
         (K.faults report.old) (K.faults report.new) }
+    // in one sentence: the answer is the one that words and bytes have, or a fault whose count
+    // rose, or Memory
+    ensures complete { IsAnswered (is_run words.now) (is_read words.now) (is_check words.now)
+        (made_number words.now) (S.left script.old) (S.faults script.old) (S.faults script.new)
+        (K.faults report.old) (K.faults report.new) result }
+    // and whatever words and bytes have one
+    ensures determined { EachInputHasOneAnswer }
+    // each script has a report, and one: each of its lines has a step from whatever state. So
+    // what was written at a fault or Memory is a front of that one
+    ensures report { EachScriptHasOneReport }
+    // and so has each stream a read text, since each frame is spelled or refused
+    ensures reading { EachStreamHasOneReadText }
+    // and each number a make text
+    ensures made { EachNumberHasOneMakeText }
     // unique ids on the floor, and ids that stay, over the run of every script
     ensures ids { IdsStay }
     // each record with one machine or in one named handover, over the run of every script up to
@@ -83,6 +102,9 @@ pub fn line_main<S: Source, K: Sink>(
     ensures asked { WhatOpensStarted }
     // an undisturbed handover ends within twelve link steps
     ensures steps { EndsWithinTwelveSteps }
+    // whoever does link steps that can be done, until none is left, has ended it after at most
+    // twelve
+    ensures goes_on { EndsForWhoeverGoesOn }
     // which ask of a script what each script that is read has
     ensures fit { ScriptsAreFit }
     // a handover opens exactly when board and place are announced, over the run of every script
@@ -94,6 +116,10 @@ pub fn line_main<S: Source, K: Sink>(
     // told knows where each board is
     ensures replay { ReplayAgrees }
 {
+    one_report();
+    read_once();
+    one_make_text();
+    each_input_has_one_answer();
     one_standing::laws::one_standing_after_each_line();
     one_standing::laws::the_custody_facts_hold_after_each_line();
     one_standing::laws::the_ledger_follows_the_report();
@@ -106,6 +132,7 @@ pub fn line_main<S: Source, K: Sink>(
     line_history::laws::what_an_intake_holds_was_started_last();
     line_history::laws::what_opens_was_started_last();
     twelve_steps::laws::an_undisturbed_handover_ends_within_twelve_link_steps();
+    whoever_goes_on::laws::whoever_goes_on_ends_it();
     line_openings::laws::a_machine_opens_exactly_when_announced();
     work_orders::laws::each_query_has_one_answer();
     supervisor_replay::laws::the_replay_agrees_with_the_marks();

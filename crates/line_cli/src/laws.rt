@@ -1,6 +1,7 @@
 //! The laws of what the program writes.
 
 ghost use Rattle.std.specs.Prelude.{◌≡◌, ℕ, List};
+ghost use Rattle.line_cli.specs.Answered.{EachInputHasOneAnswer};
 ghost use Rattle.line_cli.specs.Making.{IsMakeText};
 ghost use Rattle.line_cli.specs.ReadText.{IsReadText};
 ghost use Rattle.line_cli.specs.Report.{IsReport};
@@ -27,6 +28,15 @@ pub fn one_report()
 pub fn one_make_text()
     ensures { (number : ℕ) (one other : List ℕ) → IsMakeText number one → IsMakeText number other
         → one ≡ other }
+{
+    node_core::laws::one_meaning();
+}
+
+/// Whatever words and bytes have one answer of `line_main`, where nothing fails and memory is
+/// not wanting: of a script its first refusal, and else whether a line told what was not so; of a
+/// stream whether it is too large; of a log the first reason against it.
+pub fn each_input_has_one_answer()
+    ensures { EachInputHasOneAnswer }
 {
     node_core::laws::one_meaning();
 }

@@ -1,6 +1,21 @@
 use Rattle.line_step.proofs.FloorLaws.{ids_stay}
+use Rattle.line_cli.specs.Command.{is_check, is_read, is_run}
+use Rattle.line_cli.specs.Making.{made_number}
+use Rattle.line_cli.proofs.AnsweredOnce.{answers_so}
 use Rattle.line_cli.proofs.FitScript.{scripts_are_fit}
+use Rattle.line_cli.proofs.Fronts.{has_one_report}
+use Rattle.line_cli.proofs.MadeOnce.{has_one_make_text}
+use Rattle.line_cli.proofs.ReadFronts.{has_one_read_text}
 use Rattle.line_cli.proofs.command.line_main.Goals as goal
+
+pub returns-clause-report : goal.returns-clause-report
+returns-clause-report g c = has_one_report c.one_report.ensures
+
+pub returns-clause-reading : goal.returns-clause-reading
+returns-clause-reading g c = has_one_read_text c.read_once.ensures
+
+pub returns-clause-made : goal.returns-clause-made
+returns-clause-made g c = has_one_make_text c.one_make_text.ensures
 
 pub returns-clause-ids : goal.returns-clause-ids
 returns-clause-ids g c = ids_stay
@@ -52,3 +67,15 @@ returns-clause-asked g c = c.what_opens_was_started_last.ensures
 
 pub returns-clause-steps : goal.returns-clause-steps
 returns-clause-steps g c = c.an_undisturbed_handover_ends_within_twelve_link_steps.ensures
+
+pub returns-clause-goes_on : goal.returns-clause-goes_on
+returns-clause-goes_on g c = c.whoever_goes_on_ends_it.ensures
+
+pub returns-clause-complete : goal.returns-clause-complete
+returns-clause-complete g c =
+    answers_so (is_run c.args.words.now) (is_read c.args.words.now) (is_check c.args.words.now) (made_number c.args.words.now) (g.S.Source.left c.args.script.now) (g.S.Source.left c.do_words.new.script)
+    (g.K.Sink.contents c.args.report.now) (g.K.Sink.contents c.do_words.new.report) (g.S.Source.faults c.args.script.now) (g.S.Source.faults c.do_words.new.script) (g.K.Sink.faults c.args.report.now)
+    (g.K.Sink.faults c.do_words.new.report) c.do_words.result c.do_words.ensures.does c.do_words.ensures.causes
+
+pub returns-clause-determined : goal.returns-clause-determined
+returns-clause-determined g c = c.each_input_has_one_answer.ensures
