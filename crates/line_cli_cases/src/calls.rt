@@ -1,5 +1,6 @@
 //! Calls of the program, over sources and sinks in memory.
 
+use crate::narrow::Narrow;
 use crate::pieces::Pieces;
 use line_base::{Memory, Word, Words};
 use line_cli::{Status, line_main};
@@ -46,6 +47,20 @@ pub fn tell_call_in_pieces(
     let mut sink = SteadySink::new(alloc, SINK_BYTES)?;
     let status = line_main(alloc, words, &mut source, &mut sink);
     tell_end(sink.contents(), status, to)
+}
+
+/// Appends what a call writes, however much, and answers how it ends.
+pub fn write_call(
+    alloc: Global,
+    words: &Words,
+    input: &[u8],
+    to: &mut Vec<u8>,
+) -> Result<Status, Memory> {
+    let mut source = SteadySource::new(alloc, input)?;
+    let mut sink = Narrow::new(alloc, SINK_BYTES, 0);
+    let status = line_main(alloc, words, &mut source, &mut sink);
+    to.extend_from_slice(sink.bytes())?;
+    Ok(status)
 }
 
 fn tell_end(contents: Option<&[u8]>, status: Status, to: &mut Vec<u8>) -> Result<(), Memory> {

@@ -1,7 +1,10 @@
 //! A case: a command line, what the program gets to read, and what it then writes.
 
+use crate::broken::tell_broken;
 use crate::calls::{count_unread, tell_call, tell_call_in_pieces, words_of};
-use case_text::spell;
+use crate::ending::tell_ending;
+use crate::faults::{tell_pulls, tell_pushes};
+use crate::inputs::input_of;
 use line_base::{Memory, Words};
 use std::alloc::Global;
 use std::io::Write;
@@ -11,19 +14,51 @@ const SMALL: usize = 1000;
 
 /// Appends a case's command line, what is written, and how the call ends.
 ///
-/// The first line of a case is the command line, maybe with `, the first pull fails` or `, the
-/// first push fails` behind it. The others spell what there is to read, each with a line end,
-/// unless it ends in `\`. A small case must answer the same from pieces of 1 to 64 bytes.
+/// The first line of a case is the command line, maybe with a form behind it. The others spell
+/// what there is to read. A small case in which no call fails must answer the same from pieces of
+/// 1 to 64 bytes.
 pub fn tell_case(alloc: Global, case: &str, to: &mut Vec<u8>) -> Result<(), Memory> {
     let (head, body) = case.split_once('\n').unwrap_or((case, ""));
-    let (command, fault) = head.split_once(", ").unwrap_or((head, ""));
+    let (command, form) = head.split_once(", ").unwrap_or((head, ""));
     let words = words_of(alloc, command)?;
-    let input = input_of(alloc, body)?;
     append(&[b"=== ", head.as_bytes(), b"\n"], to)?;
-    match fault {
-        "the first pull fails" => tell_call(alloc, &words, input.as_slice(), &[1], &[], to),
-        "the first push fails" => tell_call(alloc, &words, input.as_slice(), &[], &[1], to),
-        _ => tell_steady(alloc, &words, input.as_slice(), to),
+    match form {
+        "broken off behind each line" => tell_broken(alloc, &words, body, to),
+        _ => tell_form(alloc, &words, form, body, to),
+    }
+}
+
+fn tell_form(
+    alloc: Global,
+    words: &Words,
+    form: &str,
+    body: &str,
+    to: &mut Vec<u8>,
+) -> Result<(), Memory> {
+    let input = input_of(alloc, body)?;
+    match form {
+        "" => tell_steady(alloc, words, input.as_slice(), to),
+        "each pull failing" => tell_pulls(alloc, words, input.as_slice(), to),
+        "each push failing" => tell_pushes(alloc, words, input.as_slice(), to),
+        "its end" => tell_ending(alloc, words, input.as_slice(), to),
+        _ => tell_failing(alloc, words, form, input.as_slice(), to),
+    }
+}
+
+/// `failing pull N` and `failing push N`.
+fn tell_failing(
+    alloc: Global,
+    words: &Words,
+    form: &str,
+    input: &[u8],
+    to: &mut Vec<u8>,
+) -> Result<(), Memory> {
+    let (what, number) = form.rsplit_once(' ').unwrap_or((form, ""));
+    let number = number.parse().unwrap_or(0);
+    match what {
+        "failing pull" => tell_call(alloc, words, input, &[number], &[], to),
+        "failing push" => tell_call(alloc, words, input, &[], &[number], to),
+        _ => append(&[b"no such form\n"], to),
     }
 }
 
@@ -60,21 +95,6 @@ fn tell_pieces(
         }
     }
     Ok(())
-}
-
-/// What there is to read in a case.
-fn input_of(alloc: Global, body: &str) -> Result<Vec<u8>, Memory> {
-    let mut input = Vec::new(alloc);
-    for line in body.lines() {
-        match line.strip_suffix('\\') {
-            Some(front) => spell(front, &mut input)?,
-            None => {
-                spell(line, &mut input)?;
-                input.push(b'\n')?;
-            }
-        }
-    }
-    Ok(input)
 }
 
 fn append(parts: &[&[u8]], to: &mut Vec<u8>) -> Result<(), Memory> {

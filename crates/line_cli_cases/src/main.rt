@@ -1,8 +1,14 @@
 //! Whole scripts and streams as cases: what a call of the program writes, and how it ends.
 #![tactic(auto)]
 
+mod broken;
 mod calls;
 mod cases;
+mod ending;
+mod faults;
+mod inputs;
+mod lines;
+mod narrow;
 mod pieces;
 
 use crate::cases::tell_case;
