@@ -1,5 +1,5 @@
 -- Where running machines stand in the relation, ids are unique, and each that has a mark was made by a machine.
-use Rattle.std.proofs.Common.{[], ℕ, ◌≡◌, ◌≢◌}
+use Rattle.std.proofs.Common.{ℕ}
 use Rattle.standings.specs.declared.mark.Mark.{Mark}
 use Rattle.line_step.specs.State.{marks_in}
 use Rattle.one_standing.specs.Carried.{Trace, stand_of}

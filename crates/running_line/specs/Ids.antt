@@ -1,5 +1,5 @@
 -- UNIQUE IDS of running machines.
-use Rattle.std.specs.Prelude.{ℕ, [], filter, length, ◌≡◌, ◌≢◌, ◌≤◌}
+use Rattle.std.specs.Prelude.{ℕ, [], filter, length, ◌≢◌, ◌≤◌}
 use Rattle.line_world.specs.Boards.{boards_on}
 use Rattle.line_world.specs.FloorPlan.{has_id}
 use Rattle.line_world.specs.Ids.{IdsDiffer}
