@@ -1,5 +1,5 @@
 -- A run that reads first, from new machines, computed.
-use Rattle.std.proofs.Common.{Bool, List, None, Option, Some, [], ap, arith, codes, false, map, refl, slice_get, subst, suc, sym, zero, ℕ, ◌++◌, ◌∙◌, ◌∷◌, ◌≡◌}
+use Rattle.std.proofs.Common.{List, None, Option, Some, [], ap, arith, codes, false, map, refl, slice_get, subst, suc, sym, zero, ℕ, ◌++◌, ◌∙◌, ◌∷◌, ◌≡◌}
 use Rattle.line_base.proofs.Printable.{plain_is_text}
 use Rattle.line_base.specs.declared.states.Side.TheVariants.{Entry}
 use Rattle.node_core.specs.Node.{NodeState, new_node}
