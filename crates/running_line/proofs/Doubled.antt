@@ -49,7 +49,7 @@ done_by node read input words = machine_step (desk_of node now) read (event_of n
 abbrev acts_by : NodeState → List Sensed → Input → List Word → List Act
 acts_by node read input words = (done_by node read input words).acts ++ signalled node.bridge (done_by node read input words).body
 
-abbrev next_by : NodeState → List Sensed → Input → List Word → NodeState
+abbrev pub next_by : NodeState → List Sensed → Input → List Word → NodeState
 next_by node read input words = record node {
   maker = maker_after input node.maker;
   lane = record { body = (done_by node read input words).body; entry_bytes = []; exit_bytes = [] };
@@ -59,7 +59,7 @@ next_by node read input words = record node {
   orders = orders_after input node.orders;
 }
 
-abbrev turned : ℕ → NodeState → List Sensed → List Sensed → Input → List Word → ℕ → Running → Running
+abbrev pub turned : ℕ → NodeState → List Sensed → List Sensed → Input → List Word → ℕ → Running → Running
 turned machine node read rest input words place s =
     did (is_second input) machine place (acts_by node read input words)
     (met machine input place (with_node machine (next_by node read input words) (with_reading machine read rest s)))
@@ -67,7 +67,7 @@ turned machine node read rest input words place s =
 moment_fits : IsMomentMillis now
 moment_fits = (record { le = tt }, record { le = tt })
 
-turn_by : (reading : Reading) (machine : ℕ) (node : NodeState) (read rest : List Sensed) (input : Input) (words : List Word) (place : ℕ) (s : Running)
+pub turn_by : (reading : Reading) (machine : ℕ) (node : NodeState) (read rest : List Sensed) (input : Input) (words : List Word) (place : ℕ) (s : Running)
     → node_of machine s ≡ Some node → ReadsFront (unread_by machine s) read rest → Meets machine input place s → MayTake reading input (said_behind machine input place (with_reading machine read rest s)) rest
     → may_of node input ≡ may_do → Brings input node.lane (next_by node read input words).lane words → IsFitInput input
     → Turns reading machine input now s (turned machine node read rest input words place s) (acts_by node read input words)
@@ -241,21 +241,21 @@ loader_fits = fit_says loader_takes (record { name = plain_is_text (codes "loade
 
 -- ---- the run
 
-record To (reading : Reading) (s t : Running) : Type 0 where
-  told : List Act
-  run : RunsTo reading s told t
+pub record To (reading : Reading) (s t : Running) : Type 0 where
+  pub told : List Act
+  pub run : RunsTo reading s told t
 
-here : {reading : Reading} {s : Running} → To reading s s
+pub here : {reading : Reading} {s : Running} → To reading s s
 here = record { told = []; run = at_rest }
 
-step_to : {reading : Reading} {s t u : Running} {told : List Act} → RunSteps reading s told t → To reading t u → To reading s u
+pub step_to : {reading : Reading} {s t u : Running} {told : List Act} → RunSteps reading s told t → To reading t u → To reading s u
 step_to {told = told} step later = record { told = told ++ later.told; run = goes_on step later.run }
 
 moves_by : (step : Move) (s : Running) (below : NodeState) → node_of 2 s ≡ Some below → floor_move 1 step s.floor ≡ Ok (moved step s.floor) → Moves Freely 1 step s (after_move step s)
 moves_by step s below there may = record { below = below; there = there; may = tt; floor = moved step s.floor; moved = may; after_is = refl }
 
 -- neither the first connection nor the second is had above
-abbrev has_above : Option Wire → Bool
+abbrev pub has_above : Option Wire → Bool
 has_above None = false
 has_above (Some wire) = has wire.above
 

@@ -36,3 +36,4 @@ pub mod WiresRefused
 pub mod WiresWhole
 pub mod UniqueIds
 pub mod TurnWhole
+pub mod Begins

@@ -38,7 +38,8 @@ use Rattle.machine_custody.specs.Scene.{Scene}
 use Rattle.line_step.specs.Reasons.{has_link}
 use Rattle.line_step.specs.Steps.{is_second}
 use Rattle.line_step.specs.World.{link_of}
-use Rattle.line_step.proofs.Hands.{AreQuiet, announces-quiet, both_shut-quiet, both_tick-quiet, faults-quiet, forecasts-quiet, hands_with_tells, heard-quiet, levels-quiet, marks-quiet, notices-quiet, opens-quiet, quiet-join, read-quiet, second-quiet, signals-quiet, supervises-quiet}
+use Rattle.line_step.proofs.Hands.{AreQuiet, IsQuiet, announces-quiet, hands_with_tells, met-quiet, quiet-join, read-quiet, signals-quiet}
+use Rattle.step_rules.specs.Acts.{OfEvent}
 use Rattle.line_step.proofs.Numbers.{same_or_not}
 use Rattle.line_step.proofs.OnFloor.{SameBoards, quiet-acts}
 use Rattle.one_standing.specs.Carried.{IsFitMachine, Trace}
@@ -163,27 +164,15 @@ rests_then {machine = machine} {before = before} turn t st link never =
 
 -- ---- the boards on the floor
 
+handless_event : (desk : Desk) (maker : Maker) (input : Input) (words : List Word) → IsHandless input → OfEvent IsQuiet desk (event_of maker input words)
+handless_event desk maker (inputs.Insert barcode) words handless = absurd handless
+handless_event desk maker (inputs.Remove id) words handless = absurd handless
+handless_event desk maker (inputs.Replace id) words handless = absurd handless
+handless_event desk maker (inputs.Level line on) words handless = (tt, λ id. tt)
+handless_event desk maker _ words handless = tt
+
 event_quiet : (desk : Desk) (maker : Maker) (input : Input) (words : List Word) (body : Body) → IsHandless input → AreQuiet (event_did desk (event_of maker input words) body).acts
-event_quiet desk maker inputs.Nothing words body handless = tt
-event_quiet desk maker inputs.Connect words body handless = (tt, opens-quiet desk Entry body)
-event_quiet desk maker inputs.Accepted words body handless = opens-quiet desk Exit body
-event_quiet desk maker inputs.Second words body handless = second-quiet desk body
-event_quiet desk maker (inputs.Bytes side piece) words body handless = heard-quiet desk side words body
-event_quiet desk maker (inputs.Notice side) words body handless = notices-quiet desk side body
-event_quiet desk maker inputs.Tick words body handless = both_tick-quiet desk body
-event_quiet desk maker inputs.Shutdown words body handless = both_shut-quiet desk body
-event_quiet desk maker (inputs.Fault side) words body handless = faults-quiet desk side body
-event_quiet desk maker (inputs.Will side on) words body handless = (tt, tt)
-event_quiet desk maker (inputs.Level line on) words body handless = levels-quiet desk line on body
-event_quiet desk maker (inputs.Insert barcode) words body handless = absurd handless
-event_quiet desk maker (inputs.Remove id) words body handless = absurd handless
-event_quiet desk maker (inputs.Replace id) words body handless = absurd handless
-event_quiet desk maker (inputs.Mark id quality) words body handless = marks-quiet (is_kept id body.kept) _ body (acts.Marks id quality) tt
-event_quiet desk maker inputs.Forecast words body handless = forecasts-quiet desk (slice_get body.kept 0)
-event_quiet desk maker (inputs.Query barcode) words body handless = (tt, tt)
-event_quiet desk maker (inputs.Supervise on) words body handless = supervises-quiet desk (Supervise on) body
-event_quiet desk maker (inputs.Ask question) words body handless = supervises-quiet desk (Ask question) body
-event_quiet desk maker (inputs.Answer query order) words body handless = supervises-quiet desk (Answer query order) body
+event_quiet desk maker input words body handless = met-quiet desk (event_of maker input words) body (handless_event desk maker input words handless)
 
 step_quiet : (desk : Desk) (unread : List Sensed) (event : Event) (body : Body) → AreQuiet (event_did desk event (all_read desk unread body).body).acts → AreQuiet (machine_step desk unread event body).acts
 step_quiet desk unread event body quiet =

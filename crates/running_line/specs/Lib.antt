@@ -11,3 +11,4 @@ pub mod Steady
 pub mod Turned
 pub mod Off
 pub mod Ids
+pub mod Begins

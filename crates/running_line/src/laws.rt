@@ -18,6 +18,7 @@ ghost use Rattle.machine_custody.specs.Ahead.{IsFreeRead};
 ghost use Rattle.machine_custody.specs.Flight.{IsPlain};
 ghost use Rattle.one_standing.specs.Carried.{Trace};
 ghost use Rattle.one_standing.specs.Standing.{HasOneStanding};
+ghost use Rattle.running_line.specs.Begins.{Begins};
 ghost use Rattle.running_line.specs.Doubled.{IsDoubled, IsHeldBehind};
 ghost use Rattle.running_line.specs.Ids.{HasUniqueIds};
 ghost use Rattle.running_line.specs.New.{IsNew, NumbersDiffer};
@@ -134,6 +135,11 @@ pub fn the_relation_goes_on_in_a_turn()
 /// machine, or in one handover between two neighbours.
 pub fn one_standing_in_the_relation()
     ensures { (s : Running) → AreInRelation s → HasOneStanding (line_of s) }
+{}
+
+/// There are such runs: of two new machines the upstream one keeps a board, and they connect.
+pub fn new_machines_connect_in_a_run_that_reads_first()
+    ensures { Begins }
 {}
 
 /// THE LAW OVER RUNS: in whatever order the turns of machines fall, and whatever connections between
