@@ -123,7 +123,7 @@ second_taken (Ok done) moment acts listed r m n u same rules stepped to_ways to_
 }
 second_taken (Err memory) moment acts listed r m n u same rules stepped to_ways to_panel = tt
 
--- ---- a panel that connects, and one that isn't told
+-- ---- a panel that connects
 
 pub greeted : (result : Result (Unit {0}) Memory) (r m n u : RunView) → r.state.panel.wire ≡ wires.Rests → r.told ≡ [] → m ≡ record r { state = with_wire ways.Panel wires.Stands r.state }
     → n ≡ record m { told = m.told ++ greeting m.rules m.state } → OnOk result (u ≡ record n { state = echoed n.told n.state }) → OnOk result (AfterPanel r.rules founds.Arrived r.state u.state u.told)
@@ -134,18 +134,6 @@ greeted (Ok done) r m n u wire none stands told to_panel =
     told ∙ ap (λ (v : RunView). record v { told = v.told ++ greeting v.rules v.state }) stands ∙ ap (λ l. record r { state = s; told = l ++ greeting r.rules r.state }) none
     in subst P (sym wire) (ap (λ (v : RunView). v.state) to_panel ∙ ap (λ (v : RunView). echoed v.told v.state) whole, ap (λ (v : RunView). v.told) to_panel ∙ ap (λ (v : RunView). v.told) whole)
 greeted (Err memory) r m n u wire none stands told to_panel = tt
-
-none_for : (rules : Rules) (turn : ℕ) (wire : Wire) (acts : List Act) → (wire ≡ wires.Stands → ⊥) → panel_lines false rules turn wire acts ≡ []
-none_for rules turn wires.Rests acts other = refl
-none_for rules turn wires.Stands acts other = absurd (other refl)
-none_for rules turn wires.Ends acts other = refl
-none_for rules turn wires.Breaks acts other = refl
-
-pub untold : (r : RunView) (acts : List Act) → (r.state.panel.wire ≡ wires.Stands → ⊥) → r ≡ record r { state = panel_told false r.rules acts r.state }
-untold r acts other =
-    let more : r.state.panel.unsent ≡ r.state.panel.unsent ++ panel_lines false r.rules r.state.turn r.state.panel.wire acts =
-    sym (append-nil r.state.panel.unsent) ∙ ap (λ l. r.state.panel.unsent ++ l) (sym (none_for r.rules r.state.turn r.state.panel.wire acts other))
-    in ap (λ l. record r { state = record r.state { panel = record r.state.panel { unsent = l } } }) more
 
 -- ---- messages of the supervisor
 
