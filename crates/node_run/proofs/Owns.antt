@@ -330,14 +330,14 @@ follows_on rules s t u log lines follows (steps turn acts proper text own) =
       owns = own ∙ ap (λ o. own_after o acts) follows.owns ∙ sym (own_append (own_of s.node.lane.body) follows.told acts);
     }
 
-owns_in : (rules : Rules) (moment : ℤ) {s t : RunState} {calls : List Given} {log : List ℕ} → Runs rules moment s calls t log → OwnFollows rules s t log
-owns_in rules moment (begins {s}) = record { told = []; tells = no_lines; owns = refl }
-owns_in rules moment (goes_on {s} {t} {u} {calls} {more} {log} {lines} run move) = follows_on rules s t u log lines (owns_in rules moment run) (move_part rules moment move)
+owns_in : (rules : Rules) {s t : RunState} {moments : List ℤ} {calls : List Given} {log : List ℕ} → Runs rules s moments calls t log → OwnFollows rules s t log
+owns_in rules (begins {s}) = record { told = []; tells = no_lines; owns = refl }
+owns_in rules (goes_on {s} {t} {u} {moments} {moment} {calls} {more} {log} {lines} run move) = follows_on rules s t u log lines (owns_in rules run) (move_part rules moment move)
 
-pub own_follows : (rules : Rules) (moment : ℤ) (s t : RunState) (calls : List Given) (log : List ℕ) → Runs rules moment s calls t log → OwnFollows rules s t log
-own_follows rules moment s t calls log run = owns_in rules moment run
+pub own_follows : (rules : Rules) (moments : List ℤ) (s t : RunState) (calls : List Given) (log : List ℕ) → Runs rules s moments calls t log → OwnFollows rules s t log
+own_follows rules moments s t calls log run = owns_in rules run
 
-pub own_is_read : (rules : Rules) (moment : ℤ) (s t : RunState) (calls : List Given) (log : List ℕ) → Runs rules moment s calls t log → OwnIsRead s t log
-own_is_read rules moment s t calls log run =
-    let follows = owns_in rules moment run in
+pub own_is_read : (rules : Rules) (moments : List ℤ) (s t : RunState) (calls : List Given) (log : List ℕ) → Runs rules s moments calls t log → OwnIsRead s t log
+own_is_read rules moments s t calls log run =
+    let follows = owns_in rules run in
     follows.owns ∙ sym (own_read rules (own_of s.node.lane.body) follows.tells)

@@ -6,12 +6,13 @@ ghost use Rattle.line_outside.specs.Given.{got_bytes};
 ghost use Rattle.line_outside.specs.Ports.{IsGotWithin};
 ghost use Rattle.node_run.specs.After.{found_of};
 ghost use Rattle.node_run.specs.Next.{next_of};
+ghost use Rattle.node_run.specs.Runs.{IsMoment};
 ghost use Rattle.node_run.specs.Moving.{MovesAs, MissesMove, is_end};
 ghost use Rattle.node_run.specs.declared.place.Next.TheVariants as nexts;
 
 use crate::place::Next;
 use crate::run::Run;
-use line_base::Memory;
+use line_base::{Memory, Moment};
 use line_outside::{Address, Clock, Got, Ports, Way};
 
 /// Makes the move that comes next.
@@ -92,7 +93,7 @@ fn take_line<P: Ports, C: Clock>(run: &mut Run, ports: &mut P, clock: &mut C) ->
     ensures misses { OnErr result
         (MissesMove run.old.rules run.old.state (P.given ports.old) (P.given ports.new)) }
 {
-    let moment = clock.now();
+    let moment = moment_of(clock);
     run.take_line(moment)
 }
 
@@ -113,7 +114,7 @@ fn take_message<P: Ports, C: Clock>(
     ensures misses { OnErr result
         (MissesMove run.old.rules run.old.state (P.given ports.old) (P.given ports.new)) }
 {
-    let moment = clock.now();
+    let moment = moment_of(clock);
     run.take_message(moment)
 }
 
@@ -163,7 +164,7 @@ fn poll<P: Ports, C: Clock>(
         (MissesMove run.old.rules run.old.state (P.given ports.old) (P.given ports.new)) }
 {
     let got = ports.poll(way, room);
-    let moment = clock.now();
+    let moment = moment_of(clock);
     run.after_poll(way, got, given(got, room), moment)
 }
 
@@ -211,8 +212,18 @@ fn close<P: Ports, C: Clock>(
         (MissesMove run.old.rules run.old.state (P.given ports.old) (P.given ports.new)) }
 {
     ports.close(way);
-    let moment = clock.now();
+    let moment = moment_of(clock);
     run.after_close(way, moment)
+}
+
+/// What the clock says. Every clock stays within the years of a moment.
+fn moment_of<C: Clock>(clock: &mut C) -> Moment
+    ensures clock { C.moment clock.new ≡ C.moment clock.old }
+    ensures told { IsMoment (C.moment clock.old) result }
+{
+    let moment = clock.now();
+    let _millis = moment.millis();
+    moment
 }
 
 /// The bytes that a poll gave.
