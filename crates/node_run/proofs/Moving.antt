@@ -20,13 +20,14 @@ use Rattle.line_outside.specs.declared.ports.Sent.TheVariants as sents
 use Rattle.line_outside.specs.declared.way.Address.{Address}
 use Rattle.line_outside.specs.declared.way.Way.{Way}
 use Rattle.line_outside.specs.declared.way.Way.TheVariants as ways
-use Rattle.node_run.specs.After.{found_of, after_listen, after_send, AfterPoll, AfterClose}
+use Rattle.node_run.specs.After.{found_of, after_listen, after_send, looked, AfterPoll, AfterLook, AfterClose, TakesHeld}
 use Rattle.node_run.specs.Channel.{is_empty, IsShort}
+use Rattle.node_run.specs.Held.{HasFewLooks}
 use Rattle.node_run.specs.Hearing.{DoesHear}
 use Rattle.node_run.specs.Lines.{DoesLine}
 use Rattle.node_run.specs.Moving.{MovesAs, MissesMove, IsEndCaused, MovesOn, FailsLog, FailsMemory, IsAtEnd, EndsMove, IsRunEnd, IsOnceStatus}
 use Rattle.node_run.specs.Next.{next_of, moved_on}
-use Rattle.node_run.specs.Runs.{Moves, listens, connects, polls, sends, refuses, closes, skips, does_line, does_hear, begins, goes_on, no_call, polled, closed, IsMoment, HasRun, HasRunInPart, RunEnds, IsRunStatus, room_bytes}
+use Rattle.node_run.specs.Runs.{Moves, listens, connects, polls, sends, refuses, closes, skips, looks_again, takes_held, does_line, does_hear, begins, goes_on, no_call, polled, polled_again, closed, IsMoment, HasRun, HasRunInPart, RunEnds, IsRunStatus, room_bytes}
 use Rattle.node_run.specs.State.{Refusal, RunState, RunView, refusal_text, way_at}
 use Rattle.node_run.specs.Work.{far_of}
 use Rattle.node_run.specs.Told.{HasRunCauses}
@@ -36,7 +37,8 @@ use Rattle.node_run.specs.declared.rules.Rules.{Rules}
 use Rattle.node_run.specs.declared.status.NodeStatus.{NodeStatus}
 use Rattle.node_run.specs.declared.status.NodeStatus.TheVariants as statuses
 use Rattle.node_run.proofs.Far.{close_less, moves_nearer, not_empty}
-use Rattle.node_run.proofs.Frames.{EndsBy, IsShortGot, line_takes, poll_same, sent_same}
+use Rattle.node_run.proofs.Frames.{EndsBy, IsShortGot, line_takes, panel_same, poll_same, sent_same}
+use Rattle.node_run.proofs.Holding.{held_here}
 use Rattle.node_run.proofs.Heard.{hear_less}
 use Rattle.node_run.proofs.Nexts.{is_from, not_ended}
 
@@ -214,6 +216,33 @@ polled_on told moment r u way room got found given_old given_new before now next
       ended = uncaused u.state.ended before now (there.ended ∙ not_ended r.rules r.state (nexts.Poll way) next refl);
     }
 
+pub looked_on : (told : Option ℤ) (r u : RunView) (room : ℕ) (got found : GotBytes) (given_old given_new : Option (List Given)) (before now : ℕ)
+    → next_of r.rules r.state ≡ nexts.Look → length r.state.rest ≤ 4096 → u.rules ≡ r.rules
+    → room ≡ 4096 → got ≡ found → IsShortGot 4096 found → Gains given_old given_new (Polls ways.Panel room got ∷ []) → AfterLook r.rules found r.state u.state u.told
+    → MovesAs told r u given_old given_new before now
+looked_on told r u room got found given_old given_new before now next rest rules full same short gains does =
+    let there = panel_same 4096 r.rules found (looked found r.state) u.state u.told short does in
+    let P : ℕ → Type 0 = λ n. Gains given_old given_new (Polls ways.Panel n found ∷ []) in
+    let Q : GotBytes → Type 0 = λ g. Gains given_old given_new (Polls ways.Panel room g ∷ []) in
+    record {
+      rules = rules;
+      makes = record { moment = moment_of told; same = is_moment_of told; calls = Polls ways.Panel room_bytes found ∷ []; move = looks_again next does; gains = subst P full (subst Q same gains) };
+      rest = there.rest rest;
+      ended = uncaused u.state.ended before now (there.ended ∙ not_ended r.rules r.state nexts.Look next refl);
+    }
+
+pub taken_on : (told : Option ℤ) (moment : ℤ) (r u : RunView) (given : Option (List Given)) (before now : ℕ)
+    → next_of r.rules r.state ≡ nexts.Take → length r.state.rest ≤ 4096 → IsMoment told moment → u.rules ≡ r.rules → TakesHeld r.rules moment r.state u.state u.told
+    → MovesAs told r u given given before now
+taken_on told moment r u given before now next rest at rules does =
+    let there = held_here r.rules moment r.state u.state u.told does in
+    record {
+      rules = rules;
+      makes = record { moment = moment; same = at; calls = []; move = takes_held next does; gains = gains_none given };
+      rest = omega (arith, ap length there.rest, rest);
+      ended = uncaused u.state.ended before now (there.ended ∙ not_ended r.rules r.state nexts.Take next refl);
+    }
+
 pub closed_on : (told : Option ℤ) (moment : ℤ) (r u : RunView) (way : Way) (given_old given_new : Option (List Given)) (before now : ℕ)
     → next_of r.rules r.state ≡ nexts.Close way → length r.state.rest ≤ 4096 → IsMoment told moment → u.rules ≡ r.rules
     → Gains given_old given_new (Closes way ∷ []) → AfterClose r.rules moment way r.state u.state u.told
@@ -236,6 +265,11 @@ pub missed_poll : (rules : Rules) (s : RunState) (way : Way) (room : ℕ) (got :
 missed_poll rules s way room got given_old given_new next full gains =
     let P : ℕ → Type 0 = λ n. Gains given_old given_new (Polls way n got ∷ []) in
     record { last = Polls way room_bytes got ∷ []; next = polled next; gains = subst P full gains }
+
+pub missed_look : (rules : Rules) (s : RunState) (room : ℕ) (got : GotBytes) (given_old given_new : Option (List Given)) → next_of rules s ≡ nexts.Look → room ≡ 4096 → Gains given_old given_new (Polls ways.Panel room got ∷ []) → MissesMove rules s given_old given_new
+missed_look rules s room got given_old given_new next full gains =
+    let P : ℕ → Type 0 = λ n. Gains given_old given_new (Polls ways.Panel n got ∷ []) in
+    record { last = Polls ways.Panel room_bytes got ∷ []; next = polled_again next; gains = subst P full gains }
 
 pub missed_close : (rules : Rules) (s : RunState) (way : Way) (given_old given_new : Option (List Given)) → next_of rules s ≡ nexts.Close way → Gains given_old given_new (Closes way ∷ []) → MissesMove rules s given_old given_new
 missed_close rules s way given_old given_new next gains = record { last = Closes way ∷ []; next = closed next; gains = gains }
@@ -380,12 +414,17 @@ told_on told told_now rules rules_now s t u given_old given_mid given_new log_ol
 pub ends_before : (told : Option ℤ) (rules : Rules) (s : RunState) (given : Option (List Given)) (log : Option (List ℕ)) → RunEnds told rules s given given log log statuses.Memory
 ends_before told rules s given log = record { moments = []; calls = []; last = []; log = []; reached = s; at = All-nil (IsMoment told); run = begins; next = no_call; told = gains_none given; logged = record { front = []; back = []; parts = refl; grows = grows_none log } }
 
+-- and how a whole run does
+pub ends_started : (told : Option ℤ) (rules : Rules) (s : RunState) (log : List ℕ) (r : RunView) (given_old given_new : Option (List Given)) (log_old log_new : Option (List ℕ)) (status : NodeStatus)
+    → r ≡ record { rules = rules; state = s; told = log } → RunEnds told r.rules r.state given_old given_new log_old log_new status → RunEnds told rules s given_old given_new log_old log_new status
+ends_started told rules s log r given_old given_new log_old log_new status e ends = let P : RunView → Type 0 = λ v. RunEnds told v.rules v.state given_old given_new log_old log_new status in subst P e ends
+
 -- a run that went on is nearer to its end
 pub nearer_on : (told : Option ℤ) (rules rules_now : Rules) (s t : RunState) (given_old given_new : Option (List Given)) (log_old log_new : Option (List ℕ))
-    → rules_now ≡ rules → MovesOn told rules s t given_old given_new log_old log_new → length s.rest ≤ 4096 → length t.rest ≤ 4096 → IsShort t.channel → far_of rules_now t < far_of rules s
-nearer_on told rules rules_now s t given_old given_new log_old log_new same moves before after short =
+    → rules_now ≡ rules → MovesOn told rules s t given_old given_new log_old log_new → length s.rest ≤ 4096 → length t.rest ≤ 4096 → IsShort t.channel → HasFewLooks t.held → far_of rules_now t < far_of rules s
+nearer_on told rules rules_now s t given_old given_new log_old log_new same moves before after short few =
     let P : Rules → Type 0 = λ r. far_of r t < far_of rules s in
-    subst P (sym same) (moves_nearer rules moves.makes.moment moves.makes.move before after short)
+    subst P (sym same) (moves_nearer rules moves.makes.moment moves.makes.move before after short few)
 
 -- ---- causes
 
@@ -460,6 +499,23 @@ if_polled (Err memory) told moment r u way room got found given_old given_new be
 pub unless_polled : (answer : Result (Unit {0}) Memory) (rules : Rules) (s : RunState) (way : Way) (room : ℕ) (got : GotBytes) (given_old given_new : Option (List Given)) → next_of rules s ≡ nexts.Poll way → room ≡ 4096 → Gains given_old given_new (Polls way room got ∷ []) → OnErr answer (MissesMove rules s given_old given_new)
 unless_polled (Ok done) rules s way room got given_old given_new next full gains = tt
 unless_polled (Err memory) rules s way room got given_old given_new next full gains = missed_poll rules s way room got given_old given_new next full gains
+
+pub if_looked : (answer : Result (Unit {0}) Memory) (told : Option ℤ) (r u : RunView) (room : ℕ) (got found : GotBytes) (given_old given_new : Option (List Given)) (before now : ℕ)
+    → next_of r.rules r.state ≡ nexts.Look → length r.state.rest ≤ 4096 → u.rules ≡ r.rules
+    → room ≡ 4096 → got ≡ found → IsShortGot 4096 found → Gains given_old given_new (Polls ways.Panel room got ∷ []) → OnOk answer (AfterLook r.rules found r.state u.state u.told)
+    → OnOk answer (MovesAs told r u given_old given_new before now)
+if_looked (Ok done) told r u room got found given_old given_new before now next rest rules full same short gains does = looked_on told r u room got found given_old given_new before now next rest rules full same short gains does
+if_looked (Err memory) told r u room got found given_old given_new before now next rest rules full same short gains does = tt
+
+pub unless_looked : (answer : Result (Unit {0}) Memory) (rules : Rules) (s : RunState) (room : ℕ) (got : GotBytes) (given_old given_new : Option (List Given)) → next_of rules s ≡ nexts.Look → room ≡ 4096 → Gains given_old given_new (Polls ways.Panel room got ∷ []) → OnErr answer (MissesMove rules s given_old given_new)
+unless_looked (Ok done) rules s room got given_old given_new next full gains = tt
+unless_looked (Err memory) rules s room got given_old given_new next full gains = missed_look rules s room got given_old given_new next full gains
+
+pub if_taken : (answer : Result (Unit {0}) Memory) (told : Option ℤ) (moment : ℤ) (r u : RunView) (given : Option (List Given)) (before now : ℕ)
+    → next_of r.rules r.state ≡ nexts.Take → length r.state.rest ≤ 4096 → IsMoment told moment → u.rules ≡ r.rules → OnOk answer (TakesHeld r.rules moment r.state u.state u.told)
+    → OnOk answer (MovesAs told r u given given before now)
+if_taken (Ok done) told moment r u given before now next rest at rules does = taken_on told moment r u given before now next rest at rules does
+if_taken (Err memory) told moment r u given before now next rest at rules does = tt
 
 pub if_closed : (answer : Result (Unit {0}) Memory) (told : Option ℤ) (moment : ℤ) (r u : RunView) (way : Way) (given_old given_new : Option (List Given)) (before now : ℕ)
     → next_of r.rules r.state ≡ nexts.Close way → length r.state.rest ≤ 4096 → IsMoment told moment → u.rules ≡ r.rules

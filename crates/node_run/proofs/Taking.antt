@@ -1,5 +1,5 @@
 -- From what the methods of a run say to what a move does.
-use Rattle.std.proofs.Common.{◌≡◌, ◌∙◌, sym, subst, ap, refl, ℕ, ℤ, ◌||◌, Bool, true, false, List, [], ◌∷◌, ◌++◌, Option, None, Result, Ok, Err, append-nil, append_assoc, if◌then◌else◌}
+use Rattle.std.proofs.Common.{◌≡◌, ◌∙◌, sym, subst, ap, refl, ℕ, ℤ, ◌||◌, Bool, true, false, List, [], ◌∷◌, ◌++◌, Option, None, Result, Ok, Err, append_assoc, if◌then◌else◌}
 use Rattle.std.specs.Prelude.{OnOk}
 use Rattle.std.specs.List.{list_any}
 use Rattle.line_base.specs.declared.memory.Memory.{Memory}
@@ -17,13 +17,15 @@ use Rattle.node_core.specs.declared.input.Input.{Input}
 use Rattle.node_core.specs.declared.input.Input.TheVariants as inputs
 use Rattle.board_record.specs.declared.sensed.Sensed.{Sensed}
 use Rattle.node_core.specs.declared.input.No.{No}
+use Rattle.line_outside.specs.declared.answer.GotBytes.{GotBytes}
 use Rattle.line_outside.specs.declared.answer.GotBytes.TheVariants as founds
 use Rattle.line_outside.specs.declared.way.Way.TheVariants as ways
-use Rattle.node_run.specs.After.{AfterPanel, PanelArrives, greeting}
+use Rattle.node_run.specs.After.{AfterLook, AfterPanel, PanelArrives, TakesFinding, TakesHeld, greeting, looked, with_held}
 use Rattle.node_run.specs.Channel.{HearsNext}
+use Rattle.node_run.specs.Held.{Finding, nothing_held}
 use Rattle.node_run.specs.Hearing.{AnswersIf, BreaksOff, Describes, DoesFound, DoesHear, DoesRow, Unsupervised, notification, said, session_ended, system_of, untaken, with_channel}
 use Rattle.node_run.specs.State.{RunState, RunView, WayValue, echoed, with_wire}
-use Rattle.node_run.specs.Steps.{HasStepped, Takes, TakesSecond, TakesStep, all_told_for, closes_side, message_for, messages_for, panel_lines, panel_told, put, put_told, refusing_with, routed, told_for, with_node}
+use Rattle.node_run.specs.Steps.{HasStepped, Takes, TakesSecond, TakesStep, all_told_for, closes_side, message_for, messages_for, panel_told, put, put_told, refusing_with, routed, told_for, with_node}
 use Rattle.node_run.specs.declared.channel.Found.{Found}
 use Rattle.node_run.specs.declared.rules.Rules.{Rules}
 use Rattle.node_run.specs.declared.way_state.Wire.{Wire}
@@ -186,3 +188,16 @@ row_breaks result row body kind text moment r m u none is said same breaks =
     let P : Option SupervisedRow → Type 0 = λ o. OnOk result (DoesRow o body r.rules moment r.state u.state u.told) in
     let Q : RunView → Type 0 = λ v. OnOk result (BreaksOff v.rules moment text v.state u.state u.told) in
     subst P (sym none) (text_breaks result text (unexpected (kind_of body)) moment r u (said ∙ ap unexpected is) (subst Q same breaks))
+
+-- ---- what was found of a neighbour
+
+pub looked_after : (result : Result (Unit {0}) Memory) (found : GotBytes) (r m u : RunView) → m ≡ record r { state = looked found r.state } → OnOk result (AfterPanel m.rules found m.state u.state u.told)
+    → OnOk result (AfterLook r.rules found r.state u.state u.told)
+looked_after result found r m u e after = let P : RunView → Type 0 = λ v. OnOk result (AfterPanel v.rules found v.state u.state u.told) in subst P e after
+
+pub held_taken : (result : Result (Unit {0}) Memory) (moment : ℤ) (finding : Option Finding) (r m u : RunView) → finding ≡ r.state.held.finding → m ≡ record r { state = with_held nothing_held r.state }
+    → OnOk result (TakesFinding finding m.rules moment m.state u.state u.told) → OnOk result (TakesHeld r.rules moment r.state u.state u.told)
+held_taken result moment finding r m u same e takes =
+    let P : RunView → Type 0 = λ v. OnOk result (TakesFinding finding v.rules moment v.state u.state u.told) in
+    let Q : Option Finding → Type 0 = λ f. OnOk result (TakesFinding f r.rules moment (with_held nothing_held r.state) u.state u.told) in
+    subst Q same (subst P e takes)

@@ -1,5 +1,5 @@
 -- A RUN: a chain of moves. Each is one call of the ports with its answer, a line of the panel, a
--- message of the supervisor, or a place that is passed.
+-- message of the supervisor, what was found of a neighbour, or a place that is passed.
 use Rattle.std.specs.Prelude.{◌≡◌, ◌++◌, ℕ, ℤ, false, List, [], ◌∷◌, Option, None, Some}
 use Rattle.std.specs.List.{All}
 use Rattle.line_base.specs.Moment.{IsMomentMillis}
@@ -17,7 +17,7 @@ use Rattle.node_run.specs.State.{Refusal, RunState, way_at}
 use Rattle.node_run.specs.Next.{next_of, moved_on}
 use Rattle.node_run.specs.Hearing.{DoesHear}
 use Rattle.node_run.specs.Lines.{DoesLine}
-use Rattle.node_run.specs.After.{after_listen, AfterPoll, after_send, AfterClose}
+use Rattle.node_run.specs.After.{after_listen, AfterPoll, AfterLook, TakesHeld, after_send, AfterClose}
 use Rattle.node_run.specs.declared.place.Next.TheVariants as nexts
 use Rattle.node_run.specs.declared.status.NodeStatus.{NodeStatus}
 use Rattle.node_run.specs.declared.status.NodeStatus.TheVariants as statuses
@@ -49,6 +49,11 @@ pub data Moves (rules : Rules) (moment : ℤ) : RunState → List Given → RunS
   closes : {s t : RunState} {way : Way} {log : List ℕ} → next_of rules s ≡ nexts.Close way
       → AfterClose rules moment way s t log → Moves rules moment s (Closes way ∷ []) t log
   skips : {s : RunState} → next_of rules s ≡ nexts.Skip → Moves rules moment s [] (moved_on s) []
+  looks_again : {s t : RunState} {got : GotBytes} {log : List ℕ} → next_of rules s ≡ nexts.Look
+      → AfterLook rules got s t log
+      → Moves rules moment s (Polls ways.Panel room_bytes got ∷ []) t log
+  takes_held : {s t : RunState} {log : List ℕ} → next_of rules s ≡ nexts.Take
+      → TakesHeld rules moment s t log → Moves rules moment s [] t log
   does_line : {s t : RunState} {log : List ℕ} → next_of rules s ≡ nexts.Line
       → DoesLine rules moment s t log → Moves rules moment s [] t log
   does_hear : {s t : RunState} {log : List ℕ} → next_of rules s ≡ nexts.Hear
@@ -85,6 +90,8 @@ pub data CallsNext (rules : Rules) : RunState → List Given → Type 0 where
   no_call : {s : RunState} → CallsNext rules s []
   polled : {s : RunState} {way : Way} {got : GotBytes} → next_of rules s ≡ nexts.Poll way
       → CallsNext rules s (Polls way room_bytes got ∷ [])
+  polled_again : {s : RunState} {got : GotBytes} → next_of rules s ≡ nexts.Look
+      → CallsNext rules s (Polls ways.Panel room_bytes got ∷ [])
   closed : {s : RunState} {way : Way} → next_of rules s ≡ nexts.Close way
       → CallsNext rules s (Closes way ∷ [])
 
