@@ -130,16 +130,13 @@ class Control:
         self.shown_in = None           # the turn of what was shown last
         self.reads_in_log, self.reads_heard = [], 0
         self.log_drive, self.inserted_in_log = {"in": False, "out": False}, []
-        self.is_linked = False         # to the upstream neighbour, by the log
+        self.is_linked = False         # to the upstream neighbour, as far as this connection of the panel told
         panel.told, panel.came = self.told, self.came
         if calls:
             self.connects()
 
     def connects(self):
-        """At an even pace while there is no connection, since a call may fail and nothing says so.
-
-        The panel isn't told of a close, the log is. A control without the log says it always: `no: connected`.
-        """
+        """At an even pace until the panel tells of a connection, since a call may fail and nothing says so."""
         if not self.is_linked:
             self.say("connect")
         self.loop.after(self.reconnect, self.connects)
@@ -181,6 +178,10 @@ class Control:
                 self.is_read(side, event, self.drive[side])
             case ["insert", _, name]:
                 self.inserted.append(name)
+            case ["connects", _]:
+                self.is_linked = True
+            case ["notices" | "closes", _, "in"]:
+                self.is_linked = False
             case ["show", *what]:
                 if turn != self.shown_in:
                     self.shown, self.shown_in = [], turn
@@ -196,7 +197,7 @@ class Control:
 
     # a broken panel: what was read, though its `reads` was lost on the way, stands in the log
     def came(self):
-        self.greets = 2
+        self.greets, self.is_linked = 2, False
 
     def logged(self, line):
         """A line of the node's log, which whoever keeps the log hands on."""
@@ -208,10 +209,6 @@ class Control:
                 self.reads_in_log.append((side, event, self.log_drive[side]))
             case ["insert", _, name]:
                 self.inserted_in_log.append(name)
-            case ["connects", _]:
-                self.is_linked = True
-            case ["notices" | "closes", _, "in"]:
-                self.is_linked = False
 
     def says_again(self):
         for reading in self.reads_in_log[self.reads_heard:]:

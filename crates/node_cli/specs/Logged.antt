@@ -11,8 +11,8 @@ use Rattle.node_run.specs.State.{RunState, way_at}
 -- what a machine owns after a run is read off the bytes of the run's log, from what it owned
 -- before
 abbrev pub LogTellsOwn : Type 0
-LogTellsOwn = (rules : Rules) (moment : ℤ) (s t : RunState) (calls : List Given) (log : List ℕ)
-    → Runs rules moment s calls t log → OwnIsRead s t log
+LogTellsOwn = (rules : Rules) (moments : List ℤ) (s t : RunState) (calls : List Given)
+    (log : List ℕ) → Runs rules s moments calls t log → OwnIsRead s t log
 
 -- where a run goes on, at most 1,048,576 bytes wait on each way that has a connection
 abbrev pub TextIsBounded : Type 0

@@ -22,8 +22,8 @@ pub fn node_main<S: Source, P: Ports, C: Clock, K: Sink>(
     clock: &mut C,
     log: &mut K,
 ) -> NodeStatus
-    // over a file, ports, a clock and a log that tell: the calls, the log and the status are those
-    // of the run
+    // over a file, ports and a log that tell: the calls, the log and the status are those of the
+    // run, each of its moves at a moment of the clock
     ensures does { DoesNode (is_one words.now) (S.left file.old) (C.moment clock.old)
         (P.given ports.old) (P.given ports.new) (K.contents log.old) (K.contents log.new) result }
     ensures fits { FitsNode (is_one words.now) result }

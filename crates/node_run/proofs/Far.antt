@@ -1,5 +1,5 @@
 -- Each move brings a run nearer to its end.
-use Rattle.std.proofs.Common.{◌≡◌, ◌∙◌, sym, subst, ap, refl, ℕ, ℤ, Bool, true, false, not, List, [], ◌∷◌, Option, None, Some, length, ◌<◌, ◌≤◌, ◌+◌, ◌*◌, arith, nat_lt}
+use Rattle.std.proofs.Common.{◌≡◌, ◌∙◌, sym, subst, ap, refl, ℕ, ℤ, Bool, true, false, not, List, [], ◌∷◌, Option, None, Some, is_some, length, ◌<◌, ◌≤◌, ◌+◌, ◌*◌, arith, nat_lt}
 use Rattle.std.proofs.lemmas.Bool.{false≢true}
 use Rattle.line_base.specs.declared.states.Side.TheVariants.{Entry, Exit}
 use Rattle.line_outside.specs.Given.{Given}
@@ -19,13 +19,14 @@ use Rattle.node_run.specs.declared.rules.Rules.{Rules}
 use Rattle.node_run.specs.State.{Refusal, RunState, at_rest, way_at}
 use Rattle.node_run.specs.Next.{at_place, place_behind, turn_behind, moved_on, is_due, is_due_by}
 use Rattle.node_run.specs.Steps.{Takes, TakesStep}
-use Rattle.node_run.specs.After.{after_listen, after_send, panel_gone, AfterPoll, AfterClose}
+use Rattle.node_run.specs.After.{after_listen, after_send, looked, panel_gone, AfterPoll, AfterLook, AfterClose, TakesHeld}
 use Rattle.node_run.specs.Hearing.{DoesHear}
 use Rattle.node_run.specs.Lines.{DoesLine}
-use Rattle.node_run.specs.Runs.{Moves, listens, connects, polls, sends, refuses, closes, skips, does_line, does_hear}
+use Rattle.node_run.specs.Runs.{Moves, listens, connects, polls, sends, refuses, closes, skips, looks_again, takes_held, does_line, does_hear}
 use Rattle.node_run.specs.Moving.{is_end}
 use Rattle.node_run.specs.Channel.{is_empty, ChannelValue, IsShort, no_session}
-use Rattle.node_run.specs.Work.{far_at, count, wire_work, refusal_work, close_work, hear_work, work_at, far_of}
+use Rattle.node_run.specs.Held.{HasFewLooks, is_more}
+use Rattle.node_run.specs.Work.{far_at, count, wire_work, refusal_work, close_work, hear_work, look_work, work_at, far_of}
 use Rattle.node_run.specs.declared.place.Next.{Next}
 use Rattle.node_run.specs.declared.place.Next.TheVariants as nexts
 use Rattle.node_run.specs.declared.place.Place.{Place}
@@ -33,7 +34,8 @@ use Rattle.node_run.specs.declared.place.Place.TheVariants as places
 use Rattle.node_run.specs.declared.way_state.Wire.{Wire}
 use Rattle.node_run.specs.declared.way_state.Wire.TheVariants as wires
 use Rattle.node_run.proofs.Nexts.{is_from, turn_goes}
-use Rattle.node_run.proofs.Frames.{IsShortGot, poll_same, sent_same, line_takes}
+use Rattle.node_run.proofs.Frames.{IsShortGot, panel_same, poll_same, sent_same, line_takes}
+use Rattle.node_run.proofs.Holding.{few_work, held_here, looks_less, panel_alone, some_work}
 use Rattle.node_run.proofs.Heard.{hear_less}
 use Rattle.node_run.proofs.Closing.{notice_closes, notice_leaves, supervise_leaves}
 
@@ -92,14 +94,14 @@ behind_far rules s places.SendSupervisory goes = omega arith
 behind_far rules s places.TurnDone goes = omega (arith, turn_goes (nat_lt s.turn rules.turns) s.turn rules.turns refl goes)
 
 -- a place behind this one, whatever is to do there
-further : (far near work less : ℕ) → near + 1 ≤ far → less < 2000000 → 2000000 * near + less < 2000000 * far + work
+further : (far near work less : ℕ) → near + 1 ≤ far → less < 4000000 → 4000000 * near + less < 4000000 * far + work
 further far near work less nearer few = omega (arith, nearer, few)
 
-place_far : (rules : Rules) (s t : RunState) (found : Next) → at_place rules s s.place ≡ found → is_end found ≡ false → t.turn ≡ turn_behind s.place s.turn → t.place ≡ place_behind s.place → length t.rest ≤ 4096 → IsShort t.channel → far_of rules t < far_of rules s
-place_far rules s t found e goes turn place rest short =
+place_far : (rules : Rules) (s t : RunState) (found : Next) → at_place rules s s.place ≡ found → is_end found ≡ false → t.turn ≡ turn_behind s.place s.turn → t.place ≡ place_behind s.place → length t.rest ≤ 4096 → IsShort t.channel → HasFewLooks t.held → far_of rules t < far_of rules s
+place_far rules s t found e goes turn place rest short few =
     let nearer = behind_far rules s s.place (ap is_end e ∙ goes) in
     let there : far_at rules.turns t.turn t.place ≡ far_at rules.turns (turn_behind s.place s.turn) (place_behind s.place) = ap (λ n. far_at rules.turns n t.place) turn ∙ ap (λ p. far_at rules.turns (turn_behind s.place s.turn) p) place in
-    further (far_at rules.turns s.turn s.place) (far_at rules.turns t.turn t.place) (work_at s) (work_at t) (rw there nearer) (omega (arith, others_most t, hear_most t.channel short, rest))
+    further (far_at rules.turns s.turn s.place) (far_at rules.turns t.turn t.place) (work_at s) (work_at t) (rw there nearer) (omega (arith, others_most t, hear_most t.channel short, few_work t.held.finding t.held.looks few.looks, rest))
 
 -- the same place, with less to do
 nearer_at : (rules : Rules) (s t : RunState) → t.turn ≡ s.turn → t.place ≡ s.place → work_at t < work_at s → far_of rules t < far_of rules s
@@ -121,6 +123,7 @@ pub record ClosesLess (s t : RunState) : Type 0 where
   pub place : t.place ≡ s.place
   pub rest : length t.rest ≤ length s.rest
   pub hears : hear_work t.channel ≤ hear_work s.channel
+  pub held : t.held ≡ s.held
   pub asks : t.asks ≡ s.asks
   pub refusal : t.refusal ≡ s.refusal
   pub ended : t.ended ≡ s.ended
@@ -142,6 +145,7 @@ upstream_step rules moment s t log connected due takes =
       place = ap (λ (r : RunState). r.place) takes.after;
       rest = omega (arith, ap (λ (r : RunState). length r.rest) takes.after);
       hears = omega (arith, ap (λ (r : RunState). hear_work r.channel) takes.after);
+      held = ap (λ (r : RunState). r.held) takes.after;
       asks = ap (λ (r : RunState). r.asks) takes.after;
       refusal = ap (λ (r : RunState). r.refusal) takes.after;
       ended = ap (λ (r : RunState). r.ended) takes.after;
@@ -162,6 +166,7 @@ downstream_step rules moment s t log connected due takes =
       place = ap (λ (r : RunState). r.place) takes.after;
       rest = omega (arith, ap (λ (r : RunState). length r.rest) takes.after);
       hears = omega (arith, ap (λ (r : RunState). hear_work r.channel) takes.after);
+      held = ap (λ (r : RunState). r.held) takes.after;
       asks = ap (λ (r : RunState). r.asks) takes.after;
       refusal = ap (λ (r : RunState). r.refusal) takes.after;
       ended = ap (λ (r : RunState). r.ended) takes.after;
@@ -180,6 +185,7 @@ supervisory_step rules moment s t log supervised due takes =
       place = ap (λ (r : RunState). r.place) takes.after;
       rest = omega (arith, ap (λ (r : RunState). length r.rest) takes.after);
       hears = omega (arith, ap (λ (r : RunState). hear_work r.channel) takes.after);
+      held = ap (λ (r : RunState). r.held) takes.after;
       asks = ap (λ (r : RunState). r.asks) takes.after;
       refusal = ap (λ (r : RunState). r.refusal) takes.after;
       ended = ap (λ (r : RunState). r.ended) takes.after;
@@ -190,16 +196,16 @@ less_at : (s u t : RunState) → t ≡ u → ClosesLess s u → ClosesLess s t
 less_at s u t e less = let P : RunState → Type 0 = ClosesLess s in subst P (sym e) less
 
 panel_less : (s : RunState) → is_due s.panel ≡ true → ClosesLess s (panel_gone s)
-panel_less s due = record { turn = refl; place = refl; rest = omega arith; hears = omega arith; asks = refl; refusal = refl; ended = refl; less = omega (arith, due_wire s.panel.wire s.panel.unsent due) }
+panel_less s due = record { turn = refl; place = refl; rest = omega arith; hears = omega arith; held = refl; asks = refl; refusal = refl; ended = refl; less = omega (arith, due_wire s.panel.wire s.panel.unsent due) }
 
 upstream_rests : (s : RunState) → is_due s.upstream ≡ true → ClosesLess s (record s { upstream = at_rest })
-upstream_rests s due = record { turn = refl; place = refl; rest = omega arith; hears = omega arith; asks = refl; refusal = refl; ended = refl; less = omega (arith, due_wire s.upstream.wire s.upstream.unsent due) }
+upstream_rests s due = record { turn = refl; place = refl; rest = omega arith; hears = omega arith; held = refl; asks = refl; refusal = refl; ended = refl; less = omega (arith, due_wire s.upstream.wire s.upstream.unsent due) }
 
 downstream_rests : (s : RunState) → is_due s.downstream ≡ true → ClosesLess s (record s { downstream = at_rest })
-downstream_rests s due = record { turn = refl; place = refl; rest = omega arith; hears = omega arith; asks = refl; refusal = refl; ended = refl; less = omega (arith, due_wire s.downstream.wire s.downstream.unsent due) }
+downstream_rests s due = record { turn = refl; place = refl; rest = omega arith; hears = omega arith; held = refl; asks = refl; refusal = refl; ended = refl; less = omega (arith, due_wire s.downstream.wire s.downstream.unsent due) }
 
 supervisory_rests : (s : RunState) → is_due s.supervisory ≡ true → ClosesLess s (record s { supervisory = at_rest; channel = no_session })
-supervisory_rests s due = record { turn = refl; place = refl; rest = omega arith; hears = omega arith; asks = refl; refusal = refl; ended = refl; less = omega (arith, due_wire s.supervisory.wire s.supervisory.unsent due) }
+supervisory_rests s due = record { turn = refl; place = refl; rest = omega arith; hears = omega arith; held = refl; asks = refl; refusal = refl; ended = refl; less = omega (arith, due_wire s.supervisory.wire s.supervisory.unsent due) }
 
 upstream_less : (test : Bool) (rules : Rules) (moment : ℤ) (s t : RunState) (log : List ℕ) → is_open Entry s.node.lane.body ≡ test → is_due s.upstream ≡ true
     → (let closed : RunState = record s { upstream = at_rest } in Takes (no_if (not test) no.NotConnected may_do) rules moment (inputs.Notice Entry) closed closed t log) → ClosesLess s t
@@ -223,13 +229,13 @@ close_less rules moment ways.Downstream s t log due after = downstream_less (is_
 close_less rules moment ways.Supervisory s t log due after = supervisory_less s.node.supervised rules moment s t log refl due after
 
 less_work : (s t : RunState) → ClosesLess s t → work_at t < work_at s
-less_work s t less = omega (arith, less.rest, less.hears, ap count less.asks, ap refusal_work less.refusal, less.less)
+less_work s t less = omega (arith, ap look_work less.held, less.rest, less.hears, ap count less.asks, ap refusal_work less.refusal, less.less)
 
 -- ---- all moves
 
-listen_nearer : (rules : Rules) (s : RunState) (way : Way) (address : Address) (opened : Opened) → at_place rules s s.place ≡ nexts.Listen way address → length s.rest ≤ 4096 → IsShort (after_listen address opened s).channel → far_of rules (after_listen address opened s) < far_of rules s
-listen_nearer rules s way address opens.Done e rest short = place_far rules s (after_listen address opens.Done s) (nexts.Listen way address) e refl refl refl rest short
-listen_nearer rules s way address opens.Failed e rest short = place_far rules s (after_listen address opens.Failed s) (nexts.Listen way address) e refl refl refl rest short
+listen_nearer : (rules : Rules) (s : RunState) (way : Way) (address : Address) (opened : Opened) → at_place rules s s.place ≡ nexts.Listen way address → length s.rest ≤ 4096 → IsShort (after_listen address opened s).channel → HasFewLooks (after_listen address opened s).held → far_of rules (after_listen address opened s) < far_of rules s
+listen_nearer rules s way address opens.Done e rest short few = place_far rules s (after_listen address opens.Done s) (nexts.Listen way address) e refl refl refl rest short few
+listen_nearer rules s way address opens.Failed e rest short few = place_far rules s (after_listen address opens.Failed s) (nexts.Listen way address) e refl refl refl rest short few
 
 connect_nearer : (rules : Rules) (s : RunState) → s.asks ≡ true → far_of rules (record s { asks = false }) < far_of rules s
 connect_nearer rules s asks = nearer_at rules s (record s { asks = false }) refl refl (omega (arith, ap count asks))
@@ -237,10 +243,10 @@ connect_nearer rules s asks = nearer_at rules s (record s { asks = false }) refl
 refuse_nearer : (rules : Rules) (s : RunState) (refusal : Refusal) → s.refusal ≡ Some refusal → far_of rules (record s { refusal = None }) < far_of rules s
 refuse_nearer rules s refusal e = nearer_at rules s (record s { refusal = None }) refl refl (omega (arith, ap refusal_work e))
 
-send_nearer : (rules : Rules) (s : RunState) (way : Way) (sent : Sent) → at_place rules s s.place ≡ nexts.Send way → length s.rest ≤ 4096 → IsShort (after_send way sent (moved_on s)).channel → far_of rules (after_send way sent (moved_on s)) < far_of rules s
-send_nearer rules s way sent e rest short =
+send_nearer : (rules : Rules) (s : RunState) (way : Way) (sent : Sent) → at_place rules s s.place ≡ nexts.Send way → length s.rest ≤ 4096 → IsShort (after_send way sent (moved_on s)).channel → HasFewLooks (after_send way sent (moved_on s)).held → far_of rules (after_send way sent (moved_on s)) < far_of rules s
+send_nearer rules s way sent e rest short few =
     let there = sent_same way sent (moved_on s) in
-    place_far rules s (after_send way sent (moved_on s)) (nexts.Send way) e refl there.turn there.place (rw there.rest rest) short
+    place_far rules s (after_send way sent (moved_on s)) (nexts.Send way) e refl there.turn there.place (rw there.rest rest) short few
 
 bytes_of : GotBytes → ℕ
 bytes_of (founds.Bytes bytes) = length bytes
@@ -255,10 +261,10 @@ short_of founds.NotYet = tt
 short_of founds.Closed = tt
 short_of founds.Failed = tt
 
-poll_nearer : (rules : Rules) (moment : ℤ) (s t : RunState) (way : Way) (got : GotBytes) (log : List ℕ) → at_place rules s s.place ≡ nexts.Poll way → AfterPoll rules moment way got (moved_on s) t log → length t.rest ≤ 4096 → IsShort t.channel → far_of rules t < far_of rules s
-poll_nearer rules moment s t way got log e after rest short =
+poll_nearer : (rules : Rules) (moment : ℤ) (s t : RunState) (way : Way) (got : GotBytes) (log : List ℕ) → at_place rules s s.place ≡ nexts.Poll way → AfterPoll rules moment way got (moved_on s) t log → length t.rest ≤ 4096 → IsShort t.channel → HasFewLooks t.held → far_of rules t < far_of rules s
+poll_nearer rules moment s t way got log e after rest short few =
     let there = poll_same (bytes_of got) rules moment way got (moved_on s) t log (short_of got) after in
-    place_far rules s t (nexts.Poll way) e refl there.turn there.place rest short
+    place_far rules s t (nexts.Poll way) e refl there.turn there.place rest short few
 
 close_nearer : (rules : Rules) (moment : ℤ) (s t : RunState) (way : Way) (log : List ℕ) → is_due (way_at way s) ≡ true → AfterClose rules moment way s t log → far_of rules t < far_of rules s
 close_nearer rules moment s t way log due after =
@@ -269,30 +275,50 @@ pub not_empty : (bytes : List ℕ) → is_empty bytes ≡ false → 0 < length b
 not_empty [] e = absurd (false≢true (sym e))
 not_empty (byte ∷ bytes) e = omega arith
 
-fewer_bytes : (s t : RunState) → length t.rest < length s.rest → t.channel ≡ s.channel → work_at t < work_at s
-fewer_bytes s t fewer same = omega (arith, others_most t, ap hear_work same, fewer)
+fewer_bytes : (s t : RunState) → length t.rest < length s.rest → t.channel ≡ s.channel → t.held ≡ s.held → work_at t < work_at s
+fewer_bytes s t fewer same held = omega (arith, others_most t, ap look_work held, ap hear_work same, fewer)
 
-less_to_hear : (s t : RunState) → t.rest ≡ s.rest → hear_work t.channel < hear_work s.channel → work_at t < work_at s
-less_to_hear s t same less = omega (arith, others_most t, ap length same, less)
+less_to_hear : (s t : RunState) → t.rest ≡ s.rest → hear_work t.channel < hear_work s.channel → t.held ≡ s.held → work_at t < work_at s
+less_to_hear s t same less held = omega (arith, others_most t, ap look_work held, ap length same, less)
+
+-- while something is held
+fewer_looks : (s t : RunState) → length t.rest ≤ 4096 → t.channel ≡ s.channel → look_work t.held + 100000 ≤ look_work s.held → work_at t < work_at s
+fewer_looks s t rest same fewer = omega (arith, others_most t, ap hear_work same, rest, fewer)
+
+look_nearer : (rules : Rules) (s t : RunState) (got : GotBytes) (log : List ℕ) → is_some s.held.finding ≡ true → nat_lt 0 s.held.looks ≡ true → AfterLook rules got s t log → length t.rest ≤ 4096 → far_of rules t < far_of rules s
+look_nearer rules s t got log some looks after rest =
+    let there = panel_same (bytes_of got) rules got (looked got s) t log (short_of got) after in
+    let alone = panel_alone rules got (looked got s) t log after in
+    let less = looks_less s.held.finding (is_more got) s.held.looks some looks in
+    nearer_at rules s t there.turn there.place (fewer_looks s t rest alone.channel (omega (arith, ap look_work alone.held, less)))
+
+take_nearer : (rules : Rules) (moment : ℤ) (s t : RunState) (log : List ℕ) → is_some s.held.finding ≡ true → TakesHeld rules moment s t log → length s.rest ≤ 4096 → far_of rules t < far_of rules s
+take_nearer rules moment s t log some takes rest =
+    let there = held_here rules moment s t log takes in
+    nearer_at rules s t there.turn there.place (fewer_looks s t (rw there.rest rest) there.channel (omega (arith, ap look_work there.held, some_work s.held.finding s.held.looks some)))
 
 line_nearer : (rules : Rules) (moment : ℤ) (s t : RunState) (log : List ℕ) → is_empty s.rest ≡ false → DoesLine rules moment s t log → far_of rules t < far_of rules s
 line_nearer rules moment s t log some does =
     let takes = line_takes rules moment s t log (not_empty s.rest some) does in
-    nearer_at rules s t takes.turn takes.place (fewer_bytes s t takes.rest takes.channel)
+    nearer_at rules s t takes.turn takes.place (fewer_bytes s t takes.rest takes.channel takes.held)
 
 hear_nearer : (rules : Rules) (moment : ℤ) (s t : RunState) (log : List ℕ) → s.channel.hears ≡ true → DoesHear rules moment s t log → far_of rules t < far_of rules s
 hear_nearer rules moment s t log hears does =
     let less = hear_less rules moment s t log hears does in
-    nearer_at rules s t less.turn less.place (less_to_hear s t less.rest less.less)
+    nearer_at rules s t less.turn less.place (less_to_hear s t less.rest less.less less.held)
 
 -- A MOVE BRINGS A RUN NEARER TO ITS END
-pub moves_nearer : (rules : Rules) (moment : ℤ) {s t : RunState} {calls : List Given} {log : List ℕ} → Moves rules moment s calls t log → length s.rest ≤ 4096 → length t.rest ≤ 4096 → IsShort t.channel → far_of rules t < far_of rules s
-moves_nearer rules moment (listens {s} {way} {address} {opened} next) before after short = listen_nearer rules s way address opened (is_from rules s (nexts.Listen way address) next) before short
-moves_nearer rules moment (connects {s} {address} {opened} next) before after short = connect_nearer rules s (is_from rules s (nexts.Connect address) next)
-moves_nearer rules moment (polls {s} {t} {way} {got} {log} next done) before after short = poll_nearer rules moment s t way got log (is_from rules s (nexts.Poll way) next) done after short
-moves_nearer rules moment (sends {s} {way} {sent} next) before after short = send_nearer rules s way sent (is_from rules s (nexts.Send way) next) before short
-moves_nearer rules moment (refuses {s} {refusal} {sent} next e) before after short = refuse_nearer rules s refusal e
-moves_nearer rules moment (closes {s} {t} {way} {log} next done) before after short = close_nearer rules moment s t way log (is_from rules s (nexts.Close way) next) done
-moves_nearer rules moment (skips {s} next) before after short = place_far rules s (moved_on s) nexts.Skip (is_from rules s nexts.Skip next) refl refl refl before short
-moves_nearer rules moment (does_line {s} {t} {log} next done) before after short = line_nearer rules moment s t log (is_from rules s nexts.Line next) done
-moves_nearer rules moment (does_hear {s} {t} {log} next done) before after short = hear_nearer rules moment s t log (is_from rules s nexts.Hear next) done
+pub moves_nearer : (rules : Rules) (moment : ℤ) {s t : RunState} {calls : List Given} {log : List ℕ} → Moves rules moment s calls t log → length s.rest ≤ 4096 → length t.rest ≤ 4096 → IsShort t.channel → HasFewLooks t.held → far_of rules t < far_of rules s
+moves_nearer rules moment (listens {s} {way} {address} {opened} next) before after short few = listen_nearer rules s way address opened (is_from rules s (nexts.Listen way address) next) before short few
+moves_nearer rules moment (connects {s} {address} {opened} next) before after short few = connect_nearer rules s (is_from rules s (nexts.Connect address) next)
+moves_nearer rules moment (polls {s} {t} {way} {got} {log} next done) before after short few = poll_nearer rules moment s t way got log (is_from rules s (nexts.Poll way) next) done after short few
+moves_nearer rules moment (sends {s} {way} {sent} next) before after short few = send_nearer rules s way sent (is_from rules s (nexts.Send way) next) before short few
+moves_nearer rules moment (refuses {s} {refusal} {sent} next e) before after short few = refuse_nearer rules s refusal e
+moves_nearer rules moment (closes {s} {t} {way} {log} next done) before after short few = close_nearer rules moment s t way log (is_from rules s (nexts.Close way) next) done
+moves_nearer rules moment (skips {s} next) before after short few = place_far rules s (moved_on s) nexts.Skip (is_from rules s nexts.Skip next) refl refl refl before short few
+moves_nearer rules moment (looks_again {s} {t} {got} {log} next done) before after short few =
+    let from = is_from rules s nexts.Look next in
+    look_nearer rules s t got log from.0 from.1 done after
+moves_nearer rules moment (takes_held {s} {t} {log} next done) before after short few = take_nearer rules moment s t log (is_from rules s nexts.Take next) done before
+moves_nearer rules moment (does_line {s} {t} {log} next done) before after short few = line_nearer rules moment s t log (is_from rules s nexts.Line next) done
+moves_nearer rules moment (does_hear {s} {t} {log} next done) before after short few = hear_nearer rules moment s t log (is_from rules s nexts.Hear next) done

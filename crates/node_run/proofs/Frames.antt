@@ -11,7 +11,6 @@ use Rattle.line_outside.specs.declared.way.Address.{Address}
 use Rattle.board_record.specs.declared.sensed.Sensed.{Sensed}
 use Rattle.line_script.specs.declared.line.LineWhy.{LineWhy}
 use Rattle.node_core.specs.May.{may_of}
-use Rattle.node_core.specs.Sides.{is_open}
 use Rattle.node_core.specs.declared.input.Input.{Input}
 use Rattle.node_core.specs.declared.input.Input.TheVariants as inputs
 use Rattle.node_core.specs.declared.input.No.{No}
@@ -19,10 +18,11 @@ use Rattle.node_panel.specs.Panel.{panel_line_of}
 use Rattle.node_panel.specs.declared.line.PanelLine.{PanelLine}
 use Rattle.node_panel.specs.declared.line.PanelLine.TheVariants as lines
 use Rattle.node_run.specs.declared.rules.Rules.{Rules}
+use Rattle.node_run.specs.Held.{HeldValue, holds}
 use Rattle.node_run.specs.State.{RunState, WayValue, echoed, way_at, with_way, with_wire}
 use Rattle.node_run.specs.Next.{has_ended}
 use Rattle.node_run.specs.Steps.{Takes, TakesStep, MeetsSecond}
-use Rattle.node_run.specs.After.{after_send, greeting, PanelArrives, AfterPanel, panel_second, panel_bytes, panel_closed, after_supervisory, supervisory_arrived, supervisory_second, supervisory_bytes, supervisory_closed, broken, AfterUpstream, AfterDownstream, AfterPoll}
+use Rattle.node_run.specs.After.{after_send, greeting, PanelArrives, AfterPanel, panel_second, panel_bytes, panel_closed, after_supervisory, supervisory_arrived, supervisory_second, supervisory_bytes, supervisory_closed, with_held, AfterUpstream, AfterDownstream, AfterPoll}
 use Rattle.node_run.specs.Lines.{cut_line, behind_first, without_return, is_too_long, Tells, DoesInput, AsksIf, AsksConnect, may_ask, DoesAsked, KeepsFront, Fronts, Ends, DoesCut, DoesLine}
 use Rattle.node_run.specs.declared.way_state.Wire.{Wire}
 use Rattle.node_run.specs.declared.way_state.Wire.TheVariants as wires
@@ -88,7 +88,7 @@ IsShortGot most founds.NotYet = Unit {0}
 IsShortGot most founds.Closed = Unit {0}
 IsShortGot most founds.Failed = Unit {0}
 
-panel_same : (most : ℕ) (rules : Rules) (got : GotBytes) (s t : RunState) (log : List ℕ) → IsShortGot most got → AfterPanel rules got s t log → SamePlace most s t
+pub panel_same : (most : ℕ) (rules : Rules) (got : GotBytes) (s t : RunState) (log : List ℕ) → IsShortGot most got → AfterPanel rules got s t log → SamePlace most s t
 panel_same most rules founds.Arrived s t log short after = arrived_same most s.panel.wire rules s t log after
 panel_same most rules founds.Second s t log short after = same_at most s _ t after.0 (seconded_same most s.panel.wire s)
 panel_same most rules (founds.Bytes bytes) s t log short after = same_at most s _ t after.0 (bytes_same most s.panel.wire bytes s short)
@@ -96,29 +96,24 @@ panel_same most rules founds.NotYet s t log short after = same_at most s s t aft
 panel_same most rules founds.Closed s t log short after = same_at most s _ t after.0 (closed_same most s.panel.wire s)
 panel_same most rules founds.Failed s t log short after = same_at most s _ t after.0 (closed_same most s.panel.wire s)
 
-upstream_broken_same : (most : ℕ) (test : Bool) (s : RunState) → SamePlace most s (broken ways.Upstream test s)
-upstream_broken_same most true s = record { turn = refl; place = refl; ended = refl; rest = λ few. few }
-upstream_broken_same most false s = same most s
-
-downstream_broken_same : (most : ℕ) (test : Bool) (s : RunState) → SamePlace most s (broken ways.Downstream test s)
-downstream_broken_same most true s = record { turn = refl; place = refl; ended = refl; rest = λ few. few }
-downstream_broken_same most false s = same most s
+held_same : (most : ℕ) (held : HeldValue) (s : RunState) → SamePlace most s (with_held held s)
+held_same most held s = record { turn = refl; place = refl; ended = refl; rest = λ few. few }
 
 upstream_same : (most : ℕ) (rules : Rules) (moment : ℤ) (got : GotBytes) (s t : RunState) (log : List ℕ) → AfterUpstream rules moment got s t log → SamePlace most s t
 upstream_same most rules moment founds.Arrived s t log after = takes_same most (may_of s.node inputs.Connect) rules moment inputs.Connect (with_wire ways.Upstream wires.Stands s) s t log after (record { turn = refl; place = refl; ended = refl; rest = λ few. few })
 upstream_same most rules moment founds.Second s t log after = same_at most s s t after.0 (same most s)
-upstream_same most rules moment (founds.Bytes bytes) s t log after = takes_same most (may_of s.node (inputs.Bytes Entry after.piece)) rules moment (inputs.Bytes Entry after.piece) s s t log after.takes (same most s)
+upstream_same most rules moment (founds.Bytes bytes) s t log after = same_at most s _ t after.0 (held_same most (holds Entry (Some bytes)) s)
 upstream_same most rules moment founds.NotYet s t log after = same_at most s s t after.0 (same most s)
-upstream_same most rules moment founds.Closed s t log after = same_at most s _ t after.0 (upstream_broken_same most (is_open Entry s.node.lane.body) s)
-upstream_same most rules moment founds.Failed s t log after = same_at most s _ t after.0 (upstream_broken_same most (is_open Entry s.node.lane.body) s)
+upstream_same most rules moment founds.Closed s t log after = same_at most s _ t after.0 (held_same most (holds Entry None) s)
+upstream_same most rules moment founds.Failed s t log after = same_at most s _ t after.0 (held_same most (holds Entry None) s)
 
 downstream_same : (most : ℕ) (rules : Rules) (moment : ℤ) (got : GotBytes) (s t : RunState) (log : List ℕ) → AfterDownstream rules moment got s t log → SamePlace most s t
 downstream_same most rules moment founds.Arrived s t log after = takes_same most (may_of s.node inputs.Accepted) rules moment inputs.Accepted (with_wire ways.Downstream wires.Stands s) s t log after (record { turn = refl; place = refl; ended = refl; rest = λ few. few })
 downstream_same most rules moment founds.Second s t log after = second_same most (may_of s.node inputs.Second) rules moment inputs.Second s t log after
-downstream_same most rules moment (founds.Bytes bytes) s t log after = takes_same most (may_of s.node (inputs.Bytes Exit after.piece)) rules moment (inputs.Bytes Exit after.piece) s s t log after.takes (same most s)
+downstream_same most rules moment (founds.Bytes bytes) s t log after = same_at most s _ t after.0 (held_same most (holds Exit (Some bytes)) s)
 downstream_same most rules moment founds.NotYet s t log after = same_at most s s t after.0 (same most s)
-downstream_same most rules moment founds.Closed s t log after = same_at most s _ t after.0 (downstream_broken_same most (is_open Exit s.node.lane.body) s)
-downstream_same most rules moment founds.Failed s t log after = same_at most s _ t after.0 (downstream_broken_same most (is_open Exit s.node.lane.body) s)
+downstream_same most rules moment founds.Closed s t log after = same_at most s _ t after.0 (held_same most (holds Exit None) s)
+downstream_same most rules moment founds.Failed s t log after = same_at most s _ t after.0 (held_same most (holds Exit None) s)
 
 supervisory_arrived_same : (most : ℕ) (wire : Wire) (s : RunState) → SamePlace most s (supervisory_arrived wire s)
 supervisory_arrived_same most wires.Rests s = record { turn = refl; place = refl; ended = refl; rest = λ few. few }
@@ -183,34 +178,35 @@ sent_same way sents.Failed s = way_same way (record (way_at way s) { wire = wire
 abbrev pub EndsBy : Option NodeStatus → Option NodeStatus → Type 0
 EndsBy before after = (after ≡ before) ⊎ (after ≡ Some statuses.Done)
 
--- a line leaves the turn, the place, the text behind it and the supervisor's channel, and ends the run at most as done
+-- a line leaves the turn, the place, the text behind it, the supervisor's channel and what is held, and ends the run at most as done
 pub record SameRest (s t : RunState) : Type 0 where
   pub turn : t.turn ≡ s.turn
   pub place : t.place ≡ s.place
   pub rest : t.rest ≡ s.rest
   pub channel : t.channel ≡ s.channel
+  pub held : t.held ≡ s.held
   pub ended : EndsBy s.ended t.ended
 
 rests : (s : RunState) → SameRest s s
-rests s = record { turn = refl; place = refl; rest = refl; channel = refl; ended = inl refl }
+rests s = record { turn = refl; place = refl; rest = refl; channel = refl; held = refl; ended = inl refl }
 
 rests_at : (s u t : RunState) → t ≡ u → SameRest s u → SameRest s t
 rests_at s u t e frame = let P : RunState → Type 0 = SameRest s in subst P (sym e) frame
 
 tells_rest : (text : List ℕ) (s t : RunState) (log : List ℕ) → Tells text s t log → SameRest s t
-tells_rest text s t log tells = rests_at s (echoed text s) t tells.0 (record { turn = refl; place = refl; rest = refl; channel = refl; ended = inl refl })
+tells_rest text s t log tells = rests_at s (echoed text s) t tells.0 (record { turn = refl; place = refl; rest = refl; channel = refl; held = refl; ended = inl refl })
 
 aloud_rest : (rules : Rules) (moment : ℤ) (sensed : List Sensed) (input : Input) (s t : RunState) (log : List ℕ) → TakesStep true rules moment sensed input s t log → SameRest s t
 aloud_rest rules moment sensed input s t log aloud =
     let after = aloud.after in
-    record { turn = ap (λ (r : RunState). r.turn) after; place = ap (λ (r : RunState). r.place) after; rest = ap (λ (r : RunState). r.rest) after; channel = ap (λ (r : RunState). r.channel) after; ended = inl (ap (λ (r : RunState). r.ended) after) }
+    record { turn = ap (λ (r : RunState). r.turn) after; place = ap (λ (r : RunState). r.place) after; rest = ap (λ (r : RunState). r.rest) after; channel = ap (λ (r : RunState). r.channel) after; held = ap (λ (r : RunState). r.held) after; ended = inl (ap (λ (r : RunState). r.ended) after) }
 
 input_rest : (may : Result (Unit {0}) No) (rules : Rules) (moment : ℤ) (sensed : List Sensed) (input : Input) (s t : RunState) (log : List ℕ) → DoesInput may rules moment sensed input s t log → SameRest s t
 input_rest (Ok done) rules moment sensed input s t log does = aloud_rest rules moment sensed input s t log does
 input_rest (Err why) rules moment sensed input s t log does = tells_rest _ s t log does
 
 asks_rest : (may : Result (Unit {0}) No) (s t : RunState) (log : List ℕ) → AsksIf may s t log → SameRest s t
-asks_rest (Ok done) s t log asks = rests_at s (record s { asks = true }) t asks.0 (record { turn = refl; place = refl; rest = refl; channel = refl; ended = inl refl })
+asks_rest (Ok done) s t log asks = rests_at s (record s { asks = true }) t asks.0 (record { turn = refl; place = refl; rest = refl; channel = refl; held = refl; ended = inl refl })
 asks_rest (Err why) s t log asks = tells_rest _ s t log asks
 
 connect_rest : (upstream : Option Address) (s t : RunState) (log : List ℕ) → AsksConnect upstream s t log → SameRest s t
@@ -220,7 +216,7 @@ connect_rest (Some address) s t log asks = asks_rest (may_ask (has_ended s.upstr
 asked_rest : (asked : Result PanelLine LineWhy) (rules : Rules) (moment : ℤ) (s t : RunState) (log : List ℕ) → DoesAsked asked rules moment s t log → SameRest s t
 asked_rest (Err why) rules moment s t log does = tells_rest _ s t log does
 asked_rest (Ok lines.Blank) rules moment s t log does = rests_at s s t does.0 (rests s)
-asked_rest (Ok lines.End) rules moment s t log does = rests_at s (record s { ended = Some statuses.Done }) t does.0 (record { turn = refl; place = refl; rest = refl; channel = refl; ended = inr refl })
+asked_rest (Ok lines.End) rules moment s t log does = rests_at s (record s { ended = Some statuses.Done }) t does.0 (record { turn = refl; place = refl; rest = refl; channel = refl; held = refl; ended = inr refl })
 asked_rest (Ok lines.Show) rules moment s t log does = tells_rest _ s t log does
 asked_rest (Ok lines.Connect) rules moment s t log does = connect_rest rules.connections.upstream s t log does
 asked_rest (Ok (lines.Insert barcode)) rules moment s t log does = input_rest (may_of s.node (inputs.Insert barcode)) rules moment _ _ s t log does
@@ -240,16 +236,16 @@ asked_rest (Ok (lines.Ask question)) rules moment s t log does =
 asked_rest (Ok (lines.Sense sensed)) rules moment s t log does = input_rest (may_of s.node inputs.Nothing) rules moment _ _ s t log does
 
 keeps_rest : (long : Bool) (front : List ℕ) (s t : RunState) (log : List ℕ) → KeepsFront long front s t log → SameRest s t
-keeps_rest true front s t log keeps = let told = tells_rest _ (record s { line = []; drops = true }) t log keeps in record { turn = told.turn; place = told.place; rest = told.rest; channel = told.channel; ended = told.ended }
-keeps_rest false front s t log keeps = rests_at s (record s { line = front }) t keeps.0 (record { turn = refl; place = refl; rest = refl; channel = refl; ended = inl refl })
+keeps_rest true front s t log keeps = let told = tells_rest _ (record s { line = []; drops = true }) t log keeps in record { turn = told.turn; place = told.place; rest = told.rest; channel = told.channel; held = told.held; ended = told.ended }
+keeps_rest false front s t log keeps = rests_at s (record s { line = front }) t keeps.0 (record { turn = refl; place = refl; rest = refl; channel = refl; held = refl; ended = inl refl })
 
 fronts_rest : (drops : Bool) (front : List ℕ) (s t : RunState) (log : List ℕ) → Fronts drops front s t log → SameRest s t
 fronts_rest true front s t log fronts = rests_at s s t fronts.0 (rests s)
 fronts_rest false front s t log fronts = keeps_rest (is_too_long front) front s t log fronts
 
 ends_rest : (drops : Bool) (line : List ℕ) (rules : Rules) (moment : ℤ) (s t : RunState) (log : List ℕ) → Ends drops line rules moment s t log → SameRest s t
-ends_rest true line rules moment s t log ends = rests_at s (record s { drops = false }) t ends.0 (record { turn = refl; place = refl; rest = refl; channel = refl; ended = inl refl })
-ends_rest false line rules moment s t log ends = let does = asked_rest (panel_line_of (without_return line)) rules moment (record s { line = [] }) t log ends in record { turn = does.turn; place = does.place; rest = does.rest; channel = does.channel; ended = does.ended }
+ends_rest true line rules moment s t log ends = rests_at s (record s { drops = false }) t ends.0 (record { turn = refl; place = refl; rest = refl; channel = refl; held = refl; ended = inl refl })
+ends_rest false line rules moment s t log ends = let does = asked_rest (panel_line_of (without_return line)) rules moment (record s { line = [] }) t log ends in record { turn = does.turn; place = does.place; rest = does.rest; channel = does.channel; held = does.held; ended = does.ended }
 
 -- what stands behind the first end of a line is less than all
 abbrev IsShorter : List ℕ → Option (List ℕ × List ℕ) → Type 0
@@ -274,15 +270,16 @@ pub record TakesLine (s t : RunState) : Type 0 where
   pub place : t.place ≡ s.place
   pub rest : length t.rest < length s.rest
   pub channel : t.channel ≡ s.channel
+  pub held : t.held ≡ s.held
   pub ended : EndsBy s.ended t.ended
 
 cut_takes : (cut : Option (List ℕ × List ℕ)) (rules : Rules) (moment : ℤ) (s t : RunState) (log : List ℕ) → IsShorter s.rest cut → 0 < length s.rest → DoesCut cut rules moment s t log → TakesLine s t
 cut_takes None rules moment s t log shorter some does =
     let rest = fronts_rest s.drops (s.line ++ s.rest) (record s { rest = [] }) t log does in
-    record { turn = rest.turn; place = rest.place; rest = rw rest.rest some; channel = rest.channel; ended = rest.ended }
+    record { turn = rest.turn; place = rest.place; rest = rw rest.rest some; channel = rest.channel; held = rest.held; ended = rest.ended }
 cut_takes (Some parts) rules moment s t log shorter some does =
     let rest = ends_rest s.drops (s.line ++ parts.0) rules moment (record s { rest = parts.1 }) t log does in
-    record { turn = rest.turn; place = rest.place; rest = rw rest.rest shorter; channel = rest.channel; ended = rest.ended }
+    record { turn = rest.turn; place = rest.place; rest = rw rest.rest shorter; channel = rest.channel; held = rest.held; ended = rest.ended }
 
 pub line_takes : (rules : Rules) (moment : ℤ) (s t : RunState) (log : List ℕ) → 0 < length s.rest → DoesLine rules moment s t log → TakesLine s t
 line_takes rules moment s t log some does = cut_takes (cut_line s.rest) rules moment s t log (cut_shorter s.rest) some does

@@ -4,6 +4,7 @@ mod Accounts
 pub mod Nexts
 pub mod Frames
 pub mod Heard
+pub mod Holding
 pub mod Taking
 pub mod Closing
 pub mod Far

@@ -1,8 +1,10 @@
 -- From a call and its answer to a move, and from moves to a run.
 use Rattle.std.proofs.Common.{◌≡◌, ◌∙◌, sym, subst, ap, refl, ℕ, ℤ, pos, false, List, [], ◌∷◌, ◌++◌, Option, None, Some, Result, Ok, Err, ◌⊎◌, inl, inr, length, ◌<◌, ◌≤◌, append_assoc, append-nil, arith}
 use Rattle.line_outside.proofs.Growing.{grows_none, grows_more, grows_part, rose_after, rose_before}
+use Rattle.std.proofs.lemmas.List.Elements.{All-nil, All-push}
 use Rattle.std.specs.Prelude.{OnOk, OnErr}
 use Rattle.line_base.specs.declared.memory.Memory.{Memory}
+use Rattle.line_base.specs.Moment.{IsMomentMillis}
 use Rattle.line_outside.specs.Clock.{TellsMoment}
 use Rattle.line_outside.specs.Faults.{Rose}
 use Rattle.line_outside.specs.Given.{Given, Listens, Connects, Polls, Sends, Refuses, Closes}
@@ -18,23 +20,25 @@ use Rattle.line_outside.specs.declared.ports.Sent.TheVariants as sents
 use Rattle.line_outside.specs.declared.way.Address.{Address}
 use Rattle.line_outside.specs.declared.way.Way.{Way}
 use Rattle.line_outside.specs.declared.way.Way.TheVariants as ways
-use Rattle.node_run.specs.After.{found_of, after_listen, after_send, AfterPoll, AfterClose}
+use Rattle.node_run.specs.After.{found_of, after_listen, after_send, looked, AfterPoll, AfterLook, AfterClose, TakesHeld}
 use Rattle.node_run.specs.Channel.{is_empty, IsShort}
+use Rattle.node_run.specs.Held.{HasFewLooks}
 use Rattle.node_run.specs.Hearing.{DoesHear}
 use Rattle.node_run.specs.Lines.{DoesLine}
-use Rattle.node_run.specs.Moving.{IsMoment, MovesAs, MissesMove, IsEndCaused, MovesOn, FailsLog, FailsMemory, IsAtEnd, EndsMove, IsRunEnd, IsOnceStatus, RunsTold}
+use Rattle.node_run.specs.Moving.{MovesAs, MissesMove, IsEndCaused, MovesOn, FailsLog, FailsMemory, IsAtEnd, EndsMove, IsRunEnd, IsOnceStatus}
 use Rattle.node_run.specs.Next.{next_of, moved_on}
-use Rattle.node_run.specs.Runs.{Moves, listens, connects, polls, sends, refuses, closes, skips, does_line, does_hear, begins, goes_on, no_call, polled, closed, HasRun, HasRunInPart, RunEnds, IsRunStatus, room_bytes}
+use Rattle.node_run.specs.Runs.{Moves, listens, connects, polls, sends, refuses, closes, skips, looks_again, takes_held, does_line, does_hear, begins, goes_on, no_call, polled, polled_again, closed, IsMoment, HasRun, HasRunInPart, RunEnds, IsRunStatus, room_bytes}
 use Rattle.node_run.specs.State.{Refusal, RunState, RunView, refusal_text, way_at}
 use Rattle.node_run.specs.Work.{far_of}
-use Rattle.node_run.specs.Told.{HasRunCauses, RunEndsFrom}
+use Rattle.node_run.specs.Told.{HasRunCauses}
 use Rattle.node_run.specs.declared.place.Next.{Next}
 use Rattle.node_run.specs.declared.place.Next.TheVariants as nexts
 use Rattle.node_run.specs.declared.rules.Rules.{Rules}
 use Rattle.node_run.specs.declared.status.NodeStatus.{NodeStatus}
 use Rattle.node_run.specs.declared.status.NodeStatus.TheVariants as statuses
 use Rattle.node_run.proofs.Far.{close_less, moves_nearer, not_empty}
-use Rattle.node_run.proofs.Frames.{EndsBy, IsShortGot, line_takes, poll_same, sent_same}
+use Rattle.node_run.proofs.Frames.{EndsBy, IsShortGot, line_takes, panel_same, poll_same, sent_same}
+use Rattle.node_run.proofs.Holding.{held_here}
 use Rattle.node_run.proofs.Heard.{hear_less}
 use Rattle.node_run.proofs.Nexts.{is_from, not_ended}
 
@@ -61,12 +65,12 @@ moment_of (Some moment) = moment
 
 is_moment_of : (told : Option ℤ) → IsMoment told (moment_of told)
 unfolding moment_of
-is_moment_of None = tt
+is_moment_of None = (omega arith, omega arith)
 is_moment_of (Some moment) = refl
 
-pub is_moment_now : (told after : Option ℤ) (now : ℤ) → TellsMoment told after now → IsMoment told now
-is_moment_now None after now tells = tt
-is_moment_now (Some moment) after now tells = tells.0
+pub is_moment_now : (told after : Option ℤ) (now : ℤ) → IsMomentMillis now → TellsMoment told after now → IsMoment told now
+is_moment_now None after now within tells = within
+is_moment_now (Some moment) after now within tells = tells.0
 
 pub clock_same : (told after : Option ℤ) (now : ℤ) → TellsMoment told after now → after ≡ told
 clock_same None after now tells = tells
@@ -173,54 +177,81 @@ refused_on told r u way piece sent given_old given_new before now next quiet res
 
 -- ---- moves at a moment
 
-pub line_done : (told after : Option ℤ) (moment : ℤ) (r u : RunView) (given : Option (List Given)) (before now : ℕ)
-    → next_of r.rules r.state ≡ nexts.Line → length r.state.rest ≤ 4096 → TellsMoment told after moment → u.rules ≡ r.rules → DoesLine r.rules moment r.state u.state u.told
+pub line_done : (told : Option ℤ) (moment : ℤ) (r u : RunView) (given : Option (List Given)) (before now : ℕ)
+    → next_of r.rules r.state ≡ nexts.Line → length r.state.rest ≤ 4096 → IsMoment told moment → u.rules ≡ r.rules → DoesLine r.rules moment r.state u.state u.told
     → MovesAs told r u given given before now
-line_done told after moment r u given before now next rest tells rules does =
+line_done told moment r u given before now next rest at rules does =
     let takes = line_takes r.rules moment r.state u.state u.told (not_empty r.state.rest (is_from r.rules r.state nexts.Line next)) does in
     record {
       rules = rules;
-      makes = record { moment = moment; same = is_moment_now told after moment tells; calls = []; move = does_line next does; gains = gains_none given };
+      makes = record { moment = moment; same = at; calls = []; move = does_line next does; gains = gains_none given };
       rest = omega (arith, takes.rest, rest);
       ended = ends_caused r.state.ended u.state.ended before now (not_ended r.rules r.state nexts.Line next refl) takes.ended;
     }
 
-pub heard_on : (told after : Option ℤ) (moment : ℤ) (r u : RunView) (given : Option (List Given)) (before now : ℕ)
-    → next_of r.rules r.state ≡ nexts.Hear → length r.state.rest ≤ 4096 → TellsMoment told after moment → u.rules ≡ r.rules → DoesHear r.rules moment r.state u.state u.told
+pub heard_on : (told : Option ℤ) (moment : ℤ) (r u : RunView) (given : Option (List Given)) (before now : ℕ)
+    → next_of r.rules r.state ≡ nexts.Hear → length r.state.rest ≤ 4096 → IsMoment told moment → u.rules ≡ r.rules → DoesHear r.rules moment r.state u.state u.told
     → MovesAs told r u given given before now
-heard_on told after moment r u given before now next rest tells rules does =
+heard_on told moment r u given before now next rest at rules does =
     let less = hear_less r.rules moment r.state u.state u.told (is_from r.rules r.state nexts.Hear next) does in
     record {
       rules = rules;
-      makes = record { moment = moment; same = is_moment_now told after moment tells; calls = []; move = does_hear next does; gains = gains_none given };
+      makes = record { moment = moment; same = at; calls = []; move = does_hear next does; gains = gains_none given };
       rest = omega (arith, ap length less.rest, rest);
       ended = uncaused u.state.ended before now (less.ended ∙ not_ended r.rules r.state nexts.Hear next refl);
     }
 
-pub polled_on : (told after : Option ℤ) (moment : ℤ) (r u : RunView) (way : Way) (room : ℕ) (got found : GotBytes) (given_old given_new : Option (List Given)) (before now : ℕ)
-    → next_of r.rules r.state ≡ nexts.Poll way → length r.state.rest ≤ 4096 → TellsMoment told after moment → u.rules ≡ r.rules
+pub polled_on : (told : Option ℤ) (moment : ℤ) (r u : RunView) (way : Way) (room : ℕ) (got found : GotBytes) (given_old given_new : Option (List Given)) (before now : ℕ)
+    → next_of r.rules r.state ≡ nexts.Poll way → length r.state.rest ≤ 4096 → IsMoment told moment → u.rules ≡ r.rules
     → room ≡ 4096 → got ≡ found → IsShortGot 4096 found → Gains given_old given_new (Polls way room got ∷ []) → AfterPoll r.rules moment way found (moved_on r.state) u.state u.told
     → MovesAs told r u given_old given_new before now
-polled_on told after moment r u way room got found given_old given_new before now next rest tells rules full same short gains does =
+polled_on told moment r u way room got found given_old given_new before now next rest at rules full same short gains does =
     let there = poll_same 4096 r.rules moment way found (moved_on r.state) u.state u.told short does in
     let P : ℕ → Type 0 = λ n. Gains given_old given_new (Polls way n found ∷ []) in
     let Q : GotBytes → Type 0 = λ g. Gains given_old given_new (Polls way room g ∷ []) in
     record {
       rules = rules;
-      makes = record { moment = moment; same = is_moment_now told after moment tells; calls = Polls way room_bytes found ∷ []; move = polls next does; gains = subst P full (subst Q same gains) };
+      makes = record { moment = moment; same = at; calls = Polls way room_bytes found ∷ []; move = polls next does; gains = subst P full (subst Q same gains) };
       rest = there.rest rest;
       ended = uncaused u.state.ended before now (there.ended ∙ not_ended r.rules r.state (nexts.Poll way) next refl);
     }
 
-pub closed_on : (told after : Option ℤ) (moment : ℤ) (r u : RunView) (way : Way) (given_old given_new : Option (List Given)) (before now : ℕ)
-    → next_of r.rules r.state ≡ nexts.Close way → length r.state.rest ≤ 4096 → TellsMoment told after moment → u.rules ≡ r.rules
+pub looked_on : (told : Option ℤ) (r u : RunView) (room : ℕ) (got found : GotBytes) (given_old given_new : Option (List Given)) (before now : ℕ)
+    → next_of r.rules r.state ≡ nexts.Look → length r.state.rest ≤ 4096 → u.rules ≡ r.rules
+    → room ≡ 4096 → got ≡ found → IsShortGot 4096 found → Gains given_old given_new (Polls ways.Panel room got ∷ []) → AfterLook r.rules found r.state u.state u.told
+    → MovesAs told r u given_old given_new before now
+looked_on told r u room got found given_old given_new before now next rest rules full same short gains does =
+    let there = panel_same 4096 r.rules found (looked found r.state) u.state u.told short does in
+    let P : ℕ → Type 0 = λ n. Gains given_old given_new (Polls ways.Panel n found ∷ []) in
+    let Q : GotBytes → Type 0 = λ g. Gains given_old given_new (Polls ways.Panel room g ∷ []) in
+    record {
+      rules = rules;
+      makes = record { moment = moment_of told; same = is_moment_of told; calls = Polls ways.Panel room_bytes found ∷ []; move = looks_again next does; gains = subst P full (subst Q same gains) };
+      rest = there.rest rest;
+      ended = uncaused u.state.ended before now (there.ended ∙ not_ended r.rules r.state nexts.Look next refl);
+    }
+
+pub taken_on : (told : Option ℤ) (moment : ℤ) (r u : RunView) (given : Option (List Given)) (before now : ℕ)
+    → next_of r.rules r.state ≡ nexts.Take → length r.state.rest ≤ 4096 → IsMoment told moment → u.rules ≡ r.rules → TakesHeld r.rules moment r.state u.state u.told
+    → MovesAs told r u given given before now
+taken_on told moment r u given before now next rest at rules does =
+    let there = held_here r.rules moment r.state u.state u.told does in
+    record {
+      rules = rules;
+      makes = record { moment = moment; same = at; calls = []; move = takes_held next does; gains = gains_none given };
+      rest = omega (arith, ap length there.rest, rest);
+      ended = uncaused u.state.ended before now (there.ended ∙ not_ended r.rules r.state nexts.Take next refl);
+    }
+
+pub closed_on : (told : Option ℤ) (moment : ℤ) (r u : RunView) (way : Way) (given_old given_new : Option (List Given)) (before now : ℕ)
+    → next_of r.rules r.state ≡ nexts.Close way → length r.state.rest ≤ 4096 → IsMoment told moment → u.rules ≡ r.rules
     → Gains given_old given_new (Closes way ∷ []) → AfterClose r.rules moment way r.state u.state u.told
     → MovesAs told r u given_old given_new before now
-closed_on told after moment r u way given_old given_new before now next rest tells rules gains does =
+closed_on told moment r u way given_old given_new before now next rest at rules gains does =
     let less = close_less r.rules moment way r.state u.state u.told (is_from r.rules r.state (nexts.Close way) next) does in
     record {
       rules = rules;
-      makes = record { moment = moment; same = is_moment_now told after moment tells; calls = Closes way ∷ []; move = closes next does; gains = gains };
+      makes = record { moment = moment; same = at; calls = Closes way ∷ []; move = closes next does; gains = gains };
       rest = omega (arith, less.rest, rest);
       ended = uncaused u.state.ended before now (less.ended ∙ not_ended r.rules r.state (nexts.Close way) next refl);
     }
@@ -234,6 +265,11 @@ pub missed_poll : (rules : Rules) (s : RunState) (way : Way) (room : ℕ) (got :
 missed_poll rules s way room got given_old given_new next full gains =
     let P : ℕ → Type 0 = λ n. Gains given_old given_new (Polls way n got ∷ []) in
     record { last = Polls way room_bytes got ∷ []; next = polled next; gains = subst P full gains }
+
+pub missed_look : (rules : Rules) (s : RunState) (room : ℕ) (got : GotBytes) (given_old given_new : Option (List Given)) → next_of rules s ≡ nexts.Look → room ≡ 4096 → Gains given_old given_new (Polls ways.Panel room got ∷ []) → MissesMove rules s given_old given_new
+missed_look rules s room got given_old given_new next full gains =
+    let P : ℕ → Type 0 = λ n. Gains given_old given_new (Polls ways.Panel n got ∷ []) in
+    record { last = Polls ways.Panel room_bytes got ∷ []; next = polled_again next; gains = subst P full gains }
 
 pub missed_close : (rules : Rules) (s : RunState) (way : Way) (given_old given_new : Option (List Given)) → next_of rules s ≡ nexts.Close way → Gains given_old given_new (Closes way ∷ []) → MissesMove rules s given_old given_new
 missed_close rules s way given_old given_new next gains = record { last = Closes way ∷ []; next = closed next; gains = gains }
@@ -291,105 +327,104 @@ ends_once rules s status before now is next = once_of s.ended status before now 
 
 -- ---- the loop
 
-pub begins_told : (told : Option ℤ) (rules : Rules) (s : RunState) (given : Option (List Given)) (log : Option (List ℕ)) → RunsTold told rules s s given given log log
-begins_told None rules s given log = tt
-begins_told (Some moment) rules s given log = record { calls = []; log = []; run = begins; told = gains_none given; logged = grows_none log }
-
-move_at : (rules : Rules) (moment wanted : ℤ) (s t : RunState) (calls : List Given) (log : List ℕ) → moment ≡ wanted → Moves rules moment s calls t log → Moves rules wanted s calls t log
-move_at rules moment wanted s t calls log e move = let P : ℤ → Type 0 = λ m. Moves rules m s calls t log in subst P e move
+pub begins_run : (told : Option ℤ) (rules : Rules) (s : RunState) (given : Option (List Given)) (log : Option (List ℕ)) → HasRun told rules s s given given log log
+begins_run told rules s given log = record { moments = []; calls = []; log = []; at = All-nil (IsMoment told); run = begins; told = gains_none given; logged = grows_none log }
 
 pub runs_on : (told : Option ℤ) (rules : Rules) (s t u : RunState) (given_old given_mid given_new : Option (List Given)) (log_old log_mid log_new : Option (List ℕ))
-    → RunsTold told rules s t given_old given_mid log_old log_mid → MovesOn told rules t u given_mid given_new log_mid log_new → RunsTold told rules s u given_old given_new log_old log_new
-runs_on None rules s t u given_old given_mid given_new log_old log_mid log_new run moves = tt
-runs_on (Some moment) rules s t u given_old given_mid given_new log_old log_mid log_new run moves = record {
+    → HasRun told rules s t given_old given_mid log_old log_mid → MovesOn told rules t u given_mid given_new log_mid log_new → HasRun told rules s u given_old given_new log_old log_new
+runs_on told rules s t u given_old given_mid given_new log_old log_mid log_new run moves = record {
+  moments = run.moments ++ moves.makes.moment ∷ [];
   calls = run.calls ++ moves.makes.calls;
   log = run.log ++ moves.log;
-  run = goes_on run.run (move_at rules moves.makes.moment moment t u moves.makes.calls moves.log moves.makes.same moves.makes.move);
+  at = All-push (IsMoment told) run.moments moves.makes.moment run.at moves.makes.same;
+  run = goes_on run.run moves.makes.move;
   told = gains_more given_old given_mid given_new run.calls moves.makes.calls run.told moves.makes.gains;
   logged = grows_more log_old log_mid log_new run.log moves.log run.logged moves.grows;
 }
 
-memory_part : (rules : Rules) (moment : ℤ) (s t : RunState) (given_old given_mid given_new : Option (List Given)) (log_old log_mid log_new : Option (List ℕ))
-    → HasRun rules moment s t given_old given_mid log_old log_mid → FailsMemory rules t given_mid given_new log_mid log_new → HasRunInPart rules moment s given_old given_new log_old log_new
-memory_part rules moment s t given_old given_mid given_new log_old log_mid log_new run fails =
+memory_part : (told : Option ℤ) (rules : Rules) (s t : RunState) (given_old given_mid given_new : Option (List Given)) (log_old log_mid log_new : Option (List ℕ))
+    → HasRun told rules s t given_old given_mid log_old log_mid → FailsMemory rules t given_mid given_new log_mid log_new → HasRunInPart told rules s given_old given_new log_old log_new
+memory_part told rules s t given_old given_mid given_new log_old log_mid log_new run fails =
     let P : Option (List ℕ) → Type 0 = λ l. Grows log_old l run.log in
     record {
+      moments = run.moments;
       calls = run.calls;
       last = fails.misses.last;
       log = run.log;
       reached = t;
+      at = run.at;
       run = run.run;
       next = fails.misses.next;
       told = gains_more given_old given_mid given_new run.calls fails.misses.last run.told fails.misses.gains;
       logged = record { front = run.log; back = []; parts = append-nil run.log; grows = subst P (sym fails.logged) run.logged };
     }
 
-log_part : (rules : Rules) (moment : ℤ) (s t : RunState) (given_old given_mid given_new : Option (List Given)) (log_old log_mid log_new : Option (List ℕ))
-    → HasRun rules moment s t given_old given_mid log_old log_mid → (let told : Option ℤ = Some moment in FailsLog told rules t given_mid given_new log_mid log_new) → HasRunInPart rules moment s given_old given_new log_old log_new
-log_part rules moment s t given_old given_mid given_new log_old log_mid log_new run fails =
+log_part : (told : Option ℤ) (rules : Rules) (s t : RunState) (given_old given_mid given_new : Option (List Given)) (log_old log_mid log_new : Option (List ℕ))
+    → HasRun told rules s t given_old given_mid log_old log_mid → FailsLog told rules t given_mid given_new log_mid log_new → HasRunInPart told rules s given_old given_new log_old log_new
+log_part told rules s t given_old given_mid given_new log_old log_mid log_new run fails =
     let calls = run.calls ++ fails.makes.calls in
     let P : List Given → Type 0 = Gains given_old given_new in
     record {
+      moments = run.moments ++ fails.makes.moment ∷ [];
       calls = calls;
       last = [];
       log = run.log ++ fails.log;
       reached = fails.after;
-      run = goes_on run.run (move_at rules fails.makes.moment moment t fails.after fails.makes.calls fails.log fails.makes.same fails.makes.move);
+      at = All-push (IsMoment told) run.moments fails.makes.moment run.at fails.makes.same;
+      run = goes_on run.run fails.makes.move;
       next = no_call;
       told = subst P (sym (append-nil calls)) (gains_more given_old given_mid given_new run.calls fails.makes.calls run.told fails.makes.gains);
       logged = grows_part log_old log_mid log_new run.log fails.log run.logged fails.part;
     }
 
-run_at : (rules : Rules) (moment : ℤ) (s t : RunState) (given_old given_mid given_new : Option (List Given)) (log_old log_mid log_new : Option (List ℕ))
-    → HasRun rules moment s t given_old given_mid log_old log_mid → given_new ≡ given_mid → log_new ≡ log_mid → HasRun rules moment s t given_old given_new log_old log_new
-run_at rules moment s t given_old given_mid given_new log_old log_mid log_new run given log =
+run_at : (told : Option ℤ) (rules : Rules) (s t : RunState) (given_old given_mid given_new : Option (List Given)) (log_old log_mid log_new : Option (List ℕ))
+    → HasRun told rules s t given_old given_mid log_old log_mid → given_new ≡ given_mid → log_new ≡ log_mid → HasRun told rules s t given_old given_new log_old log_new
+run_at told rules s t given_old given_mid given_new log_old log_mid log_new run given log =
     let P : Option (List Given) → Type 0 = λ g. Gains given_old g run.calls in
     let Q : Option (List ℕ) → Type 0 = λ l. Grows log_old l run.log in
-    record { calls = run.calls; log = run.log; run = run.run; told = subst P (sym given) run.told; logged = subst Q (sym log) run.logged }
+    record { moments = run.moments; calls = run.calls; log = run.log; at = run.at; run = run.run; told = subst P (sym given) run.told; logged = subst Q (sym log) run.logged }
 
-run_ends : (status : NodeStatus) (rules : Rules) (moment : ℤ) (s t : RunState) (given_old given_mid given_new : Option (List Given)) (log_old log_mid log_new : Option (List ℕ))
-    → HasRun rules moment s t given_old given_mid log_old log_mid → (let told : Option ℤ = Some moment in EndsMove told rules t given_mid given_new log_mid log_new status) → RunEnds rules moment s given_old given_new log_old log_new status
-run_ends statuses.LogFault rules moment s t given_old given_mid given_new log_old log_mid log_new run ends = log_part rules moment s t given_old given_mid given_new log_old log_mid log_new run ends
-run_ends statuses.Memory rules moment s t given_old given_mid given_new log_old log_mid log_new run ends = memory_part rules moment s t given_old given_mid given_new log_old log_mid log_new run ends
-run_ends statuses.Done rules moment s t given_old given_mid given_new log_old log_mid log_new run ends = (t, run_at rules moment s t given_old given_mid given_new log_old log_mid log_new run ends.given ends.logged, ends.next)
-run_ends statuses.Usage rules moment s t given_old given_mid given_new log_old log_mid log_new run ends = (t, run_at rules moment s t given_old given_mid given_new log_old log_mid log_new run ends.given ends.logged, ends.next)
-run_ends (statuses.ConfigRefused key why) rules moment s t given_old given_mid given_new log_old log_mid log_new run ends = (t, run_at rules moment s t given_old given_mid given_new log_old log_mid log_new run ends.given ends.logged, ends.next)
-run_ends statuses.ReadFault rules moment s t given_old given_mid given_new log_old log_mid log_new run ends = (t, run_at rules moment s t given_old given_mid given_new log_old log_mid log_new run ends.given ends.logged, ends.next)
-run_ends (statuses.ListenFault address) rules moment s t given_old given_mid given_new log_old log_mid log_new run ends = (t, run_at rules moment s t given_old given_mid given_new log_old log_mid log_new run ends.given ends.logged, ends.next)
-run_ends statuses.TurnsUsed rules moment s t given_old given_mid given_new log_old log_mid log_new run ends = (t, run_at rules moment s t given_old given_mid given_new log_old log_mid log_new run ends.given ends.logged, ends.next)
+run_ends : (status : NodeStatus) (told : Option ℤ) (rules : Rules) (s t : RunState) (given_old given_mid given_new : Option (List Given)) (log_old log_mid log_new : Option (List ℕ))
+    → HasRun told rules s t given_old given_mid log_old log_mid → EndsMove told rules t given_mid given_new log_mid log_new status → RunEnds told rules s given_old given_new log_old log_new status
+run_ends statuses.LogFault told rules s t given_old given_mid given_new log_old log_mid log_new run ends = log_part told rules s t given_old given_mid given_new log_old log_mid log_new run ends
+run_ends statuses.Memory told rules s t given_old given_mid given_new log_old log_mid log_new run ends = memory_part told rules s t given_old given_mid given_new log_old log_mid log_new run ends
+run_ends statuses.Done told rules s t given_old given_mid given_new log_old log_mid log_new run ends = (t, run_at told rules s t given_old given_mid given_new log_old log_mid log_new run ends.given ends.logged, ends.next)
+run_ends statuses.Usage told rules s t given_old given_mid given_new log_old log_mid log_new run ends = (t, run_at told rules s t given_old given_mid given_new log_old log_mid log_new run ends.given ends.logged, ends.next)
+run_ends (statuses.ConfigRefused key why) told rules s t given_old given_mid given_new log_old log_mid log_new run ends = (t, run_at told rules s t given_old given_mid given_new log_old log_mid log_new run ends.given ends.logged, ends.next)
+run_ends statuses.ReadFault told rules s t given_old given_mid given_new log_old log_mid log_new run ends = (t, run_at told rules s t given_old given_mid given_new log_old log_mid log_new run ends.given ends.logged, ends.next)
+run_ends (statuses.ListenFault address) told rules s t given_old given_mid given_new log_old log_mid log_new run ends = (t, run_at told rules s t given_old given_mid given_new log_old log_mid log_new run ends.given ends.logged, ends.next)
+run_ends statuses.TurnsUsed told rules s t given_old given_mid given_new log_old log_mid log_new run ends = (t, run_at told rules s t given_old given_mid given_new log_old log_mid log_new run ends.given ends.logged, ends.next)
 
--- HOW THE LOOP ENDS, where the clock tells its moment
-ends_from : (told : Option ℤ) (rules : Rules) (s t : RunState) (given_old given_mid given_new : Option (List Given)) (log_old log_mid log_new : Option (List ℕ)) (status : NodeStatus)
-    → RunsTold told rules s t given_old given_mid log_old log_mid → EndsMove told rules t given_mid given_new log_mid log_new status → RunEndsFrom told rules s given_old given_new log_old log_new status
-ends_from None rules s t given_old given_mid given_new log_old log_mid log_new status run ends = tt
-ends_from (Some moment) rules s t given_old given_mid given_new log_old log_mid log_new status run ends = run_ends status rules moment s t given_old given_mid given_new log_old log_mid log_new run ends
-
--- the moment and the rules stay what they were
+-- HOW THE LOOP ENDS: the moment and the rules stay what they were
 pub ends_told : (told told_now : Option ℤ) (rules rules_now : Rules) (s t : RunState) (given_old given_mid given_new : Option (List Given)) (log_old log_mid log_new : Option (List ℕ)) (status : NodeStatus)
-    → told_now ≡ told → rules_now ≡ rules → RunsTold told rules s t given_old given_mid log_old log_mid → EndsMove told_now rules_now t given_mid given_new log_mid log_new status → RunEndsFrom told rules s given_old given_new log_old log_new status
+    → told_now ≡ told → rules_now ≡ rules → HasRun told rules s t given_old given_mid log_old log_mid → EndsMove told_now rules_now t given_mid given_new log_mid log_new status → RunEnds told rules s given_old given_new log_old log_new status
 ends_told told told_now rules rules_now s t given_old given_mid given_new log_old log_mid log_new status same_moment same_rules run ends =
     let P : Option ℤ → Type 0 = λ m. EndsMove m rules_now t given_mid given_new log_mid log_new status in
     let Q : Rules → Type 0 = λ r. EndsMove told r t given_mid given_new log_mid log_new status in
-    ends_from told rules s t given_old given_mid given_new log_old log_mid log_new status run (subst Q same_rules (subst P same_moment ends))
+    run_ends status told rules s t given_old given_mid given_new log_old log_mid log_new run (subst Q same_rules (subst P same_moment ends))
 
 pub told_on : (told told_now : Option ℤ) (rules rules_now : Rules) (s t u : RunState) (given_old given_mid given_new : Option (List Given)) (log_old log_mid log_new : Option (List ℕ))
-    → told_now ≡ told → rules_now ≡ rules → RunsTold told rules s t given_old given_mid log_old log_mid → MovesOn told_now rules_now t u given_mid given_new log_mid log_new → RunsTold told rules s u given_old given_new log_old log_new
+    → told_now ≡ told → rules_now ≡ rules → HasRun told rules s t given_old given_mid log_old log_mid → MovesOn told_now rules_now t u given_mid given_new log_mid log_new → HasRun told rules s u given_old given_new log_old log_new
 told_on told told_now rules rules_now s t u given_old given_mid given_new log_old log_mid log_new same_moment same_rules run moves =
     let P : Option ℤ → Type 0 = λ m. MovesOn m rules_now t u given_mid given_new log_mid log_new in
     let Q : Rules → Type 0 = λ r. MovesOn told r t u given_mid given_new log_mid log_new in
     runs_on told rules s t u given_old given_mid given_new log_old log_mid log_new run (subst Q same_rules (subst P same_moment moves))
 
 -- and where memory is wanting before it
-pub ends_before : (told : Option ℤ) (rules : Rules) (s : RunState) (given : Option (List Given)) (log : Option (List ℕ)) → RunEndsFrom told rules s given given log log statuses.Memory
-ends_before None rules s given log = tt
-ends_before (Some moment) rules s given log = record { calls = []; last = []; log = []; reached = s; run = begins; next = no_call; told = gains_none given; logged = record { front = []; back = []; parts = refl; grows = grows_none log } }
+pub ends_before : (told : Option ℤ) (rules : Rules) (s : RunState) (given : Option (List Given)) (log : Option (List ℕ)) → RunEnds told rules s given given log log statuses.Memory
+ends_before told rules s given log = record { moments = []; calls = []; last = []; log = []; reached = s; at = All-nil (IsMoment told); run = begins; next = no_call; told = gains_none given; logged = record { front = []; back = []; parts = refl; grows = grows_none log } }
+
+-- and how a whole run does
+pub ends_started : (told : Option ℤ) (rules : Rules) (s : RunState) (log : List ℕ) (r : RunView) (given_old given_new : Option (List Given)) (log_old log_new : Option (List ℕ)) (status : NodeStatus)
+    → r ≡ record { rules = rules; state = s; told = log } → RunEnds told r.rules r.state given_old given_new log_old log_new status → RunEnds told rules s given_old given_new log_old log_new status
+ends_started told rules s log r given_old given_new log_old log_new status e ends = let P : RunView → Type 0 = λ v. RunEnds told v.rules v.state given_old given_new log_old log_new status in subst P e ends
 
 -- a run that went on is nearer to its end
 pub nearer_on : (told : Option ℤ) (rules rules_now : Rules) (s t : RunState) (given_old given_new : Option (List Given)) (log_old log_new : Option (List ℕ))
-    → rules_now ≡ rules → MovesOn told rules s t given_old given_new log_old log_new → length s.rest ≤ 4096 → length t.rest ≤ 4096 → IsShort t.channel → far_of rules_now t < far_of rules s
-nearer_on told rules rules_now s t given_old given_new log_old log_new same moves before after short =
+    → rules_now ≡ rules → MovesOn told rules s t given_old given_new log_old log_new → length s.rest ≤ 4096 → length t.rest ≤ 4096 → IsShort t.channel → HasFewLooks t.held → far_of rules_now t < far_of rules s
+nearer_on told rules rules_now s t given_old given_new log_old log_new same moves before after short few =
     let P : Rules → Type 0 = λ r. far_of r t < far_of rules s in
-    subst P (sym same) (moves_nearer rules moves.makes.moment moves.makes.move before after short)
+    subst P (sym same) (moves_nearer rules moves.makes.moment moves.makes.move before after short few)
 
 -- ---- causes
 
@@ -453,40 +488,57 @@ is_run_end (Some statuses.TurnsUsed) before now caused = caused
 
 -- ---- answers as they come
 
-pub if_polled : (answer : Result (Unit {0}) Memory) (told after : Option ℤ) (moment : ℤ) (r u : RunView) (way : Way) (room : ℕ) (got found : GotBytes) (given_old given_new : Option (List Given)) (before now : ℕ)
-    → next_of r.rules r.state ≡ nexts.Poll way → length r.state.rest ≤ 4096 → TellsMoment told after moment → u.rules ≡ r.rules
+pub if_polled : (answer : Result (Unit {0}) Memory) (told : Option ℤ) (moment : ℤ) (r u : RunView) (way : Way) (room : ℕ) (got found : GotBytes) (given_old given_new : Option (List Given)) (before now : ℕ)
+    → next_of r.rules r.state ≡ nexts.Poll way → length r.state.rest ≤ 4096 → IsMoment told moment → u.rules ≡ r.rules
     → room ≡ 4096 → got ≡ found → IsShortGot 4096 found → Gains given_old given_new (Polls way room got ∷ []) → OnOk answer (AfterPoll r.rules moment way found (moved_on r.state) u.state u.told)
     → OnOk answer (MovesAs told r u given_old given_new before now)
-if_polled (Ok done) told after moment r u way room got found given_old given_new before now next rest tells rules full same short gains does =
-    polled_on told after moment r u way room got found given_old given_new before now next rest tells rules full same short gains does
-if_polled (Err memory) told after moment r u way room got found given_old given_new before now next rest tells rules full same short gains does = tt
+if_polled (Ok done) told moment r u way room got found given_old given_new before now next rest at rules full same short gains does =
+    polled_on told moment r u way room got found given_old given_new before now next rest at rules full same short gains does
+if_polled (Err memory) told moment r u way room got found given_old given_new before now next rest at rules full same short gains does = tt
 
 pub unless_polled : (answer : Result (Unit {0}) Memory) (rules : Rules) (s : RunState) (way : Way) (room : ℕ) (got : GotBytes) (given_old given_new : Option (List Given)) → next_of rules s ≡ nexts.Poll way → room ≡ 4096 → Gains given_old given_new (Polls way room got ∷ []) → OnErr answer (MissesMove rules s given_old given_new)
 unless_polled (Ok done) rules s way room got given_old given_new next full gains = tt
 unless_polled (Err memory) rules s way room got given_old given_new next full gains = missed_poll rules s way room got given_old given_new next full gains
 
-pub if_closed : (answer : Result (Unit {0}) Memory) (told after : Option ℤ) (moment : ℤ) (r u : RunView) (way : Way) (given_old given_new : Option (List Given)) (before now : ℕ)
-    → next_of r.rules r.state ≡ nexts.Close way → length r.state.rest ≤ 4096 → TellsMoment told after moment → u.rules ≡ r.rules
+pub if_looked : (answer : Result (Unit {0}) Memory) (told : Option ℤ) (r u : RunView) (room : ℕ) (got found : GotBytes) (given_old given_new : Option (List Given)) (before now : ℕ)
+    → next_of r.rules r.state ≡ nexts.Look → length r.state.rest ≤ 4096 → u.rules ≡ r.rules
+    → room ≡ 4096 → got ≡ found → IsShortGot 4096 found → Gains given_old given_new (Polls ways.Panel room got ∷ []) → OnOk answer (AfterLook r.rules found r.state u.state u.told)
+    → OnOk answer (MovesAs told r u given_old given_new before now)
+if_looked (Ok done) told r u room got found given_old given_new before now next rest rules full same short gains does = looked_on told r u room got found given_old given_new before now next rest rules full same short gains does
+if_looked (Err memory) told r u room got found given_old given_new before now next rest rules full same short gains does = tt
+
+pub unless_looked : (answer : Result (Unit {0}) Memory) (rules : Rules) (s : RunState) (room : ℕ) (got : GotBytes) (given_old given_new : Option (List Given)) → next_of rules s ≡ nexts.Look → room ≡ 4096 → Gains given_old given_new (Polls ways.Panel room got ∷ []) → OnErr answer (MissesMove rules s given_old given_new)
+unless_looked (Ok done) rules s room got given_old given_new next full gains = tt
+unless_looked (Err memory) rules s room got given_old given_new next full gains = missed_look rules s room got given_old given_new next full gains
+
+pub if_taken : (answer : Result (Unit {0}) Memory) (told : Option ℤ) (moment : ℤ) (r u : RunView) (given : Option (List Given)) (before now : ℕ)
+    → next_of r.rules r.state ≡ nexts.Take → length r.state.rest ≤ 4096 → IsMoment told moment → u.rules ≡ r.rules → OnOk answer (TakesHeld r.rules moment r.state u.state u.told)
+    → OnOk answer (MovesAs told r u given given before now)
+if_taken (Ok done) told moment r u given before now next rest at rules does = taken_on told moment r u given before now next rest at rules does
+if_taken (Err memory) told moment r u given before now next rest at rules does = tt
+
+pub if_closed : (answer : Result (Unit {0}) Memory) (told : Option ℤ) (moment : ℤ) (r u : RunView) (way : Way) (given_old given_new : Option (List Given)) (before now : ℕ)
+    → next_of r.rules r.state ≡ nexts.Close way → length r.state.rest ≤ 4096 → IsMoment told moment → u.rules ≡ r.rules
     → Gains given_old given_new (Closes way ∷ []) → OnOk answer (AfterClose r.rules moment way r.state u.state u.told)
     → OnOk answer (MovesAs told r u given_old given_new before now)
-if_closed (Ok done) told after moment r u way given_old given_new before now next rest tells rules gains does = closed_on told after moment r u way given_old given_new before now next rest tells rules gains does
-if_closed (Err memory) told after moment r u way given_old given_new before now next rest tells rules gains does = tt
+if_closed (Ok done) told moment r u way given_old given_new before now next rest at rules gains does = closed_on told moment r u way given_old given_new before now next rest at rules gains does
+if_closed (Err memory) told moment r u way given_old given_new before now next rest at rules gains does = tt
 
 pub unless_closed : (answer : Result (Unit {0}) Memory) (rules : Rules) (s : RunState) (way : Way) (given_old given_new : Option (List Given)) → next_of rules s ≡ nexts.Close way → Gains given_old given_new (Closes way ∷ []) → OnErr answer (MissesMove rules s given_old given_new)
 unless_closed (Ok done) rules s way given_old given_new next gains = tt
 unless_closed (Err memory) rules s way given_old given_new next gains = missed_close rules s way given_old given_new next gains
 
-pub if_lined : (answer : Result (Unit {0}) Memory) (told after : Option ℤ) (moment : ℤ) (r u : RunView) (given : Option (List Given)) (before now : ℕ)
-    → next_of r.rules r.state ≡ nexts.Line → length r.state.rest ≤ 4096 → TellsMoment told after moment → u.rules ≡ r.rules → OnOk answer (DoesLine r.rules moment r.state u.state u.told)
+pub if_lined : (answer : Result (Unit {0}) Memory) (told : Option ℤ) (moment : ℤ) (r u : RunView) (given : Option (List Given)) (before now : ℕ)
+    → next_of r.rules r.state ≡ nexts.Line → length r.state.rest ≤ 4096 → IsMoment told moment → u.rules ≡ r.rules → OnOk answer (DoesLine r.rules moment r.state u.state u.told)
     → OnOk answer (MovesAs told r u given given before now)
-if_lined (Ok done) told after moment r u given before now next rest tells rules does = line_done told after moment r u given before now next rest tells rules does
-if_lined (Err memory) told after moment r u given before now next rest tells rules does = tt
+if_lined (Ok done) told moment r u given before now next rest at rules does = line_done told moment r u given before now next rest at rules does
+if_lined (Err memory) told moment r u given before now next rest at rules does = tt
 
-pub if_heard : (answer : Result (Unit {0}) Memory) (told after : Option ℤ) (moment : ℤ) (r u : RunView) (given : Option (List Given)) (before now : ℕ)
-    → next_of r.rules r.state ≡ nexts.Hear → length r.state.rest ≤ 4096 → TellsMoment told after moment → u.rules ≡ r.rules → OnOk answer (DoesHear r.rules moment r.state u.state u.told)
+pub if_heard : (answer : Result (Unit {0}) Memory) (told : Option ℤ) (moment : ℤ) (r u : RunView) (given : Option (List Given)) (before now : ℕ)
+    → next_of r.rules r.state ≡ nexts.Hear → length r.state.rest ≤ 4096 → IsMoment told moment → u.rules ≡ r.rules → OnOk answer (DoesHear r.rules moment r.state u.state u.told)
     → OnOk answer (MovesAs told r u given given before now)
-if_heard (Ok done) told after moment r u given before now next rest tells rules does = heard_on told after moment r u given before now next rest tells rules does
-if_heard (Err memory) told after moment r u given before now next rest tells rules does = tt
+if_heard (Ok done) told moment r u given before now next rest at rules does = heard_on told moment r u given before now next rest at rules does
+if_heard (Err memory) told moment r u given before now next rest at rules does = tt
 
 pub unless_lined : (answer : Result (Unit {0}) Memory) (rules : Rules) (s : RunState) (given : Option (List Given)) → OnErr answer (MissesMove rules s given given)
 unless_lined (Ok done) rules s given = tt

@@ -1,5 +1,5 @@
 -- What is known of a state by what comes next.
-use Rattle.std.proofs.Common.{◌≡◌, ◌∙◌, sym, subst, ap, refl, ℕ, Bool, true, false, Option, None, Some, if◌then◌else◌, nat_lt, ◌<◌, List, [], ◌∷◌, length, drop, ◌⊎◌, inl, inr, arith}
+use Rattle.std.proofs.Common.{◌≡◌, ◌∙◌, sym, subst, ap, refl, ℕ, Bool, true, false, Option, None, Some, is_some, if◌then◌else◌, nat_lt, ◌<◌, List, [], ◌∷◌, length, drop, ◌⊎◌, inl, inr, arith}
 use Rattle.std.proofs.lemmas.Bool.{false≢true}
 use Rattle.std.proofs.lemmas.Bool.Decides.{nat_tests}
 use Rattle.std.proofs.lemmas.List.{length-drop}
@@ -9,7 +9,7 @@ use Rattle.line_outside.specs.declared.way.Way.TheVariants as ways
 use Rattle.node_run.specs.declared.rules.Rules.{Rules}
 use Rattle.node_run.specs.State.{Refusal, RunState, way_at}
 use Rattle.node_run.specs.Channel.{is_empty}
-use Rattle.node_run.specs.Next.{next_of, ends_next, refuses_next, asks_next, lines_next, hears_next, at_place, listens_if, is_polled, is_due, IsTurnLeft}
+use Rattle.node_run.specs.Next.{next_of, ends_next, refuses_next, asks_next, lines_next, hears_next, held_next, takes_next, at_place, listens_if, is_polled, is_due, IsTurnLeft}
 use Rattle.node_run.specs.Moving.{is_end}
 use Rattle.node_run.specs.declared.place.Next.{Next}
 use Rattle.node_run.specs.declared.place.Next.TheVariants as nexts
@@ -40,6 +40,8 @@ IsFrom rules s (nexts.Close way) = is_due (way_at way s) ≡ true
 IsFrom rules s (nexts.Connect address) = s.asks ≡ true
 IsFrom rules s nexts.Line = is_empty s.rest ≡ false
 IsFrom rules s nexts.Hear = s.channel.hears ≡ true
+IsFrom rules s nexts.Look = (is_some s.held.finding ≡ true) × (nat_lt 0 s.held.looks ≡ true)
+IsFrom rules s nexts.Take = is_some s.held.finding ≡ true
 IsFrom rules s nexts.Skip = at_place rules s s.place ≡ nexts.Skip
 IsFrom rules s (nexts.Listen way address) = at_place rules s s.place ≡ nexts.Listen way address
 IsFrom rules s (nexts.Poll way) = at_place rules s s.place ≡ nexts.Poll way
@@ -50,6 +52,8 @@ abbrev IsPlaced : Next → Type 0
 IsPlaced (nexts.End status) = status ≡ statuses.TurnsUsed
 IsPlaced nexts.Line = ⊥
 IsPlaced nexts.Hear = ⊥
+IsPlaced nexts.Look = ⊥
+IsPlaced nexts.Take = ⊥
 IsPlaced (nexts.Refuse way) = ⊥
 IsPlaced (nexts.Close way) = ⊥
 IsPlaced (nexts.Connect address) = ⊥
@@ -95,14 +99,24 @@ place_from rules s (nexts.Close way) e placed = absurd placed
 place_from rules s (nexts.Connect address) e placed = absurd placed
 place_from rules s nexts.Line e placed = absurd placed
 place_from rules s nexts.Hear e placed = absurd placed
+place_from rules s nexts.Look e placed = absurd placed
+place_from rules s nexts.Take e placed = absurd placed
 place_from rules s nexts.Skip e placed = e
 place_from rules s (nexts.Listen way address) e placed = e
 place_from rules s (nexts.Poll way) e placed = e
 place_from rules s (nexts.Send way) e placed = e
 
-hears_from : (rules : Rules) (s : RunState) (hears : Bool) → s.channel.hears ≡ hears → IsFrom rules s (if hears then nexts.Hear else at_place rules s s.place)
+takes_from : (rules : Rules) (s : RunState) (looks : Bool) → is_some s.held.finding ≡ true → nat_lt 0 s.held.looks ≡ looks → IsFrom rules s (if looks then nexts.Look else nexts.Take)
+takes_from rules s true some e = (some, e)
+takes_from rules s false some e = some
+
+held_from : (rules : Rules) (s : RunState) (some : Bool) → is_some s.held.finding ≡ some → IsFrom rules s (if some then takes_next s.held.looks else at_place rules s s.place)
+held_from rules s true e = takes_from rules s (nat_lt 0 s.held.looks) e refl
+held_from rules s false e = place_from rules s (at_place rules s s.place) refl (at_place_is rules s s.place)
+
+hears_from : (rules : Rules) (s : RunState) (hears : Bool) → s.channel.hears ≡ hears → IsFrom rules s (if hears then nexts.Hear else held_next rules s)
 hears_from rules s true e = e
-hears_from rules s false e = place_from rules s (at_place rules s s.place) refl (at_place_is rules s s.place)
+hears_from rules s false e = held_from rules s (is_some s.held.finding) refl
 
 lines_from : (rules : Rules) (s : RunState) (empty : Bool) → is_empty s.rest ≡ empty → IsFrom rules s (if empty then hears_next rules s else nexts.Line)
 lines_from rules s true e = hears_from rules s s.channel.hears refl

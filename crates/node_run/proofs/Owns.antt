@@ -1,6 +1,7 @@
 -- What a machine owns follows from its log.
 use Rattle.std.proofs.Common.{◌≡◌, ◌∙◌, sym, subst, ap, refl, ℕ, ℤ, Bool, true, false, List, [], ◌++◌, Option, None, Some, Result, Ok, Err, append-nil, codes}
 use Rattle.node_core.proofs.Keeping.{own_append}
+use Rattle.line_base.specs.declared.states.Side.{Side}
 use Rattle.line_base.specs.declared.states.Side.TheVariants.{Entry, Exit}
 use Rattle.board_record.specs.declared.sensed.Sensed.{Sensed}
 use Rattle.line_outside.specs.Given.{Given}
@@ -41,18 +42,19 @@ use Rattle.node_run.specs.declared.rules.Rules.{Rules}
 use Rattle.node_run.specs.State.{RunState, WayValue, at_rest, way_at, with_way, with_wire}
 use Rattle.node_run.specs.Next.{has_ended, moved_on}
 use Rattle.node_run.specs.Channel.{no_session}
+use Rattle.node_run.specs.Held.{Finding, nothing_held}
 use Rattle.node_run.specs.Hearing.{AnswersIf, DoesAction, DoesFound, DoesHear, DoesRow, DoesWord, Unsupervised, broken_off, said, system_of, with_channel, with_stands}
 use Rattle.node_run.specs.declared.channel.Found.{Found}
 use Rattle.node_run.specs.declared.channel.Found.TheVariants as finds
 use Rattle.node_run.specs.declared.channel.Word.{Word}
 use Rattle.node_run.specs.declared.channel.Word.TheVariants as words
 use Rattle.node_run.specs.Steps.{Takes, TakesStep, MeetsSecond}
-use Rattle.node_run.specs.After.{after_listen, after_send, PanelArrives, AfterPanel, panel_second, panel_bytes, panel_closed, after_supervisory, supervisory_arrived, supervisory_second, supervisory_bytes, supervisory_closed, broken, AfterUpstream, AfterDownstream, AfterPoll, AfterClose}
+use Rattle.node_run.specs.After.{after_listen, after_send, PanelArrives, AfterPanel, panel_second, panel_bytes, panel_closed, after_supervisory, supervisory_arrived, supervisory_second, supervisory_bytes, supervisory_closed, broken, looked, way_of, with_held, AfterUpstream, AfterDownstream, AfterPoll, AfterClose, TakesFinding, TakesFound, TakesHeld}
 use Rattle.node_run.specs.Lines.{cut_line, without_return, is_too_long, Tells, DoesInput, AsksIf, AsksConnect, may_ask, DoesAsked, KeepsFront, Fronts, Ends, DoesCut}
 use Rattle.node_run.proofs.Accounts.{own_read}
 use Rattle.node_run.specs.Account.{AreProper}
 use Rattle.node_run.specs.Owning.{OwnIsRead, IsAnswer, refuses, denies, shows, greets, TellsActs, no_lines, step_lines, answer_lines, OwnFollows}
-use Rattle.node_run.specs.Runs.{Moves, listens, connects, polls, sends, refuses as refuses_second, closes, skips, does_line, does_hear, Runs, begins, goes_on}
+use Rattle.node_run.specs.Runs.{Moves, listens, connects, polls, sends, refuses as refuses_second, closes, skips, looks_again, takes_held, does_line, does_hear, Runs, begins, goes_on}
 use Rattle.node_run.specs.Texts.{lines_of}
 use Rattle.node_run.specs.declared.way_state.Wire.{Wire}
 use Rattle.node_run.specs.declared.way_state.Wire.TheVariants as wires
@@ -154,25 +156,21 @@ supervisory_node moment founds.NotYet s = refl
 supervisory_node moment founds.Closed s = supervisory_closed_node s.supervisory.wire s
 supervisory_node moment founds.Failed s = supervisory_closed_node s.supervisory.wire s
 
-broken_node : (way : Way) (test : Bool) (s : RunState) → (broken way test s).node ≡ s.node
-broken_node way true s = way_node way (record (way_at way s) { wire = wires.Breaks }) s
-broken_node way false s = refl
-
 upstream_part : (rules : Rules) (moment : ℤ) (got : GotBytes) (s t : RunState) (log : List ℕ) → AfterUpstream rules moment got s t log → Part rules s t log
 upstream_part rules moment founds.Arrived s t log after = takes_part (may_of s.node inputs.Connect) rules moment inputs.Connect (with_wire ways.Upstream wires.Stands s) s t log refl refl after
 upstream_part rules moment founds.Second s t log after = still rules s s t log after.0 after.1 refl
-upstream_part rules moment (founds.Bytes bytes) s t log after = takes_part (may_of s.node (inputs.Bytes Entry after.piece)) rules moment (inputs.Bytes Entry after.piece) s s t log refl refl after.takes
+upstream_part rules moment (founds.Bytes bytes) s t log after = still rules s _ t log after.0 after.1 refl
 upstream_part rules moment founds.NotYet s t log after = still rules s s t log after.0 after.1 refl
-upstream_part rules moment founds.Closed s t log after = still rules s _ t log after.0 after.1 (broken_node ways.Upstream (is_open Entry s.node.lane.body) s)
-upstream_part rules moment founds.Failed s t log after = still rules s _ t log after.0 after.1 (broken_node ways.Upstream (is_open Entry s.node.lane.body) s)
+upstream_part rules moment founds.Closed s t log after = still rules s _ t log after.0 after.1 refl
+upstream_part rules moment founds.Failed s t log after = still rules s _ t log after.0 after.1 refl
 
 downstream_part : (rules : Rules) (moment : ℤ) (got : GotBytes) (s t : RunState) (log : List ℕ) → AfterDownstream rules moment got s t log → Part rules s t log
 downstream_part rules moment founds.Arrived s t log after = takes_part (may_of s.node inputs.Accepted) rules moment inputs.Accepted (with_wire ways.Downstream wires.Stands s) s t log refl refl after
 downstream_part rules moment founds.Second s t log after = second_part (may_of s.node inputs.Second) rules moment inputs.Second s t log refl after
-downstream_part rules moment (founds.Bytes bytes) s t log after = takes_part (may_of s.node (inputs.Bytes Exit after.piece)) rules moment (inputs.Bytes Exit after.piece) s s t log refl refl after.takes
+downstream_part rules moment (founds.Bytes bytes) s t log after = still rules s _ t log after.0 after.1 refl
 downstream_part rules moment founds.NotYet s t log after = still rules s s t log after.0 after.1 refl
-downstream_part rules moment founds.Closed s t log after = still rules s _ t log after.0 after.1 (broken_node ways.Downstream (is_open Exit s.node.lane.body) s)
-downstream_part rules moment founds.Failed s t log after = still rules s _ t log after.0 after.1 (broken_node ways.Downstream (is_open Exit s.node.lane.body) s)
+downstream_part rules moment founds.Closed s t log after = still rules s _ t log after.0 after.1 refl
+downstream_part rules moment founds.Failed s t log after = still rules s _ t log after.0 after.1 refl
 
 arrived_part : (wire : Wire) (rules : Rules) (s t : RunState) (log : List ℕ) → PanelArrives wire rules s t log → Part rules s t log
 arrived_part wires.Rests rules s t log arrives = moved_part rules (with_wire ways.Panel wires.Stands s) s t log refl (tells_part rules _ (with_wire ways.Panel wires.Stands s) t log (greets s.turn s.drives) arrives)
@@ -193,6 +191,23 @@ poll_part rules moment ways.Panel got s t log after = panel_part rules got s t l
 poll_part rules moment ways.Upstream got s t log after = upstream_part rules moment got s t log after
 poll_part rules moment ways.Downstream got s t log after = downstream_part rules moment got s t log after
 poll_part rules moment ways.Supervisory got s t log after = still rules s _ t log after.0 after.1 (supervisory_node moment got s)
+
+-- ---- what was found of a neighbour
+
+broken_node : (way : Way) (test : Bool) (s : RunState) → (broken way test s).node ≡ s.node
+broken_node way true s = way_node way (record (way_at way s) { wire = wires.Breaks }) s
+broken_node way false s = refl
+
+found_by : (bytes : Option (List ℕ)) (side : Side) (rules : Rules) (moment : ℤ) (s t : RunState) (log : List ℕ) → TakesFound bytes side rules moment s t log → Part rules s t log
+found_by (Some bytes) side rules moment s t log takes = takes_part (may_of s.node (inputs.Bytes side takes.piece)) rules moment (inputs.Bytes side takes.piece) s s t log refl refl takes.takes
+found_by None side rules moment s t log takes = still rules s _ t log takes.0 takes.1 (broken_node (way_of side) (is_open side s.node.lane.body) s)
+
+finding_part : (finding : Option Finding) (rules : Rules) (moment : ℤ) (s t : RunState) (log : List ℕ) → TakesFinding finding rules moment s t log → Part rules s t log
+finding_part None rules moment s t log takes = still rules s s t log takes.0 takes.1 refl
+finding_part (Some finding) rules moment s t log takes = found_by finding.bytes finding.side rules moment s t log takes
+
+held_part : (rules : Rules) (moment : ℤ) (s t : RunState) (log : List ℕ) → TakesHeld rules moment s t log → Part rules s t log
+held_part rules moment s t log takes = moved_part rules (with_held nothing_held s) s t log refl (finding_part s.held.finding rules moment (with_held nothing_held s) t log takes)
 
 -- ---- sends and closes
 
@@ -313,6 +328,8 @@ move_part rules moment (sends {s} {way} {sent} next) = quiet refl (sent_node way
 move_part rules moment (refuses_second {s} {refusal} {sent} next e) = quiet refl refl
 move_part rules moment (closes {s} {t} {way} {log} next done) = close_part rules moment way s t log done
 move_part rules moment (skips {s} next) = quiet refl refl
+move_part rules moment (looks_again {s} {t} {got} {log} next done) = moved_part rules (looked got s) s t log refl (panel_part rules got (looked got s) t log done)
+move_part rules moment (takes_held {s} {t} {log} next done) = held_part rules moment s t log done
 move_part rules moment (does_line {s} {t} {log} next done) = cut_part (cut_line s.rest) rules moment s t log done
 move_part rules moment (does_hear {s} {t} {log} next done) = hear_part rules moment s t log done
 
@@ -330,14 +347,14 @@ follows_on rules s t u log lines follows (steps turn acts proper text own) =
       owns = own ∙ ap (λ o. own_after o acts) follows.owns ∙ sym (own_append (own_of s.node.lane.body) follows.told acts);
     }
 
-owns_in : (rules : Rules) (moment : ℤ) {s t : RunState} {calls : List Given} {log : List ℕ} → Runs rules moment s calls t log → OwnFollows rules s t log
-owns_in rules moment (begins {s}) = record { told = []; tells = no_lines; owns = refl }
-owns_in rules moment (goes_on {s} {t} {u} {calls} {more} {log} {lines} run move) = follows_on rules s t u log lines (owns_in rules moment run) (move_part rules moment move)
+owns_in : (rules : Rules) {s t : RunState} {moments : List ℤ} {calls : List Given} {log : List ℕ} → Runs rules s moments calls t log → OwnFollows rules s t log
+owns_in rules (begins {s}) = record { told = []; tells = no_lines; owns = refl }
+owns_in rules (goes_on {s} {t} {u} {moments} {moment} {calls} {more} {log} {lines} run move) = follows_on rules s t u log lines (owns_in rules run) (move_part rules moment move)
 
-pub own_follows : (rules : Rules) (moment : ℤ) (s t : RunState) (calls : List Given) (log : List ℕ) → Runs rules moment s calls t log → OwnFollows rules s t log
-own_follows rules moment s t calls log run = owns_in rules moment run
+pub own_follows : (rules : Rules) (moments : List ℤ) (s t : RunState) (calls : List Given) (log : List ℕ) → Runs rules s moments calls t log → OwnFollows rules s t log
+own_follows rules moments s t calls log run = owns_in rules run
 
-pub own_is_read : (rules : Rules) (moment : ℤ) (s t : RunState) (calls : List Given) (log : List ℕ) → Runs rules moment s calls t log → OwnIsRead s t log
-own_is_read rules moment s t calls log run =
-    let follows = owns_in rules moment run in
+pub own_is_read : (rules : Rules) (moments : List ℤ) (s t : RunState) (calls : List Given) (log : List ℕ) → Runs rules s moments calls t log → OwnIsRead s t log
+own_is_read rules moments s t calls log run =
+    let follows = owns_in rules run in
     follows.owns ∙ sym (own_read rules (own_of s.node.lane.body) follows.tells)

@@ -1,5 +1,5 @@
 -- From what the methods of a run say to what a move does.
-use Rattle.std.proofs.Common.{◌≡◌, ◌∙◌, sym, subst, ap, refl, ℕ, ℤ, ◌||◌, Bool, true, false, List, [], ◌∷◌, ◌++◌, Option, None, Result, Ok, Err, append-nil, append_assoc, if◌then◌else◌}
+use Rattle.std.proofs.Common.{◌≡◌, ◌∙◌, sym, subst, ap, refl, ℕ, ℤ, ◌||◌, Bool, true, false, List, [], ◌∷◌, ◌++◌, Option, None, Result, Ok, Err, append_assoc, if◌then◌else◌}
 use Rattle.std.specs.Prelude.{OnOk}
 use Rattle.std.specs.List.{list_any}
 use Rattle.line_base.specs.declared.memory.Memory.{Memory}
@@ -17,13 +17,15 @@ use Rattle.node_core.specs.declared.input.Input.{Input}
 use Rattle.node_core.specs.declared.input.Input.TheVariants as inputs
 use Rattle.board_record.specs.declared.sensed.Sensed.{Sensed}
 use Rattle.node_core.specs.declared.input.No.{No}
+use Rattle.line_outside.specs.declared.answer.GotBytes.{GotBytes}
 use Rattle.line_outside.specs.declared.answer.GotBytes.TheVariants as founds
 use Rattle.line_outside.specs.declared.way.Way.TheVariants as ways
-use Rattle.node_run.specs.After.{AfterPanel, PanelArrives, greeting}
+use Rattle.node_run.specs.After.{AfterLook, AfterPanel, PanelArrives, TakesFinding, TakesHeld, greeting, looked, with_held}
 use Rattle.node_run.specs.Channel.{HearsNext}
+use Rattle.node_run.specs.Held.{Finding, nothing_held}
 use Rattle.node_run.specs.Hearing.{AnswersIf, BreaksOff, Describes, DoesFound, DoesHear, DoesRow, Unsupervised, notification, said, session_ended, system_of, untaken, with_channel}
 use Rattle.node_run.specs.State.{RunState, RunView, WayValue, echoed, with_wire}
-use Rattle.node_run.specs.Steps.{HasStepped, Takes, TakesSecond, TakesStep, all_told_for, closes_side, message_for, messages_for, panel_lines, panel_told, put, put_told, refusing_with, routed, told_for, with_node}
+use Rattle.node_run.specs.Steps.{HasStepped, Takes, TakesSecond, TakesStep, all_told_for, closes_side, message_for, messages_for, panel_told, put, put_told, refusing_with, routed, told_for, with_node}
 use Rattle.node_run.specs.declared.channel.Found.{Found}
 use Rattle.node_run.specs.declared.rules.Rules.{Rules}
 use Rattle.node_run.specs.declared.way_state.Wire.{Wire}
@@ -123,7 +125,7 @@ second_taken (Ok done) moment acts listed r m n u same rules stepped to_ways to_
 }
 second_taken (Err memory) moment acts listed r m n u same rules stepped to_ways to_panel = tt
 
--- ---- a panel that connects, and one that isn't told
+-- ---- a panel that connects
 
 pub greeted : (result : Result (Unit {0}) Memory) (r m n u : RunView) → r.state.panel.wire ≡ wires.Rests → r.told ≡ [] → m ≡ record r { state = with_wire ways.Panel wires.Stands r.state }
     → n ≡ record m { told = m.told ++ greeting m.rules m.state } → OnOk result (u ≡ record n { state = echoed n.told n.state }) → OnOk result (AfterPanel r.rules founds.Arrived r.state u.state u.told)
@@ -134,18 +136,6 @@ greeted (Ok done) r m n u wire none stands told to_panel =
     told ∙ ap (λ (v : RunView). record v { told = v.told ++ greeting v.rules v.state }) stands ∙ ap (λ l. record r { state = s; told = l ++ greeting r.rules r.state }) none
     in subst P (sym wire) (ap (λ (v : RunView). v.state) to_panel ∙ ap (λ (v : RunView). echoed v.told v.state) whole, ap (λ (v : RunView). v.told) to_panel ∙ ap (λ (v : RunView). v.told) whole)
 greeted (Err memory) r m n u wire none stands told to_panel = tt
-
-none_for : (rules : Rules) (turn : ℕ) (wire : Wire) (acts : List Act) → (wire ≡ wires.Stands → ⊥) → panel_lines false rules turn wire acts ≡ []
-none_for rules turn wires.Rests acts other = refl
-none_for rules turn wires.Stands acts other = absurd (other refl)
-none_for rules turn wires.Ends acts other = refl
-none_for rules turn wires.Breaks acts other = refl
-
-pub untold : (r : RunView) (acts : List Act) → (r.state.panel.wire ≡ wires.Stands → ⊥) → r ≡ record r { state = panel_told false r.rules acts r.state }
-untold r acts other =
-    let more : r.state.panel.unsent ≡ r.state.panel.unsent ++ panel_lines false r.rules r.state.turn r.state.panel.wire acts =
-    sym (append-nil r.state.panel.unsent) ∙ ap (λ l. r.state.panel.unsent ++ l) (sym (none_for r.rules r.state.turn r.state.panel.wire acts other))
-    in ap (λ l. record r { state = record r.state { panel = record r.state.panel { unsent = l } } }) more
 
 -- ---- messages of the supervisor
 
@@ -198,3 +188,16 @@ row_breaks result row body kind text moment r m u none is said same breaks =
     let P : Option SupervisedRow → Type 0 = λ o. OnOk result (DoesRow o body r.rules moment r.state u.state u.told) in
     let Q : RunView → Type 0 = λ v. OnOk result (BreaksOff v.rules moment text v.state u.state u.told) in
     subst P (sym none) (text_breaks result text (unexpected (kind_of body)) moment r u (said ∙ ap unexpected is) (subst Q same breaks))
+
+-- ---- what was found of a neighbour
+
+pub looked_after : (result : Result (Unit {0}) Memory) (found : GotBytes) (r m u : RunView) → m ≡ record r { state = looked found r.state } → OnOk result (AfterPanel m.rules found m.state u.state u.told)
+    → OnOk result (AfterLook r.rules found r.state u.state u.told)
+looked_after result found r m u e after = let P : RunView → Type 0 = λ v. OnOk result (AfterPanel v.rules found v.state u.state u.told) in subst P e after
+
+pub held_taken : (result : Result (Unit {0}) Memory) (moment : ℤ) (finding : Option Finding) (r m u : RunView) → finding ≡ r.state.held.finding → m ≡ record r { state = with_held nothing_held r.state }
+    → OnOk result (TakesFinding finding m.rules moment m.state u.state u.told) → OnOk result (TakesHeld r.rules moment r.state u.state u.told)
+held_taken result moment finding r m u same e takes =
+    let P : RunView → Type 0 = λ v. OnOk result (TakesFinding finding v.rules moment v.state u.state u.told) in
+    let Q : Option Finding → Type 0 = λ f. OnOk result (TakesFinding f r.rules moment (with_held nothing_held r.state) u.state u.told) in
+    subst Q same (subst P e takes)

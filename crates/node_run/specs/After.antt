@@ -1,5 +1,5 @@
 -- What an answer of the ports does to a run.
-use Rattle.std.specs.Prelude.{◌≡◌, ℕ, ℤ, Bool, true, false, List, [], Some, drop}
+use Rattle.std.specs.Prelude.{◌≡◌, ℕ, ℤ, Bool, true, false, List, [], Option, None, Some, drop}
 use Rattle.std.specs.Borrow.{Bor}
 use Rattle.line_base.specs.declared.states.Side.{Side}
 use Rattle.line_base.specs.declared.states.Side.TheVariants.{Entry, Exit}
@@ -19,6 +19,7 @@ use Rattle.node_core.specs.Sides.{is_open}
 use Rattle.node_core.specs.declared.input.Input.TheVariants as inputs
 use Rattle.node_run.specs.declared.rules.Rules.{Rules}
 use Rattle.node_run.specs.Channel.{no_session}
+use Rattle.node_run.specs.Held.{Finding, HeldValue, holds, is_more, looks_behind, nothing_held}
 use Rattle.node_run.specs.Hearing.{Unsupervised, connected_already, text_of}
 use Rattle.node_run.specs.State.{RunState, at_rest, way_at, with_way, with_wire}
 use Rattle.node_run.specs.Next.{moved_on}
@@ -112,7 +113,52 @@ after_supervisory moment founds.NotYet s = s
 after_supervisory moment founds.Closed s = supervisory_closed s.supervisory.wire s
 after_supervisory moment founds.Failed s = supervisory_closed s.supervisory.wire s
 
--- ---- what a poll of a neighbour's way found
+-- ---- what a poll of a neighbour's way found: a connection is taken at once; bytes, and the end of
+-- a connection, wait until the panel was polled again
+
+abbrev pub with_held : HeldValue → RunState → RunState
+with_held held s = record s { held = held }
+
+abbrev pub AfterUpstream : Rules → ℤ → GotBytes → RunState → RunState → List ℕ → Type 0
+AfterUpstream rules moment founds.Arrived s t log =
+    Takes (may_of s.node inputs.Connect) rules moment inputs.Connect
+    (with_wire ways.Upstream wires.Stands s) s t log
+AfterUpstream rules moment founds.Second s t log = (t ≡ s) × (log ≡ [])
+AfterUpstream rules moment (founds.Bytes bytes) s t log =
+    (t ≡ with_held (holds Entry (Some bytes)) s) × (log ≡ [])
+AfterUpstream rules moment founds.NotYet s t log = (t ≡ s) × (log ≡ [])
+AfterUpstream rules moment founds.Closed s t log = (t ≡ with_held (holds Entry None) s) × (log ≡ [])
+AfterUpstream rules moment founds.Failed s t log = (t ≡ with_held (holds Entry None) s) × (log ≡ [])
+
+abbrev pub AfterDownstream : Rules → ℤ → GotBytes → RunState → RunState → List ℕ → Type 0
+AfterDownstream rules moment founds.Arrived s t log =
+    Takes (may_of s.node inputs.Accepted) rules moment inputs.Accepted
+    (with_wire ways.Downstream wires.Stands s) s t log
+AfterDownstream rules moment founds.Second s t log =
+    MeetsSecond (may_of s.node inputs.Second) rules moment inputs.Second s t log
+AfterDownstream rules moment (founds.Bytes bytes) s t log =
+    (t ≡ with_held (holds Exit (Some bytes)) s) × (log ≡ [])
+AfterDownstream rules moment founds.NotYet s t log = (t ≡ s) × (log ≡ [])
+AfterDownstream rules moment founds.Closed s t log =
+    (t ≡ with_held (holds Exit None) s) × (log ≡ [])
+AfterDownstream rules moment founds.Failed s t log =
+    (t ≡ with_held (holds Exit None) s) × (log ≡ [])
+
+abbrev pub AfterPoll : Rules → ℤ → Way → GotBytes → RunState → RunState → List ℕ → Type 0
+AfterPoll rules moment ways.Panel got s t log = AfterPanel rules got s t log
+AfterPoll rules moment ways.Upstream got s t log = AfterUpstream rules moment got s t log
+AfterPoll rules moment ways.Downstream got s t log = AfterDownstream rules moment got s t log
+AfterPoll rules moment ways.Supervisory got s t log =
+    (t ≡ after_supervisory moment got s) × (log ≡ [])
+
+-- ---- the panel is polled again, and then what was found is taken
+
+abbrev pub looked : GotBytes → RunState → RunState
+looked got s =
+    with_held (record s.held { looks = looks_behind (is_more got) s.held.looks }) s
+
+abbrev pub AfterLook : Rules → GotBytes → RunState → RunState → List ℕ → Type 0
+AfterLook rules got s t log = AfterPanel rules got (looked got s) t log
 
 -- bytes are heard at a side
 pub record HearsBytes (rules : Rules) (moment : ℤ) (side : Side) (bytes : List ℕ) (s t : RunState)
@@ -122,44 +168,29 @@ pub record HearsBytes (rules : Rules) (moment : ℤ) (side : Side) (bytes : List
   pub takes : Takes (may_of s.node (inputs.Bytes side piece)) rules moment
       (inputs.Bytes side piece) s s t log
 
+abbrev pub way_of : Side → Way
+way_of Entry = ways.Upstream
+way_of Exit = ways.Downstream
+
 -- a close is seen where there is a connection
 abbrev pub broken : Way → Bool → RunState → RunState
 broken way true s = with_wire way wires.Breaks s
 broken way false s = s
 
-abbrev pub AfterUpstream : Rules → ℤ → GotBytes → RunState → RunState → List ℕ → Type 0
-AfterUpstream rules moment founds.Arrived s t log =
-    Takes (may_of s.node inputs.Connect) rules moment inputs.Connect
-    (with_wire ways.Upstream wires.Stands s) s t log
-AfterUpstream rules moment founds.Second s t log = (t ≡ s) × (log ≡ [])
-AfterUpstream rules moment (founds.Bytes bytes) s t log =
-    HearsBytes rules moment Entry bytes s t log
-AfterUpstream rules moment founds.NotYet s t log = (t ≡ s) × (log ≡ [])
-AfterUpstream rules moment founds.Closed s t log =
-    (t ≡ broken ways.Upstream (is_open Entry s.node.lane.body) s) × (log ≡ [])
-AfterUpstream rules moment founds.Failed s t log =
-    (t ≡ broken ways.Upstream (is_open Entry s.node.lane.body) s) × (log ≡ [])
+abbrev pub TakesFound : Option (List ℕ) → Side → Rules → ℤ → RunState → RunState → List ℕ → Type 0
+TakesFound (Some bytes) side rules moment s t log = HearsBytes rules moment side bytes s t log
+TakesFound None side rules moment s t log =
+    (t ≡ broken (way_of side) (is_open side s.node.lane.body) s) × (log ≡ [])
 
-abbrev pub AfterDownstream : Rules → ℤ → GotBytes → RunState → RunState → List ℕ → Type 0
-AfterDownstream rules moment founds.Arrived s t log =
-    Takes (may_of s.node inputs.Accepted) rules moment inputs.Accepted
-    (with_wire ways.Downstream wires.Stands s) s t log
-AfterDownstream rules moment founds.Second s t log =
-    MeetsSecond (may_of s.node inputs.Second) rules moment inputs.Second s t log
-AfterDownstream rules moment (founds.Bytes bytes) s t log =
-    HearsBytes rules moment Exit bytes s t log
-AfterDownstream rules moment founds.NotYet s t log = (t ≡ s) × (log ≡ [])
-AfterDownstream rules moment founds.Closed s t log =
-    (t ≡ broken ways.Downstream (is_open Exit s.node.lane.body) s) × (log ≡ [])
-AfterDownstream rules moment founds.Failed s t log =
-    (t ≡ broken ways.Downstream (is_open Exit s.node.lane.body) s) × (log ≡ [])
+abbrev pub TakesFinding : Option Finding → Rules → ℤ → RunState → RunState → List ℕ → Type 0
+TakesFinding None rules moment s t log = (t ≡ s) × (log ≡ [])
+TakesFinding (Some finding) rules moment s t log =
+    TakesFound finding.bytes finding.side rules moment s t log
 
-abbrev pub AfterPoll : Rules → ℤ → Way → GotBytes → RunState → RunState → List ℕ → Type 0
-AfterPoll rules moment ways.Panel got s t log = AfterPanel rules got s t log
-AfterPoll rules moment ways.Upstream got s t log = AfterUpstream rules moment got s t log
-AfterPoll rules moment ways.Downstream got s t log = AfterDownstream rules moment got s t log
-AfterPoll rules moment ways.Supervisory got s t log =
-    (t ≡ after_supervisory moment got s) × (log ≡ [])
+-- nothing is held any more
+abbrev pub TakesHeld : Rules → ℤ → RunState → RunState → List ℕ → Type 0
+TakesHeld rules moment s t log =
+    TakesFinding s.held.finding rules moment (with_held nothing_held s) t log
 
 -- ---- sending and closing
 

@@ -3,6 +3,7 @@ pub mod Texts
 pub mod Account
 pub mod Drives
 pub mod Channel
+pub mod Held
 pub mod State
 pub mod Next
 pub mod Steps

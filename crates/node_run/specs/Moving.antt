@@ -1,5 +1,5 @@
 -- What the loop of a run knows of each move.
-use Rattle.std.specs.Prelude.{◌≡◌, ◌≤◌, ℕ, ℤ, Bool, true, false, List, Option, None, Some, IfSome, length}
+use Rattle.std.specs.Prelude.{◌≡◌, ◌≤◌, ℕ, ℤ, Bool, true, false, List, Option, None, Some, length}
 use Rattle.line_outside.specs.Faults.{Rose}
 use Rattle.line_outside.specs.Given.{Given}
 use Rattle.line_outside.specs.Ports.{Gains}
@@ -7,7 +7,7 @@ use Rattle.line_outside.specs.Sink.{Grows, GrowsInPart}
 use Rattle.node_run.specs.declared.rules.Rules.{Rules}
 use Rattle.node_run.specs.State.{RunState, RunView}
 use Rattle.node_run.specs.Next.{next_of}
-use Rattle.node_run.specs.Runs.{Moves, CallsNext, HasRun}
+use Rattle.node_run.specs.Runs.{Moves, IsMoment, CallsNext}
 use Rattle.node_run.specs.declared.place.Next.{Next}
 use Rattle.node_run.specs.declared.place.Next.TheVariants as nexts
 use Rattle.node_run.specs.declared.status.NodeStatus.{NodeStatus}
@@ -16,10 +16,6 @@ use Rattle.node_run.specs.declared.status.NodeStatus.TheVariants as statuses
 abbrev pub is_end : Next → Bool
 is_end (nexts.End status) = true
 is_end _ = false
-
--- a moment is the one that a clock tells, if it tells one
-abbrev pub IsMoment : Option ℤ → ℤ → Type 0
-IsMoment told moment = IfSome told (λ wanted. moment ≡ wanted)
 
 -- a move was made
 pub record MakesMove (told : Option ℤ) (rules : Rules) (s t : RunState)
@@ -112,10 +108,3 @@ IsOnceStatus ended statuses.LogFault before now = Rose before now
 IsOnceStatus ended statuses.Memory before now = Unit {0}
 IsOnceStatus ended statuses.TurnsUsed before now = Unit {0}
 IsOnceStatus ended status before now = ended ≡ Some status
-
--- the run so far, where the clock tells its moment
-abbrev pub RunsTold : Option ℤ → Rules → RunState → RunState → Option (List Given)
-    → Option (List Given) → Option (List ℕ) → Option (List ℕ) → Type 0
-RunsTold None rules s t given_old given_new log_old log_new = Unit {0}
-RunsTold (Some moment) rules s t given_old given_new log_old log_new =
-    HasRun rules moment s t given_old given_new log_old log_new

@@ -1,5 +1,5 @@
 -- WHAT COMES NEXT in a run: a call of the ports, a line of the panel, a message of the supervisor,
--- a place where nothing is to do, or the end.
+-- what was found of a neighbour, a place where nothing is to do, or the end.
 use Rattle.std.specs.Prelude.{◌≡◌, ◌≤◌, ◌⊎◌, ℕ, ◌+◌, ◌<◌, Bool, true, false, ◌||◌, ◌&&◌, not, nat_lt, List, length, Option, None, Some, is_some, if◌then◌else◌}
 use Rattle.line_outside.specs.Listening.{at_all, at_loopback}
 use Rattle.line_outside.specs.declared.way.Address.{Address}
@@ -89,9 +89,17 @@ abbrev pub asks_next : Option Address → Next → Next
 asks_next None next = next
 asks_next (Some address) next = nexts.Connect address
 
--- the supervisor's messages, one by one
+-- WHAT WAS FOUND OF A NEIGHBOUR IS TAKEN BEHIND THE PANEL'S LINES: the panel is polled before
+abbrev pub takes_next : ℕ → Next
+takes_next looks = if nat_lt 0 looks then nexts.Look else nexts.Take
+
+abbrev pub held_next : Rules → RunState → Next
+held_next rules s =
+    if is_some s.held.finding then takes_next s.held.looks else at_place rules s s.place
+
+-- before that, the supervisor's messages, one by one
 abbrev pub hears_next : Rules → RunState → Next
-hears_next rules s = if s.channel.hears then nexts.Hear else at_place rules s s.place
+hears_next rules s = if s.channel.hears then nexts.Hear else held_next rules s
 
 -- before them, the panel's lines, one by one
 abbrev pub lines_next : Rules → RunState → Next
@@ -131,6 +139,8 @@ goes_on (nexts.Refuse way) = false
 goes_on (nexts.Close way) = false
 goes_on nexts.Line = true
 goes_on nexts.Hear = true
+goes_on nexts.Look = true
+goes_on nexts.Take = true
 goes_on nexts.Skip = true
 goes_on (nexts.Listen way address) = true
 goes_on (nexts.Connect address) = true

@@ -1,11 +1,12 @@
 -- The state of a run: the machine, its ways, the supervisor's channel, the drives, the panel's
--- text, and what comes next.
+-- text, what was found of a neighbour and isn't taken yet, and what comes next.
 use Rattle.std.specs.Prelude.{ℕ, ◌++◌, Bool, false, List, [], Option, None, Some}
 use Rattle.line_outside.specs.declared.way.Way.{Way}
 use Rattle.line_outside.specs.declared.way.Way.TheVariants as ways
 use Rattle.node_core.specs.Node.{NodeState}
 use Rattle.node_run.specs.Channel.{ChannelValue, no_session}
 use Rattle.node_run.specs.Drives.{all_off}
+use Rattle.node_run.specs.Held.{HeldValue, nothing_held}
 use Rattle.node_run.specs.declared.drives.Drives.{Drives}
 use Rattle.node_run.specs.declared.rules.Rules.{Rules}
 use Rattle.node_run.specs.declared.status.NodeStatus.{NodeStatus}
@@ -35,6 +36,7 @@ pub record RunState : Type 0 where
   pub line : List ℕ
   pub drops : Bool
   pub rest : List ℕ
+  pub held : HeldValue
   pub refusal : Option Refusal
   pub asks : Bool
   pub place : Place
@@ -68,6 +70,7 @@ started node = record {
   line = [];
   drops = false;
   rest = [];
+  held = nothing_held;
   refusal = None;
   asks = false;
   place = places.ListenPanel;

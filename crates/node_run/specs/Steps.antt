@@ -18,7 +18,7 @@ use Rattle.node_run.specs.declared.rules.Rules.{Rules}
 use Rattle.node_run.specs.Account.{AreProper}
 use Rattle.node_run.specs.Drives.{drives_after}
 use Rattle.node_run.specs.State.{WayValue, RunState, echoed}
-use Rattle.node_run.specs.Texts.{driven_lines, lines_of}
+use Rattle.node_run.specs.Texts.{lines_of, news_lines}
 use Rattle.node_run.specs.declared.way_state.Wire.{Wire}
 use Rattle.node_run.specs.declared.way_state.Wire.TheVariants as wires
 
@@ -65,12 +65,12 @@ routed told s = record s {
 abbrev pub with_node : NodeState → List Act → RunState → RunState
 with_node node told s = record s { node = node; drives = drives_after s.drives told }
 
--- what the panel is told of a step: all its lines, where it asked for the step, and else those of
--- the drives alone, where it has a connection
+-- what the panel is told of a step: all its lines, where it asked for the step, and else its news
+-- alone, where it has a connection
 abbrev pub panel_lines : Bool → Rules → ℕ → Wire → List Act → List ℕ
 panel_lines true rules turn wire told = lines_of rules.panel.drives turn rules.number told
 panel_lines false rules turn wires.Stands told =
-    driven_lines rules.panel.drives turn rules.number told
+    news_lines rules.panel.drives turn rules.number told
 panel_lines false rules turn wire told = []
 
 abbrev pub panel_told : Bool → Rules → List Act → RunState → RunState

@@ -51,14 +51,17 @@ line_of told turn machine act = log_line turn (act_text machine act)
 abbrev pub lines_of : Bool → ℕ → ℕ → List Act → List ℕ
 lines_of told turn machine acts = flat_map (line_of told turn machine) acts
 
--- and of its drives alone
-abbrev pub driven_line : ℕ → ℕ → Act → List ℕ
-driven_line turn machine (acts.Drive side on) = drive_line turn machine side on
-driven_line turn machine act = []
+-- and what is news of it: its drives, and its connections that were made, noticed or closed
+abbrev pub news_line : ℕ → ℕ → Act → List ℕ
+news_line turn machine (acts.Drive side on) = line_of true turn machine (acts.Drive side on)
+news_line turn machine acts.Connects = line_of true turn machine acts.Connects
+news_line turn machine (acts.Notices side) = line_of true turn machine (acts.Notices side)
+news_line turn machine (acts.Closes side) = line_of true turn machine (acts.Closes side)
+news_line turn machine act = []
 
-abbrev pub driven_lines : Bool → ℕ → ℕ → List Act → List ℕ
-driven_lines true turn machine acts = flat_map (driven_line turn machine) acts
-driven_lines false turn machine acts = []
+abbrev pub news_lines : Bool → ℕ → ℕ → List Act → List ℕ
+news_lines true turn machine acts = flat_map (news_line turn machine) acts
+news_lines false turn machine acts = []
 
 -- what each drive is, where the drives are told
 abbrev pub drives_lines : Bool → ℕ → ℕ → Drives → List ℕ

@@ -1,12 +1,12 @@
 -- What a run did with what its ports, its clock and its log tell.
-use Rattle.std.specs.Prelude.{◌≡◌, ◌≤◌, ℕ, ℤ, List, Option, None, Some}
+use Rattle.std.specs.Prelude.{◌≡◌, ◌≤◌, ℕ, ℤ, List, Option}
 use Rattle.line_outside.specs.Faults.{Rose}
 use Rattle.line_outside.specs.Given.{Given}
 use Rattle.line_outside.specs.declared.way.Address.{Address}
 use Rattle.node_core.specs.Node.{new_node}
 use Rattle.node_core.specs.declared.profile.NodeProfile.{NodeProfile}
 use Rattle.node_settings.specs.declared.settings.Settings.{Settings}
-use Rattle.node_run.specs.State.{RunState, started}
+use Rattle.node_run.specs.State.{started}
 use Rattle.node_run.specs.Runs.{RunEnds}
 use Rattle.node_run.specs.declared.rules.Rules.{Rules}
 use Rattle.node_run.specs.declared.status.NodeStatus.{NodeStatus}
@@ -32,18 +32,11 @@ profile_of settings = record {
   bridge = settings.bridge;
 }
 
--- where the clock tells its moment, how a run from a state ends
-abbrev pub RunEndsFrom : Option ℤ → Rules → RunState → Option (List Given) → Option (List Given)
-    → Option (List ℕ) → Option (List ℕ) → NodeStatus → Type 0
-RunEndsFrom None rules s given_old given_new log_old log_new status = Unit {0}
-RunEndsFrom (Some moment) rules s given_old given_new log_old log_new status =
-    RunEnds rules moment s given_old given_new log_old log_new status
-
--- and how the run that settings ask for does
+-- how the run that settings ask for ends, over a clock that tells its moment or not
 abbrev pub RunEndsTold : Option ℤ → Settings → Option (List Given) → Option (List Given)
     → Option (List ℕ) → Option (List ℕ) → NodeStatus → Type 0
 RunEndsTold told settings given_old given_new log_old log_new status =
-    RunEndsFrom told (rules_of settings)
+    RunEnds told (rules_of settings)
     (started (new_node (profile_of settings))) given_old given_new log_old log_new status
 
 -- no count falls, and a fault comes only where the count of that object rose

@@ -4,6 +4,7 @@ use Rattle.line_base.specs.declared.states.Side.TheVariants.{Entry, Exit}
 use Rattle.node_core.specs.Sides.{is_open}
 use Rattle.node_run.specs.declared.rules.Rules.{Rules}
 use Rattle.node_run.specs.Channel.{ChannelValue}
+use Rattle.node_run.specs.Held.{Finding, HeldValue}
 use Rattle.node_run.specs.State.{Refusal, RunState}
 use Rattle.node_run.specs.declared.place.Place.{Place}
 use Rattle.node_run.specs.declared.place.Place.TheVariants as places
@@ -59,12 +60,20 @@ close_work s =
 abbrev pub hear_work : ChannelValue → ℕ
 hear_work channel = count channel.hears + (length channel.waiting + 2 * length channel.piece)
 
+-- while something is held, each poll of the panel may give bytes
+abbrev pub look_work_of : Option Finding → ℕ → ℕ
+look_work_of None looks = 0
+look_work_of (Some finding) looks = 100000 * (looks + 1)
+
+abbrev pub look_work : HeldValue → ℕ
+look_work held = look_work_of held.finding held.looks
+
 -- what is done at one place
 abbrev pub work_at : RunState → ℕ
 work_at s =
-    20 * length s.rest +
+    look_work s.held + 20 * length s.rest +
     (20 * hear_work s.channel + (count s.asks + (refusal_work s.refusal + close_work s)))
 
 -- how far a run is from its end
 abbrev pub far_of : Rules → RunState → ℕ
-far_of rules s = 2000000 * far_at rules.turns s.turn s.place + work_at s
+far_of rules s = 4000000 * far_at rules.turns s.turn s.place + work_at s

@@ -1,12 +1,15 @@
 //! What the answers of the ports do.
 
-ghost use Rattle.std.specs.Prelude.{◌≡◌, ◌≤◌, ◌++◌, [], false, None, OnOk, length};
+ghost use Rattle.std.specs.Prelude.{◌≡◌, ◌≤◌, ◌++◌, [], false, None, OnOk, length, option_map};
 ghost use Rattle.line_outside.specs.declared.answer.GotBytes.TheVariants as founds;
 ghost use Rattle.node_run.specs.declared.way_state.Wire.TheVariants as wires;
 ghost use Rattle.node_run.specs.Next.{IsTurnLeft, moved_on};
-ghost use Rattle.node_run.specs.After.{after_listen, after_send, after_supervisory, greeting, found_of, panel_gone, supervisory_second, AfterPanel, AfterPoll, AfterUpstream, AfterDownstream, AfterClose};
+ghost use Rattle.node_core.specs.Sides.{is_open};
+ghost use Rattle.node_run.specs.Held.{nothing_held, seen_finding};
+ghost use Rattle.node_run.specs.After.{after_listen, after_send, after_supervisory, broken, greeting, found_of, looked, panel_gone, supervisory_second, way_of, with_held, AfterPanel, AfterPoll, AfterLook, AfterUpstream, AfterDownstream, AfterClose, HearsBytes, TakesFound, TakesHeld};
 
 use crate::hearing::refusal_of_second;
+use crate::held::Finding;
 use crate::run::{Refusal, Run};
 use crate::status::NodeStatus;
 use crate::texts::write_drives;
@@ -192,11 +195,9 @@ impl Run {
     {
         match got {
             Got::Arrived => self.connect_upstream(moment),
-            Got::Bytes(_) => self.take(Input::Bytes(Side::Entry, bytes), moment),
+            Got::Bytes(_) => self.held.hold_bytes(self.alloc, Side::Entry, bytes),
             Got::Closed | Got::Failed => {
-                if self.node.may(&Input::Notice(Side::Entry)).is_ok() {
-                    self.upstream.set_wire(Wire::Breaks);
-                }
+                self.held.hold_end(Side::Entry);
                 Ok(())
             }
             Got::Second | Got::NotYet => Ok(()),
@@ -213,11 +214,9 @@ impl Run {
         match got {
             Got::Arrived => self.accept_downstream(moment),
             Got::Second => self.meet_second(moment),
-            Got::Bytes(_) => self.take(Input::Bytes(Side::Exit, bytes), moment),
+            Got::Bytes(_) => self.held.hold_bytes(self.alloc, Side::Exit, bytes),
             Got::Closed | Got::Failed => {
-                if self.node.may(&Input::Notice(Side::Exit)).is_ok() {
-                    self.downstream.set_wire(Wire::Breaks);
-                }
+                self.held.hold_end(Side::Exit);
                 Ok(())
             }
             Got::NotYet => Ok(()),
@@ -252,6 +251,102 @@ impl Run {
         }
         self.downstream.set_wire(Wire::Stands);
         self.step_unasked(Input::Accepted, moment)
+    }
+
+    /// The answer to a poll of the panel before what was found of a neighbour is taken.
+    pub fn after_look(&mut self, got: Got, bytes: &[u8]) -> Result<(), Memory>
+        requires { self.old.told ≡ [] }
+        ensures rules { self.new.rules ≡ self.old.rules }
+        ensures after { OnOk result
+            (AfterLook self.old.rules
+            (found_of got bytes.now) self.old.state self.new.state self.new.told) }
+    {
+        self.note_look(got, bytes);
+        self.after_panel(got, bytes)
+    }
+
+    /// The panel was polled once more.
+    fn note_look(&mut self, got: Got, bytes: &[u8])
+        ensures { self.new
+            ≡ record self.old { state = looked (found_of got bytes.now) self.old.state } }
+    {
+        match got {
+            Got::NotYet => self.held.look(false),
+            Got::Arrived | Got::Second | Got::Bytes(_) | Got::Closed | Got::Failed => {
+                self.held.look(true)
+            }
+        }
+    }
+
+    /// What was found of a neighbour is taken: bytes are heard, and the end of a connection has its
+    /// way closed.
+    pub fn take_held(&mut self, moment: Moment) -> Result<(), Memory>
+        requires { self.old.told ≡ [] }
+        ensures rules { self.new.rules ≡ self.old.rules }
+        ensures takes { OnOk result
+            (TakesHeld self.old.rules moment self.old.state self.new.state self.new.told) }
+    {
+        match self.release() {
+            Some(finding) => self.take_found(finding.side, finding.bytes, moment),
+            None => Ok(()),
+        }
+    }
+
+    /// Nothing is held any more.
+    fn release(&mut self) -> Option<Finding>
+        ensures found { option_map
+            (λ found. seen_finding found.side (option_map (λ bytes. bytes.items) found.bytes))
+            result
+            ≡ self.old.state.held.finding }
+        ensures left { self.new
+            ≡ record self.old { state = with_held nothing_held self.old.state } }
+    {
+        self.held.take()
+    }
+
+    fn take_found(
+        &mut self,
+        side: Side,
+        bytes: Option<Vec<u8>>,
+        moment: Moment,
+    ) -> Result<(), Memory>
+        requires { self.old.told ≡ [] }
+        ensures rules { self.new.rules ≡ self.old.rules }
+        ensures takes { OnOk result
+            (TakesFound (option_map (λ bytes. bytes.items) bytes) side self.old.rules moment
+            self.old.state self.new.state self.new.told) }
+    {
+        match bytes {
+            Some(bytes) => self.hear_bytes(side, bytes.as_slice(), moment),
+            None => {
+                self.see_end(side);
+                Ok(())
+            }
+        }
+    }
+
+    fn hear_bytes(&mut self, side: Side, bytes: &[u8], moment: Moment) -> Result<(), Memory>
+        requires { self.old.told ≡ [] }
+        ensures rules { self.new.rules ≡ self.old.rules }
+        ensures hears { OnOk result
+            (HearsBytes self.old.rules moment side bytes.now self.old.state self.new.state
+            self.new.told) }
+    {
+        self.take(Input::Bytes(side, bytes), moment)
+    }
+
+    /// A close is seen where the machine has a connection.
+    fn see_end(&mut self, side: Side)
+        ensures { self.new
+            ≡ record self.old {
+              state =
+                  broken
+                  (way_of side) (is_open side self.old.state.node.lane.body) self.old.state;
+            } }
+    {
+        if self.node.may(&Input::Notice(side)).is_ok() {
+            self.set_wire(way_of(side), Wire::Breaks);
+        }
     }
 
     /// The answer to sending.
@@ -307,5 +402,15 @@ impl Run {
         self.drops = false;
         self.rest.clear();
         self.done = 0;
+    }
+}
+
+/// The way to the neighbour of a side.
+fn way_of(side: Side) -> Way
+    ensures { result ≡ way_of side }
+{
+    match side {
+        Side::Entry => Way::Upstream,
+        Side::Exit => Way::Downstream,
     }
 }

@@ -1,7 +1,7 @@
 //! What comes next.
 
 ghost use Rattle.std.specs.Prelude.{◌≡◌};
-ghost use Rattle.node_run.specs.Next.{next_of, closes_next, connects_next, lines_next, hears_next, at_place, listens_if, panel_address, polls, is_polled, sends_by, turn_next};
+ghost use Rattle.node_run.specs.Next.{next_of, closes_next, connects_next, lines_next, hears_next, held_next, takes_next, at_place, listens_if, panel_address, polls, is_polled, sends_by, turn_next};
 
 use crate::place::{Next, Place};
 use crate::run::Run;
@@ -12,7 +12,7 @@ use line_outside::{Address, Way};
 impl Run {
     /// What comes next: the end, a second connection that is to be refused, a way that has to be
     /// closed, a connection that was asked for, the next of the panel's lines, the next of the
-    /// supervisor's messages, and then what is done at this place.
+    /// supervisor's messages, what was found of a neighbour, and then what is done at this place.
     pub fn next(&self) -> Next
         ensures { result ≡ next_of self.now.rules self.now.state }
     {
@@ -69,7 +69,26 @@ impl Run {
         if self.channel.hears() {
             return Next::Hear;
         }
+        self.next_held()
+    }
+
+    /// What was found of a neighbour is taken behind the panel's lines.
+    fn next_held(&self) -> Next
+        ensures { result ≡ held_next self.now.rules self.now.state }
+    {
+        if self.held.is_some() {
+            return self.next_take();
+        }
         self.next_at_place()
+    }
+
+    fn next_take(&self) -> Next
+        ensures { result ≡ takes_next self.now.state.held.looks }
+    {
+        if self.held.looks() {
+            return Next::Look;
+        }
+        Next::Take
     }
 
     fn next_at_place(&self) -> Next

@@ -19,13 +19,13 @@ pub fn too_much_text_closes_a_way()
 /// What a machine owns after a run follows from what it owned before and from the acts that the
 /// run's log tells, in their order.
 pub fn what_a_machine_owns_follows_from_its_log()
-    ensures { (rules : Rules) (moment : ℤ) (s t : RunState) (calls : List Given) (log : List ℕ)
-        → Runs rules moment s calls t log → OwnFollows rules s t log }
+    ensures { (rules : Rules) (moments : List ℤ) (s t : RunState) (calls : List Given)
+        (log : List ℕ) → Runs rules s moments calls t log → OwnFollows rules s t log }
 {}
 
 /// What a machine owns after a run is read off the bytes of the run's log, from what it owned
 /// before: a log never tells two accounts.
 pub fn what_a_machine_owns_is_read_off_its_log()
-    ensures { (rules : Rules) (moment : ℤ) (s t : RunState) (calls : List Given) (log : List ℕ)
-        → Runs rules moment s calls t log → OwnIsRead s t log }
+    ensures { (rules : Rules) (moments : List ℤ) (s t : RunState) (calls : List Given)
+        (log : List ℕ) → Runs rules s moments calls t log → OwnIsRead s t log }
 {}

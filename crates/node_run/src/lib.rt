@@ -1,7 +1,8 @@
 //! The run of one machine over TCP: what comes next in it, and what each answer of its ports does.
 //!
-//! A run is a chain of moves: a call of the ports with its answer, or a line of the panel. `next`
-//! says which comes, and a method for each takes its answer.
+//! A run is a chain of moves: a call of the ports with its answer, a line of the panel, a message
+//! of the supervisor, or what was found of a neighbour. `next` says which comes, and a method for
+//! each takes its answer.
 #![tactic(auto)]
 
 mod after;
@@ -9,6 +10,7 @@ mod channel;
 mod drives;
 mod due;
 mod hearing;
+mod held;
 pub mod laws;
 mod lines;
 mod moves;

@@ -1,17 +1,18 @@
-//! The moves of a run: one call of the ports with what its answer does, a line of the panel, or a
-//! message of the supervisor.
+//! The moves of a run: one call of the ports with what its answer does, a line of the panel, a
+//! message of the supervisor, or what was found of a neighbour.
 
 ghost use Rattle.std.specs.Prelude.{◌≡◌, ◌≤◌, [], false, ℤ, OnOk, OnErr, Option, length};
 ghost use Rattle.line_outside.specs.Given.{got_bytes};
 ghost use Rattle.line_outside.specs.Ports.{IsGotWithin};
 ghost use Rattle.node_run.specs.After.{found_of};
 ghost use Rattle.node_run.specs.Next.{next_of};
+ghost use Rattle.node_run.specs.Runs.{IsMoment};
 ghost use Rattle.node_run.specs.Moving.{MovesAs, MissesMove, is_end};
 ghost use Rattle.node_run.specs.declared.place.Next.TheVariants as nexts;
 
 use crate::place::Next;
 use crate::run::Run;
-use line_base::Memory;
+use line_base::{Memory, Moment};
 use line_outside::{Address, Clock, Got, Ports, Way};
 
 /// Makes the move that comes next.
@@ -45,6 +46,8 @@ pub fn make_move<P: Ports, C: Clock>(
         }
         Next::Line => take_line(run, ports, clock),
         Next::Hear => take_message(run, ports, clock),
+        Next::Look => look(run, room, ports),
+        Next::Take => take_held(run, ports, clock),
         Next::Listen(way, address) => {
             listen(run, way, address, ports);
             Ok(())
@@ -92,7 +95,7 @@ fn take_line<P: Ports, C: Clock>(run: &mut Run, ports: &mut P, clock: &mut C) ->
     ensures misses { OnErr result
         (MissesMove run.old.rules run.old.state (P.given ports.old) (P.given ports.new)) }
 {
-    let moment = clock.now();
+    let moment = moment_of(clock);
     run.take_line(moment)
 }
 
@@ -113,7 +116,7 @@ fn take_message<P: Ports, C: Clock>(
     ensures misses { OnErr result
         (MissesMove run.old.rules run.old.state (P.given ports.old) (P.given ports.new)) }
 {
-    let moment = clock.now();
+    let moment = moment_of(clock);
     run.take_message(moment)
 }
 
@@ -163,8 +166,42 @@ fn poll<P: Ports, C: Clock>(
         (MissesMove run.old.rules run.old.state (P.given ports.old) (P.given ports.new)) }
 {
     let got = ports.poll(way, room);
-    let moment = clock.now();
+    let moment = moment_of(clock);
     run.after_poll(way, got, given(got, room), moment)
+}
+
+/// Polls the panel before what was found of a neighbour is taken.
+fn look<P: Ports>(run: &mut Run, room: &mut [u8], ports: &mut P) -> Result<(), Memory>
+    requires next { next_of run.old.rules run.old.state ≡ nexts.Look }
+    requires told { run.old.told ≡ [] }
+    requires room { length room.old ≡ 4096 }
+    requires rest { length run.old.state.rest ≤ 4096 }
+    ensures counted { P.faults ports.old ≤ P.faults ports.new }
+    ensures moves { (told : Option ℤ) → OnOk result
+        (MovesAs told run.old run.new (P.given ports.old) (P.given ports.new) (P.faults ports.old)
+        (P.faults ports.new)) }
+    ensures misses { OnErr result
+        (MissesMove run.old.rules run.old.state (P.given ports.old) (P.given ports.new)) }
+{
+    let got = ports.poll(Way::Panel, room);
+    run.after_look(got, given(got, room))
+}
+
+/// Takes what was found of a neighbour. The ports aren't called.
+fn take_held<P: Ports, C: Clock>(run: &mut Run, ports: &mut P, clock: &mut C) -> Result<(), Memory>
+    requires next { next_of run.old.rules run.old.state ≡ nexts.Take }
+    requires told { run.old.told ≡ [] }
+    requires rest { length run.old.state.rest ≤ 4096 }
+    ensures clock { C.moment clock.new ≡ C.moment clock.old }
+    ensures counted { P.faults ports.old ≤ P.faults ports.new }
+    ensures moves { OnOk result
+        (MovesAs (C.moment clock.old) run.old run.new (P.given ports.old) (P.given ports.new)
+        (P.faults ports.old) (P.faults ports.new)) }
+    ensures misses { OnErr result
+        (MissesMove run.old.rules run.old.state (P.given ports.old) (P.given ports.new)) }
+{
+    let moment = moment_of(clock);
+    run.take_held(moment)
 }
 
 fn send<P: Ports>(run: &mut Run, way: Way, ports: &mut P)
@@ -211,8 +248,18 @@ fn close<P: Ports, C: Clock>(
         (MissesMove run.old.rules run.old.state (P.given ports.old) (P.given ports.new)) }
 {
     ports.close(way);
-    let moment = clock.now();
+    let moment = moment_of(clock);
     run.after_close(way, moment)
+}
+
+/// What the clock says. Every clock stays within the years of a moment.
+fn moment_of<C: Clock>(clock: &mut C) -> Moment
+    ensures clock { C.moment clock.new ≡ C.moment clock.old }
+    ensures told { IsMoment (C.moment clock.old) result }
+{
+    let moment = clock.now();
+    let _millis = moment.millis();
+    moment
 }
 
 /// The bytes that a poll gave.

@@ -30,6 +30,10 @@ pub enum Next {
     Line,
     /// The next of the supervisor's messages.
     Hear,
+    /// The panel is polled before what was found of a neighbour is taken.
+    Look,
+    /// What was found of a neighbour is taken.
+    Take,
     /// Nothing is to do at this place.
     Skip,
     Listen(Way, Address),

@@ -1,5 +1,6 @@
 ghost use Rattle.std.specs.Prelude.{◌≡◌, [], IfOk, OnOk};
 ghost use Rattle.node_run.specs.Channel.{IsShort};
+ghost use Rattle.node_run.specs.Held.{HasFewLooks};
 ghost use Rattle.node_run.specs.State.{RunView, echoed, started, way_at, with_wire, refusal_text};
 ghost use Rattle.node_run.specs.Next.{IsTurnLeft, moved_on};
 ghost use Rattle.node_run.specs.After.{after_send};
@@ -7,6 +8,7 @@ ghost use Rattle.line_outside.specs.declared.ports.Sent.TheVariants as sents;
 
 use crate::channel::Channel;
 use crate::drives::Drives;
+use crate::held::Held;
 use crate::place::Place;
 use crate::rules::Rules;
 use crate::status::NodeStatus;
@@ -39,6 +41,7 @@ pub struct Run {
     pub(crate) line: Vec<u8>,
     pub(crate) drops: bool,
     pub(crate) rest: Vec<u8>,
+    pub(crate) held: Held,
     pub(crate) done: usize,
     pub(crate) refusal: Option<Refusal>,
     pub(crate) asks: bool,
@@ -68,6 +71,7 @@ impl Model for Run {
             r.line.items;
         drops = r.drops;
         rest = drop r.done r.rest.items;
+        held = r.held;
         refusal =
             option_map (λ refusal. seen_refusal refusal.way refusal.text.items) r.refusal;
         asks =
@@ -102,6 +106,7 @@ impl Run {
             line: Vec::new(alloc),
             drops: false,
             rest: Vec::new(alloc),
+            held: Held::nothing(),
             done: 0,
             refusal: None,
             asks: false,
@@ -182,11 +187,14 @@ impl Run {
         }
     }
 
-    /// No more of the supervisor's bytes wait than a message and an answer have.
+    /// No more of the supervisor's bytes wait than a message and an answer have, and the panel isn't
+    /// polled without end.
     pub(crate) fn is_short(&self)
-        ensures { IsShort self.now.state.channel }
+        ensures channel { IsShort self.now.state.channel }
+        ensures held { HasFewLooks self.now.state.held }
     {
         self.channel.is_short();
+        self.held.has_few_looks();
     }
 
     /// What of the panel's text isn't done yet.

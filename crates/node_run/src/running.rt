@@ -1,6 +1,6 @@
 ghost use Rattle.std.specs.Prelude.{◌≡◌, ◌≤◌, ◌<◌, ◌^◌, [], None, IfSome, IfOk, length};
-ghost use Rattle.node_run.specs.Runs.{IsRunStatus};
-ghost use Rattle.node_run.specs.Told.{RunEndsFrom, RunEndsTold, HasRunCauses, rules_of, profile_of};
+ghost use Rattle.node_run.specs.Runs.{IsRunStatus, RunEnds};
+ghost use Rattle.node_run.specs.Told.{RunEndsTold, HasRunCauses, rules_of, profile_of};
 ghost use Rattle.node_run.specs.State.{started};
 ghost use Rattle.node_run.specs.Moving.{IsEndCaused, IsRunEnd, IsOnceStatus, DoesOnce};
 ghost use Rattle.node_core.specs.Node.{new_node};
@@ -31,7 +31,7 @@ pub fn run_node<P: Ports, C: Clock, K: Sink>(
     requires least { 1 ≤ settings.places.capacity }
     requires most { settings.places.capacity ≤ 1024 }
     requires used { settings.places.used < 2 ^ 48 }
-    // over a clock that tells its moment: the calls, the log and the end are those of the run
+    // the calls, the log and the end are those of the run, each of its moves at a moment of the clock
     ensures runs { RunEndsTold (C.moment clock.old) settings (P.given ports.old)
         (P.given ports.new) (K.contents log.old) (K.contents log.new) result }
     ensures fits { IsRunStatus result }
@@ -60,7 +60,7 @@ fn run_on<P: Ports, C: Clock, K: Sink>(
     requires room { length room.old ≡ 4096 }
     requires rest { length run.old.state.rest ≤ 4096 }
     requires ended { run.old.state.ended ≡ None }
-    ensures runs { RunEndsFrom (C.moment clock.old) run.old.rules run.old.state (P.given ports.old)
+    ensures runs { RunEnds (C.moment clock.old) run.old.rules run.old.state (P.given ports.old)
         (P.given ports.new) (K.contents log.old) (K.contents log.new) result }
     ensures fits { IsRunStatus result }
     ensures causes { HasRunCauses result (P.faults ports.old) (P.faults ports.new)

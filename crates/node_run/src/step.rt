@@ -54,7 +54,7 @@ impl Run {
     }
 
     /// A step that no line of the panel asked for: its lines go to the log, and the panel is told
-    /// of its drives alone.
+    /// its news alone.
     pub fn step_unasked(&mut self, input: Input<'_>, moment: Moment) -> Result<(), Memory>
         requires may { may_of self.old.state.node input ≡ may_do }
         requires told { self.old.told ≡ [] }
@@ -66,12 +66,12 @@ impl Run {
         let acts = self.step_silently(&[], input, moment)?;
         let told = acts.list();
         self.route(told)?;
-        self.tell_drives(told)
+        self.tell_news(told)
     }
 
-    /// The panel is told of the drives among these acts, where the drives are told and it has a
+    /// The panel is told what is news among these acts, where the drives are told and it has a
     /// connection.
-    fn tell_drives(&mut self, acts: &[Act]) -> Result<(), Memory>
+    fn tell_news(&mut self, acts: &[Act]) -> Result<(), Memory>
         ensures rules { self.new.rules ≡ self.old.rules }
         ensures told { OnOk result
             (self.new
@@ -82,7 +82,7 @@ impl Run {
         }
         let told = self.rules.panel.drives;
         self.panel
-            .append_driven(told, self.turn, self.rules.number, acts)
+            .append_news(told, self.turn, self.rules.number, acts)
     }
 
     /// The machine's step and its lines. Where its messages go is for the caller.
@@ -195,7 +195,7 @@ impl Run {
         let acts = self.step_silently(&[], Input::Second, moment)?;
         let told = acts.list();
         self.refuse_with(told)?;
-        self.tell_drives(told)
+        self.tell_news(told)
     }
 
     /// The first of these acts is for the second connection, the others go their ways.

@@ -1,7 +1,7 @@
 ghost use Rattle.std.specs.Prelude.{◌≡◌, ◌++◌, true, Ok, OnOk};
 ghost use Rattle.line_report.specs.Texts.{act_text, switch_word};
 ghost use Rattle.node_core.specs.declared.act.Act.TheVariants as acts;
-ghost use Rattle.node_run.specs.Texts.{at_gap, deed_text, drive_line, driven_line, driven_lines, drives_lines, line_of, lines_of, log_line, refused_line, no_line};
+ghost use Rattle.node_run.specs.Texts.{at_gap, deed_text, drive_line, drives_lines, line_of, lines_of, log_line, news_line, news_lines, refused_line, no_line};
 
 use crate::drives::Drives;
 use board_record::BoardId;
@@ -82,8 +82,8 @@ fn switch_word(on: bool) -> &'static str
     if on { "on" } else { "off" }
 }
 
-/// Appends the lines of the drives among a step's acts, where the drives are told.
-pub fn write_driven(
+/// Appends what is news of a step, where the drives are told.
+pub fn write_news(
     told: bool,
     turn: u64,
     machine: u32,
@@ -91,29 +91,31 @@ pub fn write_driven(
     to: &mut Vec<u8>,
 ) -> Result<(), Memory>
     ensures { OnOk result
-        (to.new.items ≡ to.old.items ++ driven_lines told turn machine acts.now) }
+        (to.new.items ≡ to.old.items ++ news_lines told turn machine acts.now) }
 {
     if !told {
         return Ok(());
     }
-    write_all_driven(turn, machine, acts, to)
+    write_all_news(turn, machine, acts, to)
 }
 
-fn write_all_driven(turn: u64, machine: u32, acts: &[Act], to: &mut Vec<u8>) -> Result<(), Memory>
+fn write_all_news(turn: u64, machine: u32, acts: &[Act], to: &mut Vec<u8>) -> Result<(), Memory>
     ensures { OnOk result
-        (to.new.items ≡ to.old.items ++ driven_lines true turn machine acts.now) }
+        (to.new.items ≡ to.old.items ++ news_lines true turn machine acts.now) }
 {
     for act in acts {
-        write_driven_act(turn, machine, act, to)?;
+        write_news_act(turn, machine, act, to)?;
     }
     Ok(())
 }
 
-fn write_driven_act(turn: u64, machine: u32, act: &Act, to: &mut Vec<u8>) -> Result<(), Memory>
-    ensures { OnOk result (to.new.items ≡ to.old.items ++ driven_line turn machine act.now) }
+fn write_news_act(turn: u64, machine: u32, act: &Act, to: &mut Vec<u8>) -> Result<(), Memory>
+    ensures { OnOk result (to.new.items ≡ to.old.items ++ news_line turn machine act.now) }
 {
     match act {
-        Act::Drive(side, on) => write_drive(turn, machine, *side, *on, to),
+        Act::Drive(_, _) | Act::Connects | Act::Notices(_) | Act::Closes(_) => {
+            write_line(true, turn, machine, act, to)
+        }
         _ => Ok(()),
     }
 }

@@ -1,12 +1,12 @@
 ghost use Rattle.std.specs.Prelude.{◌≡◌, ◌≤◌, ◌++◌, length, drop, OnOk};
-ghost use Rattle.node_run.specs.Texts.{driven_lines};
+ghost use Rattle.node_run.specs.Texts.{news_lines};
 ghost use Rattle.node_run.specs.State.{WayValue, at_rest};
 ghost use Rattle.hermes_horizontal.specs.Canonical.{canonical};
 ghost use Rattle.hermes_vertical.specs.Canonical.{canonical as vertical_canonical};
 ghost use Rattle.node_run.specs.Channel.{is_empty};
 ghost use Rattle.node_run.specs.Next.{is_due, has_ended};
 
-use crate::texts::write_driven;
+use crate::texts::write_news;
 use hermes_horizontal::{Message, write_horizontal};
 use hermes_vertical::{VerticalMessage, write_vertical};
 use line_base::Memory;
@@ -132,8 +132,8 @@ impl WayState {
         write_vertical(message, &mut self.unsent)
     }
 
-    /// Adds the lines of the drives among a step's acts at the end, where the drives are told.
-    pub fn append_driven(
+    /// Adds what is news of a step at the end, where the drives are told.
+    pub fn append_news(
         &mut self,
         told: bool,
         turn: u64,
@@ -143,10 +143,10 @@ impl WayState {
         ensures { OnOk result
             (self.new
             ≡ record self.old {
-              unsent = self.old.unsent ++ driven_lines told turn machine acts.now;
+              unsent = self.old.unsent ++ news_lines told turn machine acts.now;
             }) }
     {
-        write_driven(told, turn, machine, acts, &mut self.unsent)
+        write_news(told, turn, machine, acts, &mut self.unsent)
     }
 
     /// Takes so many bytes away, which were sent.

@@ -14,3 +14,6 @@ returns-in-Send-clause-moves g c = c.send.ensures.moves (g.C.Clock.moment c.args
 
 pub returns-in-Refuse-clause-moves : goal.returns-in-Refuse-clause-moves
 returns-in-Refuse-clause-moves g c = c.refuse.ensures.moves (g.C.Clock.moment c.args.clock.now)
+
+pub returns-in-Look-clause-moves : goal.returns-in-Look-clause-moves
+returns-in-Look-clause-moves g c = c.look.ensures.moves (g.C.Clock.moment c.args.clock.now)

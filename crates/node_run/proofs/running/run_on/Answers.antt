@@ -1,5 +1,5 @@
 use Rattle.std.proofs.Common.{◌∙◌, arith, refl}
-use Rattle.node_run.proofs.Moving.{begins_told, ends_told, told_on, nearer_on, run_status, ends_caused_by, caused_later, is_run_end, uncaused}
+use Rattle.node_run.proofs.Moving.{begins_run, ends_told, told_on, nearer_on, run_status, ends_caused_by, caused_later, is_run_end, uncaused}
 use Rattle.node_run.proofs.running.run_on.Goals as goal
 
 pub move_once-requires-clause-ended : goal.move_once-requires-clause-ended
@@ -22,7 +22,7 @@ pub loop-status-init : goal.loop-status-init
 loop-status-init g c = record {
   rules = refl;
   clock = refl;
-  runs = begins_told _ c.args.run.now.rules c.args.run.now.state _ _;
+  runs = begins_run _ c.args.run.now.rules c.args.run.now.state _ _;
   rest = c.requires.rest;
   ended = uncaused c.args.run.now.state.ended _ _ c.requires.ended;
   ports = omega arith;
@@ -33,7 +33,7 @@ loop-status-init g c = record {
 pub loop-status-smaller : goal.loop-status-smaller
 loop-status-smaller g c =
     let once = c.in_default.ensures in
-    nearer_on _ c.loop-status.run.rules c.move_once.new.run.rules c.loop-status.run.state c.move_once.new.run.state _ _ _ _ (once.rules refl) once.does c.loop-status.invariant.rest (once.rest refl) c.is_short.ensures
+    nearer_on _ c.loop-status.run.rules c.move_once.new.run.rules c.loop-status.run.state c.move_once.new.run.state _ _ _ _ (once.rules refl) once.does c.loop-status.invariant.rest (once.rest refl) c.is_short.ensures.channel c.is_short.ensures.held
 
 pub loop-status-preserved : goal.loop-status-preserved
 loop-status-preserved g c =
