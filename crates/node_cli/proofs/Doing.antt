@@ -70,6 +70,12 @@ pub does_run : (test : Bool) (left : Option (List ℕ)) (bytes : List ℕ) (sett
 does_run test left bytes settings moment given_old given_new log_old log_new status e reads says is ends =
     at_one test left moment given_old given_new log_old log_new status e (run left bytes settings moment given_old given_new log_old log_new status reads says is ends)
 
+pub does_run_of : (test : Bool) (left : Option (List ℕ)) (bytes slice : List ℕ) (settings : Settings) (moment : Option ℤ) (given_old given_new : Option (List Given)) (log_old log_new : Option (List ℕ)) (status : NodeStatus)
+    → test ≡ true → ReadsFile left bytes → slice ≡ bytes → read_of slice ≡ Ok settings → IsRunStatus status → RunEndsTold moment settings given_old given_new log_old log_new status → DoesNode test left moment given_old given_new log_old log_new status
+does_run_of test left bytes slice settings moment given_old given_new log_old log_new status e reads same says is ends =
+    let P : List ℕ → Type 0 = λ b. read_of b ≡ Ok settings in
+    does_run test left bytes settings moment given_old given_new log_old log_new status e reads (subst P same says) is ends
+
 -- ---- how it ends
 
 fits_one : (status : NodeStatus) → IsRunStatus status → FitsNode true status
