@@ -1,4 +1,6 @@
 ghost use Rattle.std.specs.Prelude.{◌≡◌};
+ghost use Rattle.contents_kept.specs.Contents.{ContentsStayWhole};
+ghost use Rattle.contents_kept.specs.There.{StandingsNameWhatIsThere};
 ghost use Rattle.first_in_first_out.specs.Order.{FirstInFirstOut};
 ghost use Rattle.line_step.specs.FloorIds.{IdsStay};
 ghost use Rattle.line_history.specs.LetGo.{WhatSettlesLeft};
@@ -80,6 +82,8 @@ pub fn line_main<S: Source, K: Sink>(
     // each record with one machine or in one named handover, over the run of every script up to
     // its first lie
     ensures standing { OneStanding }
+    // and what a standing names is there: a machine, or a gap between two
+    ensures there { StandingsNameWhatIsThere }
     // where its board lies then, and whose half holds it
     ensures custody { CustodyFacts }
     // what the report tells of records is what becomes of them
@@ -88,6 +92,8 @@ pub fn line_main<S: Source, K: Sink>(
     ensures order { FirstInFirstOut }
     // a record that is kept changes only where its board is marked
     ensures contents { ContentsAreKept }
+    // in its quality alone; what is opened, comes back or settles is the record that it was
+    ensures whole { ContentsStayWhole }
     // a breach is told only of a side to which a spoiled text flowed
     ensures blame { NoFalseBlame }
     // a board settles only when it was said that its transport ended
@@ -125,6 +131,8 @@ pub fn line_main<S: Source, K: Sink>(
     one_standing::laws::the_ledger_follows_the_report();
     first_in_first_out::laws::boards_go_in_the_order_in_which_they_came();
     one_standing::laws::contents_are_kept_over_each_line();
+    contents_kept::laws::contents_stay_whole();
+    contents_kept::laws::standings_name_what_is_there();
     one_standing::laws::a_breach_is_told_only_behind_a_spoiled_text();
     line_history::laws::boards_settle_when_it_is_said();
     line_history::laws::what_settles_is_what_left();

@@ -23,6 +23,9 @@ returns-clause-ids g c = ids_stay
 pub returns-clause-standing : goal.returns-clause-standing
 returns-clause-standing g c = c.one_standing_after_each_line.ensures
 
+pub returns-clause-there : goal.returns-clause-there
+returns-clause-there g c = c.standings_name_what_is_there.ensures
+
 pub returns-clause-custody : goal.returns-clause-custody
 returns-clause-custody g c = c.the_custody_facts_hold_after_each_line.ensures
 
@@ -34,6 +37,9 @@ returns-clause-order g c = c.boards_go_in_the_order_in_which_they_came.ensures
 
 pub returns-clause-contents : goal.returns-clause-contents
 returns-clause-contents g c = c.contents_are_kept_over_each_line.ensures
+
+pub returns-clause-whole : goal.returns-clause-whole
+returns-clause-whole g c = c.contents_stay_whole.ensures
 
 pub returns-clause-blame : goal.returns-clause-blame
 returns-clause-blame g c = c.a_breach_is_told_only_behind_a_spoiled_text.ensures

@@ -1,0 +1,235 @@
+-- Over the step of a machine: what it has of a board behind it is what it had before, or the same with another quality, where
+-- the step tells the mark.
+use Rattle.std.proofs.Common.{Err, List, Ok, Option, Result, Some, [], ap, arith, false, inl, inr, refl, subst, suc, sym, true, zero, ℕ, ◌+◌, ◌-◌, ◌∙◌, ◌∷◌, ◌≡◌, ◌⊎◌}
+use Rattle.std.proofs.lemmas.Option.{none-some}
+use Rattle.line_base.specs.declared.states.Quality.{Quality}
+use Rattle.board_record.specs.Maker.{Maker, after_next, next_id}
+use Rattle.board_record.specs.declared.maker.IdsUsedUp.{IdsUsedUp}
+use Rattle.board_record.specs.declared.record.Record.{Record}
+use Rattle.handover_out.specs.State.{held}
+use Rattle.handover_in.specs.State.{held as in_held}
+use Rattle.standings.specs.Ledger.{are_different}
+use Rattle.standings.specs.declared.mark.Mark.TheVariants as marks
+use Rattle.smema_bridge.specs.Levels.{BridgeLevels}
+use Rattle.line_link.specs.declared.link.Connected.{Connected}
+use Rattle.line_link.specs.declared.link.Connected.TheVariants as connections
+use Rattle.line_report.specs.declared.happening.Happening.{Happening}
+use Rattle.line_report.specs.declared.happening.Happening.TheVariants as happenings
+use Rattle.node_core.specs.Event.{Event, Insert, Replace, event_of, maker_after, with_new}
+use Rattle.node_core.specs.Node.{NodeState, desk_of}
+use Rattle.node_core.specs.Own.{ids_of, own_of}
+use Rattle.node_core.specs.Step.{machine_step}
+use Rattle.node_core.specs.declared.act.Act.TheVariants as acts
+use Rattle.node_core.specs.declared.input.Input.{Input}
+use Rattle.node_core.specs.declared.input.Input.TheVariants as inputs
+use Rattle.node_core.specs.declared.lane.Body.{Body}
+use Rattle.custody.specs.Contents.{Kept, kept_first, kept_later}
+use Rattle.line_step.specs.Lines.{met as met_on}
+use Rattle.line_step.specs.Numbered.{no_node, node_at}
+use Rattle.line_step.specs.State.{LineState, machine_in}
+use Rattle.line_step.specs.Steps.{MachineSteps, moment_of, unread_by}
+use Rattle.line_step.proofs.Makers.{AreNumbered, IsOld}
+use Rattle.line_step.proofs.Numbers.{machine_set_own}
+use Rattle.one_standing.specs.Carried.{Trace}
+use Rattle.one_standing.specs.Contents.{In, in_first, in_later}
+use Rattle.one_standing.specs.Stands.{Stands}
+use Rattle.one_standing.specs.Told.{IsTold}
+use Rattle.one_standing.proofs.ApartHands.{body_then, fails_told, marks_told}
+use Rattle.one_standing.proofs.FactsContents.{Has, HasIn, has_held, has_kept, has_taking}
+use Rattle.one_standing.proofs.LedgerLine.{made_here}
+use Rattle.one_standing.proofs.LedgerMarks.{differ_of, kept_alone, mark_old}
+use Rattle.one_standing.proofs.LedgerSteps.{kept_different}
+use Rattle.one_standing.proofs.LedgerTurns.{different_first, different_rest}
+use Rattle.one_standing.proofs.MarksOf.{has_intake as has_intake_mark, has_kept as has_kept_mark, has_outlet as has_outlet_mark, kept_id}
+use Rattle.one_standing.proofs.MarksPlace.{kept_unheld}
+use Rattle.one_standing.proofs.OneStand.{has_end, same_link}
+use Rattle.one_standing.proofs.RestLine.{node_there}
+use Rattle.contents_kept.specs.Contents.{IsMarkOf}
+use Rattle.contents_kept.proofs.Pieces.{IsByHand, IsMarkBy, level_has, read_has, step_held, step_kept}
+
+-- ---- a machine has one record of an id
+
+pub in_kept : {q : Record} {x : ℕ} {rs : List Record} → In q rs → q.id ≡ x → Kept x rs
+in_kept {x = x} (in_first {r = r} {others = others} is) same = subst (λ (y : ℕ). Kept y (r ∷ others)) (ap (λ (r : Record). r.id) (sym is) ∙ same) kept_first
+in_kept (in_later i) same = kept_later (in_kept i same)
+
+not_twice : (r q : Record) (rs : List Record) → are_different (r.id ∷ ids_of rs) ≡ true → In q rs → q.id ≡ r.id → ⊥
+not_twice r q rs different i same =
+    let h : true ≡ false = sym (kept_id (in_kept i same)) ∙ different_first r.id (ids_of rs) different in
+    cc
+
+one_kept : (q p : Record) (rs : List Record) → are_different (ids_of rs) ≡ true → In q rs → In p rs → q.id ≡ p.id → p ≡ q
+one_kept q p [] different i j same = elim i [ ]
+one_kept q p (r ∷ rs) different (in_first is) (in_first also) same = also ∙ sym is
+one_kept q p (r ∷ rs) different (in_first is) (in_later j) same = absurd (not_twice r p rs different j (sym same ∙ ap (λ (r : Record). r.id) is))
+one_kept q p (r ∷ rs) different (in_later i) (in_first also) same = absurd (not_twice r q rs different i (same ∙ ap (λ (r : Record). r.id) also))
+one_kept q p (r ∷ rs) different (in_later i) (in_later j) same = one_kept q p rs (different_rest r.id (ids_of rs) different) i j same
+
+-- where a record is, in equations
+data Sits (body : Body) (q : Record) : Type 0 where
+  sits_kept : In q body.kept → Sits body q
+  sits_held : held body.outlet ≡ Some q → Sits body q
+  sits_taking : in_held body.intake ≡ Some q → Sits body q
+
+sits_by : {q : Record} {kept : List Record} {mine taking : Option Record} (P : Type 0) → (In q kept → P) → (mine ≡ Some q → P) → (taking ≡ Some q → P) → Has q kept mine taking → P
+sits_by P k h t (has_kept i) = k i
+sits_by P k h t has_held = h refl
+sits_by P k h t has_taking = t refl
+
+sits_of : (body : Body) (q : Record) → HasIn q body → Sits body q
+sits_of body q h = sits_by (Sits body q) sits_kept sits_held sits_taking h
+
+abbrev pub IsOneRecord : Body → Type 0
+IsOneRecord body = (q p : Record) → HasIn q body → HasIn p body → q.id ≡ p.id → p ≡ q
+
+one_some : {a : Option Record} {q p : Record} → a ≡ Some q → a ≡ Some p → p ≡ q
+one_some is also = cc
+
+own_gap : (j : ℕ) → j + 1 ≡ j + 1 - 1 → ⊥
+own_gap j e = omega (arith, e)
+
+one_record_at : {t : Trace} {s : LineState} (j : ℕ) → Stands t s → IsOneRecord (node_at s (j + 1)).lane.body
+one_record_at {t} {s} j st = λ q p has also same. by q p (sits_of body q has) (sits_of body p also) same where
+  body : Body
+  body = (node_at s (j + 1)).lane.body
+
+  both : {x : ℕ} {q p : Record} → held body.outlet ≡ Some q → q.id ≡ x → in_held body.intake ≡ Some p → p.id ≡ x → ⊥
+  both {x} out one into two = own_gap j (same_link {x = x} {mark = marks.Outlet (j + 1)} {other = marks.Intake (j + 1)} st (has_outlet_mark out one) (has_intake_mark into two))
+
+  by : (q p : Record) → Sits body q → Sits body p → q.id ≡ p.id → p ≡ q
+  by q p (sits_kept i) (sits_kept k) same = one_kept q p body.kept (kept_different (own_of body) (differ_of (j + 1) st)) i k same
+  by q p (sits_kept i) (sits_held out) same = absurd (kept_unheld (j + 1) (j + 1) (has_end t s st) st.keeps (in_kept i same) out refl)
+  by q p (sits_kept i) (sits_taking into) same = absurd (kept_alone j st (in_kept i same) into refl)
+  by q p (sits_held out) (sits_kept i) same = absurd (kept_unheld (j + 1) (j + 1) (has_end t s st) st.keeps (in_kept i (sym same)) out refl)
+  by q p (sits_held out) (sits_held also) same = one_some out also
+  by q p (sits_held out) (sits_taking into) same = absurd (both out same into refl)
+  by q p (sits_taking into) (sits_kept i) same = absurd (kept_alone j st (in_kept i (sym same)) into refl)
+  by q p (sits_taking into) (sits_held out) same = absurd (both out (sym same) into refl)
+  by q p (sits_taking into) (sits_taking also) same = one_some into also
+
+-- beyond the ends of a line there is none
+none_sits : {P : Type 0} (q : Record) → Sits no_node.lane.body q → P
+none_sits q (sits_kept i) = elim i [ ]
+none_sits q (sits_held out) = absurd (none-some q out)
+none_sits q (sits_taking into) = absurd (none-some q into)
+
+pub has_none : {P : Type 0} (q : Record) → HasIn q no_node.lane.body → P
+has_none q has = none_sits q (sits_of no_node.lane.body q has)
+
+pub one_record_of : {t : Trace} {s : LineState} (machine : ℕ) → Stands t s → IsOneRecord (node_at s machine).lane.body
+one_record_of zero st = λ q p has also same. has_none q has
+one_record_of {s = s} (suc j) st = let next : j + 1 ≡ suc j = omega arith in subst (λ (m : ℕ). IsOneRecord (node_at s m).lane.body) next (one_record_at j st)
+
+-- ---- a machine before a line and behind it
+
+pub record Whole (told : List Happening) (machine : ℕ) (was now : Body) : Type 0 where
+  pub kept : (q p : Record) → HasIn q was → In p now.kept → q.id ≡ p.id → (p ≡ q) ⊎ IsMarkOf told machine q p
+  pub out : (q p : Record) → HasIn q was → held now.outlet ≡ Some p → q.id ≡ p.id → p ≡ q
+
+pub held_has : (body : Body) (q : Record) → held body.outlet ≡ Some q → HasIn q body
+held_has body q is = subst (λ (mine : Option Record). Has q body.kept mine (in_held body.intake)) (sym is) has_held
+
+pub taking_has : (body : Body) (q : Record) → in_held body.intake ≡ Some q → HasIn q body
+taking_has body q is = subst (λ (taking : Option Record). Has q body.kept (held body.outlet) taking) (sym is) has_taking
+
+pub whole_itself : {told : List Happening} {machine : ℕ} {body : Body} → IsOneRecord body → Whole told machine body body
+whole_itself {body = body} one = record {
+  kept = λ q p has i same. inl (one q p has (has_kept i) same);
+  out = λ q p has is same. one q p has (held_has body p is) same;
+}
+
+-- ---- what hands do
+
+-- a record whose quality is changed is the one that was there before, and it is told
+mark_of : {told : List Happening} {machine id : ℕ} {quality : Quality} {now : Body} (was : Body) (q p : Record) → IsOneRecord was → ((r : Record) → HasIn r now → HasIn r was) → HasIn q was → q.id ≡ p.id
+    → (m : IsMarkBy id quality now p) → IsTold (happenings.Done machine (acts.Marks id quality)) told → IsMarkOf told machine q p
+mark_of {told} {machine} {id} {quality} was q p one before has same m tells =
+    let own : p.id ≡ m.was.id = ap (λ (r : Record). r.id) m.is in
+    let is : m.was ≡ q = one q m.was has (before m.was (has_kept m.there)) (same ∙ own) in
+    record {
+      quality = quality;
+      marks = subst (λ (x : ℕ). IsTold (happenings.Done machine (acts.Marks x quality)) told) (sym (own ∙ m.named)) tells;
+      is = m.is ∙ ap (λ (r : Record). record r { quality = quality }) is;
+    }
+
+new_by : (bridge : Option BridgeLevels) (maker : Maker) (body : Body) (found : Result ℕ IdsUsedUp) (event : ℕ → Event) (p : Record) → next_id maker ≡ found → ((id : ℕ) → IsByHand bridge body (event id) p → p.id ≡ id) → IsByHand bridge body (with_new found event) p
+    → (id : ℕ) × (next_id maker ≡ Ok id) × (p.id ≡ id)
+new_by bridge maker body (Ok id) event p is each hand = (id, is, each id hand)
+new_by bridge maker body (Err why) event p is each hand = elim hand [ ]
+
+-- what holds before a line
+pub record Starting (before : LineState) : Type 0 where
+  pub one : (machine : ℕ) → IsOneRecord (node_at before machine).lane.body
+  pub own : AreNumbered 1 before.machines
+  pub olds : (machine : ℕ) (q : Record) → HasIn q (node_at before machine).lane.body → IsOld 1 before.machines q.id
+
+olds_of : {t : Trace} {s : LineState} (machine : ℕ) (q : Record) → Stands t s → Sits (node_at s machine).lane.body q → IsOld 1 s.machines q.id
+olds_of machine q st (sits_kept i) = mark_old {mark = marks.Kept machine} st (has_kept_mark (in_kept i refl))
+olds_of machine q st (sits_held out) = mark_old {mark = marks.Outlet machine} st (has_outlet_mark out refl)
+olds_of machine q st (sits_taking into) = mark_old {mark = marks.Intake machine} st (has_intake_mark into refl)
+
+pub starting_of : {t : Trace} {s : LineState} → Stands t s → Starting s
+starting_of {s = s} st = record {
+  one = λ machine. one_record_of machine st;
+  own = st.ids.own;
+  olds = λ machine q has. olds_of machine q st (sits_of (node_at s machine).lane.body q has);
+}
+
+-- a board that is put in has no record before
+new_not : (number m : ℕ) (input : Input) (before after : LineState) (told : List Happening) → Starting before → (steps : MachineSteps number m input before after told) → maker_after input steps.node.maker ≡ after_next steps.node.maker
+    → (q p : Record) → HasIn q (node_at before m).lane.body → q.id ≡ p.id → (id : ℕ) × (next_id steps.node.maker ≡ Ok id) × (p.id ≡ id) → ⊥
+new_not number m input before after told a steps makes q p has same hand =
+    (made_here number m input before after told steps a.own makes hand.0 hand.1).apart q.id (a.olds m q has) (same ∙ hand.2)
+
+hand_whole : (number m : ℕ) (input : Input) (before after : LineState) (told : List Happening) (steps : MachineSteps number m input before after told) → Starting before → IsOneRecord steps.node.lane.body
+    → (q p : Record) → HasIn q (node_at before m).lane.body → HasIn q steps.node.lane.body → q.id ≡ p.id
+    → IsByHand steps.node.bridge (body_then number m input before after told steps) (event_of steps.node.maker input steps.steps.lane.words) p → IsMarkOf told m q p
+hand_whole number m (inputs.Insert barcode) before after told steps a one q p there has same hand =
+    let body : Body = body_then number m (inputs.Insert barcode) before after told steps in
+    absurd (new_not number m (inputs.Insert barcode) before after told a steps refl q p there same
+    (new_by steps.node.bridge steps.node.maker body (next_id steps.node.maker) (λ id. Insert id barcode) p refl (λ id is. is) hand))
+hand_whole number m (inputs.Replace old) before after told steps a one q p there has same hand =
+    let body : Body = body_then number m (inputs.Replace old) before after told steps in
+    absurd (new_not number m (inputs.Replace old) before after told a steps refl q p there same
+    (new_by steps.node.bridge steps.node.maker body (next_id steps.node.maker) (Replace old) p refl (λ id is. is) hand))
+hand_whole number m (inputs.Mark id quality) before after told steps a one q p there has same hand =
+    mark_of steps.node.lane.body q p one (λ r h. read_has (desk_of steps.node (moment_of number)) (unread_by m before.world) steps.node.lane.body r h) has same hand
+    (marks_told number m id quality before after told steps hand.kept)
+hand_whole number m (inputs.Level line on) before after told steps a one q p there has same hand =
+    let body : Body = body_then number m (inputs.Level line on) before after told steps in
+    mark_of steps.node.lane.body q p one (λ r h. read_has (desk_of steps.node (moment_of number)) (unread_by m before.world) steps.node.lane.body r (level_has line on body r h)) has same hand.2
+    (fails_told number m hand.0 line on before after told steps hand.1 hand.2.kept)
+hand_whole number m _ before after told steps a one q p there has same hand = absurd hand
+
+-- the step of a machine, whose hands do only this
+pub machine_by : (number m : ℕ) (input : Input) (before after : LineState) (told : List Happening) → IsOneRecord (node_at before m).lane.body → (steps : MachineSteps number m input before after told)
+    → ((q p : Record) → HasIn q (node_at before m).lane.body → HasIn q steps.node.lane.body → q.id ≡ p.id → IsByHand steps.node.bridge (body_then number m input before after told steps) (event_of steps.node.maker input steps.steps.lane.words) p → IsMarkOf told m q p)
+    → Whole told m (node_at before m).lane.body (node_at after m).lane.body
+machine_by number m input before after told single steps hands =
+    let node_is : node_at before m ≡ steps.node = node_there m before steps.node steps.there in
+    let next_is : node_at after m ≡ steps.next = node_there m after steps.next (ap (machine_in m) steps.after_is ∙ machine_set_own m before steps.node steps.next steps.there) in
+    let desk = desk_of steps.node (moment_of number) in
+    let event : Event = event_of steps.node.maker input steps.steps.lane.words in
+    let was : Body = steps.node.lane.body in
+    let now : Body = (machine_step desk (unread_by m before.world) event was).body in
+    let body_is : (node_at after m).lane.body ≡ now = ap (λ (n : NodeState). n.lane.body) next_is ∙ steps.steps.lane.body in
+    let one : IsOneRecord was = subst (λ (n : NodeState). IsOneRecord n.lane.body) node_is single in
+    let here : (q : Record) → HasIn q (node_at before m).lane.body → HasIn q was = λ q has. subst (λ (n : NodeState). HasIn q n.lane.body) node_is has in
+    record {
+      kept = λ q p has i same. elim (step_kept desk (unread_by m before.world) event was p (subst (λ (b : Body). In p b.kept) body_is i)) [
+        | inl then ↦ inl (one q p (here q has) then same)
+        | inr hand ↦ inr (hands q p has (here q has) same hand)
+      ];
+      out = λ q p has is same. one q p (here q has) (step_held desk (unread_by m before.world) event was p (subst (λ (b : Body). held b.outlet ≡ Some p) body_is is)) same;
+    }
+
+-- the step of a machine
+pub machine_whole : (number m : ℕ) (input : Input) (before after : LineState) (told : List Happening) → Starting before → MachineSteps number m input before after told → Whole told m (node_at before m).lane.body (node_at after m).lane.body
+machine_whole number m input before after told a steps =
+    let one : IsOneRecord steps.node.lane.body = subst (λ (n : NodeState). IsOneRecord n.lane.body) (node_there m before steps.node steps.there) (a.one m) in
+    machine_by number m input before after told (a.one m) steps (λ q p there has same hand. hand_whole number m input before after told steps a one q p there has same hand)
+
+-- and where it is met by a connection
+pub met_whole : (number m : ℕ) (on : Connected) (before after : LineState) (told : List Happening) → IsOneRecord (node_at before m).lane.body → MachineSteps number m (met_on on) before after told → Whole told m (node_at before m).lane.body (node_at after m).lane.body
+met_whole number m connections.Accepted before after told one steps = machine_by number m inputs.Accepted before after told one steps (λ q p there has same hand. absurd hand)
+met_whole number m connections.Second before after told one steps = machine_by number m inputs.Second before after told one steps (λ q p there has same hand. absurd hand)

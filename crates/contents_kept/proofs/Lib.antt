@@ -1,0 +1,4 @@
+pub mod There
+pub mod Pieces
+pub mod Hands
+pub mod Whole

@@ -1,0 +1,496 @@
+-- Which records a machine has behind a step, and where they come from: they are those that it had before, as they are, but one
+-- that was put in or replaced, and one that was marked, which is the one before but for its quality.
+use Rattle.std.proofs.Common.{inl, inr, ◌⊎◌, if◌then◌else◌, subst, ◌≡◌, ◌++◌, ◌==◌, ℕ, Bool, true, false, List, [], ◌∷◌, Option, Some, None, refl, sym, ap, eqb-true}
+use Rattle.std.specs.Prelude.{slice_get}
+use Rattle.std.proofs.lemmas.Bool.{false≢true}
+use Rattle.line_base.specs.declared.states.Side.{Side}
+use Rattle.line_base.specs.declared.states.Side.TheVariants.{Entry, Exit}
+use Rattle.line_base.specs.declared.states.Quality.{Quality}
+use Rattle.board_record.specs.declared.record.Record.{Record}
+use Rattle.board_record.specs.declared.sensed.Sensed.{Sensed as Seen}
+use Rattle.board_record.specs.Record.{plain_record}
+use Rattle.session_core.specs.End.{SessionEnd, at_rest}
+use Rattle.handover_out.specs.declared.input.OutInput.{OutInput}
+use Rattle.handover_out.specs.declared.input.OutInput.TheVariants as out_input
+use Rattle.handover_out.specs.State.{OutState, held, would_open}
+use Rattle.handover_out.specs.Row.{OutRow}
+use Rattle.handover_out.specs.Table.{
+  IsOutletRow,
+  offers,
+  revokes,
+  opens as out_opens,
+  refuses,
+  stop_home,
+  left_moving,
+  left_stuck,
+  left_stopped,
+  left_unlinked,
+  back_stuck,
+  back_stopped,
+  back_unlinked,
+  taken_moving,
+  taken_stuck,
+  taken_stopped,
+  taken_unlinked,
+  fault_home,
+  closed_home,
+}
+use Rattle.handover_in.specs.declared.input.InInput.{InInput}
+use Rattle.handover_in.specs.declared.input.InInput.TheVariants as in_input
+use Rattle.handover_in.specs.State.{InState, held as in_held}
+use Rattle.handover_in.specs.Row.{InRow, intake_row}
+use Rattle.handover_in.specs.Table.{
+  IsIntakeRow,
+  starts_transport,
+  running_drop,
+  hears_keep,
+  hears_drop,
+  full_heard,
+  taken_heard,
+  stopped_keep,
+  stopped_drop,
+  waiting_settles,
+  waiting_home,
+  waiting_taken,
+  closed_home as in_closed_home,
+  closed_stopped_home,
+  closed_stopped_gone,
+  stands_settles,
+}
+use Rattle.handover_in.proofs.Rows.{row_is as in_row_is}
+use Rattle.node_core.specs.Desk.{Desk}
+use Rattle.node_core.specs.declared.act.Act.{Act}
+use Rattle.node_core.specs.declared.act.Act.TheVariants as acts
+use Rattle.node_core.specs.declared.act.Setting.TheVariants as settings
+use Rattle.node_core.specs.declared.lane.Body.{Body}
+use Rattle.node_core.specs.Done.{Done, done}
+use Rattle.node_core.specs.Sides.{session_at, with_session}
+use Rattle.node_core.specs.Halves.{
+  given_back,
+  settled,
+  intake_row_did,
+  opening_board,
+  behind_opening,
+}
+use Rattle.node_core.specs.Reads.{all_read}
+use Rattle.node_core.specs.Boards.{without, with_instead, with_kept, with_mark, is_kept, if_kept}
+use Rattle.node_core.specs.Announces.{
+  revokes_now,
+  revoke,
+  unreadies_now,
+  unready,
+  offers_now,
+  offer,
+  readies_now,
+  ready,
+  starts_now,
+  start_by,
+  announces,
+}
+use Rattle.node_core.specs.Event.{Event, Insert, Replace, Mark, event_did, Level}
+use Rattle.node_core.specs.Step.{machine_step}
+use Rattle.node_core.proofs.HalfRows.{IsNoStart}
+use Rattle.one_standing.specs.Contents.{In, in_first, in_later}
+use Rattle.one_standing.proofs.FactsContents.{Has, HasIn, has_held, has_kept, has_taking}
+use Rattle.node_core.specs.Bridge.{failed_front, fails, sets_level, tells_level}
+use Rattle.smema_bridge.specs.Levels.{BridgeLevels}
+use Rattle.smema_bridge.specs.declared.line.SegmentLine.{SegmentLine}
+use Rattle.smema_bridge.specs.declared.line.SegmentLine.TheVariants.{Available, Failed, Ready}
+use Rattle.line_base.specs.declared.states.Quality.TheVariants as qualities
+use Rattle.step_rules.specs.Causes.{
+  Announcing,
+  ByHand,
+  Cause,
+  Hearing,
+  Meeting,
+  Reading,
+  ToIntake,
+  ToOutlet,
+  hand_fails,
+  hand_inserts,
+  hand_marks,
+  hand_removes,
+  hand_replaces,
+  in_start,
+  out_closed,
+  out_offer,
+  out_revoke,
+}
+use Rattle.step_rules.specs.Made.{
+  Made,
+  made_act,
+  made_both,
+  made_breach,
+  made_by_hand,
+  made_close,
+  made_intake,
+  made_none,
+  made_notice,
+  made_outlet,
+  made_passed,
+  made_row,
+  made_start,
+  made_will,
+  made_word,
+}
+use Rattle.step_rules.proofs.Inputs.{IsNoStart as IsNoOutStart, no_start}
+use Rattle.step_rules.proofs.Steps.{
+  all_read_made,
+  announces_made,
+  event_made,
+  offer_made,
+  ready_made,
+  revoke_made,
+  unready_made,
+}
+
+-- a micro event after which a machine has no record that it did not have before
+record Brings (body : Body) (d : Done) : Type 0 where
+  each : (q : Record) → HasIn q d.body → HasIn q body
+
+brings_session : (side : Side) (s : SessionEnd) (body : Body) (d : Done) → Brings (with_session side s body) d → Brings body d
+brings_session Entry s body d k = record { each = k.each }
+brings_session Exit s body d k = record { each = k.each }
+
+-- ---- the halves
+
+returned : {b : Record} {kept : List Record} {taking : Option Record} (q : Record) → Has q (b ∷ kept) None taking → Has q kept (Some b) taking
+returned {b = b} {kept = kept} {taking = taking} q (has_kept (in_first is)) = subst (λ (x : Record). Has x kept (Some b) taking) (sym is) has_held
+returned q (has_kept (in_later i)) = has_kept i
+returned q has_taking = has_taking
+
+let_go : {b : Record} {kept : List Record} {taking : Option Record} (q : Record) → Has q kept None taking → Has q kept (Some b) taking
+let_go q (has_kept i) = has_kept i
+let_go q has_taking = has_taking
+
+opened_by : {b : Record} {kept : List Record} {taking : Option Record} (q : Record) → Has q kept (Some b) taking → Has q (b ∷ kept) None taking
+opened_by q (has_kept i) = has_kept (in_later i)
+opened_by q has_held = has_kept (in_first refl)
+opened_by q has_taking = has_taking
+
+in_back : (q b : Record) (kept : List Record) {mine : Option Record} → In q (kept ++ b ∷ []) → Has q kept mine (Some b)
+in_back q b [] {mine = mine} (in_first is) = subst (λ (x : Record). Has x [] mine (Some b)) (sym is) has_taking
+in_back q b [] (in_later i) = elim i [ ]
+in_back q b (k ∷ kept) (in_first is) = has_kept (in_first is)
+in_back q b (k ∷ kept) (in_later i) = later (in_back q b kept i) where
+  later : {q k b : Record} {kept : List Record} {mine : Option Record} → Has q kept mine (Some b) → Has q (k ∷ kept) mine (Some b)
+  later (has_kept i) = has_kept (in_later i)
+  later has_held = has_held
+  later has_taking = has_taking
+
+settled_by : (b : Record) (kept : List Record) {mine : Option Record} (q : Record) → Has q (kept ++ b ∷ []) mine None → Has q kept mine (Some b)
+settled_by b kept q (has_kept i) = in_back q b kept i
+settled_by b kept q has_held = has_held
+
+dropped_by : {b : Record} {kept : List Record} {mine : Option Record} (q : Record) → Has q kept mine None → Has q kept mine (Some b)
+dropped_by q (has_kept i) = has_kept i
+dropped_by q has_held = has_held
+
+row_brings : (intake : InState) {s : OutState} {input : OutInput} {r : OutRow} (kept : List Record) → IsOutletRow s input r → IsNoOutStart input → (q : Record) → Has q (given_back r.act.back kept) (held r.after) (in_held intake) → Has q kept (held s) (in_held intake)
+row_brings intake kept (out_opens _) plain q h = absurd plain
+row_brings intake kept (refuses _) plain q h = absurd plain
+row_brings intake kept (stop_home _) plain q h = returned q h
+row_brings intake kept back_stuck plain q h = returned q h
+row_brings intake kept back_stopped plain q h = returned q h
+row_brings intake kept back_unlinked plain q h = returned q h
+row_brings intake kept fault_home plain q h = returned q h
+row_brings intake kept closed_home plain q h = returned q h
+row_brings intake kept left_moving plain q h = let_go q h
+row_brings intake kept left_stuck plain q h = let_go q h
+row_brings intake kept left_stopped plain q h = let_go q h
+row_brings intake kept left_unlinked plain q h = let_go q h
+row_brings intake kept taken_moving plain q h = let_go q h
+row_brings intake kept taken_stuck plain q h = let_go q h
+row_brings intake kept taken_stopped plain q h = let_go q h
+row_brings intake kept taken_unlinked plain q h = let_go q h
+row_brings intake kept _ plain q h = h
+
+start_brings : (intake : InState) {s : OutState} {named : ℕ} {r : OutRow} (opening : Bool) (kept : List Record) → IsOutletRow s (out_input.Start named (opening_board opening kept)) r
+    → (q : Record) → Has q (given_back r.act.back (behind_opening opening kept)) (held r.after) (in_held intake) → Has q kept (held s) (in_held intake)
+start_brings intake false kept (refuses _) q h = h
+start_brings intake true [] (refuses _) q h = h
+start_brings intake true (b ∷ bs) (out_opens _) q h = opened_by q h
+
+in_row_brings : (outlet : OutState) {s : InState} {input : InInput} {r : InRow} (kept : List Record) → IsIntakeRow s input r → IsNoStart input → (q : Record) → Has q (settled r.act.keep kept) (held outlet) (in_held r.after) → Has q kept (held outlet) (in_held s)
+in_row_brings outlet kept starts_transport plain q h = absurd plain
+in_row_brings outlet kept (hears_keep {board = b} _ _) plain q h = settled_by b kept q h
+in_row_brings outlet kept (full_heard {board = b}) plain q h = settled_by b kept q h
+in_row_brings outlet kept (stopped_keep {board = b} _ _) plain q h = settled_by b kept q h
+in_row_brings outlet kept (waiting_settles {board = b} _ _) plain q h = settled_by b kept q h
+in_row_brings outlet kept (stands_settles {board = b}) plain q h = settled_by b kept q h
+in_row_brings outlet kept (running_drop _ _ _) plain q h = dropped_by q h
+in_row_brings outlet kept (hears_drop _ _) plain q h = dropped_by q h
+in_row_brings outlet kept taken_heard plain q h = dropped_by q h
+in_row_brings outlet kept (stopped_drop _ _) plain q h = dropped_by q h
+in_row_brings outlet kept (waiting_home _ _) plain q h = dropped_by q h
+in_row_brings outlet kept (waiting_taken _ _) plain q h = dropped_by q h
+in_row_brings outlet kept in_closed_home plain q h = dropped_by q h
+in_row_brings outlet kept closed_stopped_home plain q h = dropped_by q h
+in_row_brings outlet kept closed_stopped_gone plain q h = dropped_by q h
+in_row_brings outlet kept _ plain q h = h
+
+-- ---- by hand
+
+-- a record that was kept, with another quality
+pub record IsMarkBy (id : ℕ) (quality : Quality) (body : Body) (q : Record) : Type 0 where
+  pub was : Record
+  pub there : In was body.kept
+  pub named : was.id ≡ id
+  pub is : q ≡ record was { quality = quality }
+  pub kept : is_kept id body.kept ≡ true
+
+-- a record that a machine keeps now and did not have before is that of a board that was put in or replaced, or one that was
+-- kept and is marked
+abbrev pub IsByHand : Option BridgeLevels → Body → Event → Record → Type 0
+IsByHand bridge body (Insert id barcode) q = q.id ≡ id
+IsByHand bridge body (Replace old new) q = q.id ≡ new
+IsByHand bridge body (Mark id quality) q = IsMarkBy id quality body q
+IsByHand bridge body (Level line on) q =
+    (id : ℕ) × (failed_front bridge line on (tells_level line on body).body ≡ Some id) × IsMarkBy id qualities.Failed (tells_level line on body).body q
+IsByHand bridge body _ q = ⊥
+
+record Meets (bridge : Option BridgeLevels) (event : Event) (body : Body) (d : Done) : Type 0 where
+  each : (q : Record) → HasIn q d.body → HasIn q body ⊎ IsByHand bridge body event q
+  out : (q : Record) → held d.body.outlet ≡ Some q → HasIn q body
+
+held_has : (q : Record) (body : Body) → held body.outlet ≡ Some q → HasIn q body
+held_has q body is = subst (λ (mine : Option Record). Has q body.kept mine (in_held body.intake)) (sym is) has_held
+
+met : {bridge : Option BridgeLevels} (event : Event) {body : Body} {d : Done} → Brings body d → Meets bridge event body d
+met event {body = body} {d = d} b = record { each = λ q h. inl (b.each q h); out = λ q is. b.each q (held_has q d.body is) }
+
+in_last : (q b : Record) (kept : List Record) → In q (kept ++ b ∷ []) → In q kept ⊎ (q ≡ b)
+in_last q b [] (in_first is) = inr is
+in_last q b [] (in_later i) = elim i [ ]
+in_last q b (k ∷ kept) (in_first is) = inl (in_first is)
+in_last q b (k ∷ kept) (in_later i) = elim (in_last q b kept i) [ inl before ↦ inl (in_later before) | inr is ↦ inr is ]
+
+in_without : (q : Record) (id : ℕ) (kept : List Record) → In q (without id kept) → In q kept
+in_without q id [] i = elim i [ ]
+in_without q id (k ∷ kept) i = without_by (k.id == id) i (λ j. in_without q id kept j) where
+  without_by : (test : Bool) → In q (if test then kept else k ∷ without id kept) → (In q (without id kept) → In q kept) → In q (k ∷ kept)
+  without_by true i later = in_later i
+  without_by false (in_first is) later = in_first is
+  without_by false (in_later i) later = in_later (later i)
+
+in_instead : (q other : Record) (id : ℕ) (kept : List Record) → In q (with_instead id other kept) → In q kept ⊎ (q ≡ other)
+in_instead q other id [] i = elim i [ ]
+in_instead q other id (k ∷ kept) i = instead_by (k.id == id) i (λ j. in_instead q other id kept j) where
+  instead_by : (test : Bool) → In q (if test then other ∷ kept else k ∷ with_instead id other kept) → (In q (with_instead id other kept) → In q kept ⊎ (q ≡ other)) → In q (k ∷ kept) ⊎ (q ≡ other)
+  instead_by true (in_first is) later = inr is
+  instead_by true (in_later i) later = inl (in_later i)
+  instead_by false (in_first is) later = inl (in_first is)
+  instead_by false (in_later i) later = elim (later i) [ inl before ↦ inl (in_later before) | inr is ↦ inr is ]
+
+-- a record among them is as it was, or the one that is marked
+record IsMarkIn (id : ℕ) (quality : Quality) (kept : List Record) (q : Record) : Type 0 where
+  was : Record
+  there : In was kept
+  named : was.id ≡ id
+  is : q ≡ record was { quality = quality }
+
+mark_later : {id : ℕ} {quality : Quality} {k q : Record} {kept : List Record} → IsMarkIn id quality kept q → IsMarkIn id quality (k ∷ kept) q
+mark_later m = record { was = m.was; there = in_later m.there; named = m.named; is = m.is }
+
+in_marked : (q : Record) (id : ℕ) (quality : Quality) (kept : List Record) → In q (with_mark id quality kept) → In q kept ⊎ IsMarkIn id quality kept q
+in_marked q id quality [] i = elim i [ ]
+in_marked q id quality (k ∷ kept) i = marked_by (k.id == id) refl i (λ j. in_marked q id quality kept j) where
+  marked_by : (test : Bool) → (k.id == id) ≡ test → In q (if test then record k { quality = quality } ∷ kept else k ∷ with_mark id quality kept) → (In q (with_mark id quality kept) → In q kept ⊎ IsMarkIn id quality kept q) → In q (k ∷ kept) ⊎ IsMarkIn id quality (k ∷ kept) q
+  marked_by true is (in_first same) later = inr (record { was = k; there = in_first refl; named = eqb-true k.id id is; is = same })
+  marked_by true is (in_later i) later = inl (in_later i)
+  marked_by false is (in_first same) later = inl (in_first same)
+  marked_by false is (in_later i) later = elim (later i) [ inl before ↦ inl (in_later before) | inr mark ↦ inr (mark_later mark) ]
+
+kept_by_hand : {P : Type 0} {q : Record} {kept now : List Record} {mine taking : Option Record} → (In q now → In q kept ⊎ P) → Has q now mine taking → Has q kept mine taking ⊎ P
+kept_by_hand each (has_kept i) = elim (each i) [ inl before ↦ inl (has_kept before) | inr is ↦ inr is ]
+kept_by_hand each has_held = inl has_held
+kept_by_hand each has_taking = inl has_taking
+
+replaced : {bridge : Option BridgeLevels} (desk : Desk) (old new : ℕ) (body : Body) (test : Bool) → Meets bridge (Replace old new) body (if_kept test (record body { kept = with_instead old (plain_record new desk.name None) body.kept }) (acts.Replaces old new) body)
+replaced desk old new body true = record {
+  each = λ q h. kept_by_hand (λ i. elim (in_instead q (plain_record new desk.name None) old body.kept i) [ inl before ↦ inl before | inr is ↦ inr (ap (λ (r : Record). r.id) is) ]) h;
+  out = λ q is. held_has q body is;
+}
+replaced desk old new body false = met (Replace old new) (record { each = λ q h. h })
+
+none_or : {A : Type 0} → A ⊎ ⊥ → A
+none_or (inl a) = a
+none_or (inr none) = absurd none
+
+mark_by : {id : ℕ} {quality : Quality} {body : Body} {q : Record} → is_kept id body.kept ≡ true → IsMarkIn id quality body.kept q → IsMarkBy id quality body q
+mark_by kept m = record { was = m.was; there = m.there; named = m.named; is = m.is; kept = kept }
+
+marked : {bridge : Option BridgeLevels} (id : ℕ) (quality : Quality) (body : Body) (test : Bool) → is_kept id body.kept ≡ test → Meets bridge (Mark id quality) body (if_kept test (record body { kept = with_mark id quality body.kept }) (acts.Marks id quality) body)
+marked id quality body true is = record {
+  each = λ q h. kept_by_hand (λ i. elim (in_marked q id quality body.kept i) [ inl before ↦ inl before | inr mark ↦ inr (mark_by is mark) ]) h;
+  out = λ q held_is. held_has q body held_is;
+}
+marked id quality body false is = met (Mark id quality) (record { each = λ q h. h })
+
+-- a level of the segment may mark the front board
+pub level_has : (line : SegmentLine) (on : Bool) (body : Body) (q : Record) → HasIn q (tells_level line on body).body → HasIn q body
+level_has Ready on body q h = h
+level_has Available on body q h = h
+level_has Failed on body q h = h
+
+fails_bring : (bridge : Option BridgeLevels) (line : SegmentLine) (on : Bool) (body : Body) (found : Option ℕ) → failed_front bridge line on (tells_level line on body).body ≡ found
+    → Meets bridge (Level line on) body (done (fails found (tells_level line on body).body).body (acts.Sets (settings.Level line on) ∷ (fails found (tells_level line on body).body).acts))
+fails_bring bridge line on body None is = record {
+  each = λ q h. inl (level_has line on body q h);
+  out = λ q held_is. level_has line on body q (held_has q (tells_level line on body).body held_is);
+}
+fails_bring bridge line on body (Some id) is =
+    let one : Body = (tells_level line on body).body in
+    let k = marked {bridge = bridge} id qualities.Failed one (is_kept id one.kept) refl in
+    record {
+      each = λ q h. elim (k.each q h) [
+        | inl before ↦ inl (level_has line on body q before)
+        | inr hand ↦ inr (id, is, hand)
+      ];
+      out = λ q held_is. level_has line on body q (k.out q held_is);
+    }
+
+levels_bring : (desk : Desk) (line : SegmentLine) (on : Bool) (body : Body) → Meets desk.bridge (Level line on) body (sets_level desk line on body)
+levels_bring desk line on body = fails_bring desk.bridge line on body (failed_front desk.bridge line on (tells_level line on body).body) refl
+
+-- ---- the pieces of a step that bring no record: not those by hand, and no start
+
+abbrev BringsNone : Cause → Type 0
+BringsNone Reading = Unit {0}
+BringsNone (Hearing side word) = Unit {0}
+BringsNone (Announcing starting) = starting ≡ false
+BringsNone (Meeting (Insert id barcode)) = ⊥
+BringsNone (Meeting (Replace old new)) = ⊥
+BringsNone (Meeting (Mark id quality)) = ⊥
+BringsNone (Meeting (Level line on)) = ⊥
+BringsNone (Meeting event) = Unit {0}
+
+plain_in : {desk : Desk} {cause : Cause} {body : Body} {input : InInput}
+    → ToIntake desk cause body input → BringsNone cause → IsNoStart input
+plain_in (in_start now) none = absurd (false≢true (sym none))
+plain_in _ none = tt
+
+by_hand : {desk : Desk} {event : Event} {body : Body} {kept : List Record} {act : Act}
+    → ByHand desk event body kept act → BringsNone (Meeting event)
+    → Brings body (done (with_kept kept body) (act ∷ []))
+by_hand hand_inserts none = absurd none
+by_hand (hand_removes {id = id} {body = body} is) none =
+    record { each = λ q h. none_or (kept_by_hand (λ i. inl (in_without q id body.kept i)) h) }
+by_hand (hand_replaces is) none = absurd none
+by_hand (hand_marks is) none = absurd none
+by_hand (hand_fails front is) none = absurd none
+
+brings : {desk : Desk} {cause : Cause} {body : Body} {d : Done} → Made desk cause body d
+    → BringsNone cause → Brings body d
+brings made_none none = record { each = λ q h. h }
+brings (made_both one two) none =
+    record { each = λ q h. (brings one none).each q ((brings two none).each q h) }
+brings (made_word is on made) none = brings made tt
+brings (made_act tells) none = record { each = λ q h. h }
+brings (made_row {side = side} {row = row} {body = body} to shape made) none =
+    brings_session side row.after body _ (brings made none)
+brings (made_passed {side = side} {row = row} {body = body} shape first on made) none =
+    brings_session side row.after body _ (brings made none)
+brings (made_close talk made) none = record { each = (brings made none).each }
+brings (made_notice {side = side} {body = body} on made) none =
+    let k = brings_session side (at_rest (session_at side body).role) body _ (brings made none) in
+    record { each = k.each }
+brings (made_breach {side = side} {body = body} made) none =
+    let k = brings_session side (at_rest (session_at side body).role) body _ (brings made none) in
+    record { each = k.each }
+brings (made_start {id = id} {body = body} says on shape) none =
+    record { each = start_brings body.intake (would_open body.outlet id) body.kept shape }
+brings (made_outlet {body = body} to shape) none =
+    record { each = row_brings body.intake body.kept shape (no_start to) }
+brings (made_intake {body = body} to shape) none =
+    record { each = in_row_brings body.outlet body.kept shape (plain_in to none) }
+brings (made_by_hand hand) none = by_hand hand none
+brings (made_will {side = Entry} sets) none = record { each = λ q h. h }
+brings (made_will {side = Exit} sets) none = record { each = λ q h. h }
+
+event_brings : (desk : Desk) (event : Event) (body : Body)
+    → Meets desk.bridge event body (event_did desk event body)
+event_brings desk (Insert id barcode) body = record {
+  each = λ q h.
+      kept_by_hand (λ i. elim (in_last q (plain_record id desk.name barcode) body.kept i) [
+        | inl before ↦ inl before
+        | inr is ↦ inr (ap (λ (r : Record). r.id) is)
+      ]) h;
+  out = λ q is. held_has q body is;
+}
+event_brings desk (Replace old new) body = replaced desk old new body (is_kept old body.kept)
+event_brings desk (Mark id quality) body = marked id quality body (is_kept id body.kept) refl
+event_brings desk (Level line on) body = levels_bring desk line on body
+event_brings desk event body = met event (brings (event_made desk event body) tt)
+
+-- ---- the announcements
+
+-- a start leaves the kept records
+start_row_keeps : (desk : Desk) (body : Body) (found : Option InRow) → intake_row body.intake in_input.Start ≡ found → (q : Record) → In q (intake_row_did desk body found).body.kept → In q body.kept
+start_row_keeps desk body None is q i = i
+start_row_keeps desk body (Some r) is q i = started body.kept (in_row_is body.intake in_input.Start r is) i where
+  started : {s : InState} {r : InRow} (kept : List Record) → IsIntakeRow s in_input.Start r → In q (settled r.act.keep kept) → In q kept
+  started kept starts_transport i = i
+
+start_keeps : (desk : Desk) (test : Bool) (body : Body) (q : Record) → In q (start_by desk test body).body.kept → In q body.kept
+start_keeps desk true body q i = start_row_keeps desk body (intake_row body.intake in_input.Start) refl q i
+start_keeps desk false body q i = i
+
+announces_keep : (desk : Desk) (body : Body) (q : Record) → In q (announces desk body).body.kept
+    → HasIn q body
+announces_keep desk body q i =
+    let one = (revoke desk body).body in
+    let two = (unready desk one).body in
+    let three = (offer desk two).body in
+    let four = (ready desk three).body in
+    (brings (revoke_made {starting = false} desk (revokes_now body) body refl) refl).each q
+    ((brings (unready_made {starting = false} desk (unreadies_now desk one) one refl) refl).each q
+    ((brings
+    (offer_made {starting = false} desk (offers_now two) (slice_get two.kept 0) two refl refl)
+    refl).each q
+    ((brings (ready_made {starting = false} desk (readies_now desk three) three refl) refl).each q
+    (has_kept (start_keeps desk (starts_now four) four q i)))))
+
+-- an announcement opens nothing
+abbrev IsAnnounced : OutInput → Type 0
+IsAnnounced out_input.Revoke = Unit {0}
+IsAnnounced (out_input.Offer id) = Unit {0}
+IsAnnounced _ = ⊥
+
+announced_row : {s : OutState} {input : OutInput} {r : OutRow} {q : Record} → IsOutletRow s input r → IsAnnounced input → held r.after ≡ Some q → held s ≡ Some q
+announced_row offers plain is = is
+announced_row revokes plain is = is
+announced_row _ plain is = absurd plain
+
+announced_input : {starting : Bool} {body : Body} {input : OutInput} → ToOutlet (Announcing starting) body input → IsAnnounced input
+announced_input (out_closed talk) = absurd talk
+announced_input (out_revoke now) = tt
+announced_input (out_offer now front) = tt
+
+announced_out : {desk : Desk} {starting : Bool} {body : Body} {d : Done} {q : Record} → Made desk (Announcing starting) body d → held d.body.outlet ≡ Some q → held body.outlet ≡ Some q
+announced_out made_none is = is
+announced_out (made_both one two) is = announced_out one (announced_out two is)
+announced_out (made_act tells) is = is
+announced_out (made_row to shape made) is = elim to [ ]
+announced_out (made_close talk made) is = absurd talk
+announced_out (made_outlet to shape) is = announced_row shape (announced_input to) is
+announced_out (made_intake to shape) is = is
+
+-- ---- the step
+
+pub read_has : (desk : Desk) (unread : List Seen) (body : Body) (q : Record) → HasIn q (all_read desk unread body).body → HasIn q body
+read_has desk unread body q h = (brings (all_read_made desk unread body) tt).each q h
+
+-- what is kept behind a step
+pub step_kept : (desk : Desk) (unread : List Seen) (event : Event) (body : Body) (q : Record) → In q (machine_step desk unread event body).body.kept → HasIn q body ⊎ IsByHand desk.bridge (all_read desk unread body).body event q
+step_kept desk unread event body q i =
+    let one = (all_read desk unread body).body in
+    let two = (event_did desk event one).body in
+    elim ((event_brings desk event one).each q (announces_keep desk two q i)) [ inl before ↦ inl (read_has desk unread body q before) | inr hand ↦ inr hand ]
+
+-- and what is held behind it
+pub step_held : (desk : Desk) (unread : List Seen) (event : Event) (body : Body) (q : Record) → held (machine_step desk unread event body).body.outlet ≡ Some q → HasIn q body
+step_held desk unread event body q is =
+    let one = (all_read desk unread body).body in
+    let two = (event_did desk event one).body in
+    read_has desk unread body q ((event_brings desk event one).out q (announced_out (announces_made desk two) is))

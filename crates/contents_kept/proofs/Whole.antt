@@ -1,0 +1,163 @@
+-- CONTENTS ARE KEPT: over each line of a script each machine has of a board what it had, but for the quality of a mark.
+use Rattle.std.proofs.Common.{List, Option, [], ap, arith, inl, inr, length, refl, subst, suc, sym, take, zero, ℕ, ◌+◌, ◌-◌, ◌∷◌, ◌≡◌, ◌≢◌, ◌≤◌, ◌⊎◌, Bool}
+use Rattle.board_record.specs.declared.record.Record.{Record}
+use Rattle.line_base.specs.declared.states.Side.{Side}
+use Rattle.line_link.specs.Link.{connected_of}
+use Rattle.line_link.specs.declared.link.Connected.{Connected}
+use Rattle.line_script.specs.declared.line.ScriptLine.{ScriptLine}
+use Rattle.line_report.specs.declared.happening.Happening.{Happening}
+use Rattle.node_core.specs.Node.{NodeState}
+use Rattle.node_core.specs.declared.input.Input.{Input}
+use Rattle.node_core.specs.declared.input.Input.TheVariants as inputs
+use Rattle.node_core.specs.declared.lane.Body.{Body}
+use Rattle.line_step.specs.Lines.{Connects, Flows, LineSteps, arrived, connecting, met as met_on}
+use Rattle.line_step.specs.Numbered.{ChangesMachine, Stand, no_node, node_at}
+use Rattle.line_step.specs.Runs.{IsRun, Point}
+use Rattle.line_step.specs.Shown.{standings_told}
+use Rattle.line_step.specs.State.{LineState, no_line, one_more}
+use Rattle.line_step.specs.Steps.{MachineSteps}
+use Rattle.line_step.specs.World.{link_at}
+use Rattle.line_step.proofs.Changing.{more_changes, step_changes}
+use Rattle.line_step.proofs.Numbers.{machine_within, same_or_not}
+use Rattle.line_step.proofs.Requests.{Request, request_of}
+use Rattle.line_step.proofs.Turns.{LineTurns, line_turns}
+use Rattle.line_step.proofs.Turns as turns
+use Rattle.line_step.proofs.Makers.{AreNumbered, IsOld}
+use Rattle.one_standing.specs.Carried.{Trace}
+use Rattle.one_standing.specs.Stands.{Stands}
+use Rattle.one_standing.specs.Told.{IsTold}
+use Rattle.one_standing.proofs.ApartStep.{told_before, told_behind}
+use Rattle.one_standing.proofs.Carrying.{SaysAlone}
+use Rattle.one_standing.proofs.FactsContents.{HasIn, has_kept}
+use Rattle.one_standing.proofs.LedgerLine.{same_nodes}
+use Rattle.one_standing.proofs.LineForms.{ConnectsBear}
+use Rattle.one_standing.proofs.LineRun.{AreStood, Stood, none_stood, run_stood}
+use Rattle.contents_kept.specs.Contents.{AreContentsWhole, ContentsStayWhole, HasRecord, StaysWhole}
+use Rattle.contents_kept.proofs.Hands.{IsOneRecord, Starting, Whole, has_none, held_has, machine_whole, met_whole, starting_of, taking_has, whole_itself}
+use Rattle.contents_kept.proofs.There.{past}
+
+-- each machine of a line
+abbrev AreWhole : List Happening → LineState → LineState → Type 0
+AreWhole told before after =
+    (machine : ℕ) → Whole told machine (node_at before machine).lane.body (node_at after machine).lane.body
+
+-- a machine whose body stays
+stays_whole : {told : List Happening} {machine : ℕ} {was now : Body} → IsOneRecord was → now ≡ was → Whole told machine was now
+stays_whole {told} {machine} {was} one is = subst (λ (b : Body). Whole told machine was b) (sym is) (whole_itself one)
+
+same_whole : (told : List Happening) (before after : LineState) → Starting before → ((machine : ℕ) → (node_at after machine).lane.body ≡ (node_at before machine).lane.body) → AreWhole told before after
+same_whole told before after a nodes = λ machine. stays_whole (a.one machine) (nodes machine)
+
+-- the step of one machine
+step_whole : (number m : ℕ) (input : Input) (before after : LineState) (told : List Happening) → Starting before → MachineSteps number m input before after told → AreWhole told before after
+step_whole number m input before after told a steps = λ machine. by machine (same_or_not machine m) where
+  by : (machine : ℕ) → (machine ≡ m) ⊎ (machine ≢ m) → Whole told machine (node_at before machine).lane.body (node_at after machine).lane.body
+  by machine (inl is) = subst (λ (n : ℕ). Whole told n (node_at before n).lane.body (node_at after n).lane.body) (sym is) (machine_whole number m input before after told a steps)
+  by machine (inr apart) = stays_whole (a.one machine) (ap (λ (x : Stand). x.node.lane.body) ((step_changes number m input before after told steps).machines machine apart))
+
+-- the same machines start so
+starting_same : (s t : LineState) → t.machines ≡ s.machines → Starting s → Starting t
+starting_same s t is a = record {
+  one = λ machine. subst (λ (n : NodeState). IsOneRecord n.lane.body) (sym (same_nodes s t is machine)) (a.one machine);
+  own = subst (λ (ns : List NodeState). AreNumbered 1 ns) (sym is) a.own;
+  olds = λ machine q has. subst (λ (ns : List NodeState). IsOld 1 ns q.id) (sym is) (a.olds machine q (subst (λ (n : NodeState). HasIn q n.lane.body) (same_nodes s t is machine) has));
+}
+
+from_same : (told : List Happening) (s start next : LineState) → start.machines ≡ s.machines → AreWhole told start next → AreWhole told s next
+from_same told s start next is whole = λ machine. subst (λ (n : NodeState). Whole told machine n.lane.body (node_at next machine).lane.body) (same_nodes s start is machine) (whole machine)
+
+-- what is told is told among more
+more_told : {told all : List Happening} {machine : ℕ} {was now : Body} → ((h : Happening) → IsTold h told → IsTold h all) → Whole told machine was now → Whole all machine was now
+more_told each whole = record {
+  kept = λ q p has i same. elim (whole.kept q p has i same) [
+    | inl is ↦ inl is
+    | inr mark ↦ inr (record { quality = mark.quality; marks = each _ mark.marks; is = mark.is })
+  ];
+  out = λ q p has is same. whole.out q p has is same;
+}
+
+-- ---- the forms
+
+connects_whole : (number m : ℕ) (before next : LineState) (told : List Happening) → Starting before → Connects number m before next told → AreWhole told before next
+connects_whole number m before next told a twice =
+    let start : LineState = connecting m before in
+    let on : Connected = connected_of (link_at (m - 1) before.world).upstream in
+    let b : Starting start = starting_same before start refl a in
+    let counted : 1 ≤ m = (machine_within m start twice.first.node twice.first.there).0 in
+    let beside : m - 1 ≢ m = omega (arith, counted) in
+    let early : ChangesMachine m start twice.between = step_changes number m inputs.Connect start twice.between twice.earlier twice.first in
+    let late : ChangesMachine (m - 1) twice.between next = step_changes number (m - 1) (met_on on) twice.between next twice.later twice.second in
+    let one : AreWhole twice.earlier start twice.between = step_whole number m inputs.Connect start twice.between twice.earlier b twice.first in
+    let above : node_at twice.between (m - 1) ≡ node_at start (m - 1) = ap (λ (x : Stand). x.node) (early.machines (m - 1) beside) in
+    let single : IsOneRecord (node_at twice.between (m - 1)).lane.body = subst (λ (n : NodeState). IsOneRecord n.lane.body) (sym above) (b.one (m - 1)) in
+    let two : Whole twice.later (m - 1) (node_at twice.between (m - 1)).lane.body (node_at next (m - 1)).lane.body = met_whole number (m - 1) on twice.between next twice.later single twice.second in
+    from_same told before start next refl (λ machine. elim (same_or_not machine (m - 1)) [
+      | inl is ↦ subst (λ (n : ℕ). Whole told n (node_at start n).lane.body (node_at next n).lane.body) (sym is) (subst (λ (x : NodeState). Whole told (m - 1) x.lane.body (node_at next (m - 1)).lane.body) above (more_told (λ h is_told. later_told h is_told) two))
+      | inr apart ↦ subst (λ (x : NodeState). Whole told machine (node_at start machine).lane.body x.lane.body) (sym (ap (λ (x : Stand). x.node) (late.machines machine apart))) (more_told (λ h is_told. early_told h is_told) (one machine))
+    ]) where
+      early_told : (h : Happening) → IsTold h twice.earlier → IsTold h told
+      early_told h is = subst (λ (all : List Happening). IsTold h all) (sym twice.told_is) (told_before twice.later is)
+
+      later_told : (h : Happening) → IsTold h twice.later → IsTold h told
+      later_told h is = subst (λ (all : List Happening). IsTold h all) (sym twice.told_is) (told_behind twice.earlier is)
+
+flows_whole : (number m : ℕ) (side : Side) (count : Option ℕ) (before next : LineState) (told : List Happening) → Starting before → Flows number m side count before next told → AreWhole told before next
+flows_whole number m side count before next told a flows =
+    let start : LineState = arrived m side count before in
+    from_same told before start next refl (step_whole number m (inputs.Bytes side flows.piece) start next told (starting_same before start refl a) flows.steps)
+
+more_body : (is_bridge : Bool) (capacity used : ℕ) (s : LineState) (machine : ℕ) → machine ≢ length s.machines + 1 → (node_at (one_more is_bridge capacity used s) machine).lane.body ≡ (node_at s machine).lane.body
+more_body is_bridge capacity used s machine apart = ap (λ (x : Stand). x.node.lane.body) ((more_changes is_bridge capacity used s).machines machine apart)
+
+-- one machine more has no record, and beyond the end of the line there was none
+none_whole : {told : List Happening} {machine : ℕ} {was now : Body} → was ≡ no_node.lane.body → Whole told machine was now
+none_whole {told} {machine} {was} {now} is = record {
+  kept = λ q p has i same. has_none q (subst (λ (b : Body). HasIn q b) is has);
+  out = λ q p has held_is same. has_none q (subst (λ (b : Body). HasIn q b) is has);
+}
+
+adds_whole : (told : List Happening) (is_bridge : Bool) (capacity used : ℕ) (before : LineState) → Starting before → AreWhole told before (one_more is_bridge capacity used before)
+adds_whole told is_bridge capacity used before a = λ machine. elim (same_or_not machine (length before.machines + 1)) [
+  | inl is ↦ none_whole (ap (λ (n : NodeState). n.lane.body) (past before machine (omega (arith, is))))
+  | inr apart ↦ stays_whole (a.one machine) (more_body is_bridge capacity used before machine apart)
+]
+
+after_whole : (told : List Happening) (before next after : LineState) → after ≡ next → AreWhole told before next → AreWhole told before after
+after_whole told before next after is whole = subst (λ (s : LineState). AreWhole told before s) (sym is) whole
+
+turns_whole : (number : ℕ) (request : Request) (before next : LineState) (told : List Happening) → Starting before → LineTurns number before next told request → AreWhole told before next
+turns_whole number request before next told a (turns.stays _ same none) = same_whole told before next a (λ machine. ap (λ (n : NodeState). n.lane.body) (same_nodes before next same machine))
+turns_whole number request before next told a (turns.adds is_bridge capacity used may b) = after_whole told before (one_more is_bridge capacity used before) next b.after_is (adds_whole told is_bridge capacity used before a)
+turns_whole number request before next told a (turns.steps m input given may did) = step_whole number m input before next told a did
+turns_whole number request before next told a (turns.connects m may did) = connects_whole number m before next told a did
+turns_whole number request before next told a (turns.flows m side count may did) = flows_whole number m side count before next told a did
+
+-- EACH LINE
+has_in : (s : LineState) (machine : ℕ) (q : Record) → HasRecord s machine q → HasIn q (node_at s machine).lane.body
+has_in s machine q (inl i) = has_kept i
+has_in s machine q (inr (inl out)) = held_has (node_at s machine).lane.body q out
+has_in s machine q (inr (inr into)) = taking_has (node_at s machine).lane.body q into
+
+pub line_whole : (t : Trace) (number : ℕ) (line : ScriptLine) (before after : LineState) (told : List Happening) → Stands t before → LineSteps number line before after told → StaysWhole told before after
+line_whole t number line before after told st steps =
+    let same : after.machines ≡ steps.next.machines = ap (λ (s : LineState). s.machines) steps.after_is in
+    let next : AreWhole steps.done before steps.next = turns_whole number (request_of line) before steps.next steps.done (starting_of st) (line_turns number line before steps.next steps.done steps.does) in
+    let each : (h : Happening) → IsTold h steps.done → IsTold h told = λ h is. subst (λ (all : List Happening). IsTold h all) (sym steps.told_is) (told_before (standings_told before steps.next) is) in
+    let whole : AreWhole told before after = λ machine. subst (λ (n : NodeState). Whole told machine (node_at before machine).lane.body n.lane.body) (sym (same_nodes steps.next after same machine)) (more_told each (next machine)) in
+    record {
+      kept = λ machine was now has i ids. (whole machine).kept was now (has_in before machine was has) i ids;
+      held = λ machine was now has is ids. (whole machine).out was now (has_in before machine was has) is ids;
+    }
+
+-- ---- along a run
+
+whole_run : (s : LineState) (asked : List ScriptLine) (points : List Point) (n : ℕ) → Stood s → IsRun s asked points → AreStood (take n points) → AreContentsWhole s (take n points)
+whole_run s asked points zero was run all = tt
+whole_run s [] [] (suc n) was run all = tt
+whole_run s [] (point ∷ points) (suc n) was run all = elim run [ ]
+whole_run s (line ∷ asked) [] (suc n) was run all = elim run [ ]
+whole_run s (line ∷ asked) (point ∷ points) (suc n) was run all = (line_whole was.trace (s.lines + 1) line s point.after point.told was.stands run.0, whole_run point.after asked points n all.0 run.1 all.1)
+
+-- THE LAW
+pub contents_whole : SaysAlone → ConnectsBear → ContentsStayWhole
+contents_whole alone connects asked points n fit few run honest = whole_run no_line asked points n none_stood run (run_stood alone connects no_line asked points n fit (omega (arith, few)) none_stood run honest)

@@ -1,0 +1,62 @@
+-- CONTENTS ARE KEPT, WITH ALL PARTS: over a line, what a machine has of a board changes in its
+-- quality alone, and by a mark alone, whatever else the line does to the machine.
+use Rattle.std.specs.Prelude.{List, Some, [], false, length, take, ℕ, ◌∷◌, ◌≡◌, ◌≤◌, ◌⊎◌}
+use Rattle.std.specs.List.{AllByRecursion}
+use Rattle.line_base.specs.declared.states.Quality.{Quality}
+use Rattle.board_record.specs.declared.record.Record.{Record}
+use Rattle.handover_out.specs.State.{board_of_phase as held_out}
+use Rattle.handover_in.specs.State.{board_of_phase as held_in}
+use Rattle.line_script.specs.declared.line.ScriptLine.{ScriptLine}
+use Rattle.line_report.specs.declared.happening.Happening.{Happening}
+use Rattle.line_report.specs.declared.happening.Happening.TheVariants as happenings
+use Rattle.node_core.specs.declared.act.Act.TheVariants as acts
+use Rattle.line_step.specs.Lies.{has_lie}
+use Rattle.line_step.specs.Numbered.{node_at}
+use Rattle.line_step.specs.Runs.{IsRun, Point}
+use Rattle.line_step.specs.State.{LineState, no_line}
+use Rattle.one_standing.specs.Contents.{KeepsRecord}
+use Rattle.one_standing.specs.Standing.{IsFitLine}
+use Rattle.one_standing.specs.Told.{IsTold}
+
+-- the outlet of a machine holds this record: it was opened, and has not left or come back
+abbrev pub HoldsRecord : LineState → ℕ → Record → Type 0
+HoldsRecord s machine q = held_out (node_at s machine).lane.body.outlet.phase ≡ Some q
+
+-- the intake of a machine holds it
+abbrev pub TakesRecord : LineState → ℕ → Record → Type 0
+TakesRecord s machine q = held_in (node_at s machine).lane.body.intake.phase ≡ Some q
+
+-- a machine has it in one of these three places
+abbrev pub HasRecord : LineState → ℕ → Record → Type 0
+HasRecord s machine q =
+    KeepsRecord s machine q ⊎ (HoldsRecord s machine q ⊎ TakesRecord s machine q)
+
+-- the machine told that it marked the board, and the record is as it was but for the quality of
+-- that mark
+pub record IsMarkOf (told : List Happening) (machine : ℕ) (was now : Record) : Type 0 where
+  pub quality : Quality
+  pub marks : IsTold (happenings.Done machine (acts.Marks now.id quality)) told
+  pub is : now ≡ record was { quality = quality }
+
+-- what a machine has of a board before a line, and what it has of it behind: a record that it
+-- keeps, also one that came back or settled, is the same, or marked; one that its outlet holds,
+-- also one that was opened in this line, is the same
+pub record StaysWhole (told : List Happening) (before after : LineState) : Type 0 where
+  pub kept : (machine : ℕ) (was now : Record) → HasRecord before machine was
+      → KeepsRecord after machine now → was.id ≡ now.id
+      → (now ≡ was) ⊎ IsMarkOf told machine was now
+  pub held : (machine : ℕ) (was now : Record) → HasRecord before machine was
+      → HoldsRecord after machine now → was.id ≡ now.id → now ≡ was
+
+-- along the points of a run, from a state on
+abbrev pub AreContentsWhole : LineState → List Point → Type 0
+AreContentsWhole s [] = Unit {0}
+AreContentsWhole s (point ∷ points) =
+    StaysWhole point.told s point.after × AreContentsWhole point.after points
+
+-- THE LAW: over each line of every script, up to the first one that told what was not so
+abbrev pub ContentsStayWhole : Type 0
+ContentsStayWhole =
+    (asked : List ScriptLine) (points : List Point) (n : ℕ) → AllByRecursion IsFitLine asked
+    → length asked ≤ 1000000 → IsRun no_line asked points → has_lie (take n points) ≡ false
+    → AreContentsWhole no_line (take n points)

@@ -1,0 +1,32 @@
+//! What a machine has of a board stays as it is, and what a standing names is there.
+
+ghost use Rattle.contents_kept.specs.Contents.{ContentsStayWhole};
+ghost use Rattle.contents_kept.specs.There.{StandingsNameWhatIsThere};
+
+/// Over each line of a script, up to the first one that told of a sensor event that was not: what
+/// a machine has of a board before the line, kept, in its outlet or in its intake, and keeps
+/// behind it, is the same record with all its parts, unless the line tells that this machine
+/// marked that board; then it is that record with the quality of the mark. What its outlet holds
+/// behind the line is the same in any case. So a record that comes back is the one that was
+/// opened, and one that settles the one that the intake held.
+pub fn contents_stay_whole()
+    ensures { ContentsStayWhole }
+{
+    link_messages::laws::the_words_of_a_piece_are_the_oldest_messages();
+    link_messages::laws::a_frame_with_a_nul_is_a_wrong_word();
+    link_messages::laws::fit_messages_are_sayable();
+    link_messages::laws::the_words_of_fit_messages_are_fit();
+    link_messages::laws::the_words_behind_a_nul_are_fit();
+}
+
+/// After each of the same lines, a standing of an id names what is there: a machine of the line,
+/// or a gap with a machine of the line above it and one below.
+pub fn standings_name_what_is_there()
+    ensures { StandingsNameWhatIsThere }
+{
+    link_messages::laws::the_words_of_a_piece_are_the_oldest_messages();
+    link_messages::laws::a_frame_with_a_nul_is_a_wrong_word();
+    link_messages::laws::fit_messages_are_sayable();
+    link_messages::laws::the_words_of_fit_messages_are_fit();
+    link_messages::laws::the_words_behind_a_nul_are_fit();
+}
