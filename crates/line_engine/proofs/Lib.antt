@@ -2,6 +2,7 @@ pub mod Along
 pub mod Answered
 pub mod Backwards
 pub mod Behind
+pub mod Bounded
 pub mod Counted
 pub mod Followed
 pub mod Following

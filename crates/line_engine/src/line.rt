@@ -14,6 +14,7 @@ ghost use Rattle.one_standing.specs.Reached.{FollowsLine, HasUniqueIds, IsReache
 ghost use Rattle.one_standing.specs.Standing.{HasOneStanding, IsFitLine};
 ghost use Rattle.supervisor_replay.specs.Along.{AgreesNext};
 ghost use Rattle.work_orders.specs.Answers.{AnswersOnce};
+ghost use Rattle.line_bounds.specs.Within.{IsBounded};
 ghost use Rattle.line_engine.specs.Blames.{BlamesNext};
 ghost use Rattle.line_engine.specs.Opens.{OpensNext};
 
@@ -83,6 +84,9 @@ impl Line {
         ensures step { IfOk result (LineSteps number line.now self.old self.new) }
         // a run of a script has led to where it is then
         ensures reached { IfOk result (λ _. IsReached self.new) }
+        // what each machine holds, and what is on its way on each link, stays within the limits;
+        // behind a lie too
+        ensures bounded { IfOk result (λ _. IsBounded self.new) }
         // each record stands with one machine or in one handover, while no line told what was not
         // so
         ensures standing { IfOk result (λ _. self.new.unvouched ≡ None → HasOneStanding self.new) }
@@ -113,6 +117,7 @@ impl Line {
         }
         self.spent = true;
         self.state.unspent();
+        line_bounds::laws::a_line_stays_within_its_bounds();
         first_in_first_out::laws::each_line_keeps_the_order();
         is_fit(line);
         one_standing::laws::what_a_run_leads_to();

@@ -1,7 +1,7 @@
 //! A case: a name, the log that there is to read, and what is then written.
 
 use crate::calls::{tell_call, tell_call_in_pieces};
-use case_text::spell;
+use case_text::{spell, times_of};
 use line_base::Memory;
 use std::alloc::Global;
 
@@ -72,14 +72,6 @@ fn spell_line(line: &str, log: &mut Vec<u8>) -> Result<(), Memory> {
         }
     }
     Ok(())
-}
-
-/// How often a line stands, and the line.
-fn times_of(line: &str) -> (u64, &str) {
-    match line.strip_prefix('*').and_then(|rest| rest.split_once(' ')) {
-        Some((times, line)) => (times.parse().unwrap_or(0), line),
-        None => (1, line),
-    }
 }
 
 fn append(parts: &[&[u8]], to: &mut Vec<u8>) -> Result<(), Memory> {

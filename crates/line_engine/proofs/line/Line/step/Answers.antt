@@ -9,6 +9,7 @@ use Rattle.line_engine.specs.Indexed.{IsIndexOf}
 use Rattle.line_engine.specs.Kept.{IsKept}
 use Rattle.line_engine.specs.Stepped.{changed_told}
 use Rattle.line_engine.proofs.Behind.{step_blames, step_contents}
+use Rattle.line_engine.proofs.Bounded.{bounded_behind}
 use Rattle.line_engine.proofs.Followed.{follows_as}
 use Rattle.line_engine.proofs.Counted.{line_steps, steps_as}
 use Rattle.line_engine.proofs.Keeping.{Step, step_follows, step_keeps, step_opens, step_seen}
@@ -51,6 +52,11 @@ returns-clause-step c = rw (← c.self.view_is) (steps_as c.args.number c.args.l
 
 pub returns-clause-reached : goal.returns-clause-reached
 returns-clause-reached c = (step_seen (step_of (goal.at.returns-clause-reached c).After-unspent-2)).reached
+
+pub returns-clause-bounded : goal.returns-clause-bounded
+returns-clause-bounded c =
+    let kept = step_seen (step_of (goal.at.returns-clause-bounded c).After-unspent-2) in
+    bounded_behind c.a_line_stays_within_its_bounds.ensures.machines c.a_line_stays_within_its_bounds.ensures.links _ kept.reached
 
 pub returns-clause-standing : goal.returns-clause-standing
 returns-clause-standing c = (step_seen (step_of (goal.at.returns-clause-standing c).After-unspent-2)).standing
