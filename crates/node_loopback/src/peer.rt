@@ -13,6 +13,9 @@ const ASKS: u32 = 20_000;
 /// How long the pause is, in milliseconds.
 const PAUSE: u64 = 1;
 
+/// How long a wait is, in milliseconds.
+const WAIT: u64 = 2000;
+
 /// The other ends of a machine's connections, on this computer.
 #[derive(Drop)]
 pub struct Peer<R: Net + Clock + Drop> {
@@ -30,6 +33,12 @@ impl<R: Net + Clock + Drop> Peer<R> {
 
     fn pause(&self) {
         thread::sleep(&self.host, Duration::from_millis(PAUSE));
+    }
+
+    /// Waits, so that the machine takes what was done before more is done: what its panel says
+    /// comes before what it finds of a neighbour.
+    pub fn wait(&self) {
+        thread::sleep(&self.host, Duration::from_millis(WAIT));
     }
 
     /// Connects to a port of this computer, once somebody listens there.

@@ -118,6 +118,7 @@ fn byte_by_byte(
     peer.take_until(Way::Downstream, END_OF_MESSAGE, &mut text)?;
     tell_taken("downstream took: ", text.as_slice(), to)?;
     peer.close(Way::Downstream);
+    peer.wait();
     Ok(())
 }
 
