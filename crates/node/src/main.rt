@@ -1,15 +1,13 @@
 //! The program `node`. It makes the words, the file, the ports, the clock and the log of the
-//! host's, and hands them to `node_main`.
+//! host's, and hands them to `node_main`; and standard error to `tell_end`.
 #![tactic(auto)]
 
-mod end;
 mod file;
 
-use crate::end::tell_end;
 use crate::file::SettingsFile;
 use line_base::{Memory, Word, Words};
 use line_outside::{HostClock, SocketPorts, WriterSink};
-use node_cli::{NodeStatus, node_main};
+use node_cli::{NodeStatus, node_main, tell_end};
 use std::alloc::AllocError;
 use std::net::Net;
 use std::process::ExitCode;
@@ -21,7 +19,7 @@ fn main(rt: HostRuntime) -> ExitCode {
         Ok(status) => status,
         Err(Memory) => NodeStatus::Memory,
     };
-    let _told = tell_end(&mut rt.stderr(), status);
+    let _told = tell_end(rt.alloc(), status, &mut WriterSink::new(rt.stderr()));
     ExitCode::from(status.exit_number())
 }
 

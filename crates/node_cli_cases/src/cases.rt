@@ -1,5 +1,6 @@
 use crate::answers::answer_of;
-use crate::calls::{tell_address, tell_calls, written};
+use crate::calls::{tell_calls, written};
+use crate::ends::{tell_named, tell_status};
 use case_text::spell;
 use line_base::{Memory, Moment, Word, Words};
 use line_outside::{FixedClock, MemoryPorts, MemorySink, MemorySource, PortAnswer};
@@ -15,22 +16,40 @@ const TOLD_BYTES: usize = 4_000_000;
 /// How many bytes of the log are kept.
 const LOG_BYTES: usize = 4_000_000;
 
-/// Tells a case: its first line, the calls of the ports, the log, and how the run ends.
+/// Tells a case: its first line, the calls of the ports, the log, how the run ends, and what is
+/// said of that. A first line `an end: NAME` is a case of the end of that name alone.
 pub fn tell_case(alloc: Global, case: &str, to: &mut Vec<u8>) -> Result<(), Memory> {
     let (head, body) = case.split_once('\n').unwrap_or((case, ""));
     written(write!(to, "=== {head}\n"))?;
     let (words, faults) = head.split_once(", ").unwrap_or((head, ""));
+    match words.strip_prefix("an end: ") {
+        Some(name) => tell_named(alloc, name, pushes_of(faults), to),
+        None => tell_run(alloc, words, faults, body, to),
+    }
+}
+
+/// A run that ends for want of memory ends the program so, too, and nothing of the case is told.
+fn tell_run(
+    alloc: Global,
+    words: &str,
+    faults: &str,
+    body: &str,
+    to: &mut Vec<u8>,
+) -> Result<(), Memory> {
     let words = words_of(alloc, words)?;
     let settings = settings_of(alloc, body)?;
     let answers = answers_of(alloc, body)?;
     let mut file = source_of(alloc, settings.as_slice(), faults)?;
     let mut ports = ports_of(alloc, answers.as_slice(), faults)?;
-    let mut log = sink_of(alloc, faults)?;
+    let mut log = MemorySink::new(alloc, LOG_BYTES, pushes_of(faults))?;
     let mut clock = FixedClock::new(Moment::of_millis(0));
     let status = node_main(alloc, &words, &mut file, &mut ports, &mut clock, &mut log);
+    if status == NodeStatus::Memory {
+        return Err(Memory);
+    }
     tell_ports(&ports, to)?;
     tell_log(&log, to)?;
-    tell_status(status, to)
+    tell_status(alloc, status, &[], to)
 }
 
 fn words_of(alloc: Global, text: &str) -> Result<Words, Memory> {
@@ -77,11 +96,12 @@ fn source_of(alloc: Global, bytes: &[u8], faults: &str) -> Result<MemorySource, 
     MemorySource::new(alloc, bytes, &[])
 }
 
-fn sink_of(alloc: Global, faults: &str) -> Result<MemorySink, Memory> {
-    if faults == "the first push fails" {
-        return MemorySink::new(alloc, LOG_BYTES, &[1]);
+/// Which pushes into a sink fail.
+fn pushes_of(faults: &str) -> &'static [u64] {
+    match faults {
+        "the first push fails" => &[1],
+        _ => &[],
     }
-    MemorySink::new(alloc, LOG_BYTES, &[])
 }
 
 fn ports_of(alloc: Global, answers: &[PortAnswer], faults: &str) -> Result<MemoryPorts, Memory> {
@@ -103,18 +123,4 @@ fn tell_ports(ports: &MemoryPorts, to: &mut Vec<u8>) -> Result<(), Memory> {
 
 fn tell_log(log: &MemorySink, to: &mut Vec<u8>) -> Result<(), Memory> {
     append(log.contents().unwrap_or(b"untold"), to)
-}
-
-fn tell_status(status: NodeStatus, to: &mut Vec<u8>) -> Result<(), Memory> {
-    match status {
-        NodeStatus::ConfigRefused(key, why) => {
-            written(write!(to, "--- ConfigRefused, {key}: {why}\n"))
-        }
-        NodeStatus::ListenFault(address) => {
-            written(write!(to, "--- ListenFault, "))?;
-            tell_address(address, to)?;
-            written(write!(to, "\n"))
-        }
-        status => written(write!(to, "--- {status:?}\n")),
-    }
 }

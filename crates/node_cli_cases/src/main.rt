@@ -1,10 +1,11 @@
-//! Whole runs of the program `node` as cases: what it calls of its ports, what it logs, and how it
-//! ends.
+//! Whole runs of the program `node` as cases: what it calls of its ports, what it logs, how it
+//! ends, and what is said of that.
 #![tactic(auto)]
 
 mod answers;
 mod calls;
 mod cases;
+mod ends;
 
 use crate::cases::tell_case;
 use std::io;

@@ -1,0 +1,69 @@
+//! What is said of the end of a run.
+
+use crate::calls::{tell_address, written};
+use line_base::Memory;
+use line_outside::{Address, MemorySink};
+use node_cli::{ConfigKey, ConfigWhy, NodeStatus, tell_end};
+use std::alloc::Global;
+use std::io::Write;
+
+/// How many bytes of what is said are kept.
+const SAID_BYTES: usize = 4096;
+
+/// Tells the end of this name, and what is said of it into a sink of which these pushes fail.
+pub fn tell_named(
+    alloc: Global,
+    name: &str,
+    faults: &[u64],
+    to: &mut Vec<u8>,
+) -> Result<(), Memory> {
+    tell_status(alloc, status_of(name), faults, to)
+}
+
+/// An end by its name. Those that name a part name the lane and an address.
+fn status_of(name: &str) -> NodeStatus {
+    match name {
+        "Usage" => NodeStatus::Usage,
+        "ConfigRefused" => NodeStatus::ConfigRefused(ConfigKey::Lane, ConfigWhy::OutOfRange),
+        "ReadFault" => NodeStatus::ReadFault,
+        "LogFault" => NodeStatus::LogFault,
+        "Memory" => NodeStatus::Memory,
+        "ListenFault" => NodeStatus::ListenFault(Address {
+            host: [10, 0, 0, 7],
+            port: 50_100,
+        }),
+        "TurnsUsed" => NodeStatus::TurnsUsed,
+        _ => NodeStatus::Done,
+    }
+}
+
+/// Tells how a run ends, and what is said of it.
+pub fn tell_status(
+    alloc: Global,
+    status: NodeStatus,
+    faults: &[u64],
+    to: &mut Vec<u8>,
+) -> Result<(), Memory> {
+    name_status(status, to)?;
+    let mut said = MemorySink::new(alloc, SAID_BYTES, faults)?;
+    let answer = tell_end(alloc, status, &mut said);
+    written(to.extend_from_slice(said.contents().unwrap_or(b"untold")))?;
+    match answer {
+        Ok(()) => Ok(()),
+        Err(error) => written(write!(to, "! {error}\n")),
+    }
+}
+
+fn name_status(status: NodeStatus, to: &mut Vec<u8>) -> Result<(), Memory> {
+    match status {
+        NodeStatus::ConfigRefused(key, why) => {
+            written(write!(to, "--- ConfigRefused, {key}: {why}\n"))
+        }
+        NodeStatus::ListenFault(address) => {
+            written(write!(to, "--- ListenFault, "))?;
+            tell_address(address, to)?;
+            written(write!(to, "\n"))
+        }
+        status => written(write!(to, "--- {status:?}\n")),
+    }
+}
