@@ -1,8 +1,10 @@
 -- Over the step of a machine: what it has of a board behind it is what it had before, or the same with another quality, where
 -- the step tells the mark.
-use Rattle.std.proofs.Common.{Err, List, Ok, Option, Result, Some, [], ap, arith, false, inl, inr, refl, subst, suc, sym, true, zero, ℕ, ◌+◌, ◌-◌, ◌∙◌, ◌∷◌, ◌≡◌, ◌⊎◌}
+use Rattle.std.proofs.Common.{Bool, Err, List, Ok, Option, Result, Some, [], ap, arith, false, inl, inr, refl, subst, suc, sym, true, zero, ℕ, ◌+◌, ◌-◌, ◌∙◌, ◌∷◌, ◌≡◌, ◌⊎◌}
+use Rattle.std.specs.Prelude.{slice_get}
 use Rattle.std.proofs.lemmas.Option.{none-some}
 use Rattle.line_base.specs.declared.states.Quality.{Quality}
+use Rattle.line_base.specs.declared.states.Quality.TheVariants as qualities
 use Rattle.board_record.specs.Maker.{Maker, after_next, next_id}
 use Rattle.board_record.specs.declared.maker.IdsUsedUp.{IdsUsedUp}
 use Rattle.board_record.specs.declared.record.Record.{Record}
@@ -15,7 +17,10 @@ use Rattle.line_link.specs.declared.link.Connected.{Connected}
 use Rattle.line_link.specs.declared.link.Connected.TheVariants as connections
 use Rattle.line_report.specs.declared.happening.Happening.{Happening}
 use Rattle.line_report.specs.declared.happening.Happening.TheVariants as happenings
-use Rattle.node_core.specs.Event.{Event, Insert, Replace, event_of, maker_after, with_new}
+use Rattle.node_core.specs.Event.{Level, Event, Insert, Replace, event_of, maker_after, with_new}
+use Rattle.smema_bridge.specs.declared.line.SegmentLine.{SegmentLine}
+use Rattle.node_core.specs.Bridge.{tells_level}
+use Rattle.node_core.specs.Reads.{all_read}
 use Rattle.node_core.specs.Node.{NodeState, desk_of}
 use Rattle.node_core.specs.Own.{ids_of, own_of}
 use Rattle.node_core.specs.Step.{machine_step}
@@ -44,8 +49,8 @@ use Rattle.one_standing.proofs.MarksOf.{has_intake as has_intake_mark, has_kept 
 use Rattle.one_standing.proofs.MarksPlace.{kept_unheld}
 use Rattle.one_standing.proofs.OneStand.{has_end, same_link}
 use Rattle.one_standing.proofs.RestLine.{node_there}
-use Rattle.contents_kept.specs.Contents.{IsMarkOf}
-use Rattle.contents_kept.proofs.Pieces.{IsByHand, IsMarkBy, level_has, read_has, step_held, step_kept}
+use Rattle.contents_kept.specs.Contents.{IsFailedFront, IsMarkOf}
+use Rattle.contents_kept.proofs.Pieces.{IsByHand, IsMarkBy, MarksFront, level_has, read_has, step_front, step_held, step_kept}
 
 -- ---- a machine has one record of an id
 
@@ -233,3 +238,32 @@ machine_whole number m input before after told a steps =
 pub met_whole : (number m : ℕ) (on : Connected) (before after : LineState) (told : List Happening) → IsOneRecord (node_at before m).lane.body → MachineSteps number m (met_on on) before after told → Whole told m (node_at before m).lane.body (node_at after m).lane.body
 met_whole number m connections.Accepted before after told one steps = machine_by number m inputs.Accepted before after told one steps (λ q p there has same hand. absurd hand)
 met_whole number m connections.Second before after told one steps = machine_by number m inputs.Second before after told one steps (λ q p there has same hand. absurd hand)
+
+-- the step in which a level is set
+pub front_whole : (number m : ℕ) (line : SegmentLine) (on : Bool) (before after : LineState) (told : List Happening) → IsOneRecord (node_at before m).lane.body → MachineSteps number m (inputs.Level line on) before after told
+    → (q p : Record) → HasIn q (node_at before m).lane.body → In p (node_at after m).lane.body.kept → q.id ≡ p.id → (p ≡ q) ⊎ IsFailedFront after m q p
+front_whole number m line on before after told single steps q p there i same =
+    let node_is : node_at before m ≡ steps.node = node_there m before steps.node steps.there in
+    let next_is : node_at after m ≡ steps.next = node_there m after steps.next (ap (machine_in m) steps.after_is ∙ machine_set_own m before steps.node steps.next steps.there) in
+    let desk = desk_of steps.node (moment_of number) in
+    let unread = unread_by m before.world in
+    let was : Body = steps.node.lane.body in
+    let now : Body = (machine_step desk unread (Level line on) was).body in
+    let body_is : (node_at after m).lane.body ≡ now = ap (λ (n : NodeState). n.lane.body) next_is ∙ steps.steps.lane.body in
+    let one : IsOneRecord was = subst (λ (n : NodeState). IsOneRecord n.lane.body) node_is single in
+    let has : HasIn q was = subst (λ (n : NodeState). HasIn q n.lane.body) node_is there in
+    let found = step_kept desk unread (Level line on) was p (subst (λ (b : Body). In p b.kept) body_is i) in
+    elim found [
+      | inl then ↦ inl (one q p has then same)
+      | inr hand ↦
+          let k : IsMarkBy hand.0 qualities.Failed (tells_level line on (all_read desk unread was).body).body p = hand.2 in
+          let f : MarksFront (all_read desk unread was).body hand.0 now.kept = step_front desk unread line on was hand.0 hand.1 k.kept in
+          let own : p.id ≡ k.was.id = ap (λ (r : Record). r.id) k.is in
+          let marked : k.was ≡ q = one q k.was has (read_has desk unread was k.was (level_has line on (all_read desk unread was).body k.was (has_kept k.there))) (same ∙ own) in
+          let front : f.front ≡ q = one q f.front has (read_has desk unread was f.front (has_kept f.there)) (same ∙ own ∙ k.named ∙ sym f.named) in
+          let is : p ≡ record q { quality = qualities.Failed } = k.is ∙ ap (λ (r : Record). record r { quality = qualities.Failed }) marked in
+          inr (record {
+            first = ap (λ (b : Body). slice_get b.kept 0) body_is ∙ f.first ∙ ap (λ (r : Record). Some (record r { quality = qualities.Failed })) front ∙ ap (λ (r : Record). Some r) (sym is);
+            is = is;
+          })
+    ]

@@ -1,6 +1,6 @@
 -- Which records a machine has behind a step, and where they come from: they are those that it had before, as they are, but one
 -- that was put in or replaced, and one that was marked, which is the one before but for its quality.
-use Rattle.std.proofs.Common.{inl, inr, ◌⊎◌, if◌then◌else◌, subst, ◌≡◌, ◌++◌, ◌==◌, ℕ, Bool, true, false, List, [], ◌∷◌, Option, Some, None, refl, sym, ap, eqb-true}
+use Rattle.std.proofs.Common.{inl, inr, ◌⊎◌, if◌then◌else◌, subst, ◌≡◌, ◌++◌, ◌==◌, ℕ, Bool, true, false, List, [], ◌∷◌, Option, Some, None, refl, sym, ap, eqb-true, eq-eqb, ◌∙◌, ◌&&◌, not}
 use Rattle.std.specs.Prelude.{slice_get}
 use Rattle.std.proofs.lemmas.Bool.{false≢true}
 use Rattle.line_base.specs.declared.states.Side.{Side}
@@ -41,6 +41,8 @@ use Rattle.handover_in.specs.State.{InState, held as in_held}
 use Rattle.handover_in.specs.Row.{InRow, intake_row}
 use Rattle.handover_in.specs.Table.{
   IsIntakeRow,
+  gets_ready,
+  gets_unready,
   starts_transport,
   running_drop,
   hears_keep,
@@ -66,6 +68,7 @@ use Rattle.node_core.specs.declared.lane.Body.{Body}
 use Rattle.node_core.specs.Done.{Done, done}
 use Rattle.node_core.specs.Sides.{session_at, with_session}
 use Rattle.node_core.specs.Halves.{
+  front_id,
   given_back,
   settled,
   intake_row_did,
@@ -75,6 +78,7 @@ use Rattle.node_core.specs.Halves.{
 use Rattle.node_core.specs.Reads.{all_read}
 use Rattle.node_core.specs.Boards.{without, with_instead, with_kept, with_mark, is_kept, if_kept}
 use Rattle.node_core.specs.Announces.{
+  is_front,
   revokes_now,
   revoke,
   unreadies_now,
@@ -97,6 +101,7 @@ use Rattle.smema_bridge.specs.Levels.{BridgeLevels}
 use Rattle.smema_bridge.specs.declared.line.SegmentLine.{SegmentLine}
 use Rattle.smema_bridge.specs.declared.line.SegmentLine.TheVariants.{Available, Failed, Ready}
 use Rattle.line_base.specs.declared.states.Quality.TheVariants as qualities
+use Rattle.smema_bridge.specs.Segment.{becomes_available}
 use Rattle.step_rules.specs.Causes.{
   Announcing,
   ByHand,
@@ -111,7 +116,11 @@ use Rattle.step_rules.specs.Causes.{
   hand_marks,
   hand_removes,
   hand_replaces,
+  in_closed,
+  in_ready,
+  in_stand,
   in_start,
+  in_unready,
   out_closed,
   out_offer,
   out_revoke,
@@ -476,6 +485,94 @@ announced_out (made_close talk made) is = absurd talk
 announced_out (made_outlet to shape) is = announced_row shape (announced_input to) is
 announced_out (made_intake to shape) is = is
 
+-- and it leaves the kept records as they are
+abbrev IsSaid : InInput → Type 0
+IsSaid in_input.Ready = Unit {0}
+IsSaid in_input.Unready = Unit {0}
+IsSaid in_input.Start = Unit {0}
+IsSaid _ = ⊥
+
+said_row : {s : InState} {input : InInput} {r : InRow} (kept : List Record) → IsIntakeRow s input r → IsSaid input → settled r.act.keep kept ≡ kept
+said_row kept gets_ready plain = refl
+said_row kept gets_unready plain = refl
+said_row kept starts_transport plain = refl
+said_row kept _ plain = absurd plain
+
+said_input : {desk : Desk} {starting : Bool} {body : Body} {input : InInput} → ToIntake desk (Announcing starting) body input → IsSaid input
+said_input (in_closed talk) = absurd talk
+said_input (in_stand talk) = absurd talk
+said_input (in_unready now) = tt
+said_input (in_ready now) = tt
+said_input (in_start now) = tt
+
+back_row : {s : OutState} {input : OutInput} {r : OutRow} (kept : List Record) → IsOutletRow s input r → IsAnnounced input → given_back r.act.back kept ≡ kept
+back_row kept offers plain = refl
+back_row kept revokes plain = refl
+back_row kept _ plain = absurd plain
+
+announced_kept : {desk : Desk} {starting : Bool} {body : Body} {d : Done} → Made desk (Announcing starting) body d → d.body.kept ≡ body.kept
+announced_kept made_none = refl
+announced_kept (made_both one two) = announced_kept two ∙ announced_kept one
+announced_kept (made_act tells) = refl
+announced_kept (made_row to shape made) = elim to [ ]
+announced_kept (made_close talk made) = absurd talk
+announced_kept (made_outlet {body = body} to shape) = back_row body.kept shape (announced_input to)
+announced_kept (made_intake {body = body} to shape) = said_row body.kept shape (said_input to)
+
+-- ---- a level that marks
+
+-- the front record, of this id
+record IsFrontOf (id : ℕ) (kept : List Record) : Type 0 where
+  front : Record
+  others : List Record
+  is : kept ≡ front ∷ others
+  named : front.id ≡ id
+
+front_by : (id : ℕ) (kept : List Record) → front_id kept ≡ Some id → IsFrontOf id kept
+front_by id [] is = absurd (let h : ◌≡◌ {A = Option ℕ} None (Some id) = is in cc)
+front_by id (board ∷ boards) is = record { front = board; others = boards; is = refl; named = cc }
+
+found_by : (test : Bool) (front : Option ℕ) (id : ℕ) → (if test then front else None) ≡ Some id → front ≡ Some id
+found_by true front id is = is
+found_by false front id is = absurd (let h : ◌≡◌ {A = Option ℕ} None (Some id) = is in cc)
+
+failed_is_front : (bridge : Option BridgeLevels) (line : SegmentLine) (on : Bool) (body : Body) (id : ℕ) → failed_front bridge line on body ≡ Some id → front_id body.kept ≡ Some id
+failed_is_front None line on body id is = absurd (let h : ◌≡◌ {A = Option ℕ} None (Some id) = is in cc)
+failed_is_front (Some levels) line on body id is =
+    found_by (becomes_available line on levels.segment && levels.segment.failed && not (is_front body.outlet.touched (slice_get body.kept 0))) (front_id body.kept) id is
+
+front_marked : (id : ℕ) (kept : List Record) → (f : IsFrontOf id kept) → slice_get (with_mark id qualities.Failed kept) 0 ≡ Some (record f.front { quality = qualities.Failed })
+front_marked id kept f = ap (λ (rs : List Record). slice_get (with_mark id qualities.Failed rs) 0) f.is ∙ first (f.front.id == id) (eq-eqb f.front.id id f.named) where
+  first : (test : Bool) → test ≡ true → slice_get (if test then record f.front { quality = qualities.Failed } ∷ f.others else f.front ∷ with_mark id qualities.Failed f.others) 0 ≡ Some (record f.front { quality = qualities.Failed })
+  first true is = refl
+  first false is = absurd (false≢true is)
+
+kept_level : (line : SegmentLine) (on : Bool) (body : Body) → (tells_level line on body).body.kept ≡ body.kept
+kept_level Ready on body = refl
+kept_level Available on body = refl
+kept_level Failed on body = refl
+
+-- what a level marks was the front record, and is it behind the level
+pub record MarksFront (body : Body) (id : ℕ) (now : List Record) : Type 0 where
+  pub front : Record
+  pub there : In front body.kept
+  pub named : front.id ≡ id
+  pub first : slice_get now 0 ≡ Some (record front { quality = qualities.Failed })
+
+level_marks : (desk : Desk) (line : SegmentLine) (on : Bool) (body : Body) (id : ℕ) → failed_front desk.bridge line on (tells_level line on body).body ≡ Some id → is_kept id (tells_level line on body).body.kept ≡ true → MarksFront body id (sets_level desk line on body).body.kept
+level_marks desk line on body id is kept =
+    let one : Body = (tells_level line on body).body in
+    let f : IsFrontOf id one.kept = front_by id one.kept (failed_is_front desk.bridge line on one id is) in
+    let here : body.kept ≡ f.front ∷ f.others = sym (kept_level line on body) ∙ f.is in
+    let g : Option ℕ → List Record = λ found. (fails found one).body.kept in
+    let h : Bool → List Record = λ test. (if_kept test (with_kept (with_mark id qualities.Failed one.kept) one) (acts.Marks id qualities.Failed) one).body.kept in
+    record {
+      front = f.front;
+      there = subst (λ (rs : List Record). In f.front rs) (sym here) (in_first refl);
+      named = f.named;
+      first = ap (λ (rs : List Record). slice_get rs 0) (ap g is ∙ ap h kept) ∙ front_marked id one.kept f;
+    }
+
 -- ---- the step
 
 pub read_has : (desk : Desk) (unread : List Seen) (body : Body) (q : Record) → HasIn q (all_read desk unread body).body → HasIn q body
@@ -494,3 +591,12 @@ step_held desk unread event body q is =
     let one = (all_read desk unread body).body in
     let two = (event_did desk event one).body in
     read_has desk unread body q ((event_brings desk event one).out q (announced_out (announces_made desk two) is))
+
+-- where a level marks, the front record behind the step is the marked one
+pub step_front : (desk : Desk) (unread : List Seen) (line : SegmentLine) (on : Bool) (body : Body) (id : ℕ) → failed_front desk.bridge line on (tells_level line on (all_read desk unread body).body).body ≡ Some id
+    → is_kept id (tells_level line on (all_read desk unread body).body).body.kept ≡ true → MarksFront (all_read desk unread body).body id (machine_step desk unread (Level line on) body).body.kept
+step_front desk unread line on body id is kept =
+    let one = (all_read desk unread body).body in
+    let two = (event_did desk (Level line on) one).body in
+    let m : MarksFront one id two.kept = level_marks desk line on one id is kept in
+    record { front = m.front; there = m.there; named = m.named; first = ap (λ (rs : List Record). slice_get rs 0) (announced_kept (announces_made desk two)) ∙ m.first }

@@ -1,5 +1,5 @@
 -- CONTENTS ARE KEPT: over each line of a script each machine has of a board what it had, but for the quality of a mark.
-use Rattle.std.proofs.Common.{List, Option, [], ap, arith, inl, inr, length, refl, subst, suc, sym, take, zero, ℕ, ◌+◌, ◌-◌, ◌∷◌, ◌≡◌, ◌≢◌, ◌≤◌, ◌⊎◌, Bool}
+use Rattle.std.proofs.Common.{List, Option, [], ap, arith, inl, inr, length, refl, subst, suc, sym, take, zero, ℕ, ◌+◌, ◌-◌, ◌∙◌, ◌∷◌, ◌≡◌, ◌≢◌, ◌≤◌, ◌⊎◌, Bool}
 use Rattle.board_record.specs.declared.record.Record.{Record}
 use Rattle.line_base.specs.declared.states.Side.{Side}
 use Rattle.line_link.specs.Link.{connected_of}
@@ -22,8 +22,13 @@ use Rattle.line_step.proofs.Numbers.{machine_within, same_or_not}
 use Rattle.line_step.proofs.Requests.{Request, request_of}
 use Rattle.line_step.proofs.Turns.{LineTurns, line_turns}
 use Rattle.line_step.proofs.Turns as turns
+use Rattle.line_step.proofs.Requests as requests
+use Rattle.line_script.specs.declared.line.ScriptLine.TheVariants as lines
+use Rattle.smema_bridge.specs.declared.line.SegmentLine.{SegmentLine}
+use Rattle.std.specs.Prelude.{slice_get}
 use Rattle.line_step.proofs.Makers.{AreNumbered, IsOld}
 use Rattle.one_standing.specs.Carried.{Trace}
+use Rattle.one_standing.specs.Contents.{In}
 use Rattle.one_standing.specs.Stands.{Stands}
 use Rattle.one_standing.specs.Told.{IsTold}
 use Rattle.one_standing.proofs.ApartStep.{told_before, told_behind}
@@ -32,8 +37,8 @@ use Rattle.one_standing.proofs.FactsContents.{HasIn, has_kept}
 use Rattle.one_standing.proofs.LedgerLine.{same_nodes}
 use Rattle.one_standing.proofs.LineForms.{ConnectsBear}
 use Rattle.one_standing.proofs.LineRun.{AreStood, Stood, none_stood, run_stood}
-use Rattle.contents_kept.specs.Contents.{AreContentsWhole, ContentsStayWhole, HasRecord, StaysWhole}
-use Rattle.contents_kept.proofs.Hands.{IsOneRecord, Starting, Whole, has_none, held_has, machine_whole, met_whole, starting_of, taking_has, whole_itself}
+use Rattle.contents_kept.specs.Contents.{AreContentsWhole, ChangesFrontAlone, ContentsStayWhole, HasRecord, IsFailedFront, StaysWhole}
+use Rattle.contents_kept.proofs.Hands.{IsOneRecord, front_whole, Starting, Whole, has_none, held_has, machine_whole, met_whole, starting_of, taking_has, whole_itself}
 use Rattle.contents_kept.proofs.There.{past}
 
 -- each machine of a line
@@ -149,14 +154,37 @@ line_whole t number line before after told st steps =
       held = λ machine was now has is ids. (whole machine).out was now (has_in before machine was has) is ids;
     }
 
+-- a line that sets a level
+level_front : (number m : ℕ) (level : SegmentLine) (on : Bool) (before next : LineState) (told : List Happening) → Starting before → LineTurns number before next told (requests.gives m (inputs.Level level on))
+    → (q p : Record) → HasIn q (node_at before m).lane.body → In p (node_at next m).lane.body.kept → q.id ≡ p.id → (p ≡ q) ⊎ IsFailedFront next m q p
+level_front number m level on before next told a (turns.stays _ same none) q p has i ids =
+    inl (a.one m q p has (has_kept (subst (λ (n : NodeState). In p n.lane.body.kept) (same_nodes before next same m) i)) ids)
+level_front number m level on before next told a (turns.steps _ _ given may did) q p has i ids = front_whole number m level on before next told (a.one m) did q p has i ids
+
+front_alone : (t : Trace) (number : ℕ) (line : ScriptLine) (before after : LineState) (told : List Happening) → Stands t before → LineSteps number line before after told → ChangesFrontAlone line before after
+front_alone t number (lines.Signal m level on) before after told st steps = λ was now has i ids. by was now has i ids where
+  is : node_at after m ≡ node_at steps.next m
+  is = same_nodes steps.next after (ap (λ (s : LineState). s.machines) steps.after_is) m
+
+  back : (was now : Record) → (now ≡ was) ⊎ IsFailedFront steps.next m was now → (now ≡ was) ⊎ IsFailedFront after m was now
+  back was now (inl same) = inl same
+  back was now (inr front) = inr (record { first = ap (λ (n : NodeState). slice_get n.lane.body.kept 0) is ∙ front.first; is = front.is })
+
+  by : (was now : Record) → HasRecord before m was → In now (node_at after m).lane.body.kept → was.id ≡ now.id → (now ≡ was) ⊎ IsFailedFront after m was now
+  by was now has i ids =
+      back was now (level_front number m level on before steps.next steps.done (starting_of st) (line_turns number (lines.Signal m level on) before steps.next steps.done steps.does) was now (has_in before m was has)
+      (subst (λ (n : NodeState). In now n.lane.body.kept) is i) ids)
+front_alone t number _ before after told st steps = tt
+
 -- ---- along a run
 
-whole_run : (s : LineState) (asked : List ScriptLine) (points : List Point) (n : ℕ) → Stood s → IsRun s asked points → AreStood (take n points) → AreContentsWhole s (take n points)
-whole_run s asked points zero was run all = tt
+whole_run : (s : LineState) (asked : List ScriptLine) (points : List Point) (n : ℕ) → Stood s → IsRun s asked points → AreStood (take n points) → AreContentsWhole s asked (take n points)
+whole_run s [] points zero was run all = tt
+whole_run s (line ∷ asked) points zero was run all = tt
 whole_run s [] [] (suc n) was run all = tt
 whole_run s [] (point ∷ points) (suc n) was run all = elim run [ ]
 whole_run s (line ∷ asked) [] (suc n) was run all = elim run [ ]
-whole_run s (line ∷ asked) (point ∷ points) (suc n) was run all = (line_whole was.trace (s.lines + 1) line s point.after point.told was.stands run.0, whole_run point.after asked points n all.0 run.1 all.1)
+whole_run s (line ∷ asked) (point ∷ points) (suc n) was run all = (line_whole was.trace (s.lines + 1) line s point.after point.told was.stands run.0, front_alone was.trace (s.lines + 1) line s point.after point.told was.stands run.0, whole_run point.after asked points n all.0 run.1 all.1)
 
 -- THE LAW
 pub contents_whole : SaysAlone → ConnectsBear → ContentsStayWhole

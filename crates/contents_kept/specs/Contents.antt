@@ -1,12 +1,14 @@
 -- CONTENTS ARE KEPT, WITH ALL PARTS: over a line, what a machine has of a board changes in its
 -- quality alone, and by a mark alone, whatever else the line does to the machine.
-use Rattle.std.specs.Prelude.{List, Some, [], false, length, take, ℕ, ◌∷◌, ◌≡◌, ◌≤◌, ◌⊎◌}
+use Rattle.std.specs.Prelude.{List, Some, false, length, slice_get, take, ℕ, ◌∷◌, ◌≡◌, ◌≤◌, ◌⊎◌}
 use Rattle.std.specs.List.{AllByRecursion}
 use Rattle.line_base.specs.declared.states.Quality.{Quality}
+use Rattle.line_base.specs.declared.states.Quality.TheVariants.{Failed}
 use Rattle.board_record.specs.declared.record.Record.{Record}
 use Rattle.handover_out.specs.State.{board_of_phase as held_out}
 use Rattle.handover_in.specs.State.{board_of_phase as held_in}
 use Rattle.line_script.specs.declared.line.ScriptLine.{ScriptLine}
+use Rattle.line_script.specs.declared.line.ScriptLine.TheVariants as lines
 use Rattle.line_report.specs.declared.happening.Happening.{Happening}
 use Rattle.line_report.specs.declared.happening.Happening.TheVariants as happenings
 use Rattle.node_core.specs.declared.act.Act.TheVariants as acts
@@ -48,15 +50,28 @@ pub record StaysWhole (told : List Happening) (before after : LineState) : Type 
   pub held : (machine : ℕ) (was now : Record) → HasRecord before machine was
       → HoldsRecord after machine now → was.id ≡ now.id → now ≡ was
 
+-- it is the first that the machine keeps, and the one from before, failed
+pub record IsFailedFront (after : LineState) (machine : ℕ) (was now : Record) : Type 0 where
+  pub first : slice_get (node_at after machine).lane.body.kept 0 ≡ Some now
+  pub is : now ≡ record was { quality = Failed }
+
+-- a line that sets a level of a bridge's segment changes no record but the front one, to failed
+abbrev pub ChangesFrontAlone : ScriptLine → LineState → LineState → Type 0
+ChangesFrontAlone (lines.Signal machine line on) before after =
+    (was now : Record) → HasRecord before machine was → KeepsRecord after machine now
+    → was.id ≡ now.id → (now ≡ was) ⊎ IsFailedFront after machine was now
+ChangesFrontAlone _ before after = Unit {0}
+
 -- along the points of a run, from a state on
-abbrev pub AreContentsWhole : LineState → List Point → Type 0
-AreContentsWhole s [] = Unit {0}
-AreContentsWhole s (point ∷ points) =
-    StaysWhole point.told s point.after × AreContentsWhole point.after points
+abbrev pub AreContentsWhole : LineState → List ScriptLine → List Point → Type 0
+AreContentsWhole s (line ∷ asked) (point ∷ points) =
+    StaysWhole point.told s point.after × ChangesFrontAlone line s point.after
+    × AreContentsWhole point.after asked points
+AreContentsWhole s _ _ = Unit {0}
 
 -- THE LAW: over each line of every script, up to the first one that told what was not so
 abbrev pub ContentsStayWhole : Type 0
 ContentsStayWhole =
     (asked : List ScriptLine) (points : List Point) (n : ℕ) → AllByRecursion IsFitLine asked
     → length asked ≤ 1000000 → IsRun no_line asked points → has_lie (take n points) ≡ false
-    → AreContentsWhole no_line (take n points)
+    → AreContentsWhole no_line asked (take n points)

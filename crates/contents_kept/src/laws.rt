@@ -8,7 +8,8 @@ ghost use Rattle.contents_kept.specs.There.{StandingsNameWhatIsThere};
 /// behind it, is the same record with all its parts, unless the line tells that this machine
 /// marked that board; then it is that record with the quality of the mark. What its outlet holds
 /// behind the line is the same in any case. So a record that comes back is the one that was
-/// opened, and one that settles the one that the intake held.
+/// opened, and one that settles the one that the intake held. A line that sets a level of a
+/// bridge's segment changes no record of the bridge but the front one, to failed.
 pub fn contents_stay_whole()
     ensures { ContentsStayWhole }
 {
