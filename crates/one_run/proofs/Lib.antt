@@ -1,0 +1,6 @@
+pub mod Nodes
+pub mod States
+pub mod Panels
+pub mod Channels
+pub mod Moving
+pub mod Running
