@@ -195,7 +195,8 @@ int32_t hermes_machine_free(hermes_machine *m);
  * HERMES_DONE. HERMES_MEMORY may stand in place of the last two: where it comes of the step itself the machine is spent.
  * Proved: which answer; at HERMES_DONE, that state and acts are those of the machine step (docs/standard/machine.md), with all
  * that is promised of it, that each way's text is the old one and the text of each message that was sent there, in order, and that
- * drives, signals and ways to be closed are those of the acts; at the others but HERMES_MEMORY, unchanged. */
+ * drives, signals and ways to be closed are those of the acts; at HERMES_MEMORY, that it is spent or unchanged; at the others,
+ * unchanged; and that a spent machine never answers HERMES_DONE. */
 int32_t hermes_machine_step(hermes_machine *m, const hermes_input *input, const uint8_t *bytes, size_t len, int64_t now_ms);
 
 /* Copies the front of what waits on a way into `to`, and answers how many bytes: the least of `room` and what waits.

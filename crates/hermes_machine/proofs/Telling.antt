@@ -21,8 +21,9 @@ pub tell_answers : (i : HermesInput) (bytes : Bor (List ℕ)) (now moment : ℤ)
     → (answer ≡ pos 0 → HasText (wants_text meaning) bytes.now)
     → (answer ≡ pos 0 → Happens (happening_of meaning bytes) moment s t)
     → (¬ (answer ≡ pos 0) → ¬ (answer ≡ neg_ℤ (pos 2)) → t ≡ s)
+    → (answer ≡ neg_ℤ (pos 2) → t.spent ≡ false → t ≡ s) → (s.spent ≡ true → ¬ (answer ≡ pos 0))
     → AnswersStep i bytes now s t answer
-tell_answers i bytes now moment s t meaning answer told is_now bad_text reason memory text happens stays = record {
+tell_answers i bytes now moment s t meaning answer told is_now bad_text reason memory text happens stays lost again = record {
   bad_input = λ none. absurd (false≢true (sym none ∙ ap is_some told));
   bad_text = subst (λ (o : Option Meaning). IfSome o (λ m. ¬ (HasText (wants_text m) bytes.now) → answer ≡ neg_ℤ (pos 4))) (sym told) bad_text;
   no = subst (λ (o : Option Meaning). IfSome o (λ m. s.spent ≡ false → HasText (wants_text m) bytes.now
@@ -31,4 +32,6 @@ tell_answers i bytes now moment s t meaning answer told is_now bad_text reason m
       → ¬ (answer ≡ pos 0) → answer ≡ neg_ℤ (pos 2))) (sym told) memory;
   told = λ done. record { meaning = meaning; told = told; text = text done; happens = subst (λ (n : ℤ). Happens (happening_of meaning bytes) n s t) is_now (happens done) };
   stays = stays;
+  lost = lost;
+  again = again;
 }

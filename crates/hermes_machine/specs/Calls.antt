@@ -1,5 +1,5 @@
 -- WHAT THE CALLS DO to the machine of a handle.
-use Rattle.std.specs.Prelude.{◌≡◌, ℕ, ℤ, pos, neg_ℤ, false, IfErr, IfSome, is_some, ◌==◌, ◌++◌, Option, None, Some, List, drop, length, min, take, if◌then◌else◌}
+use Rattle.std.specs.Prelude.{◌≡◌, ℕ, ℤ, pos, neg_ℤ, true, false, IfErr, IfSome, is_some, ◌==◌, ◌++◌, Option, None, Some, List, drop, length, min, take, if◌then◌else◌}
 use Rattle.std.specs.Borrow.{Bor}
 use Rattle.line_base.specs.declared.states.Side.TheVariants.{Entry, Exit}
 use Rattle.node_core.specs.May.{may_do}
@@ -19,7 +19,8 @@ pub record HasTold (i : HermesInput) (bytes : Bor (List ℕ)) (now : ℤ) (s t :
 
 -- THE ANSWER TO A STEP, the first of these: a bad input; no text; the reason why the machine can't
 -- take it now; done. Memory may be wanting in place of the last two. But where it is done or
--- memory is wanting, the machine is as it was
+-- memory is wanting, the machine is as it was; and where memory is wanting it is spent, or as it was.
+-- Of a spent machine nothing is done any more
 pub record AnswersStep (i : HermesInput) (bytes : Bor (List ℕ)) (now : ℤ) (s t : PortState)
     (answer : ℤ) : Type 0 where
   pub bad_input : is_some (told_of i bytes.now now) ≡ false → answer ≡ neg_ℤ (pos 3)
@@ -35,6 +36,8 @@ pub record AnswersStep (i : HermesInput) (bytes : Bor (List ℕ)) (now : ℤ) (s
       → answer ≡ neg_ℤ (pos 2))
   pub told : answer ≡ pos 0 → HasTold i bytes now s t
   pub stays : ¬ (answer ≡ pos 0) → ¬ (answer ≡ neg_ℤ (pos 2)) → t ≡ s
+  pub lost : answer ≡ neg_ℤ (pos 2) → t.spent ≡ false → t ≡ s
+  pub again : s.spent ≡ true → ¬ (answer ≡ pos 0)
 
 -- the text that waits on a way, by its number
 abbrev pub unsent_on : ℕ → PortState → Option (List ℕ)

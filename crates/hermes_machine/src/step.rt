@@ -60,6 +60,8 @@ fn mean(alloc: Global, port: &mut Port, meaning: Meaning, bytes: &[u8], now: Mom
     ensures happens { result ≡ DONE
         → Happens (happening_of meaning bytes.entry) now port.old port.new }
     ensures stays { ¬ (result ≡ DONE) → ¬ (result ≡ MEMORY) → port.new ≡ port.old }
+    ensures lost { result ≡ MEMORY → port.new.spent ≡ false → port.new ≡ port.old }
+    ensures again { port.old.spent ≡ true → ¬ (result ≡ DONE) }
 {
     match happening_of(alloc, meaning, bytes) {
         Ok(happening) => answer_of(happen(port, happening, now)),
