@@ -6,7 +6,6 @@ ghost use Rattle.line_base.specs.Decimal.{IsDecimalText, decimal_of, decimal_tex
 use crate::memory::Memory;
 use crate::number::{digit, digits_value, is_digits, read_fraction, split_digits};
 use std::marker::Model;
-use thiserror::Error;
 
 /// From so many millionths on a decimal is refused.
 const LIMIT: u128 = 1_000_000_000_000;
@@ -30,8 +29,7 @@ impl Model for Decimal {
 }
 
 /// The bytes are no text of a decimal below a million.
-#[derive(Clone, Copy, Debug, PartialEq, Eq, Error)]
-#[error("bad decimal")]
+#[derive(Clone, Copy, Debug, PartialEq, Eq)]
 pub struct BadDecimal;
 
 impl Decimal {

@@ -1,9 +1,7 @@
 use std::alloc::{AllocError, AllocFailed};
-use thiserror::Error;
 
 /// Want of memory: a growth was refused.
-#[derive(Clone, Copy, Debug, PartialEq, Eq, Error)]
-#[error("out of memory")]
+#[derive(Clone, Copy, Debug, PartialEq, Eq)]
 pub struct Memory;
 
 impl From<AllocError> for Memory {

@@ -6,7 +6,6 @@ use crate::civil::Fields;
 use crate::memory::Memory;
 use crate::number::{digits_value, read_fraction};
 use std::marker::Model;
-use thiserror::Error;
 
 /// The form of a date and a time of day, `d` for a digit.
 const SECONDS_FORM: &[u8] = b"dddd-dd-ddTdd:dd:dd";
@@ -32,8 +31,7 @@ impl Model for Moment {
 }
 
 /// The bytes are no text of a moment.
-#[derive(Clone, Copy, Debug, PartialEq, Eq, Error)]
-#[error("bad moment")]
+#[derive(Clone, Copy, Debug, PartialEq, Eq)]
 pub struct BadMoment;
 
 impl Moment {

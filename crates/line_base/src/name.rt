@@ -7,7 +7,6 @@ use crate::memory::Memory;
 use smallvec::SmallVec;
 use std::alloc::Global;
 use std::marker::Model;
-use thiserror::Error;
 
 /// A name of at most so many bytes takes no memory. None of the standard's messages and only few
 /// of its attributes have longer ones.
@@ -29,12 +28,10 @@ impl Model for Name {
 }
 
 /// Why bytes are no name.
-#[derive(Clone, Copy, Debug, PartialEq, Eq, Error)]
+#[derive(Clone, Copy, Debug, PartialEq, Eq)]
 pub enum NameError {
     /// They are not spelled as a name is.
-    #[error("bad name")]
     BadName,
-    #[error("out of memory")]
     Memory,
 }
 

@@ -1,4 +1,4 @@
-ghost use Rattle.std.specs.Prelude.{◌≡◌, ◌↔◌, List, ℕ, IfOk, IsTrue, OnOk, decimal, true};
+ghost use Rattle.std.specs.Prelude.{◌≡◌, ◌↔◌, List, ℕ, IfOk, IsTrue, OnErr, OnOk, decimal, true};
 ghost use Rattle.std.specs.List.{list_all};
 ghost use Rattle.std.specs.Str.{bytes_eq, chars};
 ghost use Rattle.line_base.specs.Text.{IsAllowed, IsText, ReadsText, is_allowed_char};
@@ -10,7 +10,6 @@ use smallvec::SmallVec;
 use std::alloc::Global;
 use std::marker::Model;
 use std::str;
-use thiserror::Error;
 
 /// The most bytes that a text may have.
 pub const MOST_TEXT_BYTES: usize = 1024;
@@ -35,15 +34,12 @@ impl Model for Text {
 }
 
 /// Why bytes are no text.
-#[derive(Clone, Copy, Debug, PartialEq, Eq, Error)]
+#[derive(Clone, Copy, Debug, PartialEq, Eq)]
 pub enum TextError {
     /// There are more than 1,024 bytes.
-    #[error("too long")]
     TooLong,
     /// They are not UTF-8 of allowed characters.
-    #[error("bad character")]
     BadChar,
-    #[error("out of memory")]
     Memory,
 }
 
@@ -161,10 +157,11 @@ pub fn copied_text(alloc: Global, text: &Option<Text>) -> Result<Option<Text>, M
     }
 }
 
-/// Puts an equal text, if there is one, in the place of another. The text before is let go here
-/// alone, which a caller with many places needn't prove.
+/// Puts an equal text, if there is one, in the place of another; where memory is wanting the place
+/// is as it was. The text before is let go here alone, which a caller with many places needn't prove.
 pub fn take_text(alloc: Global, text: &Option<Text>, place: &mut Option<Text>) -> Result<(), Memory>
-    ensures { OnOk result (place.new ≡ text.now) }
+    ensures taken { OnOk result (place.new ≡ text.now) }
+    ensures unchanged { OnErr result (place.new ≡ place.old) }
 {
     *place = copied_text(alloc, text)?;
     Ok(())

@@ -1,6 +1,6 @@
 ghost use Rattle.std.specs.Prelude.{◌<◌, ◌^◌};
 
-use board_record::{BoardId, IdMaker};
+use board_record::{BadId, BoardId, IdMaker, IdsUsedUp};
 use std::alloc::{AllocError, Global};
 use std::str;
 
@@ -24,14 +24,14 @@ pub fn answer(alloc: Global, what: &str, words: &str) -> Result<String, AllocErr
 fn number(alloc: Global, bytes: &[u8]) -> Result<String, AllocError> {
     match BoardId::read(bytes) {
         Ok(id) => format!(in alloc; "{:x}", id.number()),
-        Err(error) => format!(in alloc; "{error}"),
+        Err(BadId) => String::from_str(alloc, "not an identifier"),
     }
 }
 
 fn written(alloc: Global, bytes: &[u8]) -> Result<String, AllocError> {
     match BoardId::read(bytes) {
         Ok(id) => text_of(alloc, id),
-        Err(error) => format!(in alloc; "{error}"),
+        Err(BadId) => String::from_str(alloc, "not an identifier"),
     }
 }
 
@@ -67,6 +67,6 @@ fn next_of(alloc: Global, machine: u32, used: u64) -> Result<String, AllocError>
     let used = maker.used();
     match next {
         Ok(id) => format!(in alloc; "{id}, {used} made"),
-        Err(error) => format!(in alloc; "{error}, {used} made"),
+        Err(IdsUsedUp) => format!(in alloc; "ids used up, {used} made"),
     }
 }

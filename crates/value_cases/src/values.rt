@@ -1,4 +1,7 @@
-use line_base::{Decimal, Moment, Name, Text, Word, is_plain_text, read_number};
+use line_base::{
+    BadDecimal, BadMoment, Decimal, Moment, Name, NameError, Text, TextError, Word, is_plain_text,
+    read_number,
+};
 use std::alloc::{AllocError, Global};
 use std::str;
 
@@ -51,14 +54,14 @@ fn number(alloc: Global, bytes: &[u8]) -> Result<String, AllocError> {
 fn moment(alloc: Global, bytes: &[u8]) -> Result<String, AllocError> {
     match Moment::read(bytes) {
         Ok(moment) => format!(in alloc; "{}", moment.millis()),
-        Err(error) => format!(in alloc; "{error}"),
+        Err(BadMoment) => String::from_str(alloc, "bad moment"),
     }
 }
 
 fn decimal(alloc: Global, bytes: &[u8]) -> Result<String, AllocError> {
     match Decimal::read(bytes) {
         Ok(decimal) => format!(in alloc; "{}", decimal.millionths()),
-        Err(error) => format!(in alloc; "{error}"),
+        Err(BadDecimal) => String::from_str(alloc, "bad decimal"),
     }
 }
 
@@ -86,7 +89,9 @@ fn decimal_text(alloc: Global, bytes: &[u8]) -> Result<String, AllocError> {
 fn text(alloc: Global, bytes: &[u8]) -> Result<String, AllocError> {
     match Text::read(alloc, bytes) {
         Ok(text) => copied(alloc, &text, bytes),
-        Err(error) => format!(in alloc; "{error}"),
+        Err(TextError::TooLong) => String::from_str(alloc, "too long"),
+        Err(TextError::BadChar) => String::from_str(alloc, "bad character"),
+        Err(TextError::Memory) => Err(AllocError),
     }
 }
 
@@ -122,7 +127,8 @@ fn digits(alloc: Global, bytes: &[u8]) -> Result<String, AllocError> {
 fn name(alloc: Global, bytes: &[u8]) -> Result<String, AllocError> {
     match Name::read(alloc, bytes) {
         Ok(name) => shown(alloc, name.bytes()),
-        Err(error) => format!(in alloc; "{error}"),
+        Err(NameError::BadName) => String::from_str(alloc, "bad name"),
+        Err(NameError::Memory) => Err(AllocError),
     }
 }
 

@@ -4,7 +4,7 @@ ghost use Rattle.line_world.specs.FloorPlan.{IsGap, IsMachine};
 
 use crate::floor::told;
 use board_record::{BoardId, Sensed};
-use line_base::{SensorEvent, Side};
+use line_base::{Memory, SensorEvent, Side};
 use line_world::{Board, Floor, Move};
 use std::io;
 use std::io::Write;
@@ -17,7 +17,7 @@ pub fn answer(floor: &mut Floor, word: &str, to: &mut Vec<u8>) -> io::Result<()>
     if what == "machine" {
         return match floor.add_machine() {
             Ok(()) => write!(to, "done"),
-            Err(memory) => write!(to, "{memory}"),
+            Err(Memory) => write!(to, "out of memory"),
         };
     }
     if let Some(step) = move_of(what) {
@@ -61,11 +61,11 @@ fn at_machine(
     match what {
         "place" => match floor.place(machine, board_of(rest)) {
             Ok(()) => write!(to, "done"),
-            Err(memory) => write!(to, "{memory}"),
+            Err(Memory) => write!(to, "out of memory"),
         },
         "read" => match floor.read_all(machine) {
             Ok(sensors) => told::events(sensors.list(), to),
-            Err(memory) => write!(to, "{memory}"),
+            Err(Memory) => write!(to, "out of memory"),
         },
         "unseen" => told::taken(floor.unseen_out(machine), to),
         "remove" => told::taken(floor.remove(machine, id_of(rest)), to),
@@ -105,7 +105,7 @@ fn lie(floor: &mut Floor, machine: usize, sensed: Sensed, to: &mut Vec<u8>) -> i
 {
     match floor.lie(machine, sensed) {
         Ok(()) => write!(to, "done"),
-        Err(memory) => write!(to, "{memory}"),
+        Err(Memory) => write!(to, "out of memory"),
     }
 }
 
