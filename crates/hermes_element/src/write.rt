@@ -47,14 +47,32 @@ fn append_attributes(attributes: &[Attribute], to: &mut Vec<u8>) -> Result<(), M
         (to.new.items ≡ to.old.items ++ flat_map canonical_attribute attributes.now) }
 {
     for attribute in attributes {
-        write_attribute(attribute.name.bytes(), attribute.value.bytes(), to)?;
+        append_attribute(attribute.name.bytes(), attribute.value.bytes(), to)?;
     }
     Ok(())
 }
 
 /// Appends the canonical spelling of one attribute: a space, its name and its value. Where memory
-/// is wanting, a part of it may stand there, behind what stood there before.
+/// is wanting, `to` is as it was.
 pub fn write_attribute(name: &[u8], value: &[u8], to: &mut Vec<u8>) -> Result<(), Memory>
+    ensures kept { StillStands to.old.items to.new.items }
+    ensures written { OnOk result
+        (to.new.items ≡ to.old.items
+        ++ canonical_attribute (record { name = name.now; value = value.now; at = 0 })) }
+    ensures unchanged { OnErr result (to.new.items ≡ to.old.items) }
+{
+    let before = to.len();
+    match append_attribute(name, value, to) {
+        Ok(()) => Ok(()),
+        Err(Memory) => {
+            to.truncate(before);
+            Err(Memory)
+        }
+    }
+}
+
+/// The same, but where memory is wanting a part of it may stand there.
+fn append_attribute(name: &[u8], value: &[u8], to: &mut Vec<u8>) -> Result<(), Memory>
     ensures kept { StillStands to.old.items to.new.items }
     ensures written { OnOk result
         (to.new.items ≡ to.old.items

@@ -3,7 +3,7 @@ use Rattle.std.proofs.Common.{◌++◌}
 use Rattle.std.specs.List.{flat_map}
 use Rattle.hermes_element.specs.Canonical.{escaped_byte}
 use Rattle.hermes_element.proofs.Writing.{attribute_written}
-use Rattle.hermes_element.proofs.write.write_attribute.Goals as goal
+use Rattle.hermes_element.proofs.write.append_attribute.Goals as goal
 
 pub returns-clause-written : goal.returns-clause-written
 returns-clause-written c = on_ok_weaker c.append-4.result
