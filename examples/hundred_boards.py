@@ -84,21 +84,25 @@ class Relay:
 
     def __init__(self, play, port, to):
         self.play, self.to, self.pairs, self.breaks = play, to, [], 0
+        self.waiting = {}   # the pieces from an end that aren't passed on yet, the oldest first
         self.server = socket.create_server(("127.0.0.1", port))
         play.loop.reads(self.server, self.accepts)
 
     def accepts(self):
         below, _ = self.server.accept()
+        self.joins(below)
+
+    def joins(self, below):
         try:
             above = socket.create_connection(("127.0.0.1", self.to), 1)
         except OSError:
             below.close()
-            return None
+            return
         pair = {below: above, above: below}
         self.pairs.append(pair)
         for end in pair:
+            self.waiting[end] = collections.deque()
             self.play.loop.reads(end, lambda end=end: self.read(pair, end))
-        return None
 
     def read(self, pair, end):
         try:
@@ -107,13 +111,17 @@ class Relay:
             piece = b""
         if not piece:
             return lambda: self.ends(pair)
-        late = self.play.chance.uniform(0.0, 0.02)
-        return lambda: self.play.loop.after(late, lambda: self.passes(pair, end, piece))
+        return lambda: self.passes_later(pair, end, piece)
 
-    def passes(self, pair, end, piece):
+    def passes_later(self, pair, end, piece):
+        if pair in self.pairs:
+            self.waiting[end].append(piece)
+            self.play.loop.after(self.play.chance.uniform(0.0, 0.02), lambda: self.passes(pair, end))
+
+    def passes(self, pair, end):
         if pair in self.pairs:
             try:
-                pair[end].sendall(piece)
+                pair[end].sendall(self.waiting[end].popleft())
                 self.play.moment()
             except OSError:
                 self.ends(pair)
@@ -126,6 +134,7 @@ class Relay:
         ends = list(pair)
         self.play.chance.shuffle(ends)
         for end in ends:
+            del self.waiting[end]
             self.play.loop.leaves(end)
         ends[0].close()
         self.play.loop.after(apart, ends[1].close)
