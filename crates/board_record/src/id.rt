@@ -4,7 +4,6 @@ ghost use Rattle.board_record.specs.BoardId.{read_id, id_text};
 use line_base::Memory;
 use std::fmt;
 use std::marker::Model;
-use thiserror::Error;
 use uuid::Uuid;
 
 /// A board's identity: a number of 128 bits, spelled as a UUID.
@@ -22,8 +21,7 @@ impl Model for BoardId {
 }
 
 /// The bytes are no identifier.
-#[derive(Clone, Copy, Debug, PartialEq, Eq, Error)]
-#[error("not an identifier")]
+#[derive(Clone, Copy, Debug, PartialEq, Eq)]
 pub struct BadId;
 
 impl BoardId {

@@ -3,7 +3,6 @@ ghost use Rattle.board_record.specs.Maker.{Maker, made_id, next_id, after_next, 
 
 use crate::id::BoardId;
 use std::marker::Model;
-use thiserror::Error;
 
 const MOST_IDS: u64 = 0xFFFF_FFFF_FFFF;
 
@@ -29,8 +28,7 @@ impl Model for IdMaker {
 }
 
 /// A machine has made all its 2^48 - 1 ids.
-#[derive(Clone, Copy, Debug, PartialEq, Eq, Error)]
-#[error("ids used up")]
+#[derive(Clone, Copy, Debug, PartialEq, Eq)]
 pub struct IdsUsedUp;
 
 impl IdMaker {

@@ -7,7 +7,6 @@ use line_base::Memory;
 use std::alloc::Global;
 use std::marker::Model;
 use std::rc::Rc;
-use thiserror::Error;
 
 /// The most sub boards that a board may have.
 pub const MOST_SUBS: usize = 256;
@@ -42,12 +41,10 @@ impl Model for SubBoards {
 }
 
 /// Why a sub board isn't taken.
-#[derive(Clone, Copy, Debug, PartialEq, Eq, Error)]
+#[derive(Clone, Copy, Debug, PartialEq, Eq)]
 pub enum SubError {
     /// There are 256 already, or all would take more than 24,576 bytes in a message.
-    #[error("subs full")]
     Full,
-    #[error("out of memory")]
     Memory,
 }
 
