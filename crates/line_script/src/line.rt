@@ -6,7 +6,6 @@ use hermes_vertical::Question;
 use line_base::{Quality, Side, Text};
 use smema_bridge::SegmentLine;
 use std::fmt;
-use thiserror::Error;
 
 /// What one line of a script asks for. Machines are numbered from 1 in downstream direction, and a
 /// gap has the number of the machine above it.
@@ -166,7 +165,7 @@ pub enum ScriptLine {
 
 /// Why a line is refused. The reasons are tested in this order, but the last four, of which the
 /// first that holds for the words from the left counts.
-#[derive(Clone, Copy, Debug, PartialEq, Eq, Error)]
+#[derive(Clone, Copy, Debug, PartialEq, Eq)]
 pub enum LineWhy {
     /// It has more than 4,096 bytes.
     LongLine,
@@ -214,10 +213,8 @@ impl fmt::Display for LineWhy {
 }
 
 /// Why a line could not be read.
-#[derive(Clone, Copy, Debug, PartialEq, Eq, Error)]
+#[derive(Clone, Copy, Debug, PartialEq, Eq)]
 pub enum LineError {
-    #[error("{0}")]
     Refused(LineWhy),
-    #[error("out of memory")]
     Memory,
 }

@@ -10,7 +10,8 @@ use std::str;
 pub fn told_of(alloc: Global, read: &Result<PanelLine, LineError>) -> Result<String, AllocError> {
     match read {
         Ok(line) => told_line(alloc, line),
-        Err(error) => format!(in alloc; "refused: {error}"),
+        Err(LineError::Refused(why)) => format!(in alloc; "refused: {why}"),
+        Err(LineError::Memory) => Err(AllocError),
     }
 }
 

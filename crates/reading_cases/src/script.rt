@@ -3,7 +3,7 @@
 use case_text::spell;
 use hermes_vertical::Question;
 use line_base::{Quality, SensorEvent, Side};
-use line_script::{ScriptLine, read_line};
+use line_script::{LineError, ScriptLine, read_line};
 use smema_bridge::SegmentLine;
 use std::alloc::Global;
 use std::io;
@@ -15,7 +15,8 @@ pub fn tell(alloc: Global, case: &str, to: &mut Vec<u8>) -> io::Result<()> {
     spell(case, &mut line)?;
     match read_line(alloc, line.as_slice()) {
         Ok(line) => tell_line(&line, to),
-        Err(error) => write!(to, "refused: {error}"),
+        Err(LineError::Refused(why)) => write!(to, "refused: {why}"),
+        Err(LineError::Memory) => write!(to, "out of memory"),
     }
 }
 
