@@ -22,6 +22,7 @@ use Rattle.custody.specs.LookBack.{Asked, asked_after, dropped_after}
 use Rattle.custody.specs.Pair.{Ghost, LinkState, Pair}
 use Rattle.custody.specs.Steps.{EntryBegan, EntryDid, intake}
 use Rattle.custody.specs.Talks.{Talks}
+use Rattle.custody.specs.Unread.{IsEndRead, all_is_read}
 use Rattle.custody.specs.Words.{UpstreamService, down_words, events_at, in_says, sent, up_words}
 use Rattle.custody.proofs.AnnounceEntry.{announce_ready, announce_start, announce_unready}
 use Rattle.custody.proofs.CloseEntry.{close_entry, contents_left}
@@ -33,6 +34,7 @@ use Rattle.custody.proofs.Lists.{sent_up}
 use Rattle.custody.proofs.ReadEntry.{read_entry}
 use Rattle.custody.proofs.Sessions.{entry_shakes, entry_stands, ready_stands}
 use Rattle.custody.proofs.Steps.{body_entry, body_exit, entry_contents, entry_step, still_starts}
+use Rattle.custody.proofs.Unread.{ReadFirst, none_unread}
 
 -- the machine reads an event of its entry: the link of its exit sees no difference
 pub reads_entry : {Gone : ℕ → Type 0} {above : List Record} (g : Ghost) (l : LinkState) (e : SensorEvent) (rest : List Sensed)
@@ -42,22 +44,39 @@ reads_entry g l e rest k = entry_step g (with_unread_down l (entry_sees e ∷ re
 pub skips_entry : (g : Ghost) (l : LinkState) (e : SensorEvent) (rest : List Sensed) → Pair g (with_unread_up l (entry_sees e ∷ rest)) → Pair g (with_unread_up l rest)
 skips_entry g l e rest k = record { out = k.out; «in» = k.in; gap = k.gap; talk = k.talk }
 
+pub fails_unread : {Gone : ℕ → Type 0} {above : List Record} (g : Ghost) (l : LinkState) → Pair g l → ReadFirst (events_at sides.Entry l.around.down.unread) g.place
+    → EntryStep Gone above g l in_input.Fault l.around.down.unread l.down
+fails_unread g l k n = entry_step g l in_input.Fault l.around.down.unread l.down k (fault_entry n k.in k.talk)
+
 pub fails_entry : {Gone : ℕ → Type 0} {above : List Record} (g : Ghost) (l : LinkState) → Pair g (with_unread_down l [])
     → EntryStep Gone above g (with_unread_down l []) in_input.Fault [] l.down
-fails_entry g l k = entry_step g (with_unread_down l []) in_input.Fault [] l.down k (fault_entry k.in k.talk)
+fails_entry g l k = fails_unread g (with_unread_down l []) k none_unread
+
+pub hears_available_unread : {Gone : ℕ → Type 0} {above : List Record} (g : Ghost) (l : LinkState) (q : Record) (rest : List Horizontal) → Pair g (record l { down = message.BoardAvailable q ∷ rest })
+    → (l.entry ≡ Standing) × EntryStep Gone above g (record l { down = message.BoardAvailable q ∷ rest }) (in_input.BoardAvailable q) l.around.down.unread rest
+hears_available_unread g l q rest k = (entry_stands k.talk is_available, entry_step g (record l { down = message.BoardAvailable q ∷ rest }) (in_input.BoardAvailable q) l.around.down.unread rest k (hear_available q k.talk k.in))
 
 pub hears_available : {Gone : ℕ → Type 0} {above : List Record} (g : Ghost) (l : LinkState) (q : Record) (rest : List Horizontal) → Pair g (hearing_down l (message.BoardAvailable q) rest)
     → (l.entry ≡ Standing) × EntryStep Gone above g (hearing_down l (message.BoardAvailable q) rest) (in_input.BoardAvailable q) [] rest
-hears_available g l q rest k = (entry_stands k.talk is_available, entry_step g (hearing_down l (message.BoardAvailable q) rest) (in_input.BoardAvailable q) [] rest k (hear_available q k.talk k.in))
+hears_available g l q rest k = hears_available_unread g (with_unread_down l []) q rest k
+
+pub hears_revoke_available_unread : {Gone : ℕ → Type 0} {above : List Record} (g : Ghost) (l : LinkState) (rest : List Horizontal) → Pair g (record l { down = message.RevokeBoardAvailable ∷ rest })
+    → (l.entry ≡ Standing) × EntryStep Gone above g (record l { down = message.RevokeBoardAvailable ∷ rest }) in_input.RevokeBoardAvailable l.around.down.unread rest
+hears_revoke_available_unread g l rest k = (entry_stands k.talk is_revoke_available, entry_step g (record l { down = message.RevokeBoardAvailable ∷ rest }) in_input.RevokeBoardAvailable l.around.down.unread rest k (hear_revoke_available k.talk k.in))
 
 pub hears_revoke_available : {Gone : ℕ → Type 0} {above : List Record} (g : Ghost) (l : LinkState) (rest : List Horizontal) → Pair g (hearing_down l message.RevokeBoardAvailable rest)
     → (l.entry ≡ Standing) × EntryStep Gone above g (hearing_down l message.RevokeBoardAvailable rest) in_input.RevokeBoardAvailable [] rest
-hears_revoke_available g l rest k = (entry_stands k.talk is_revoke_available, entry_step g (hearing_down l message.RevokeBoardAvailable rest) in_input.RevokeBoardAvailable [] rest k (hear_revoke_available k.talk k.in))
+hears_revoke_available g l rest k = hears_revoke_available_unread g (with_unread_down l []) rest k
+
+pub hears_finished_unread : {Gone : ℕ → Type 0} {above : List Record} (g : Ghost) (l : LinkState) (s : Transfer) (z : ℕ) (rest : List Horizontal) → Pair g (record l { down = message.TransportFinished s z ∷ rest })
+    → ReadFirst (events_at sides.Entry l.around.down.unread) g.place → IsEndRead s (events_at sides.Entry l.around.down.unread)
+    → (l.entry ≡ Standing) × EntryStep Gone above g (record l { down = message.TransportFinished s z ∷ rest }) (in_input.Finished s z) l.around.down.unread rest
+hears_finished_unread g l s z rest k n w = (entry_stands k.talk is_finished, entry_step g (record l { down = message.TransportFinished s z ∷ rest }) (in_input.Finished s z) l.around.down.unread rest k (hear_finished k.talk n w k.in))
 
 pub hears_finished : {Gone : ℕ → Type 0} {above : List Record} (g : Ghost) (l : LinkState) (s : Transfer) (z : ℕ) (rest : List Horizontal)
     → Pair g (hearing_down l (message.TransportFinished s z) rest)
     → (l.entry ≡ Standing) × EntryStep Gone above g (hearing_down l (message.TransportFinished s z) rest) (in_input.Finished s z) [] rest
-hears_finished g l s z rest k = (entry_stands k.talk is_finished, entry_step g (hearing_down l (message.TransportFinished s z) rest) (in_input.Finished s z) [] rest k (hear_finished k.talk k.in))
+hears_finished g l s z rest k = hears_finished_unread g (with_unread_down l []) s z rest k none_unread all_is_read
 
 -- the upstream machine describes itself: the session stands, and the intake hears that there is a new connection
 pub hears_upstream : {Gone : ℕ → Type 0} {above : List Record} (g : Ghost) (l : LinkState) (service : Service) (rest : List Horizontal)
@@ -84,10 +103,10 @@ hears_upstream {Gone = Gone} {above = above} g l service rest k =
 said_nothing : (b : Bool) (ms us : List Horizontal) → up_words ms ≡ [] → up_words (sent ms b us) ≡ up_words us
 said_nothing b ms us e = sent_up b ms us ∙ ap (λ ws. sent ws b (up_words us)) e
 
--- the close of an entry, whose machine has read all its events
-pub closes_entry : {Gone : ℕ → Type 0} {above : List Record} (g : Ghost) (l : LinkState) → Pair g (with_unread_down l []) → EntryShut Gone above g (with_unread_down l [])
-closes_entry g l k =
-    let d = close_entry k.talk k.in in
+-- the close of an entry, whose machine may have events unread
+pub closes_unread : {Gone : ℕ → Type 0} {above : List Record} (g : Ghost) (l : LinkState) → Pair g l → ReadFirst (events_at sides.Entry l.around.down.unread) g.place → EntryShut Gone above g l
+closes_unread g l k n =
+    let d = close_entry k.talk n k.in in
     record {
       row = d.row;
       is = d.is;
@@ -99,6 +118,9 @@ closes_entry g l k =
       recalls = d.recalls;
       asked = λ ms e last dropped a. rw (said_nothing l.stands ms l.up e) (d.asked last dropped a);
     }
+
+pub closes_entry : {Gone : ℕ → Type 0} {above : List Record} (g : Ghost) (l : LinkState) → Pair g (with_unread_down l []) → EntryShut Gone above g (with_unread_down l [])
+closes_entry g l k = closes_unread g (with_unread_down l []) k none_unread
 
 -- the entry announces that it is ready, and that it is not any more
 pub says_ready : {Gone : ℕ → Type 0} {above : List Record} (g : Ghost) (l : LinkState) → Pair g (with_unread_down l []) → l.entry ≡ Standing → l.intake.phase ≡ inn.Idle

@@ -1,7 +1,9 @@
 -- The events of an exit, over the values of a link. A word that is heard finds a session that takes it, and a row.
-use Rattle.std.proofs.Common.{Bool, List, None, Option, Some, [], ap, false, subst, sym, ℕ, ◌∙◌, ◌∷◌, ◌≡◌}
+use Rattle.std.proofs.Common.{Bool, List, None, Option, Some, [], ap, false, subst, sym, true, ℕ, ◌∙◌, ◌∷◌, ◌≡◌}
 use Rattle.line_base.specs.declared.states.Quality.{Quality}
 use Rattle.line_base.specs.declared.states.SensorEvent.{SensorEvent}
+use Rattle.line_base.specs.declared.states.SensorEvent.TheVariants as event
+use Rattle.line_base.specs.declared.states.Side.TheVariants as sides
 use Rattle.line_base.specs.declared.states.Transfer.{Transfer}
 use Rattle.board_record.specs.declared.record.Record.{Record}
 use Rattle.board_record.specs.declared.sensed.Sensed.{Sensed}
@@ -21,9 +23,10 @@ use Rattle.custody.specs.Facts.{IsOpen, is_ready, is_revoke_ready, is_start, is_
 use Rattle.custody.specs.LookBack.{asks_nothing}
 use Rattle.custody.specs.Pair.{Ghost, LinkState, Pair}
 use Rattle.custody.specs.Talks.{Talks}
-use Rattle.custody.specs.Words.{BoardAvailable, DownWord, DownstreamService, RevokeBoardAvailable, UpstreamService, down_words, sent, up_words}
+use Rattle.custody.specs.Unread.{HasReadLeft, IsBehind, once_left}
+use Rattle.custody.specs.Words.{BoardAvailable, DownWord, DownstreamService, RevokeBoardAvailable, UpstreamService, down_words, events_at, sent, up_words}
 use Rattle.custody.proofs.AnnounceExit.{announce_offer, announce_revoke, contents_offer, contents_revoke}
-use Rattle.custody.proofs.CloseExit.{close_exit}
+use Rattle.custody.proofs.CloseExit.{close_exit, left_exit}
 use Rattle.custody.proofs.HearReady.{hear_ready, hear_revoke_ready}
 use Rattle.custody.proofs.HearService.{contents_described, free_in_a_handshake, hear_downstream_service, held_in_a_handshake}
 use Rattle.custody.proofs.HearStart.{hear_start}
@@ -32,6 +35,7 @@ use Rattle.custody.proofs.Lists.{sent_down}
 use Rattle.custody.proofs.ReadExit.{fault_exit, read_exit}
 use Rattle.custody.proofs.Sessions.{exit_shakes, exit_stands, offered_stands}
 use Rattle.custody.proofs.Steps.{body_entry, body_exit, exit_step}
+use Rattle.custody.proofs.Unread.{HasRead, all_read}
 
 -- the machine reads an event of its exit: the link of its entry sees no difference
 pub reads_exit : {Gone : ℕ → Type 0} (g : Ghost) (l : LinkState) (e : SensorEvent) (rest : List Sensed) → Pair g (with_unread_up l (exit_sees e ∷ rest))
@@ -41,20 +45,39 @@ reads_exit g l e rest k = exit_step g (with_unread_up l (exit_sees e ∷ rest)) 
 pub skips_exit : (g : Ghost) (l : LinkState) (e : SensorEvent) (rest : List Sensed) → Pair g (with_unread_down l (exit_sees e ∷ rest)) → Pair g (with_unread_down l rest)
 skips_exit g l e rest k = record { out = k.out; «in» = k.in; gap = k.gap; talk = k.talk }
 
+-- what may be unread beside a fault, a stop that is heard and a close
+pub has_read : (g : Ghost) (l : LinkState) → IsBehind g l → HasReadLeft l → HasRead (events_at sides.Exit l.around.up.unread)
+has_read g l behind left = record { begun = behind.exit; left = left }
+
+pub fails_unread : {Gone : ℕ → Type 0} (g : Ghost) (l : LinkState) → Pair g l → HasRead (events_at sides.Exit l.around.up.unread) → ExitStep Gone g l out_input.Fault l.around.up.unread l.up
+fails_unread g l k n = exit_step g l out_input.Fault l.around.up.unread l.up k (fault_exit n k.out k.talk l.outlet.touched)
+
 pub fails_exit : {Gone : ℕ → Type 0} (g : Ghost) (l : LinkState) → Pair g (with_unread_up l []) → ExitStep Gone g (with_unread_up l []) out_input.Fault [] l.up
-fails_exit g l k = exit_step g (with_unread_up l []) out_input.Fault [] l.up k (fault_exit k.out k.talk l.outlet.touched)
+fails_exit g l k = fails_unread g (with_unread_up l []) k all_read
+
+pub hears_ready_unread : {Gone : ℕ → Type 0} (g : Ghost) (l : LinkState) (quality : Quality) (rest : List Horizontal) → Pair g (record l { up = message.MachineReady quality ∷ rest })
+    → (l.exit ≡ Standing) × ExitStep Gone g (record l { up = message.MachineReady quality ∷ rest }) out_input.MachineReady l.around.up.unread rest
+hears_ready_unread g l quality rest k = (exit_stands k.talk is_ready, exit_step g (record l { up = message.MachineReady quality ∷ rest }) out_input.MachineReady l.around.up.unread rest k (hear_ready l.outlet.touched k.out k.talk))
 
 pub hears_ready : {Gone : ℕ → Type 0} (g : Ghost) (l : LinkState) (quality : Quality) (rest : List Horizontal) → Pair g (hearing_up l (message.MachineReady quality) rest)
     → (l.exit ≡ Standing) × ExitStep Gone g (hearing_up l (message.MachineReady quality) rest) out_input.MachineReady [] rest
-hears_ready g l quality rest k = (exit_stands k.talk is_ready, exit_step g (hearing_up l (message.MachineReady quality) rest) out_input.MachineReady [] rest k (hear_ready l.outlet.touched k.out k.talk))
+hears_ready g l quality rest k = hears_ready_unread g (with_unread_up l []) quality rest k
+
+pub hears_revoke_ready_unread : {Gone : ℕ → Type 0} (g : Ghost) (l : LinkState) (rest : List Horizontal) → Pair g (record l { up = message.RevokeMachineReady ∷ rest })
+    → (l.exit ≡ Standing) × ExitStep Gone g (record l { up = message.RevokeMachineReady ∷ rest }) out_input.RevokeMachineReady l.around.up.unread rest
+hears_revoke_ready_unread g l rest k = (exit_stands k.talk is_revoke_ready, exit_step g (record l { up = message.RevokeMachineReady ∷ rest }) out_input.RevokeMachineReady l.around.up.unread rest k (hear_revoke_ready l.outlet.touched k.out k.talk))
 
 pub hears_revoke_ready : {Gone : ℕ → Type 0} (g : Ghost) (l : LinkState) (rest : List Horizontal) → Pair g (hearing_up l message.RevokeMachineReady rest)
     → (l.exit ≡ Standing) × ExitStep Gone g (hearing_up l message.RevokeMachineReady rest) out_input.RevokeMachineReady [] rest
-hears_revoke_ready g l rest k = (exit_stands k.talk is_revoke_ready, exit_step g (hearing_up l message.RevokeMachineReady rest) out_input.RevokeMachineReady [] rest k (hear_revoke_ready l.outlet.touched k.out k.talk))
+hears_revoke_ready g l rest k = hears_revoke_ready_unread g (with_unread_up l []) rest k
+
+pub hears_stop_unread : {Gone : ℕ → Type 0} (g : Ghost) (l : LinkState) (s : Transfer) (z : ℕ) (rest : List Horizontal) → Pair g (record l { up = message.StopTransport s z ∷ rest }) → HasRead (events_at sides.Exit l.around.up.unread)
+    → (l.exit ≡ Standing) × ExitStep Gone g (record l { up = message.StopTransport s z ∷ rest }) (out_input.Stop s z) l.around.up.unread rest
+hears_stop_unread g l s z rest k n = (exit_stands k.talk is_stop, exit_step g (record l { up = message.StopTransport s z ∷ rest }) (out_input.Stop s z) l.around.up.unread rest k (hear_stop k.talk n k.out l.outlet.touched s))
 
 pub hears_stop : {Gone : ℕ → Type 0} (g : Ghost) (l : LinkState) (s : Transfer) (z : ℕ) (rest : List Horizontal) → Pair g (hearing_up l (message.StopTransport s z) rest)
     → (l.exit ≡ Standing) × ExitStep Gone g (hearing_up l (message.StopTransport s z) rest) (out_input.Stop s z) [] rest
-hears_stop g l s z rest k = (exit_stands k.talk is_stop, exit_step g (hearing_up l (message.StopTransport s z) rest) (out_input.Stop s z) [] rest k (hear_stop k.talk k.out l.outlet.touched s))
+hears_stop g l s z rest k = hears_stop_unread g (with_unread_up l []) s z rest k all_read
 
 -- a start: the front of the kept boards is what was offered, and no board that is kept is gone from the floor
 pub hears_start : {Gone : ℕ → Type 0} (g : Ghost) (l : LinkState) (z : ℕ) (brought : Option Record) (kept : List Record) (rest : List Horizontal)
@@ -80,10 +103,10 @@ hears_start g l z brought kept rest k looks front floor c =
     )
 
 -- the downstream machine describes itself, and the outlet holds nothing: the session stands, and the answer is sent
-pub hears_downstream : (g : Ghost) (l : LinkState) (service answer : Service) (rest : List Horizontal) → Pair g (hearing_up l (message.ServiceDescription service) rest)
+pub hears_downstream_unread : (g : Ghost) (l : LinkState) (service answer : Service) (rest : List Horizontal) → Pair g (record l { up = message.ServiceDescription service ∷ rest })
     → l.exit ≡ Handshake → held_out l.outlet.phase ≡ None
-    → Pair g (described_on l service answer rest)
-hears_downstream g l service answer rest k x free =
+    → Pair g (record l { exit = Standing; up = rest; down = sent (message.ServiceDescription answer ∷ []) l.stands l.down })
+hears_downstream_unread g l service answer rest k x free =
     let e : l.outlet.phase ≡ out.Idle = free_in_a_handshake (rw x at k.talk) free in
     let t = subst (λ x. Talks l.stands x out.Idle l.outlet.offered l.outlet.ready l.entry l.intake.phase l.intake.offer l.intake.ready g.place (DownstreamService ∷ up_words rest) (down_words l.down)) x (subst (λ o. Talks l.stands l.exit o l.outlet.offered l.outlet.ready l.entry l.intake.phase l.intake.offer l.intake.ready g.place (DownstreamService ∷ up_words rest) (down_words l.down)) e k.talk) in
     record {
@@ -92,6 +115,11 @@ hears_downstream g l service answer rest k x free =
       gap = k.gap;
       talk = rw (sent_down l.stands (message.ServiceDescription answer ∷ []) l.down) (subst (λ o. Talks l.stands Standing o l.outlet.offered l.outlet.ready l.entry l.intake.phase l.intake.offer l.intake.ready g.place (up_words rest) (sent (UpstreamService ∷ []) l.stands (down_words l.down))) (sym e) (hear_downstream_service t));
     }
+
+pub hears_downstream : (g : Ghost) (l : LinkState) (service answer : Service) (rest : List Horizontal) → Pair g (hearing_up l (message.ServiceDescription service) rest)
+    → l.exit ≡ Handshake → held_out l.outlet.phase ≡ None
+    → Pair g (described_on l service answer rest)
+hears_downstream g l service answer rest k x free = hears_downstream_unread g (with_unread_up l []) service answer rest k x free
 
 pub described_contents : {Gone : ℕ → Type 0} (l : LinkState) (service answer : Service) (rest : List Horizontal) (kept : List Record)
     → IsContent Gone (hearing_up l (message.ServiceDescription service) rest) kept
@@ -110,10 +138,10 @@ holds_in_a_handshake g l service rest q k x held = held_in_a_handshake (rw x at 
 said_nothing : (b : Bool) (ms ds : List Horizontal) → down_words ms ≡ [] → down_words (sent ms b ds) ≡ down_words ds
 said_nothing b ms ds e = sent_down b ms ds ∙ ap (λ ws. sent ws b (down_words ds)) e
 
--- the close of an exit, whose machine has read all its events
-pub closes_exit : {Gone : ℕ → Type 0} (g : Ghost) (l : LinkState) → Pair g (with_unread_up l []) → ExitShut Gone g (with_unread_up l [])
-closes_exit {Gone = Gone} g l k =
-    let d = close_exit {Gone = Gone} k.talk k.out l.outlet.touched in
+-- the close of an exit, whose machine may have events unread, but that its board has begun or left
+pub closes_unread : {Gone : ℕ → Type 0} (g : Ghost) (l : LinkState) → Pair g l → HasRead (events_at sides.Exit l.around.up.unread) → ExitShut Gone g l
+closes_unread {Gone = Gone} g l k n =
+    let d = close_exit {Gone = Gone} k.talk n k.out l.outlet.touched in
     record {
       row = d.row;
       is = d.is;
@@ -123,6 +151,9 @@ closes_exit {Gone = Gone} g l k =
       contents = λ kept ms e c. rw (said_nothing l.stands ms l.down e) (d.contents kept c);
       lets = d.lets;
     }
+
+pub closes_exit : {Gone : ℕ → Type 0} (g : Ghost) (l : LinkState) → Pair g (with_unread_up l []) → ExitShut Gone g (with_unread_up l [])
+closes_exit g l k = closes_unread g (with_unread_up l []) k all_read
 
 -- the exit announces: it offers the front of the kept boards, and takes its offer back
 pub offers_front_board : {Gone : ℕ → Type 0} (g : Ghost) (l : LinkState) (q : Record) (ks : List Record) → Pair g l → l.exit ≡ Standing → l.outlet.phase ≡ out.Idle
@@ -146,3 +177,10 @@ revokes_offer {Gone = Gone} g l z ks k o some c =
       record { out = k.out; «in» = k.in; gap = k.gap; talk = rw (sent_down l.stands (message.RevokeBoardAvailable ∷ []) l.down) u },
       rw (sent_down l.stands (message.RevokeBoardAvailable ∷ []) l.down) (contents_revoke l.stands c),
     )
+
+-- a board that left as the connection of its exit is closed
+pub closes_left : (g : Ghost) (l : LinkState) (q : Record) (rest : List Sensed) → Pair g (with_unread_up l (exit_sees event.Left ∷ rest)) → l.outlet.phase ≡ out.Moving q true
+    → (ms : List Horizontal) → down_words ms ≡ [] → Pair g (once_left (with_unread_up l rest) ms)
+closes_left g l q rest k o ms e =
+    let d = left_exit (rw o at k.talk) (rw o at k.out) in
+    record { out = d.0; «in» = k.in; gap = k.gap; talk = rw (said_nothing l.stands ms l.down e) d.1 }

@@ -1,5 +1,6 @@
 -- The entry hears BoardAvailable and RevokeBoardAvailable, however the link stands: it takes them, or passes them over.
-use Rattle.std.proofs.Common.{Bool, List, Option, [], refl, ℕ, ◌∷◌}
+use Rattle.std.proofs.Common.{Bool, List, Option, refl, ℕ, ◌∷◌}
+use Rattle.line_base.specs.declared.states.SensorEvent.{SensorEvent}
 use Rattle.board_record.specs.declared.record.Record.{Record}
 use Rattle.session_core.specs.declared.state.SessionState.{SessionState}
 use Rattle.handover_out.specs.declared.phase.Phase.{Phase as Out}
@@ -17,9 +18,9 @@ use Rattle.custody.specs.Words.{BoardAvailable, DownWord, RevokeBoardAvailable, 
 use Rattle.custody.proofs.Open.{open_first, open_rest, open_tail}
 use Rattle.custody.proofs.Passed.{passed}
 
-pub hear_available : {Q : Record → Type 0} {b : Bool} {x y : SessionState} {o : Out} {of : Option ℕ} {rd : Bool} {i : In} {f : Option Record} {ri : Bool} {p : Place} {r : Record} {up : List UpWord} {down : List DownWord} {ed : Bool} (q : Record)
-    → Talks b x o of rd y i f ri p up (BoardAvailable q ∷ down) → EntryFloor i [] ed p r
-    → EntryDid Q (in_input.BoardAvailable q) (intake i f ri) [] ed b x o of rd y p r up (BoardAvailable q ∷ down) down
+pub hear_available : {Q : Record → Type 0} {b : Bool} {x y : SessionState} {o : Out} {of : Option ℕ} {rd : Bool} {i : In} {f : Option Record} {ri : Bool} {p : Place} {r : Record} {up : List UpWord} {down : List DownWord} {un : List SensorEvent} {ed : Bool} (q : Record)
+    → Talks b x o of rd y i f ri p up (BoardAvailable q ∷ down) → EntryFloor i un ed p r
+    → EntryDid Q (in_input.BoardAvailable q) (intake i f ri) un ed b x o of rd y p r up (BoardAvailable q ∷ down) down
 hear_available q (live (no_handover a (offers_new c))) h = passed (λ s. refl) refl h (live (no_handover a c)) (λ k j. (open_tail k, open_first k))
 hear_available q (live (start_sent a (stale_offer c))) h = passed (λ s. refl) refl h (live (start_sent a c)) (λ k j. (open_tail k, j))
 hear_available q (live (start_and_stop_sent a (stale_offer c))) h = passed (λ s. refl) refl h (live (start_and_stop_sent a c)) (λ k j. (open_tail k, j))
@@ -39,9 +40,9 @@ hear_available q (apart a (entry_finish_sent (finishes_offer c))) h = passed (λ
 hear_available q (apart a (entry_stopped_finish_sent (finishes_offer c) d)) h = passed (λ s. refl) refl h (apart a (entry_stopped_finish_sent c d)) (λ k j. (open_tail k, j))
 hear_available q (apart a (entry_inside_awaited d (offers_new c))) h = passed (λ s. refl) refl h (apart a (entry_inside_awaited d c)) (λ k j. (open_tail k, open_first k))
 
-pub hear_revoke_available : {Q : Record → Type 0} {b : Bool} {x y : SessionState} {o : Out} {of : Option ℕ} {rd : Bool} {i : In} {f : Option Record} {ri : Bool} {p : Place} {r : Record} {up : List UpWord} {down : List DownWord} {ed : Bool}
-    → Talks b x o of rd y i f ri p up (RevokeBoardAvailable ∷ down) → EntryFloor i [] ed p r
-    → EntryDid Q in_input.RevokeBoardAvailable (intake i f ri) [] ed b x o of rd y p r up (RevokeBoardAvailable ∷ down) down
+pub hear_revoke_available : {Q : Record → Type 0} {b : Bool} {x y : SessionState} {o : Out} {of : Option ℕ} {rd : Bool} {i : In} {f : Option Record} {ri : Bool} {p : Place} {r : Record} {up : List UpWord} {down : List DownWord} {un : List SensorEvent} {ed : Bool}
+    → Talks b x o of rd y i f ri p up (RevokeBoardAvailable ∷ down) → EntryFloor i un ed p r
+    → EntryDid Q in_input.RevokeBoardAvailable (intake i f ri) un ed b x o of rd y p r up (RevokeBoardAvailable ∷ down) down
 hear_revoke_available (live (no_handover a (offers_back c))) h = passed (λ s. refl) refl h (live (no_handover a c)) (λ k j. (open_rest k, no_offer))
 hear_revoke_available (live (start_sent a (stale_revoke c))) h = passed (λ s. refl) refl h (live (start_sent a c)) (λ k j. (open_rest k, j))
 hear_revoke_available (live (start_and_stop_sent a (stale_revoke c))) h = passed (λ s. refl) refl h (live (start_and_stop_sent a c)) (λ k j. (open_rest k, j))

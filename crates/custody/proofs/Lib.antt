@@ -1,3 +1,4 @@
+pub mod Unread
 pub mod Flight
 pub mod Starts
 pub mod Open
@@ -48,6 +49,7 @@ pub mod Texts
 pub mod Hands
 pub mod HandsContents
 pub mod MovesKeep
+pub mod UnreadMoves
 pub mod Spoils
 pub mod Messages
 pub mod HandsFloor

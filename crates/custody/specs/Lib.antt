@@ -15,3 +15,4 @@ pub mod Floors
 pub mod Hands
 pub mod CutAfterInside
 pub mod Bytes
+pub mod Unread

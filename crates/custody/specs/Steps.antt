@@ -128,13 +128,14 @@ pub record EntryBegan (Gone : ℕ
       (dropped_after row.act.deed d) (is_some (held_in row.after.phase))
 
 -- an exit whose connection is closed: the link stands no more, and what flowed to it is gone
-pub record ExitClosed (Gone : ℕ → Type 0) (s : OutState) (xd b : Bool) (y : SessionState) (i : In)
+pub record ExitClosed (Gone : ℕ
+    → Type 0) (s : OutState) (ue : List SensorEvent) (xd b : Bool) (y : SessionState) (i : In)
     (f : Option Record) (ri : Bool) (p : Place) (r : Record) (before : List UpWord)
     (down : List DownWord) : Type 0 where
   pub row : OutRow
   pub is : outlet_row s out_input.Closed ≡ Some row
   pub silent : row.act.send ≡ None
-  pub out : ExitFloor row.after.phase [] (unwrap_or row.act.drive xd) p r
+  pub out : ExitFloor row.after.phase ue (unwrap_or row.act.drive xd) p r
   pub talk : Talks false NotConnected row.after.phase row.after.offered row.after.ready y i f ri p
       [] down
   pub body : (ks : List Record)
@@ -145,14 +146,14 @@ pub record ExitClosed (Gone : ℕ → Type 0) (s : OutState) (xd b : Bool) (y : 
       → LetGo p row.after.phase r (let_after row.act.deed (held_out s.phase) l)
 
 -- an entry whose connection is closed
-pub record EntryClosed (s : InState) (ed : Bool) (x : SessionState) (o : Out) (of : Option ℕ)
-    (rd : Bool) (p : Place) (r : Record) (up : List UpWord) : Type 0 where
+pub record EntryClosed (s : InState) (un : List SensorEvent) (ed : Bool) (x : SessionState) (o : Out)
+    (of : Option ℕ) (rd : Bool) (p : Place) (r : Record) (up : List UpWord) : Type 0 where
   pub row : InRow
   pub is : intake_row s in_input.Closed ≡ Some row
   pub silent : row.act.send ≡ None
   pub settles_not : row.act.keep ≡ None
   pub offerless : row.after.offer ≡ None
-  pub «in» : EntryFloor row.after.phase [] (unwrap_or row.act.drive ed) p r
+  pub «in» : EntryFloor row.after.phase un (unwrap_or row.act.drive ed) p r
   pub talk : Talks false x o of rd NotConnected row.after.phase row.after.offer row.after.ready p
       up []
   pub body : (ks : List Record) → listed_last s.phase p ks ≡ listed_last row.after.phase p ks

@@ -5,4 +5,5 @@
 
 pub mod bytes;
 pub mod keeps;
+pub mod late;
 pub mod laws;
