@@ -305,7 +305,7 @@ start_goes desk g = start_ahead desk g all_free_read
 -- ---- all five, in their order, by a machine that may have events still to read
 
 -- the exit's announcements leave the intake and the entry's session
-outlet_free : {us : List Sensed} (desk : Desk) (body : Machine) (row : Option OutRow) → IsFreeRead us body → IsFreeRead us (outlet_row_did desk body row).body
+pub outlet_free : {us : List Sensed} (desk : Desk) (body : Machine) (row : Option OutRow) → IsFreeRead us body → IsFreeRead us (outlet_row_did desk body row).body
 outlet_free desk body None r = r
 outlet_free desk body (Some row) r = record { read = r.read }
 
@@ -324,7 +324,7 @@ pub record GoesAhead (afar : Afar) (above : List Record) (us : List Sensed) (ga 
   pub goes : GoesBy afar above us ga gb c d
   pub read : IsFreeRead us d.body
 
-ahead_then : {afar : Afar} {above : List Record} {us : List Sensed} {ga gb : Ghost} {c : Scene} (d : Done) (next : Machine → Done) → GoesAhead afar above us ga gb c d
+pub ahead_then : {afar : Afar} {above : List Record} {us : List Sensed} {ga gb : Ghost} {c : Scene} (d : Done) (next : Machine → Done) → GoesAhead afar above us ga gb c d
     → ((a b : Ghost) → Good afar above us a b d.body (all_met d.acts c) → IsFreeRead us d.body → GoesAhead afar above us a b (all_met d.acts c) (next d.body))
     → GoesAhead afar above us ga gb c (and_then d next)
 ahead_then d next g later = record {

@@ -3,6 +3,7 @@ use Rattle.std.proofs.Common.{Bool, List, None, Option, Some, [], is_some, refl,
 use Rattle.line_base.specs.declared.states.Role.TheVariants.{Downstream, Upstream}
 use Rattle.line_base.specs.declared.states.Side.TheVariants.{Entry}
 use Rattle.board_record.specs.declared.record.Record.{Record}
+use Rattle.board_record.specs.declared.sensed.Sensed.{Sensed}
 use Rattle.hermes_horizontal.specs.Parts.{kind_of}
 use Rattle.hermes_horizontal.specs.declared.message.Horizontal.{Horizontal}
 use Rattle.hermes_horizontal.specs.declared.message.Horizontal.TheVariants as message
@@ -47,10 +48,10 @@ use Rattle.machine_custody.proofs.Rows.{row_at_entry, unheard_above}
 use Rattle.machine_custody.proofs.Told.{in_messages, in_met, in_scene, in_words, keep_is}
 
 -- the session goes on, in the same state
-pub same_entry : {afar : Afar} {above : List Record} {ga gb : Ghost} (body : Machine) (c : Scene) (s s2 : SessionEnd) → s2.state ≡ s.state → s2.role ≡ s.role
-    → Good afar above [] ga gb (with_session Entry s body) c → Good afar above [] ga gb (with_session Entry s2 body) c
-same_entry {ga = ga} body c s s2 state role g = record {
-  above_pair = subst (λ y. Pair ga (record (link_above [] body c) { entry = y })) (sym state) g.above_pair;
+pub same_entry : {afar : Afar} {above : List Record} {us : List Sensed} {ga gb : Ghost} (body : Machine) (c : Scene) (s s2 : SessionEnd) → s2.state ≡ s.state → s2.role ≡ s.role
+    → Good afar above us ga gb (with_session Entry s body) c → Good afar above us ga gb (with_session Entry s2 body) c
+same_entry {us = us} {ga = ga} body c s s2 state role g = record {
+  above_pair = subst (λ y. Pair ga (record (link_above us body c) { entry = y })) (sym state) g.above_pair;
   below_pair = g.below_pair;
   boards = g.boards;
   above_contents = g.above_contents;

@@ -3,6 +3,7 @@ use Rattle.std.proofs.Common.{Bool, List, None, Option, Some, [], false, is_some
 use Rattle.line_base.specs.declared.states.Role.TheVariants.{Downstream, Upstream}
 use Rattle.line_base.specs.declared.states.Side.TheVariants.{Exit}
 use Rattle.board_record.specs.declared.record.Record.{Record}
+use Rattle.board_record.specs.declared.sensed.Sensed.{Sensed}
 use Rattle.hermes_horizontal.specs.Parts.{kind_of}
 use Rattle.hermes_horizontal.specs.declared.message.Horizontal.{Horizontal}
 use Rattle.hermes_horizontal.specs.declared.message.Horizontal.TheVariants as message
@@ -59,11 +60,11 @@ use Rattle.machine_custody.proofs.Rows.{IsNotOffer, row_at_exit, unheard_below}
 use Rattle.machine_custody.proofs.Told.{IsNoOffer, out_messages, out_met, out_scene, out_words}
 
 -- the session goes on, in the same state
-pub same_exit : {afar : Afar} {above : List Record} {ga gb : Ghost} (body : Machine) (c : Scene) (s s2 : SessionEnd) → s2.state ≡ s.state → s2.role ≡ s.role
-    → Good afar above [] ga gb (with_session Exit s body) c → Good afar above [] ga gb (with_session Exit s2 body) c
-same_exit {gb = gb} body c s s2 state role g = record {
+pub same_exit : {afar : Afar} {above : List Record} {us : List Sensed} {ga gb : Ghost} (body : Machine) (c : Scene) (s s2 : SessionEnd) → s2.state ≡ s.state → s2.role ≡ s.role
+    → Good afar above us ga gb (with_session Exit s body) c → Good afar above us ga gb (with_session Exit s2 body) c
+same_exit {us = us} {gb = gb} body c s s2 state role g = record {
   above_pair = g.above_pair;
-  below_pair = subst (λ x. Pair gb (record (link_below [] body c) { exit = x })) (sym state) g.below_pair;
+  below_pair = subst (λ x. Pair gb (record (link_below us body c) { exit = x })) (sym state) g.below_pair;
   boards = g.boards;
   above_contents = g.above_contents;
   below_contents = g.below_contents;

@@ -27,5 +27,6 @@ pub mod Answering
 pub mod Cutting
 pub mod Joining
 pub mod Fronts
+pub mod Sudden
 pub mod ComingLast
 pub mod TakingAlone

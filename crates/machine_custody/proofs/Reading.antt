@@ -13,10 +13,11 @@ use Rattle.node_core.specs.Done.{Done}
 use Rattle.node_core.specs.Reads.{all_read, saw}
 use Rattle.node_core.specs.declared.lane.Body.{Body as Machine}
 use Rattle.custody.specs.Pair.{Ghost}
-use Rattle.custody.proofs.EntryEvents.{fails_entry, reads_entry, skips_entry}
-use Rattle.custody.proofs.ExitEvents.{fails_exit, reads_exit, skips_exit}
+use Rattle.custody.proofs.EntryEvents.{fails_unread as entry_fails, reads_entry, skips_entry}
+use Rattle.custody.proofs.ExitEvents.{fails_unread as exit_fails, reads_exit, skips_exit}
 use Rattle.machine_custody.specs.Scene.{Scene, all_met, link_above, link_below}
 use Rattle.machine_custody.specs.Good.{Afar, GoesBy, Good}
+use Rattle.machine_custody.proofs.Closing.{MayFollow, none_follows}
 use Rattle.machine_custody.proofs.Goes.{met_append}
 use Rattle.machine_custody.proofs.Rows.{at_entry_goes, at_entry_good, at_exit_goes, at_exit_good}
 
@@ -37,7 +38,11 @@ all_read_good {afar = afar} {above = above} {ga = ga} {gb = gb} desk (sensed ∷
     subst (λ s. Good afar above [] ga gb (all_read desk others first.body).body s) (sym (met_append first.acts (all_read desk others first.body).acts c))
     (all_read_good desk others first.body now (read_at desk sensed.side sensed.event g))
 
+pub faults_unread : {afar : Afar} {above : List Record} {us : List Sensed} {ga gb : Ghost} {body : Machine} {c : Scene} (desk : Desk) (side : Side) → MayFollow side us ga
+    → Good afar above us ga gb body c → GoesBy afar above us ga gb c (faults desk side body)
+faults_unread {us = us} {ga = ga} {body = body} {c = c} desk Entry n g = at_entry_goes desk in_input.Fault tt g (entry_fails ga (link_above us body c) g.above_pair n) g.below_pair
+faults_unread {us = us} {gb = gb} {body = body} {c = c} desk Exit n g = at_exit_goes desk out_input.Fault tt tt g (exit_fails gb (link_below us body c) g.below_pair n) g.above_pair
+
 pub faults_go : {afar : Afar} {above : List Record} {ga gb : Ghost} {body : Machine} {c : Scene} (desk : Desk) (side : Side)
     → Good afar above [] ga gb body c → GoesBy afar above [] ga gb c (faults desk side body)
-faults_go {ga = ga} {body = body} {c = c} desk Entry g = at_entry_goes desk in_input.Fault tt g (fails_entry ga (link_above [] body c) g.above_pair) g.below_pair
-faults_go {gb = gb} {body = body} {c = c} desk Exit g = at_exit_goes desk out_input.Fault tt tt g (fails_exit gb (link_below [] body c) g.below_pair) g.above_pair
+faults_go {ga = ga} desk side g = faults_unread desk side (none_follows ga side) g

@@ -30,6 +30,7 @@ ghost use Rattle.machine_custody.specs.Flight.{IsPlain};
 ghost use Rattle.machine_custody.specs.Good.{Afar, Goes, GoesBy, Good};
 ghost use Rattle.machine_custody.specs.Joined.{GoesLeft, GoesSecond, described_by, with_link};
 ghost use Rattle.machine_custody.specs.Scene.{Scene, all_met};
+ghost use Rattle.machine_custody.specs.Sudden.{IsReadEnough, IsSudden};
 ghost use Rattle.machine_custody.specs.Unique.{IsApart};
 
 /// A step in which no board is changed by hand and no connection is made keeps the relation of
@@ -123,6 +124,19 @@ pub fn a_step_reads_a_front()
         (read rest : List Sensed) (body : Machine) (c : Scene)
         → Good afar above (read ++ rest) ga gb body c → IsFreeRead (read ++ rest) body
         → IsFreeRead rest (machine_step desk read Nothing body).body }
+{}
+
+/// It may leave events unread also as it finds a connection closed, as a drive fails, as its clock
+/// ticks, or as its will changes, once it has read what its boards did at either gap (`IsReadEnough`).
+pub fn a_step_comes_before_all_is_read()
+    ensures links { (afar : Afar) (above : List Record) (ga gb : Ghost) (desk : Desk)
+        (read rest : List Sensed) (event : Event) (body : Machine) (c : Scene) → IsSudden event
+        → Good afar above (read ++ rest) ga gb body c → IsFreeRead (read ++ rest) body
+        → IsReadEnough rest ga → GoesBy afar above rest ga gb c (machine_step desk read event body) }
+    ensures free { (afar : Afar) (above : List Record) (ga gb : Ghost) (desk : Desk)
+        (read rest : List Sensed) (event : Event) (body : Machine) (c : Scene) → IsSudden event
+        → Good afar above (read ++ rest) ga gb body c → IsFreeRead (read ++ rest) body
+        → IsReadEnough rest ga → IsFreeRead rest (machine_step desk read event body).body }
 {}
 
 /// The machine below finds its connection made where the machine above has taken it first: the
