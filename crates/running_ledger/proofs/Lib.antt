@@ -1,0 +1,5 @@
+pub mod LedgerMarks
+pub mod LedgerTurn
+pub mod LedgerGaps
+pub mod LedgerRuns
+pub mod LedgerExample
