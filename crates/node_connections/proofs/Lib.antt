@@ -1,0 +1,5 @@
+pub mod Holding
+pub mod Parts
+pub mod Polled
+pub mod Pieces
+pub mod Whole
