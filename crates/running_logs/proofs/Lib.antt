@@ -1,0 +1,5 @@
+pub mod LineTexts
+pub mod LineSays
+pub mod StepRight
+pub mod LogRight
+pub mod LogExample
