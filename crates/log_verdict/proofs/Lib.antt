@@ -2,3 +2,4 @@ pub mod LinesLemmas
 pub mod Following
 pub mod Going
 pub mod Verdicts
+pub mod Spared
