@@ -1,7 +1,7 @@
 //! What the acts of a machine do to the links and to the floor, and which of them the report
 //! tells.
 
-ghost use Rattle.std.specs.Prelude.{◌≡◌, ◌∷◌, ◌++◌, IfOk, OnOk, length};
+ghost use Rattle.std.specs.Prelude.{◌≡◌, ◌∷◌, ◌++◌, IfOk, OnErr, OnOk, length};
 ghost use Rattle.line_world.specs.FloorPlan.{IsMachine};
 ghost use Rattle.node_core.specs.declared.act.Act.TheVariants as acts;
 ghost use Rattle.line_report.specs.declared.happening.Happening.TheVariants as happenings;
@@ -23,7 +23,8 @@ pub struct Teller {
     pub second: bool,
 }
 
-/// Does the acts of a step, in their order, and tells them.
+/// Does the acts of a step, in their order, and tells them. `Memory` where there is no room: some
+/// of them were done then, and what was told before is still told.
 pub fn do_acts(
     teller: &Teller,
     acts: Outputs,
@@ -198,7 +199,8 @@ fn is_drive(act: &Act) -> bool
 }
 
 fn tell_maybe_cut(cut: Option<u32>, told: &mut Happened) -> Result<(), Memory>
-    ensures { OnOk result (told.new ≡ told.old ++ maybe_cut cut) }
+    ensures told { OnOk result (told.new ≡ told.old ++ maybe_cut cut) }
+    ensures unchanged { OnErr result (told.new ≡ told.old) }
 {
     match cut {
         Some(gap) => told.tell(Happening::Cut { gap }),
@@ -206,9 +208,11 @@ fn tell_maybe_cut(cut: Option<u32>, told: &mut Happened) -> Result<(), Memory>
     }
 }
 
-/// Too much on its way cuts the link, which is told just after what caused it.
+/// Too much on its way cuts the link, which is told just after what caused it. `Memory` where
+/// there is no room for it: it isn't told then.
 pub fn tell_cut(link: u32, sent: Sent, told: &mut Happened) -> Result<(), Memory>
-    ensures { OnOk result (told.new ≡ told.old ++ cut_told link sent) }
+    ensures told { OnOk result (told.new ≡ told.old ++ cut_told link sent) }
+    ensures unchanged { OnErr result (told.new ≡ told.old) }
 {
     tell_maybe_cut(cut_of(link, sent), told)
 }

@@ -1,4 +1,4 @@
-ghost use Rattle.std.specs.Prelude.{◌≡◌, ◌+◌, ◌≤◌, ◌∷◌, [], ◌++◌, IfOk, OnOk, None, length, true};
+ghost use Rattle.std.specs.Prelude.{◌≡◌, ◌+◌, ◌≤◌, ◌∷◌, [], ◌++◌, IfOk, OnErr, OnOk, None, length, true};
 ghost use Rattle.hermes_horizontal.specs.Canonical.{canonical};
 ghost use Rattle.line_link.specs.Flow.{coming};
 ghost use Rattle.line_link.specs.Link.{after_close, after_connect, after_flow, after_spoil, answer_sent, connected_of, cut, flow_to, sent_of, spoil_sent};
@@ -66,21 +66,29 @@ impl World {
     }
 
     /// One machine more at the downstream end, with a link before it where it isn't the first.
-    /// `Memory` where there is no room for it.
+    /// `Memory` where there is no room for both: the world is as it was then.
     pub fn add_machine(&mut self) -> Result<(), Memory>
         ensures floor { OnOk result (self.new.floor ≡ one_machine_more self.old.floor) }
         ensures links { OnOk result
             (self.new.links ≡ links_more (length self.old.floor.machines) self.old.links) }
         ensures counts { OnOk result ((self.new.opened ≡ self.old.opened)
             × (self.new.settled ≡ self.old.settled)) }
+        ensures unchanged { OnErr result (self.new ≡ self.old) }
     {
-        let is_first = self.floor.machines() == 0;
-        self.floor.add_machine()?;
-        if is_first {
-            return Ok(());
+        if self.floor.machines() == 0 {
+            return self.floor.add_machine();
         }
-        self.links.push(Link::new(self.alloc))?;
-        Ok(())
+        let links = self.links.len();
+        if self.links.push(Link::new(self.alloc)).is_err() {
+            return Err(Memory);
+        }
+        match self.floor.add_machine() {
+            Ok(()) => Ok(()),
+            Err(Memory) => {
+                self.links.truncate(links);
+                Err(Memory)
+            }
+        }
     }
 
     /// How many boards lie on the floor.
@@ -194,7 +202,8 @@ impl World {
 
     // ---- what befalls links
 
-    /// A machine sends a message at a side. `Memory` where there is no room for it.
+    /// A machine sends a message at a side. `Memory` where there is no room for it: nothing is
+    /// sent then.
     pub fn send(&mut self, machine: u32, side: Side, message: &Message) -> Result<Sent, Memory>
         ensures after { IfOk result
             (λ _. self.new ≡ sends_on machine side (canonical message.now) self.old) }
@@ -202,6 +211,7 @@ impl World {
             (λ sent. sent ≡ sent_of (end_of side) (canonical message.now)
             (link_at (link_of machine side) self.old)) }
         ensures machines { IfOk result (λ _. length self.new.floor.machines ≡ length self.old.floor.machines) }
+        ensures unchanged { OnErr result (self.new ≡ self.old) }
     {
         spell(message, &mut self.text)?;
         match place_of(self.links.as_slice(), link_of(machine, side)) {
@@ -211,12 +221,13 @@ impl World {
     }
 
     /// A machine answers a second connection at its exit. `Memory` where there is no room for the
-    /// answer.
+    /// answer: nothing is sent then.
     pub fn answer(&mut self, machine: u32, message: &Message) -> Result<Sent, Memory>
         ensures after { IfOk result (λ _. self.new ≡ answers_on machine (canonical message.now) self.old) }
         ensures sent { IfOk result
             (λ sent. sent ≡ answer_sent (canonical message.now) (link_at machine self.old)) }
         ensures machines { IfOk result (λ _. length self.new.floor.machines ≡ length self.old.floor.machines) }
+        ensures unchanged { OnErr result (self.new ≡ self.old) }
     {
         spell(message, &mut self.text)?;
         match place_of(self.links.as_slice(), machine) {
@@ -282,7 +293,7 @@ impl World {
     }
 
     /// What flows to a side of a link that stands is spoiled. `Memory` where there is no room for
-    /// it.
+    /// it: nothing is spoiled then.
     pub fn spoil(&mut self, machine: u32, side: Side) -> Result<Sent, Memory>
         requires { link_stands machine side self.old ≡ true }
         ensures after { IfOk result
@@ -291,6 +302,7 @@ impl World {
             (after_spoil (end_of side) (link_at (link_of machine side) self.old)) self.old) }
         ensures sent { IfOk result
             (λ sent. sent ≡ spoil_sent (end_of side) (link_at (link_of machine side) self.old)) }
+        ensures unchanged { OnErr result (self.new ≡ self.old) }
     {
         match place_of(self.links.as_slice(), link_of(machine, side)) {
             Some(place) => self.links[place].spoil(end_of(side)),
@@ -312,11 +324,13 @@ impl World {
         self.floor.set_drive(gap, side, on);
     }
 
-    /// A new board lies at a machine's back. `Memory` where there is no room for it.
+    /// A new board lies at a machine's back. `Memory` where there is no room for it: none is laid
+    /// there then.
     pub fn lay(&mut self, machine: u32, id: BoardId) -> Result<(), Memory>
         requires { IsMachine self.old.floor machine }
         ensures after { OnOk result (self.new ≡ with_floor (lays machine id self.old.floor) self.old) }
         ensures machines { OnOk result (length self.new.floor.machines ≡ length self.old.floor.machines) }
+        ensures unchanged { OnErr result (self.new ≡ self.old) }
     {
         self.floor.place(machine as usize, Board { id: Some(id) })
     }
@@ -348,35 +362,39 @@ impl World {
     }
 
     /// Takes the sensor events that a machine hasn't read. `Memory` where there is no room for
-    /// their list.
+    /// their list: they stay unread then.
     pub fn read_all(&mut self, machine: u32) -> Result<Sensors, Memory>
         requires { IsMachine self.old.floor machine }
         ensures events { IfOk result (λ events. events ≡ (machine_at self.old.floor machine).unread) }
         ensures after { OnOk result
             (self.new ≡ with_floor (with_unread self.old.floor machine []) self.old) }
         ensures machines { IfOk result (λ _. length self.new.floor.machines ≡ length self.old.floor.machines) }
+        ensures unchanged { OnErr result (self.new ≡ self.old) }
     {
         self.floor.read_all(machine as usize)
     }
 
-    /// A machine's sensors tell what was not so. `Memory` where there is no room for it.
+    /// A machine's sensors tell what was not so. `Memory` where there is no room for it: they tell
+    /// nothing then.
     pub fn lie(&mut self, machine: u32, sensed: Sensed) -> Result<(), Memory>
         requires { IsMachine self.old.floor machine }
-        ensures { OnOk result
+        ensures after { OnOk result
             (self.new
             ≡ with_floor
             (with_unread self.old.floor machine
             ((machine_at self.old.floor machine).unread ++ sensed ∷ [])) self.old) }
+        ensures unchanged { OnErr result (self.new ≡ self.old) }
     {
         self.floor.lie(machine as usize, sensed)
     }
 
     /// A board without id comes to a machine's back, or its front board goes, and no sensor sees
-    /// it. `Memory` where there is no room for it.
+    /// it. `Memory` where there is no room for it: none comes then.
     pub fn unseen(&mut self, machine: u32, side: Side) -> Result<(), Memory>
         requires { IsMachine self.old.floor machine }
-        ensures { OnOk result
+        ensures after { OnOk result
             (self.new ≡ with_floor (unseen_on machine side self.old.floor) self.old) }
+        ensures unchanged { OnErr result (self.new ≡ self.old) }
     {
         match side {
             Side::Entry => self.floor.place(machine as usize, Board { id: None }),
@@ -393,6 +411,7 @@ impl World {
     pub fn count_opened(&mut self) -> Result<(), Memory>
         ensures after { OnOk result (self.new ≡ record self.old { opened = self.old.opened + 1 }) }
         ensures machines { OnOk result (length self.new.floor.machines ≡ length self.old.floor.machines) }
+        ensures unchanged { OnErr result (self.new ≡ self.old) }
     {
         if self.opened == u64::MAX {
             return Err(Memory);
@@ -405,6 +424,7 @@ impl World {
     pub fn count_settled(&mut self) -> Result<(), Memory>
         ensures after { OnOk result (self.new ≡ record self.old { settled = self.old.settled + 1 }) }
         ensures machines { OnOk result (length self.new.floor.machines ≡ length self.old.floor.machines) }
+        ensures unchanged { OnErr result (self.new ≡ self.old) }
     {
         if self.settled == u64::MAX {
             return Err(Memory);
