@@ -1,3 +1,4 @@
+pub mod Answered
 pub mod Command
 pub mod Ends
 pub mod Logged

@@ -1,4 +1,6 @@
 ghost use Rattle.std.specs.Prelude.{◌≡◌};
+ghost use Rattle.one_run.specs.One.{EachPartIsAFront, EachRunIsOne};
+ghost use Rattle.node_cli.specs.Answered.{EachInputHasOneAnswer, IsAnswered};
 ghost use Rattle.node_cli.specs.Command.{DoesNode, FitsNode, HasCauses, is_one, status_of};
 ghost use Rattle.node_cli.specs.Logged.{LogTellsOwn, TextIsBounded};
 
@@ -29,6 +31,18 @@ pub fn node_main<S: Source, P: Ports, C: Clock, K: Sink>(
     ensures fits { FitsNode (is_one words.now) result }
     ensures causes { HasCauses result (S.faults file.old) (S.faults file.new) (P.faults ports.old)
         (P.faults ports.new) (K.faults log.old) (K.faults log.new) }
+    // in one sentence: the answer is the one that the words, the file's bytes, the moments and what
+    // the ports answered have, or a fault of file or log whose count rose, or Memory
+    ensures complete { IsAnswered (is_one words.now) (S.left file.old) (C.moment clock.old)
+        (P.given ports.old) (P.given ports.new) (K.contents log.old) (K.contents log.new)
+        (S.faults file.old) (S.faults file.new) (K.faults log.old) (K.faults log.new) result }
+    // and these have one at most, with one list of calls and one log
+    ensures determined { EachInputHasOneAnswer }
+    // since a run is one, whatever state it goes on from
+    ensures one { EachRunIsOne }
+    // and what was called and logged at a fault of the log or at Memory is a front of what the whole
+    // run would have
+    ensures part { EachPartIsAFront }
     // what the machine owns is read off the bytes of the log, over the run of every node
     ensures owns { LogTellsOwn }
     // and a way on which too much text waits is closed
@@ -36,6 +50,7 @@ pub fn node_main<S: Source, P: Ports, C: Clock, K: Sink>(
 {
     node_run::laws::what_a_machine_owns_is_read_off_its_log();
     node_run::laws::too_much_text_closes_a_way();
+    one_run::laws::a_run_is_one();
     run_named(alloc, words, file, ports, clock, log)
 }
 

@@ -1,3 +1,5 @@
+use Rattle.node_cli.specs.Command.{is_one}
+use Rattle.node_cli.proofs.Answering.{answers_so, one_answer}
 use Rattle.node_cli.proofs.main_call.node_main.Goals as goal
 
 pub returns-clause-owns : goal.returns-clause-owns
@@ -5,3 +7,15 @@ returns-clause-owns g c = c.what_a_machine_owns_is_read_off_its_log.ensures
 
 pub returns-clause-bounded : goal.returns-clause-bounded
 returns-clause-bounded g c = c.too_much_text_closes_a_way.ensures
+
+pub returns-clause-complete : goal.returns-clause-complete
+returns-clause-complete g c = answers_so (is_one c.args.words.now) _ _ _ _ _ _ _ _ _ _ _ _ _ c.run_named.ensures.does c.run_named.ensures.causes
+
+pub returns-clause-determined : goal.returns-clause-determined
+returns-clause-determined g c = one_answer c.a_run_is_one.ensures.whole
+
+pub returns-clause-one : goal.returns-clause-one
+returns-clause-one g c = c.a_run_is_one.ensures.whole
+
+pub returns-clause-part : goal.returns-clause-part
+returns-clause-part g c = c.a_run_is_one.ensures.part
