@@ -10,7 +10,6 @@ use Rattle.node_run.specs.Runs.{HasRun, IsMoment}
 use Rattle.node_run.specs.State.{RunState, started}
 use Rattle.node_run.specs.Told.{profile_of, rules_of}
 use Rattle.node_run.specs.declared.place.Next.TheVariants as nexts
-use Rattle.node_run.specs.declared.rules.Rules.{Rules}
 use Rattle.node_run.specs.declared.status.NodeStatus.{NodeStatus}
 use Rattle.node_run.specs.declared.status.NodeStatus.TheVariants as statuses
 use Rattle.node_settings.specs.Settings.{Refusal, read_of}
