@@ -1,4 +1,4 @@
-ghost use Rattle.std.specs.Prelude.{◌≡◌, ◌++◌, OnOk, codes, decimal};
+ghost use Rattle.std.specs.Prelude.{◌≡◌, ◌++◌, OnErr, OnOk, codes, decimal};
 ghost use Rattle.hermes_element.specs.Standing.{StillStands};
 ghost use Rattle.line_report.specs.Texts.{summary_text, unvouched_text};
 
@@ -20,9 +20,24 @@ pub struct Summary {
     pub unvouched: Option<u64>,
 }
 
-/// Appends the last line of the report. `Memory` where there is no room for it: what stood in the
-/// text still stands then, and maybe a part of the line behind it.
+/// Appends the last line of the report. `Memory` where there is no room for it: the text is as it
+/// was then.
 pub fn write_summary(summary: &Summary, to: &mut Vec<u8>) -> Result<(), Memory>
+    ensures kept { StillStands to.old.items to.new.items }
+    ensures written { OnOk result (to.new.items ≡ to.old.items ++ summary_text summary.now) }
+    ensures unchanged { OnErr result (to.new.items ≡ to.old.items) }
+{
+    let before = to.len();
+    match append_summary(summary, to) {
+        Ok(()) => Ok(()),
+        Err(Memory) => {
+            to.truncate(before);
+            Err(Memory)
+        }
+    }
+}
+
+fn append_summary(summary: &Summary, to: &mut Vec<u8>) -> Result<(), Memory>
     ensures kept { StillStands to.old.items to.new.items }
     ensures written { OnOk result (to.new.items ≡ to.old.items ++ summary_text summary.now) }
 {

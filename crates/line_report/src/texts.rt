@@ -1,7 +1,7 @@
-//! The report's text of what happened. Where memory is wanting, a front of a text may stand there,
-//! behind what stood there before.
+//! The report's text of what happened. Where memory is wanting, the calls that are given out leave
+//! what stood there; behind it those in here may leave a part of the text.
 
-ghost use Rattle.std.specs.Prelude.{◌≡◌, ◌++◌, OnOk, codes};
+ghost use Rattle.std.specs.Prelude.{◌≡◌, ◌++◌, OnErr, OnOk, codes};
 ghost use Rattle.hermes_element.specs.Standing.{StillStands};
 ghost use Rattle.hermes_vertical.specs.Parts.{name_of};
 ghost use Rattle.node_core.specs.declared.act.Act.TheVariants as acts;
@@ -24,9 +24,23 @@ use line_base::{Memory, Side};
 use node_core::{Act, Deed, Setting};
 
 /// Appends one line of the report: the number of the script line, what happened, and the line's
-/// end. `Memory` where there is no room for it: what stood in the text still stands then, and
-/// maybe a part of the line behind it.
+/// end. `Memory` where there is no room for it: the text is as it was then.
 pub fn write_happening(number: u64, what: &Happening, to: &mut Vec<u8>) -> Result<(), Memory>
+    ensures kept { StillStands to.old.items to.new.items }
+    ensures written { OnOk result (to.new.items ≡ to.old.items ++ entry number what.now) }
+    ensures unchanged { OnErr result (to.new.items ≡ to.old.items) }
+{
+    let before = to.len();
+    match append_happening(number, what, to) {
+        Ok(()) => Ok(()),
+        Err(Memory) => {
+            to.truncate(before);
+            Err(Memory)
+        }
+    }
+}
+
+fn append_happening(number: u64, what: &Happening, to: &mut Vec<u8>) -> Result<(), Memory>
     ensures kept { StillStands to.old.items to.new.items }
     ensures written { OnOk result (to.new.items ≡ to.old.items ++ entry number what.now) }
 {
@@ -43,7 +57,7 @@ fn write_what(what: &Happening, to: &mut Vec<u8>) -> Result<(), Memory>
     match what {
         Happening::Machine { number, capacity } => write_added("machine", *number, *capacity, to),
         Happening::Bridge { number, capacity } => write_added("bridge", *number, *capacity, to),
-        Happening::Done { machine, act } => write_act(*machine, act, to),
+        Happening::Done { machine, act } => append_act(*machine, act, to),
         Happening::Cut { gap } => write_numbered("cut", *gap, to),
         Happening::Spoils { machine, side } => write_side("spoils", *machine, *side, to),
         Happening::Moved { gap, step } => {
@@ -58,7 +72,7 @@ fn write_what(what: &Happening, to: &mut Vec<u8>) -> Result<(), Memory>
         Happening::Unvouched => append(b"unvouched", to),
         Happening::No(reason) => {
             append(b"no: ", to)?;
-            write_reason(reason, to)
+            append_reason(reason, to)
         }
         Happening::Shown {
             machine,
@@ -78,9 +92,23 @@ fn write_what(what: &Happening, to: &mut Vec<u8>) -> Result<(), Memory>
     }
 }
 
-/// Appends a reason in words. `Memory` where there is no room for them: what stood in the text
-/// still stands then, and maybe a part of the words behind it.
+/// Appends a reason in words. `Memory` where there is no room for them: the text is as it was then.
 pub fn write_reason(reason: &Reason, to: &mut Vec<u8>) -> Result<(), Memory>
+    ensures kept { StillStands to.old.items to.new.items }
+    ensures written { OnOk result (to.new.items ≡ to.old.items ++ reason_text reason.now) }
+    ensures unchanged { OnErr result (to.new.items ≡ to.old.items) }
+{
+    let before = to.len();
+    match append_reason(reason, to) {
+        Ok(()) => Ok(()),
+        Err(Memory) => {
+            to.truncate(before);
+            Err(Memory)
+        }
+    }
+}
+
+fn append_reason(reason: &Reason, to: &mut Vec<u8>) -> Result<(), Memory>
     ensures kept { StillStands to.old.items to.new.items }
     ensures written { OnOk result (to.new.items ≡ to.old.items ++ reason_text reason.now) }
 {
@@ -175,9 +203,23 @@ fn write_board(word: &str, number: u32, id: BoardId, to: &mut Vec<u8>) -> Result
 /// Appends what a report tells of one act of a machine, and nothing for a drive.
 ///
 /// `machine` is the machine's number in the line; a node tells itself by its own. `Memory` where
-/// there is no room for it: what stood in the text still stands then, and maybe a part of the
-/// act's text behind it.
+/// there is no room for it: the text is as it was then.
 pub fn write_act(machine: u32, act: &Act, to: &mut Vec<u8>) -> Result<(), Memory>
+    ensures kept { StillStands to.old.items to.new.items }
+    ensures written { OnOk result (to.new.items ≡ to.old.items ++ act_text machine act.now) }
+    ensures unchanged { OnErr result (to.new.items ≡ to.old.items) }
+{
+    let before = to.len();
+    match append_act(machine, act, to) {
+        Ok(()) => Ok(()),
+        Err(Memory) => {
+            to.truncate(before);
+            Err(Memory)
+        }
+    }
+}
+
+fn append_act(machine: u32, act: &Act, to: &mut Vec<u8>) -> Result<(), Memory>
     ensures kept { StillStands to.old.items to.new.items }
     ensures written { OnOk result (to.new.items ≡ to.old.items ++ act_text machine act.now) }
 {
