@@ -8,7 +8,7 @@ use Rattle.handover_out.specs.State.{board_of_phase as held_out}
 use Rattle.handover_out.specs.declared.phase.Phase.{Phase as Out}
 use Rattle.handover_in.specs.State.{board_of_phase as held_in}
 use Rattle.handover_in.specs.declared.phase.Phase.{Phase as In}
-use Rattle.custody.specs.Floor.{ExitFloor, GapAt, at_start, begun_read, begun_unread, both_unread, gap_begun, gap_left, left_unread, out_ended, out_idle, stuck_begun}
+use Rattle.custody.specs.Floor.{ExitFloor, GapAt, at_start, begun_read, begun_unread, both_unread, gap_begun, gap_left, left_unread, out_ended, out_idle, stuck_begun, stuck_left}
 use Rattle.custody.specs.Pair.{Body, board_of, part}
 use Rattle.line_world.specs.declared.moves.Move.TheVariants as moves
 use Rattle.custody.specs.Place.{Home, InGap, Inside, Lost, MovesPlace, Place, Stolen, enters, goes_back, is_handed_in, is_inside, is_lost, is_stolen, is_upstream}
@@ -44,6 +44,7 @@ back_front gap_begun (out_idle _ n) s = elim n [ ]
 back_front gap_begun (out_ended _ n) s = elim n [ ]
 back_front gap_begun (both_unread n) s = elim n [ ]
 back_front gap_begun (left_unread n) s = elim n [ ]
+back_front gap_begun (stuck_left n) s = elim n [ ]
 
 -- a board that is neither before nor behind the kept ones
 pub stays_out : {o : Out} {kept : List Record} {j : In} {q p p2 : Place} {boards : List Board} → is_upstream p ≡ false → is_upstream p2 ≡ false → Body o p kept j q boards

@@ -21,7 +21,7 @@ use Rattle.custody.specs.Pair.{listed_last}
 use Rattle.custody.specs.Place.{Place, not_across_fresh, not_across_home, not_across_in_gap, not_across_lost, not_across_stolen}
 use Rattle.custody.specs.Shape.{finish_and_stop_sent, finish_heard, finish_sent, inside_awaited, inside_awaited_stop_sent, intake_done, no_handover, start_and_stop_sent, start_sent, stop_heard, stop_sent, stuck_stop_heard, stuck_stop_sent, stuck_transporting, transporting}
 use Rattle.custody.specs.Steps.{EntryClosed, intake}
-use Rattle.custody.specs.Talks.{Talks, apart, apart_start, apart_start_stop, described, described_waiting, live, shaking_idle, shaking_stuck, shaking_waiting}
+use Rattle.custody.specs.Talks.{Talks, apart, apart_start, apart_start_stop, described, described_waiting, live, shaking_idle, shaking_stuck, shaking_stuck_waiting, shaking_waiting}
 use Rattle.custody.specs.Words.{DownWord, UpWord, starts_in}
 use Rattle.custody.proofs.Asked.{drops_asked}
 use Rattle.custody.proofs.Contents.{none_open, not_standing}
@@ -142,6 +142,8 @@ close_entry shaking_waiting n h =
     record { row = _; is = refl; «in» = h; talk = apart exit_described entry_waits_in; silent = refl; settles_not = refl; offerless = refl; body = λ ks. refl; recalls = λ s k. shut_recalls s k.0; asked = λ l d a. a }
 close_entry shaking_stuck n h =
     record { row = _; is = refl; «in» = h; talk = apart exit_described_stuck entry_none; silent = refl; settles_not = refl; offerless = refl; body = λ ks. refl; recalls = λ s k. shut_recalls s k.0; asked = λ l d a. a }
+close_entry shaking_stuck_waiting n h =
+    record { row = _; is = refl; «in» = h; talk = apart exit_described_stuck entry_waits_in; silent = refl; settles_not = refl; offerless = refl; body = λ ks. refl; recalls = λ s k. shut_recalls s k.0; asked = λ l d a. a }
 close_entry (described c) n h =
     record { row = _; is = refl; «in» = h; talk = apart (exit_idle readies_none) entry_none; silent = refl; settles_not = refl; offerless = refl; body = λ ks. refl; recalls = λ s k. shut_recalls s k.0; asked = λ l d a. a }
 close_entry (described_waiting c) n h =

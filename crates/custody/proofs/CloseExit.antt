@@ -1,18 +1,15 @@
 -- The connection of the exit is closed: by a notice of it, a breach, a tick, a shutdown, or a board that is held. Its machine has read that its board has begun and left, where it did.
-use Rattle.std.proofs.Common.{Bool, List, None, Option, Some, [], false, refl, true, ℕ, ◌∷◌}
+use Rattle.std.proofs.Common.{Bool, List, None, Option, Some, [], refl, ℕ}
 use Rattle.line_base.specs.declared.states.SensorEvent.{SensorEvent}
-use Rattle.line_base.specs.declared.states.SensorEvent.TheVariants as event
 use Rattle.board_record.specs.declared.record.Record.{Record}
 use Rattle.session_core.specs.declared.state.SessionState.{SessionState}
-use Rattle.session_core.specs.declared.state.SessionState.TheVariants.{NotConnected}
 use Rattle.handover_out.specs.declared.phase.Phase.{Phase as Out}
-use Rattle.handover_out.specs.declared.phase.Phase.TheVariants as out
 use Rattle.handover_in.specs.declared.phase.Phase.{Phase as In}
 use Rattle.custody.specs.Apart.{Entry, Exit, exit_none, exit_none_stuck}
 use Rattle.custody.specs.Facts.{has_first}
-use Rattle.custody.specs.Floor.{ExitFloor, at_start, begun_read, begun_unread, both_gone, both_unread, left_gone, left_unread, more_taken, none_taken, out_ended, out_idle, stuck_back, stuck_begun, stuck_gone}
+use Rattle.custody.specs.Floor.{ExitFloor, at_start, begun_read, begun_unread, both_gone, both_unread, left_gone, left_unread, none_taken, out_ended, out_idle, stuck_back, stuck_begun, stuck_gone, stuck_left, stuck_left_gone}
 use Rattle.custody.specs.LookBack.{is_not_beyond, lets_not, not_beyond_fresh, still_stuck}
-use Rattle.custody.specs.Place.{Place, not_begun_fresh, not_begun_stolen}
+use Rattle.custody.specs.Place.{Place, not_begun_fresh}
 use Rattle.custody.specs.Steps.{ExitClosed, outlet}
 use Rattle.custody.specs.Talks.{Talks, apart}
 use Rattle.custody.specs.Words.{DownWord, UpWord}
@@ -20,7 +17,6 @@ use Rattle.custody.proofs.Contents.{contents_back}
 use Rattle.custody.proofs.Lets.{lets_ended}
 use Rattle.custody.proofs.Sides.{anywhere, anywhere_ended, anywhere_moving, held_moving, held_stuck}
 use Rattle.custody.proofs.Split.{split}
-use Rattle.custody.proofs.Turns.{beyond_begun}
 use Rattle.custody.proofs.Unread.{HasRead}
 
 closed_exit : {Gone : ℕ → Type 0} {s : Bool} {x : SessionState} {o : Out} {of : Option ℕ} {rd : Bool} {y : SessionState} {i : In} {f : Option Record} {ri : Bool} {p : Place} {r : Record} {before : List UpWord} {down : List DownWord} {ue : List SensorEvent} {xd b : Bool} (t : Option ℕ)
@@ -41,19 +37,15 @@ closed_exit t h stuck_gone e c =
 closed_exit t h begun_unread e c = absurd (h.begun has_first)
 closed_exit t h (both_unread _) e c = absurd (h.begun has_first)
 closed_exit t h both_gone e c = absurd (h.begun has_first)
-closed_exit t h (left_unread _) e c = absurd (h.left has_first)
-closed_exit t h left_gone e c = absurd (h.left has_first)
-
-left_floor : {p : Place} {q r : Record} {ue : List SensorEvent} {xd : Bool} → ExitFloor (out.Moving q true) (event.Left ∷ ue) xd p r → ExitFloor out.Idle ue false p r
-left_floor (left_unread n) = out_idle none_taken (beyond_begun n)
-left_floor left_gone = out_idle (more_taken none_taken) not_begun_stolen
+closed_exit t h (left_unread n) e c =
+    record { row = _; is = refl; out = stuck_left n; talk = apart exit_none_stuck (held_moving e c); silent = refl; body = λ ks. refl; contents = λ ks c. contents_back None c; lets = λ l _. lets_not still_stuck }
+closed_exit t h left_gone e c =
+    record { row = _; is = refl; out = stuck_left_gone; talk = apart exit_none_stuck (held_moving e c); silent = refl; body = λ ks. refl; contents = λ ks c. contents_back None c; lets = λ l _. lets_not still_stuck }
+closed_exit t h (stuck_left n) e c =
+    record { row = _; is = refl; out = stuck_left n; talk = apart exit_none_stuck (held_stuck e c); silent = refl; body = λ ks. refl; contents = λ ks c. contents_back None c; lets = λ l _. lets_not still_stuck }
+closed_exit t h stuck_left_gone e c =
+    record { row = _; is = refl; out = stuck_left_gone; talk = apart exit_none_stuck (held_stuck e c); silent = refl; body = λ ks. refl; contents = λ ks c. contents_back None c; lets = λ l _. lets_not still_stuck }
 
 pub close_exit : {Gone : ℕ → Type 0} {b : Bool} {x y : SessionState} {o : Out} {of : Option ℕ} {rd : Bool} {i : In} {f : Option Record} {ri : Bool} {p : Place} {r : Record} {up : List UpWord} {down : List DownWord} {ue : List SensorEvent} {xd : Bool}
     → Talks b x o of rd y i f ri p up down → HasRead ue → ExitFloor o ue xd p r → (t : Option ℕ) → ExitClosed Gone (outlet o of t rd) ue xd b y i f ri p r up down
 close_exit t n h touched = let s = split t in closed_exit touched n h s.exit s.entry
-
--- a board that left as its exit's connection is closed: once the exit reads so, its outlet holds nothing
-pub left_exit : {b : Bool} {x y : SessionState} {of : Option ℕ} {rd : Bool} {i : In} {f : Option Record} {ri : Bool} {p : Place} {q r : Record} {up : List UpWord} {down : List DownWord} {ue : List SensorEvent} {xd : Bool}
-    → Talks b x (out.Moving q true) of rd y i f ri p up down → ExitFloor (out.Moving q true) (event.Left ∷ ue) xd p r
-    → ExitFloor out.Idle ue false p r × Talks false NotConnected out.Idle None false y i f ri p [] down
-left_exit t h = let s = split t in (left_floor h, apart exit_none (anywhere_moving s.exit s.entry))

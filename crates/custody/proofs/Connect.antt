@@ -11,9 +11,9 @@ use Rattle.handover_in.specs.declared.phase.Phase.{Phase as In}
 use Rattle.handover_in.specs.declared.phase.Phase.TheVariants as inn
 use Rattle.custody.specs.Apart.{away_none, away_shaking, entry_none, entry_shaking, entry_shaking_waiting, entry_waits, entry_waits_heard, entry_waits_in, exit_called, exit_called_stuck, exit_none, exit_none_stuck}
 use Rattle.custody.specs.Contents.{Contents, open_none}
-use Rattle.custody.specs.Floor.{EntryFloor, ExitFloor, in_waiting, is_in}
+use Rattle.custody.specs.Floor.{EntryFloor, ExitFloor}
 use Rattle.custody.specs.Place.{Place}
-use Rattle.custody.specs.Talks.{Talks, apart, apart_start, apart_start_stop, shaking_idle, shaking_stuck, shaking_waiting}
+use Rattle.custody.specs.Talks.{Talks, apart, apart_start, apart_start_stop, shaking_idle, shaking_stuck, shaking_stuck_waiting, shaking_waiting}
 use Rattle.custody.specs.Words.{DownWord, DownstreamService, UpWord, starts_in}
 use Rattle.custody.proofs.Contents.{none_open}
 
@@ -68,7 +68,7 @@ pub take_call : {b : Bool} {o : Out} {of : Option ℕ} {rd : Bool} {i : In} {f :
 take_call (apart exit_called entry_shaking) _ _ = shaking_idle
 take_call (apart exit_called entry_shaking_waiting) _ _ = shaking_waiting
 take_call (apart exit_called_stuck entry_shaking) _ _ = shaking_stuck
-take_call (apart exit_called_stuck entry_shaking_waiting) h (in_waiting is_in) = elim h [ ]
+take_call (apart exit_called_stuck entry_shaking_waiting) _ _ = shaking_stuck_waiting
 
 -- both at once
 pub accept : {b : Bool} {o : Out} {of : Option ℕ} {rd : Bool} {i : In} {f : Option Record} {ri : Bool} {p : Place} {r : Record} {ue un : List SensorEvent} {xd ed : Bool}
@@ -77,7 +77,7 @@ pub accept : {b : Bool} {o : Out} {of : Option ℕ} {rd : Bool} {i : In} {f : Op
 accept (apart exit_none entry_shaking) _ _ = shaking_idle
 accept (apart exit_none entry_shaking_waiting) _ _ = shaking_waiting
 accept (apart exit_none_stuck entry_shaking) _ _ = shaking_stuck
-accept (apart exit_none_stuck entry_shaking_waiting) h (in_waiting is_in) = elim h [ ]
+accept (apart exit_none_stuck entry_shaking_waiting) _ _ = shaking_stuck_waiting
 
 -- nothing is offered on a new connection
 pub contents_new : {Gone : ℕ → Type 0} {b c : Bool} {ks : List Record} {t : Option ℕ} {i : In} {f : Option Record} {up us : List UpWord}

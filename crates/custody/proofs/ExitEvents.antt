@@ -1,8 +1,7 @@
 -- The events of an exit, over the values of a link. A word that is heard finds a session that takes it, and a row.
-use Rattle.std.proofs.Common.{Bool, List, None, Option, Some, [], ap, false, subst, sym, true, ℕ, ◌∙◌, ◌∷◌, ◌≡◌}
+use Rattle.std.proofs.Common.{Bool, List, None, Option, Some, [], ap, false, subst, sym, ℕ, ◌∙◌, ◌∷◌, ◌≡◌}
 use Rattle.line_base.specs.declared.states.Quality.{Quality}
 use Rattle.line_base.specs.declared.states.SensorEvent.{SensorEvent}
-use Rattle.line_base.specs.declared.states.SensorEvent.TheVariants as event
 use Rattle.line_base.specs.declared.states.Side.TheVariants as sides
 use Rattle.line_base.specs.declared.states.Transfer.{Transfer}
 use Rattle.board_record.specs.declared.record.Record.{Record}
@@ -23,10 +22,10 @@ use Rattle.custody.specs.Facts.{IsOpen, is_ready, is_revoke_ready, is_start, is_
 use Rattle.custody.specs.LookBack.{asks_nothing}
 use Rattle.custody.specs.Pair.{Ghost, LinkState, Pair}
 use Rattle.custody.specs.Talks.{Talks}
-use Rattle.custody.specs.Unread.{HasReadLeft, IsBehind, once_left}
+use Rattle.custody.specs.Unread.{IsBehind}
 use Rattle.custody.specs.Words.{BoardAvailable, DownWord, DownstreamService, RevokeBoardAvailable, UpstreamService, down_words, events_at, sent, up_words}
 use Rattle.custody.proofs.AnnounceExit.{announce_offer, announce_revoke, contents_offer, contents_revoke}
-use Rattle.custody.proofs.CloseExit.{close_exit, left_exit}
+use Rattle.custody.proofs.CloseExit.{close_exit}
 use Rattle.custody.proofs.HearReady.{hear_ready, hear_revoke_ready}
 use Rattle.custody.proofs.HearService.{contents_described, free_in_a_handshake, hear_downstream_service, held_in_a_handshake}
 use Rattle.custody.proofs.HearStart.{hear_start}
@@ -46,8 +45,8 @@ pub skips_exit : (g : Ghost) (l : LinkState) (e : SensorEvent) (rest : List Sens
 skips_exit g l e rest k = record { out = k.out; «in» = k.in; gap = k.gap; talk = k.talk }
 
 -- what may be unread beside a fault, a stop that is heard and a close
-pub has_read : (g : Ghost) (l : LinkState) → IsBehind g l → HasReadLeft l → HasRead (events_at sides.Exit l.around.up.unread)
-has_read g l behind left = record { begun = behind.exit; left = left }
+pub has_read : (g : Ghost) (l : LinkState) → IsBehind g l → HasRead (events_at sides.Exit l.around.up.unread)
+has_read g l behind = record { begun = behind.exit }
 
 pub fails_unread : {Gone : ℕ → Type 0} (g : Ghost) (l : LinkState) → Pair g l → HasRead (events_at sides.Exit l.around.up.unread) → ExitStep Gone g l out_input.Fault l.around.up.unread l.up
 fails_unread g l k n = exit_step g l out_input.Fault l.around.up.unread l.up k (fault_exit n k.out k.talk l.outlet.touched)
@@ -177,10 +176,3 @@ revokes_offer {Gone = Gone} g l z ks k o some c =
       record { out = k.out; «in» = k.in; gap = k.gap; talk = rw (sent_down l.stands (message.RevokeBoardAvailable ∷ []) l.down) u },
       rw (sent_down l.stands (message.RevokeBoardAvailable ∷ []) l.down) (contents_revoke l.stands c),
     )
-
--- a board that left as the connection of its exit is closed
-pub closes_left : (g : Ghost) (l : LinkState) (q : Record) (rest : List Sensed) → Pair g (with_unread_up l (exit_sees event.Left ∷ rest)) → l.outlet.phase ≡ out.Moving q true
-    → (ms : List Horizontal) → down_words ms ≡ [] → Pair g (once_left (with_unread_up l rest) ms)
-closes_left g l q rest k o ms e =
-    let d = left_exit (rw o at k.talk) (rw o at k.out) in
-    record { out = d.0; «in» = k.in; gap = k.gap; talk = rw (said_nothing l.stands ms l.down e) d.1 }

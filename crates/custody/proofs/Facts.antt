@@ -9,7 +9,7 @@ use Rattle.handover_out.specs.declared.phase.Phase.{Phase as Out}
 use Rattle.handover_in.specs.State.{board_of_phase as held_in}
 use Rattle.handover_in.specs.declared.phase.Phase.{Phase as In}
 use Rattle.custody.specs.Facts.{Has, TellsOf, has_first, has_later, tells_across, tells_inside, tells_lost, tells_stolen}
-use Rattle.custody.specs.Floor.{EntryFloor, ExitFloor, GapAt, at_start, begun_read, begun_unread, both_gone, both_unread, gap_begun, gap_left, in_free, in_stopped, in_taken_in, in_taking, in_waiting, in_waiting_on, left_gone, left_unread, out_ended, out_idle, stuck_back, stuck_begun, stuck_gone}
+use Rattle.custody.specs.Floor.{EntryFloor, ExitFloor, GapAt, at_start, begun_read, begun_unread, both_gone, both_unread, gap_begun, gap_left, in_free, in_stopped, in_taken_in, in_taking, in_waiting, in_waiting_on, left_gone, left_unread, out_ended, out_idle, stuck_back, stuck_begun, stuck_gone, stuck_left, stuck_left_gone}
 use Rattle.custody.specs.Place.{Place, beyond_across, beyond_inside}
 
 -- the board that lies begun is held upstream
@@ -20,6 +20,7 @@ begun_held_upstream gap_begun begun_unread = refl
 begun_held_upstream gap_begun begun_read = refl
 begun_held_upstream gap_begun (both_unread n) = elim n [ ]
 begun_held_upstream gap_begun (left_unread n) = elim n [ ]
+begun_held_upstream gap_begun (stuck_left n) = elim n [ ]
 begun_held_upstream gap_begun stuck_begun = refl
 
 pub begun_id : {a : Board} {p : Place} {r : Record} → GapAt (gaps.Begun a) p r → a.id ≡ Some r.id
@@ -56,6 +57,9 @@ gone_is_unread left_gone tells_stolen _ = has_later has_first
 gone_is_unread stuck_begun n _ = elim n [ ]
 gone_is_unread stuck_back n _ = elim n [ ]
 gone_is_unread stuck_gone tells_lost _ = has_first
+gone_is_unread (stuck_left beyond_across) tells_across _ = has_first
+gone_is_unread (stuck_left beyond_inside) tells_inside _ = has_first
+gone_is_unread stuck_left_gone tells_stolen _ = has_later has_first
 
 -- both hold one record
 pub out_holds : {o : Out} {ue : List SensorEvent} {xd : Bool} {p : Place} {r q : Record} → ExitFloor o ue xd p r → held_out o ≡ Some q → r ≡ q
@@ -71,6 +75,8 @@ out_holds left_gone h = cc
 out_holds stuck_begun h = cc
 out_holds stuck_back h = cc
 out_holds stuck_gone h = cc
+out_holds (stuck_left _) h = cc
+out_holds stuck_left_gone h = cc
 
 pub in_holds : {i : In} {un : List SensorEvent} {ed : Bool} {p : Place} {r q : Record} → EntryFloor i un ed p r → held_in i ≡ Some q → r ≡ q
 in_holds (in_free _ _) h = absurd (no_board h)

@@ -11,7 +11,7 @@ use Rattle.custody.specs.Apart.{exit_described, exit_described_stuck, exit_idle}
 use Rattle.custody.specs.Contents.{Contents, OpenAll, open_back, open_end, open_new, open_none, open_passed, open_service}
 use Rattle.custody.specs.Flight.{offers_none, readies_none}
 use Rattle.custody.specs.Place.{Place}
-use Rattle.custody.specs.Talks.{Talks, apart, described, described_waiting, shaking_idle, shaking_stuck, shaking_waiting}
+use Rattle.custody.specs.Talks.{Talks, apart, described, described_waiting, shaking_idle, shaking_stuck, shaking_stuck_waiting, shaking_waiting}
 use Rattle.custody.specs.Words.{DownWord, DownstreamService, UpWord, UpstreamService, sent}
 
 -- the downstream machine describes itself to an exit whose outlet holds nothing, and is answered
@@ -42,6 +42,7 @@ pub held_in_a_handshake : {b : Bool} {y : SessionState} {o : Out} {of : Option â
 held_in_a_handshake shaking_idle e = cc
 held_in_a_handshake shaking_waiting e = cc
 held_in_a_handshake shaking_stuck e = cc
+held_in_a_handshake shaking_stuck_waiting e = cc
 held_in_a_handshake (apart exit_described _) e = cc
 held_in_a_handshake (apart exit_described_stuck _) e = cc
 
@@ -51,5 +52,6 @@ pub free_in_a_handshake : {b : Bool} {y : SessionState} {o : Out} {of : Option â
 free_in_a_handshake shaking_idle e = refl
 free_in_a_handshake shaking_waiting e = refl
 free_in_a_handshake shaking_stuck e = cc
+free_in_a_handshake shaking_stuck_waiting e = cc
 free_in_a_handshake (apart exit_described _) e = refl
 free_in_a_handshake (apart exit_described_stuck _) e = cc

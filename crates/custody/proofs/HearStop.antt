@@ -10,7 +10,7 @@ use Rattle.handover_in.specs.declared.phase.Phase.{Phase as In}
 use Rattle.custody.specs.Apart.{exit_finished_stop_sent, exit_idle, exit_stop_sent, exit_stuck, exit_stuck_stop_sent}
 use Rattle.custody.specs.Facts.{has_first}
 use Rattle.custody.specs.Flight.{fits_fresh, offers_none, readies_none}
-use Rattle.custody.specs.Floor.{ExitFloor, at_start, begun_read, begun_unread, both_gone, both_unread, left_gone, left_unread, none_taken, out_ended, out_idle, stuck_back, stuck_begun, stuck_gone}
+use Rattle.custody.specs.Floor.{ExitFloor, at_start, begun_read, begun_unread, both_gone, both_unread, left_gone, left_unread, none_taken, out_ended, out_idle, stuck_back, stuck_begun, stuck_gone, stuck_left, stuck_left_gone}
 use Rattle.custody.specs.LookBack.{is_not_beyond, lets_not, not_beyond_fresh, still_stuck}
 use Rattle.custody.specs.Place.{Place, not_begun_fresh}
 use Rattle.custody.specs.Shape.{finish_and_stop_sent, inside_awaited, inside_awaited_stop_sent, intake_done, no_handover, start_and_stop_sent, start_sent, stop_heard, stop_sent, stuck_stop_heard, stuck_stop_sent}
@@ -66,10 +66,22 @@ hear_stop (apart (exit_idle a) _) _ _ t s = elim a [ ]
 hear_stop (live (stop_sent _)) h begun_unread t s = absurd (h.begun has_first)
 hear_stop (live (stop_sent _)) h (both_unread _) t s = absurd (h.begun has_first)
 hear_stop (live (stop_sent _)) h both_gone t s = absurd (h.begun has_first)
-hear_stop (live (stop_sent _)) h (left_unread _) t s = absurd (h.left has_first)
-hear_stop (live (stop_sent _)) h left_gone t s = absurd (h.left has_first)
+hear_stop (live (stop_sent c)) h (left_unread n) t s =
+    record { row = _; is = out_same _ _ _; out = stuck_left n; talk = live (stuck_stop_heard c); body = λ ks. refl; contents = λ ks _. contents_free (nothing_stopped c) refl; lets = λ l _. lets_not still_stuck; starts = refl; answers = λ l. refl }
+hear_stop (live (stop_sent c)) h left_gone t s =
+    record { row = _; is = out_same _ _ _; out = stuck_left_gone; talk = live (stuck_stop_heard c); body = λ ks. refl; contents = λ ks _. contents_free (nothing_stopped c) refl; lets = λ l _. lets_not still_stuck; starts = refl; answers = λ l. refl }
 hear_stop (apart exit_stop_sent _) h begun_unread t s = absurd (h.begun has_first)
 hear_stop (apart exit_stop_sent _) h (both_unread _) t s = absurd (h.begun has_first)
 hear_stop (apart exit_stop_sent _) h both_gone t s = absurd (h.begun has_first)
-hear_stop (apart exit_stop_sent _) h (left_unread _) t s = absurd (h.left has_first)
-hear_stop (apart exit_stop_sent _) h left_gone t s = absurd (h.left has_first)
+hear_stop (apart exit_stop_sent c) h (left_unread n) t s =
+    record { row = _; is = out_same _ _ _; out = stuck_left n; talk = apart exit_stuck c; body = λ ks. refl; contents = λ ks k. contents_back None k; lets = λ l _. lets_not still_stuck; starts = refl; answers = λ l. refl }
+hear_stop (apart exit_stop_sent c) h left_gone t s =
+    record { row = _; is = out_same _ _ _; out = stuck_left_gone; talk = apart exit_stuck c; body = λ ks. refl; contents = λ ks k. contents_back None k; lets = λ l _. lets_not still_stuck; starts = refl; answers = λ l. refl }
+hear_stop (live (stuck_stop_sent c)) h (stuck_left n) t s =
+    record { row = _; is = out_same _ _ _; out = stuck_left n; talk = live (stuck_stop_heard c); body = λ ks. refl; contents = λ ks _. contents_free (nothing_stopped c) refl; lets = λ l _. lets_not still_stuck; starts = refl; answers = λ l. refl }
+hear_stop (live (stuck_stop_sent c)) h stuck_left_gone t s =
+    record { row = _; is = out_same _ _ _; out = stuck_left_gone; talk = live (stuck_stop_heard c); body = λ ks. refl; contents = λ ks _. contents_free (nothing_stopped c) refl; lets = λ l _. lets_not still_stuck; starts = refl; answers = λ l. refl }
+hear_stop (apart exit_stuck_stop_sent c) h (stuck_left n) t s =
+    record { row = _; is = out_same _ _ _; out = stuck_left n; talk = apart exit_stuck c; body = λ ks. refl; contents = λ ks k. contents_back None k; lets = λ l _. lets_not still_stuck; starts = refl; answers = λ l. refl }
+hear_stop (apart exit_stuck_stop_sent c) h stuck_left_gone t s =
+    record { row = _; is = out_same _ _ _; out = stuck_left_gone; talk = apart exit_stuck c; body = λ ks. refl; contents = λ ks k. contents_back None k; lets = λ l _. lets_not still_stuck; starts = refl; answers = λ l. refl }

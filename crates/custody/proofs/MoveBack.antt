@@ -8,7 +8,7 @@ use Rattle.line_world.specs.declared.board.Board.{Board}
 use Rattle.line_world.specs.declared.gap.Gap.TheVariants as gaps
 use Rattle.handover_out.specs.declared.phase.Phase.{Phase as Out}
 use Rattle.handover_in.specs.declared.phase.Phase.{Phase as In}
-use Rattle.custody.specs.Floor.{EntryFloor, ExitFloor, GapAt, both_unread, gap_begun, gap_home, gap_lost, in_free, in_stopped, in_taken_in, in_taking, in_waiting, left_unread, on_back, on_begun, on_gone, out_ended, out_idle, sees_back, sees_begun, sees_gone, stuck_back, stuck_begun, stuck_gone}
+use Rattle.custody.specs.Floor.{EntryFloor, ExitFloor, GapAt, both_unread, gap_begun, gap_home, gap_lost, in_free, in_stopped, in_taken_in, in_taking, in_waiting, left_unread, on_back, on_begun, on_gone, out_ended, out_idle, sees_back, sees_begun, sees_gone, stuck_back, stuck_begun, stuck_gone, stuck_left}
 use Rattle.custody.specs.Place.{Home, InGap, Lost, Place, not_across_home, not_across_lost}
 use Rattle.custody.specs.Talks.{Talks}
 use Rattle.custody.specs.Words.{DownWord, UpWord}
@@ -41,6 +41,7 @@ move_back gap_begun (out_idle _ n) _ k = elim n [ ]
 move_back gap_begun (out_ended _ n) _ k = elim n [ ]
 move_back gap_begun (both_unread n) _ k = elim n [ ]
 move_back gap_begun (left_unread n) _ k = elim n [ ]
+move_back gap_begun (stuck_left n) _ k = elim n [ ]
 move_back gap_begun stuck_begun n k = record { out = stuck_back; «in» = in_back n; gap = gap_home; talk = stuck_place k }
 
 pub move_take_begun : {b : Bool} {x y : SessionState} {o : Out} {of : Option ℕ} {rd : Bool} {i : In} {f : Option Record} {ri : Bool} {p : Place} {r : Record} {up : List UpWord} {down : List DownWord} {ue un : List SensorEvent} {ed : Bool} {a : Board}
@@ -50,4 +51,5 @@ move_take_begun gap_begun (out_idle _ n) _ k = elim n [ ]
 move_take_begun gap_begun (out_ended _ n) _ k = elim n [ ]
 move_take_begun gap_begun (both_unread n) _ k = elim n [ ]
 move_take_begun gap_begun (left_unread n) _ k = elim n [ ]
+move_take_begun gap_begun (stuck_left n) _ k = elim n [ ]
 move_take_begun gap_begun stuck_begun n k = record { out = stuck_gone; «in» = in_lost n; gap = gap_lost; talk = stuck_place k }

@@ -11,10 +11,10 @@ use Rattle.handover_out.specs.declared.phase.Phase.{Phase as Out}
 use Rattle.handover_in.specs.declared.phase.Phase.{Phase as In}
 use Rattle.custody.specs.Apart.{entry_described, entry_described_waiting, entry_finish_heard, entry_finish_sent, entry_idle, entry_inside_awaited, entry_none, entry_shaking, entry_shaking_waiting, entry_stopped, entry_stopped_finish_sent, entry_transporting, entry_waits, entry_waits_heard, entry_waits_in}
 use Rattle.custody.specs.Flight.{Fits, fits_across, fits_inside}
-use Rattle.custody.specs.Floor.{EntryFloor, ExitFloor, GapAt, both_unread, gap_inside, gap_left, in_free, in_stopped, in_taken_in, in_taking, in_waiting, in_waiting_on, left_unread, on_across, on_full, out_ended, out_idle, sees_across, sees_full}
+use Rattle.custody.specs.Floor.{EntryFloor, ExitFloor, GapAt, both_unread, gap_inside, gap_left, in_free, in_stopped, in_taken_in, in_taking, in_waiting, in_waiting_on, left_unread, on_across, on_full, out_ended, out_idle, sees_across, sees_full, stuck_left}
 use Rattle.custody.specs.Place.{Across, Inside, Place, beyond_inside, not_begun_inside}
 use Rattle.custody.specs.Shape.{finish_and_stop_sent, finish_heard, finish_sent, inside_awaited, inside_awaited_stop_sent, intake_done, no_handover, stop_heard, stop_sent, stuck_stop_heard, stuck_stop_sent, stuck_transporting, transporting}
-use Rattle.custody.specs.Talks.{Talks, apart, apart_start, apart_start_stop, described, described_waiting, live, shaking_idle, shaking_stuck, shaking_waiting}
+use Rattle.custody.specs.Talks.{Talks, apart, apart_start, apart_start_stop, described, described_waiting, live, shaking_idle, shaking_stuck, shaking_stuck_waiting, shaking_waiting}
 use Rattle.custody.specs.Words.{DownWord, UpWord}
 use Rattle.custody.proofs.Flight.{finishes_moved}
 use Rattle.custody.proofs.MoveOut.{Moved}
@@ -41,6 +41,7 @@ inside (live (inside_awaited c d)) = live (inside_awaited (to_inside c) d)
 inside shaking_idle = shaking_idle
 inside shaking_waiting = shaking_waiting
 inside shaking_stuck = shaking_stuck
+inside shaking_stuck_waiting = shaking_stuck_waiting
 inside (described c) = described c
 inside (described_waiting c) = described_waiting c
 inside (apart_start a c) = apart_start a c
@@ -66,6 +67,7 @@ out_inside (out_idle a n) = out_idle a not_begun_inside
 out_inside (out_ended a n) = out_ended a not_begun_inside
 out_inside (both_unread n) = both_unread beyond_inside
 out_inside (left_unread n) = left_unread beyond_inside
+out_inside (stuck_left n) = stuck_left beyond_inside
 
 pub in_enters : {i : In} {un : List SensorEvent} {r : Record} → EntryFloor i un true Across r → EntryFloor i (un ++ (event.Full ∷ [])) false Inside r
 in_enters (in_taking sees_across) = in_taken_in sees_full

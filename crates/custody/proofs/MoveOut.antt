@@ -14,7 +14,7 @@ use Rattle.custody.specs.Apart.{exit_called_stuck, exit_described_stuck, exit_no
 use Rattle.custody.specs.Floor.{AllTaken, EntryFloor, ExitFloor, GapAt, NoFull, at_start, begun_read, begun_unread, both_unread, gap_begun, gap_left, in_free, in_stopped, in_taken_in, in_taking, in_waiting, left_unread, more_taken, no_full_back, no_full_begun, no_full_none, no_full_taken, none_taken, on_across, on_begun, sees_across, sees_begun, sees_fresh}
 use Rattle.custody.specs.Place.{Across, Fresh, InGap, Place, beyond_across, not_across_in_gap}
 use Rattle.custody.specs.Shape.{stop_sent, stuck_stop_heard, stuck_stop_sent, stuck_transporting, transporting}
-use Rattle.custody.specs.Talks.{Talks, apart, live, shaking_stuck}
+use Rattle.custody.specs.Talks.{Talks, apart, live, shaking_stuck, shaking_stuck_waiting}
 use Rattle.custody.specs.Words.{DownWord, UpWord}
 use Rattle.custody.proofs.Sides.{replaced}
 
@@ -39,6 +39,7 @@ stuck_place (live (stuck_transporting c)) = live (stuck_transporting c)
 stuck_place (live (stuck_stop_sent c)) = live (stuck_stop_sent c)
 stuck_place (live (stuck_stop_heard c)) = live (stuck_stop_heard c)
 stuck_place shaking_stuck = shaking_stuck
+stuck_place shaking_stuck_waiting = shaking_stuck_waiting
 stuck_place (apart exit_none_stuck c) = apart exit_none_stuck (replaced c)
 stuck_place (apart exit_called_stuck c) = apart exit_called_stuck (replaced c)
 stuck_place (apart exit_shaking_stuck c) = apart exit_shaking_stuck (replaced c)

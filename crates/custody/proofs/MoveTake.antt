@@ -13,10 +13,10 @@ use Rattle.handover_in.specs.declared.phase.Phase.{Phase as In}
 use Rattle.handover_in.specs.declared.phase.Phase.TheVariants as inn
 use Rattle.custody.specs.Apart.{entry_described_waiting, entry_inside_awaited, entry_shaking_waiting, entry_stopped, entry_stopped_finish_sent, entry_waits, entry_waits_heard, entry_waits_in}
 use Rattle.custody.specs.Flight.{Finishes, Fits, fits_across, fits_stolen}
-use Rattle.custody.specs.Floor.{EntryFloor, ExitFloor, GapAt, both_gone, both_unread, gap_left, gap_stolen, in_free, in_stopped, in_taken_in, in_waiting, left_gone, left_unread, on_across, on_stolen, out_ended, out_idle, sees_across, sees_stolen}
+use Rattle.custody.specs.Floor.{EntryFloor, ExitFloor, GapAt, both_gone, both_unread, gap_left, gap_stolen, in_free, in_stopped, in_taken_in, in_waiting, left_gone, left_unread, on_across, on_stolen, out_ended, out_idle, sees_across, sees_stolen, stuck_left, stuck_left_gone}
 use Rattle.custody.specs.Place.{Across, Place, Stolen, not_begun_stolen}
 use Rattle.custody.specs.Shape.{finish_and_stop_sent, inside_awaited, inside_awaited_stop_sent, stop_heard, stop_sent, stuck_stop_heard, stuck_stop_sent}
-use Rattle.custody.specs.Talks.{Talks, apart, described_waiting, live, shaking_waiting}
+use Rattle.custody.specs.Talks.{Talks, apart, described_waiting, live, shaking_stuck_waiting, shaking_waiting}
 use Rattle.custody.specs.Words.{DownWord, UpWord}
 use Rattle.custody.proofs.Flight.{finishes_moved}
 use Rattle.custody.proofs.MoveOut.{Moved, all_taken_more}
@@ -26,6 +26,7 @@ out_stolen (out_idle a n) = out_idle (all_taken_more a) not_begun_stolen
 out_stolen (out_ended a n) = out_ended (all_taken_more a) not_begun_stolen
 out_stolen (both_unread n) = both_gone
 out_stolen (left_unread n) = left_gone
+out_stolen (stuck_left n) = stuck_left_gone
 
 pub in_stolen : {i : In} {un : List SensorEvent} {r : Record} → EntryFloor i un false Across r → EntryFloor i (un ++ (event.Taken ∷ [])) false Stolen r
 in_stolen (in_free a n) = elim n [ ]
@@ -66,6 +67,7 @@ stolen resting_stopped (apart a (entry_stopped_finish_sent c d)) = apart a (entr
 stolen resting_stopped (apart a (entry_inside_awaited c d)) = apart a (entry_inside_awaited (to_stolen c) d)
 stolen resting_waiting (live s) = elim s [ ]
 stolen resting_waiting shaking_waiting = shaking_waiting
+stolen resting_waiting shaking_stuck_waiting = shaking_stuck_waiting
 stolen resting_waiting (described_waiting c) = described_waiting c
 stolen resting_waiting (apart a entry_waits) = apart a entry_waits
 stolen resting_waiting (apart a entry_waits_in) = apart a entry_waits_in

@@ -13,7 +13,7 @@ use Rattle.custody.specs.Contents.{OfferIs, OpenAll, no_offer, offer_is, open_ba
 use Rattle.custody.specs.Flight.{Finishes, Stale, finishes_now, finishes_offer, finishes_revoke, stale_none, stale_offer, stale_revoke}
 use Rattle.custody.specs.Place.{Place}
 use Rattle.custody.specs.Shape.{Shape, finish_and_stop_sent, finish_heard, finish_sent, inside_awaited_stop_sent, intake_done, no_handover, start_and_stop_sent, start_sent, stop_sent, stuck_stop_heard, stuck_stop_sent, stuck_transporting, transporting}
-use Rattle.custody.specs.Talks.{Talks, apart, apart_start, apart_start_stop, live, shaking_stuck}
+use Rattle.custody.specs.Talks.{Talks, apart, apart_start, apart_start_stop, live, shaking_stuck, shaking_stuck_waiting}
 use Rattle.custody.specs.Words.{BoardAvailable, DownWord, RevokeBoardAvailable, StartTransport, TransportFinished, UpWord, UpstreamService, sent, starts_in}
 
 pub open_map : {Q P : Record → Type 0} {b : Bool} {ws : List DownWord} → ((r : Record) → Q r → P r) → OpenAll Q b ws → OpenAll P b ws
@@ -97,6 +97,7 @@ stuck_open (live (stuck_transporting s)) = record { offers = stale_open s; offer
 stuck_open (live (stuck_stop_sent s)) = record { offers = stale_open s; offer = refl }
 stuck_open (live (stuck_stop_heard s)) = record { offers = stale_open s; offer = refl }
 stuck_open shaking_stuck = record { offers = open_none; offer = refl }
+stuck_open shaking_stuck_waiting = record { offers = open_none; offer = refl }
 stuck_open (apart exit_none_stuck c) = entry_open c
 stuck_open (apart exit_called_stuck c) = entry_open c
 stuck_open (apart exit_shaking_stuck c) = entry_open c
@@ -167,6 +168,7 @@ stuck_starts (live (stuck_transporting _)) = refl
 stuck_starts (live (stuck_stop_sent _)) = refl
 stuck_starts (live (stuck_stop_heard _)) = refl
 stuck_starts shaking_stuck = refl
+stuck_starts shaking_stuck_waiting = refl
 stuck_starts (apart exit_none_stuck _) = refl
 stuck_starts (apart exit_called_stuck _) = refl
 stuck_starts (apart exit_shaking_stuck _) = refl

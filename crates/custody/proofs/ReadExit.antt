@@ -8,7 +8,7 @@ use Rattle.handover_out.specs.declared.phase.Phase.{Phase as Out}
 use Rattle.handover_in.specs.declared.phase.Phase.{Phase as In}
 use Rattle.custody.specs.Facts.{has_first}
 use Rattle.custody.specs.Flight.{fits_fresh, fits_home, fits_lost}
-use Rattle.custody.specs.Floor.{EntryFloor, ExitFloor, at_start, begun_read, begun_unread, both_gone, both_unread, left_gone, left_unread, more_taken, none_taken, out_ended, out_idle, stuck_back, stuck_begun, stuck_gone}
+use Rattle.custody.specs.Floor.{EntryFloor, ExitFloor, at_start, begun_read, begun_unread, both_gone, both_unread, left_gone, left_unread, more_taken, none_taken, out_ended, out_idle, stuck_back, stuck_begun, stuck_gone, stuck_left, stuck_left_gone}
 use Rattle.custody.specs.LookBack.{is_not_beyond, let_go, lets_not, not_beyond_fresh, not_beyond_home, not_beyond_lost, still_moving, still_stuck}
 use Rattle.custody.specs.Place.{Place, not_begun_fresh, not_begun_home, not_begun_lost, not_begun_stolen}
 use Rattle.custody.specs.Steps.{ExitDid, outlet}
@@ -16,7 +16,7 @@ use Rattle.custody.specs.Talks.{Talks}
 use Rattle.custody.specs.Words.{DownWord, UpWord}
 use Rattle.custody.proofs.Contents.{contents_free}
 use Rattle.custody.proofs.Open.{moving_open, moving_starts, nothing_open_after, stuck_open, stuck_starts}
-use Rattle.custody.proofs.Turns.{begins_moving, beyond_begun, beyond_body, beyond_fits, ends_moving, ends_stolen, ends_stuck, home_body, lost_body, nothing_open_told, out_over, stuck_moving}
+use Rattle.custody.proofs.Turns.{begins_moving, beyond_begun, beyond_body, beyond_fits, ends_moving, ends_stolen, ends_stuck, ends_stuck_stolen, home_body, lost_body, nothing_open_told, out_over, stolen_body, stuck_body, stuck_moving}
 use Rattle.custody.proofs.Unread.{HasRead}
 
 pub read_exit : {Gone : ℕ → Type 0} {b : Bool} {x y : SessionState} {o : Out} {of : Option ℕ} {rd : Bool} {i : In} {f : Option Record} {ri : Bool} {p : Place} {r : Record} {up : List UpWord} {down : List DownWord} {xd : Bool} {e : SensorEvent} {ue : List SensorEvent} {un : List SensorEvent} {ed : Bool}
@@ -32,9 +32,13 @@ read_exit (left_unread {r = q} n) _ k t =
 read_exit left_gone m k t =
     record { row = _; is = refl; out = out_ended (more_taken none_taken) not_begun_stolen; talk = ends_stolen k m; body = λ ks. refl; contents = λ ks _. contents_free (nothing_open_after _ _ _ (moving_open k)) (moving_starts k); lets = λ l _. let_go; starts = refl; answers = λ l. refl }
 read_exit (stuck_back {r = q} {l = l} {s = s}) _ k t =
-    record { row = _; is = refl; out = out_over q _ _ _ l s not_begun_home; talk = ends_stuck t (λ _. fits_home) k; body = home_body q _ _ _ l s; contents = λ ks _. contents_free (nothing_open_told l _ _ _ (stuck_open k)) (stuck_starts k); lets = λ _ _. is_not_beyond not_beyond_home; starts = refl; answers = λ l. refl }
+    record { row = _; is = refl; out = out_over q _ _ _ l s none_taken not_begun_home; talk = ends_stuck t (λ _. fits_home) k; body = home_body q _ _ _ l s; contents = λ ks _. contents_free (nothing_open_told l _ _ _ (stuck_open k)) (stuck_starts k); lets = λ _ _. is_not_beyond not_beyond_home; starts = refl; answers = λ l. refl }
 read_exit (stuck_gone {r = q} {l = l} {s = s}) _ k t =
-    record { row = _; is = refl; out = out_over q _ _ _ l s not_begun_lost; talk = ends_stuck t (λ _. fits_lost) k; body = lost_body q _ _ _ l s; contents = λ ks _. contents_free (nothing_open_told l _ _ _ (stuck_open k)) (stuck_starts k); lets = λ _ _. is_not_beyond not_beyond_lost; starts = refl; answers = λ l. refl }
+    record { row = _; is = refl; out = out_over q _ _ _ l s none_taken not_begun_lost; talk = ends_stuck t (λ _. fits_lost) k; body = lost_body q _ _ _ l s; contents = λ ks _. contents_free (nothing_open_told l _ _ _ (stuck_open k)) (stuck_starts k); lets = λ _ _. is_not_beyond not_beyond_lost; starts = refl; answers = λ l. refl }
+read_exit (stuck_left {r = q} {l = l} {s = s} n) _ k t =
+    record { row = _; is = refl; out = out_over q _ _ _ l s none_taken (beyond_begun n); talk = ends_stuck t (beyond_fits n) k; body = stuck_body n q _ _ _ l s; contents = λ ks _. contents_free (nothing_open_told l _ _ _ (stuck_open k)) (stuck_starts k); lets = λ _ _. let_go; starts = refl; answers = λ l. refl }
+read_exit (stuck_left_gone {r = q} {l = l} {s = s}) m k t =
+    record { row = _; is = refl; out = out_over q _ _ _ l s (more_taken none_taken) not_begun_stolen; talk = ends_stuck_stolen t k m; body = stolen_body q _ _ _ l s; contents = λ ks _. contents_free (nothing_open_told l _ _ _ (stuck_open k)) (stuck_starts k); lets = λ _ _. let_go; starts = refl; answers = λ l. refl }
 
 -- a fault of the exit's drive
 pub fault_exit : {Gone : ℕ → Type 0} {b : Bool} {x y : SessionState} {o : Out} {of : Option ℕ} {rd : Bool} {i : In} {f : Option Record} {ri : Bool} {p : Place} {r : Record} {up : List UpWord} {down : List DownWord} {ue : List SensorEvent} {xd : Bool}
@@ -51,5 +55,7 @@ fault_exit h stuck_gone k t = record { row = _; is = refl; out = stuck_gone; tal
 fault_exit h begun_unread k t = absurd (h.begun has_first)
 fault_exit h (both_unread _) k t = absurd (h.begun has_first)
 fault_exit h both_gone k t = absurd (h.begun has_first)
-fault_exit h (left_unread _) k t = absurd (h.left has_first)
-fault_exit h left_gone k t = absurd (h.left has_first)
+fault_exit h (left_unread n) k t = record { row = _; is = refl; out = stuck_left n; talk = stuck_moving k; body = λ ks. refl; contents = λ ks c. c; lets = λ l _. lets_not still_stuck; starts = refl; answers = λ l. refl }
+fault_exit h left_gone k t = record { row = _; is = refl; out = stuck_left_gone; talk = stuck_moving k; body = λ ks. refl; contents = λ ks c. c; lets = λ l _. lets_not still_stuck; starts = refl; answers = λ l. refl }
+fault_exit h (stuck_left m) k t = record { row = _; is = refl; out = stuck_left m; talk = k; body = λ ks. refl; contents = λ ks c. c; lets = λ l n. n; starts = refl; answers = λ l. refl }
+fault_exit h stuck_left_gone k t = record { row = _; is = refl; out = stuck_left_gone; talk = k; body = λ ks. refl; contents = λ ks c. c; lets = λ l n. n; starts = refl; answers = λ l. refl }

@@ -11,7 +11,7 @@ use Rattle.custody.specs.Apart.{entry_described, entry_described_waiting, entry_
 use Rattle.custody.specs.Facts.{IsOpen, IsTold, IsTraffic}
 use Rattle.custody.specs.Place.{Place}
 use Rattle.custody.specs.Shape.{finish_and_stop_sent, finish_sent, inside_awaited, no_handover, start_and_stop_sent, start_sent, stop_heard, stop_sent, stuck_stop_heard, stuck_stop_sent, stuck_transporting, transporting}
-use Rattle.custody.specs.Talks.{Talks, apart, apart_start, apart_start_stop, described, described_waiting, live, shaking_idle, shaking_stuck, shaking_waiting}
+use Rattle.custody.specs.Talks.{Talks, apart, apart_start, apart_start_stop, described, described_waiting, live, shaking_idle, shaking_stuck, shaking_stuck_waiting, shaking_waiting}
 use Rattle.custody.specs.Words.{DownWord, DownstreamService, UpWord, UpstreamService}
 
 pub exit_stands : {b : Bool} {x y : SessionState} {o : Out} {of : Option ℕ} {rd : Bool} {i : In} {f : Option Record} {ri : Bool} {p : Place} {up : List UpWord} {down : List DownWord} {w : UpWord}
@@ -20,6 +20,7 @@ exit_stands (live _) _ = refl
 exit_stands shaking_idle n = elim n [ ]
 exit_stands shaking_waiting n = elim n [ ]
 exit_stands shaking_stuck n = elim n [ ]
+exit_stands shaking_stuck_waiting n = elim n [ ]
 exit_stands (apart_start _ _) _ = refl
 exit_stands (apart_start_stop _ _) _ = refl
 exit_stands (apart exit_called _) n = elim n [ ]
@@ -40,6 +41,7 @@ exit_shakes (live (start_and_stop_sent a _)) _ = elim a [ ]
 exit_shakes shaking_idle _ = refl
 exit_shakes shaking_waiting _ = refl
 exit_shakes shaking_stuck _ = refl
+exit_shakes shaking_stuck_waiting _ = refl
 exit_shakes (apart_start a _) _ = elim a [ ]
 exit_shakes (apart_start_stop a _) _ = elim a [ ]
 exit_shakes (apart exit_called _) n = elim n [ ]
@@ -108,6 +110,7 @@ pub shaking_offerless : {b : Bool} {x : SessionState} {o : Out} {of : Option ℕ
 shaking_offerless shaking_idle = refl
 shaking_offerless shaking_waiting = refl
 shaking_offerless shaking_stuck = refl
+shaking_offerless shaking_stuck_waiting = refl
 shaking_offerless (described _) = refl
 shaking_offerless (described_waiting _) = refl
 shaking_offerless (apart_start _ _) = refl

@@ -9,7 +9,7 @@ use Rattle.custody.specs.Contents.{Contents, open_none}
 use Rattle.custody.specs.Flight.{offers_none, readies_none}
 use Rattle.custody.specs.Place.{Place}
 use Rattle.custody.specs.Shape.{finish_and_stop_sent, finish_heard, finish_sent, inside_awaited, inside_awaited_stop_sent, intake_done, no_handover, start_and_stop_sent, start_sent, stop_heard, stop_sent, stuck_stop_heard, stuck_stop_sent, stuck_transporting, transporting}
-use Rattle.custody.specs.Talks.{Talks, apart, apart_start, apart_start_stop, described, described_waiting, live, shaking_idle, shaking_stuck, shaking_waiting}
+use Rattle.custody.specs.Talks.{Talks, apart, apart_start, apart_start_stop, described, described_waiting, live, shaking_idle, shaking_stuck, shaking_stuck_waiting, shaking_waiting}
 use Rattle.custody.specs.Words.{DownWord, UpWord}
 use Rattle.custody.proofs.Contents.{named_cut, not_standing}
 use Rattle.custody.proofs.Open.{offer_map}
@@ -41,6 +41,7 @@ split (live (inside_awaited c d)) = record { flag = true; exit = exit_idle readi
 split shaking_idle = record { flag = true; exit = exit_shaking; entry = entry_shaking }
 split shaking_waiting = record { flag = true; exit = exit_shaking; entry = entry_shaking_waiting }
 split shaking_stuck = record { flag = false; exit = exit_shaking_stuck; entry = entry_shaking }
+split shaking_stuck_waiting = record { flag = false; exit = exit_shaking_stuck; entry = entry_shaking_waiting }
 split (described c) = record { flag = true; exit = exit_idle readies_none; entry = entry_described c }
 split (described_waiting c) = record { flag = true; exit = exit_idle readies_none; entry = entry_described_waiting c }
 split (apart_start a c) = record { flag = true; exit = exit_idle readies_none; entry = away c }

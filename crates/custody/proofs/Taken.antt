@@ -13,10 +13,10 @@ use Rattle.handover_in.specs.declared.phase.Phase.{Phase as In}
 use Rattle.custody.specs.Apart.{entry_none, entry_waits, entry_waits_heard, entry_waits_in, exit_called, exit_called_stuck, exit_described, exit_described_stuck, exit_none, exit_none_stuck, exit_shaking, exit_shaking_stuck}
 use Rattle.custody.specs.Contents.{open_none}
 use Rattle.custody.specs.Events.{IsContent}
-use Rattle.custody.specs.Floor.{EntryFloor, ExitFloor, in_waiting, is_in}
+use Rattle.custody.specs.Floor.{EntryFloor, ExitFloor}
 use Rattle.custody.specs.Pair.{Ghost, LinkState, Pair}
 use Rattle.custody.specs.Place.{Place}
-use Rattle.custody.specs.Talks.{IsCall, Talks, apart, apart_start, apart_start_stop, call_awaited, call_described, shaking_idle, shaking_stuck, shaking_waiting}
+use Rattle.custody.specs.Talks.{IsCall, Talks, apart, apart_start, apart_start_stop, call_awaited, call_described, shaking_idle, shaking_stuck, shaking_stuck_waiting, shaking_waiting}
 use Rattle.custody.specs.Words.{DownWord, DownstreamService, UpWord, down_words, starts_in, up_words}
 use Rattle.custody.proofs.Connect.{May, may}
 use Rattle.custody.proofs.Contents.{none_open}
@@ -33,7 +33,7 @@ come m (apart exit_shaking entry_waits_in) _ _ = shaking_waiting
 come m (apart exit_shaking (entry_waits_heard _)) _ _ = elim m [ ]
 come m (apart exit_shaking_stuck entry_none) _ _ = shaking_stuck
 come m (apart exit_shaking_stuck entry_waits) _ _ = elim m [ ]
-come m (apart exit_shaking_stuck entry_waits_in) h (in_waiting is_in) = elim h [ ]
+come m (apart exit_shaking_stuck entry_waits_in) _ _ = shaking_stuck_waiting
 
 -- what was said down before then is no word
 pub comes_below : (g : Ghost) (l : LinkState) (service : Service) (down : List Horizontal) → Pair g l → may_connect l.intake.phase ≡ true → l.exit ≡ Handshake → up_words l.up ≡ [] → l.entry ≡ NotConnected

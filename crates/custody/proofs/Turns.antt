@@ -12,12 +12,12 @@ use Rattle.handover_out.specs.declared.phase.Phase.TheVariants as out
 use Rattle.handover_in.specs.declared.phase.Phase.{Phase as In}
 use Rattle.custody.specs.Apart.{exit_called, exit_called_stuck, exit_described, exit_described_stuck, exit_finished, exit_finished_stop_sent, exit_idle, exit_none, exit_none_stuck, exit_shaking, exit_shaking_stuck, exit_stop_sent, exit_stuck, exit_stuck_stop_sent, exit_transporting}
 use Rattle.custody.specs.Flight.{Fits, fits_across, fits_inside, fits_stolen, offers_none, readies_none}
-use Rattle.custody.specs.Floor.{EntryFloor, ExitFloor, in_taken_in, in_taking, none_taken, out_ended, out_idle}
+use Rattle.custody.specs.Floor.{AllTaken, EntryFloor, ExitFloor, in_taken_in, in_taking, out_ended, out_idle}
 use Rattle.custody.specs.Pair.{listed}
 use Rattle.custody.specs.Place.{Beyond, Home, Lost, NotBegun, Place, Stolen, beyond_across, beyond_inside, not_begun_across, not_begun_inside}
 use Rattle.custody.specs.Shape.{finish_and_stop_sent, finish_sent, stop_heard, stop_sent, stuck_stop_heard, stuck_stop_sent, stuck_transporting, transporting}
 use Rattle.custody.specs.Steps.{outlet}
-use Rattle.custody.specs.Talks.{Talks, apart, live, shaking_idle, shaking_stuck}
+use Rattle.custody.specs.Talks.{Talks, apart, live, shaking_idle, shaking_stuck, shaking_stuck_waiting, shaking_waiting}
 use Rattle.custody.specs.Words.{DownWord, TransportFinished, UpWord, out_says, sent}
 use Rattle.custody.proofs.Flight.{stale_end}
 use Rattle.custody.proofs.Open.{NothingOpen, nothing_open_after}
@@ -50,11 +50,11 @@ ends_stolen (live (stop_sent c)) _ = live (finish_and_stop_sent (stale_end _ c f
 ends_stolen (apart exit_transporting c) _ = apart exit_finished (released c)
 ends_stolen (apart exit_stop_sent c) _ = apart (exit_finished_stop_sent readies_none) (released c)
 
-pub out_over : {r : Record} {p : Place} (q : Record) (of t : Option ℕ) (rd : Bool) (l s : Bool) → NotBegun p
-    → ExitFloor (over_when_stuck (outlet (out.Stuck q l s) of t rd) q.id l s).phase [] false p r
-out_over q of t rd true false n = out_ended none_taken n
-out_over q of t rd true true n = out_idle none_taken n
-out_over q of t rd false _ n = out_idle none_taken n
+pub out_over : {r : Record} {p : Place} {es : List SensorEvent} (q : Record) (of t : Option ℕ) (rd : Bool) (l s : Bool) → AllTaken es → NotBegun p
+    → ExitFloor (over_when_stuck (outlet (out.Stuck q l s) of t rd) q.id l s).phase es false p r
+out_over q of t rd true false a n = out_ended a n
+out_over q of t rd true true a n = out_idle a n
+out_over q of t rd false _ a n = out_idle a n
 
 -- a board of an outlet that is stuck came back or was taken out
 pub ends_stuck : {b : Bool} {x y : SessionState} {of : Option ℕ} {rd : Bool} {i : In} {f : Option Record} {ri : Bool} {p : Place} {up : List UpWord} {down : List DownWord} {e : Transfer} {q : Record} {l s : Bool} (touched : Option ℕ)
@@ -64,6 +64,7 @@ ends_stuck t fit (live (stuck_transporting c)) = live (finish_sent (stale_end _ 
 ends_stuck t fit (live (stuck_stop_sent c)) = live (finish_and_stop_sent (stale_end _ c (fit false)))
 ends_stuck t fit (live (stuck_stop_heard c)) = live (stop_heard (stale_end _ c (fit false)) offers_none)
 ends_stuck t fit shaking_stuck = shaking_idle
+ends_stuck t fit shaking_stuck_waiting = shaking_waiting
 ends_stuck t fit (apart exit_none_stuck c) = apart exit_none (released c)
 ends_stuck t fit (apart exit_called_stuck c) = apart exit_called (released c)
 ends_stuck t fit (apart exit_shaking_stuck c) = apart exit_shaking (released c)
@@ -71,6 +72,24 @@ ends_stuck t fit (apart exit_described_stuck c) = apart exit_described (released
 ends_stuck t fit (apart (exit_stuck {s = false}) c) = apart exit_finished (released c)
 ends_stuck t fit (apart (exit_stuck {s = true}) c) = apart (exit_idle readies_none) (released c)
 ends_stuck t fit (apart exit_stuck_stop_sent c) = apart (exit_finished_stop_sent readies_none) (released c)
+
+-- the same where it was taken out after it had left
+pub ends_stuck_stolen : {b : Bool} {x y : SessionState} {of : Option ℕ} {rd : Bool} {i : In} {f : Option Record} {ri : Bool} {up : List UpWord} {down : List DownWord} {q r : Record} {l s : Bool} {un : List SensorEvent} {ed : Bool} (touched : Option ℕ)
+    → Talks b x (out.Stuck q l s) of rd y i f ri Stolen up down → EntryFloor i un ed Stolen r
+    → let k : OutState = over_when_stuck (outlet (out.Stuck q l s) of touched rd) q.id l s in Talks b x k.phase k.offered k.ready y i f ri Stolen up (sent (out_says (finished l transfer.Complete q.id) None) b down)
+ends_stuck_stolen t (live (stuck_transporting c)) (in_taking s) = elim s [ ]
+ends_stuck_stolen t (live (stuck_transporting c)) (in_taken_in s) = elim s [ ]
+ends_stuck_stolen t (live (stuck_stop_sent c)) _ = live (finish_and_stop_sent (stale_end _ c fits_stolen))
+ends_stuck_stolen t (live (stuck_stop_heard c)) _ = live (stop_heard (stale_end _ c fits_stolen) offers_none)
+ends_stuck_stolen t shaking_stuck _ = shaking_idle
+ends_stuck_stolen t shaking_stuck_waiting _ = shaking_waiting
+ends_stuck_stolen t (apart exit_none_stuck c) _ = apart exit_none (released c)
+ends_stuck_stolen t (apart exit_called_stuck c) _ = apart exit_called (released c)
+ends_stuck_stolen t (apart exit_shaking_stuck c) _ = apart exit_shaking (released c)
+ends_stuck_stolen t (apart exit_described_stuck c) _ = apart exit_described (released c)
+ends_stuck_stolen t (apart (exit_stuck {s = false}) c) _ = apart exit_finished (released c)
+ends_stuck_stolen t (apart (exit_stuck {s = true}) c) _ = apart (exit_idle readies_none) (released c)
+ends_stuck_stolen t (apart exit_stuck_stop_sent c) _ = apart (exit_finished_stop_sent readies_none) (released c)
 
 -- and a fault stops its drive
 pub stuck_moving : {b : Bool} {x y : SessionState} {of : Option ℕ} {rd : Bool} {i : In} {f : Option Record} {ri : Bool} {p : Place} {up : List UpWord} {down : List DownWord} {q : Record} {c : Bool}
@@ -109,3 +128,18 @@ pub lost_body : (q : Record) (of t : Option ℕ) (rd l s : Bool) (ks : List Reco
 lost_body q of t rd true false ks = refl
 lost_body q of t rd true true ks = refl
 lost_body q of t rd false s ks = refl
+
+pub stuck_body : {p : Place} → Beyond p → (q : Record) (of t : Option ℕ) (rd l s : Bool) (ks : List Record)
+    → listed (out.Stuck q l s) p ks ≡ listed (over_when_stuck (outlet (out.Stuck q l s) of t rd) q.id l s).phase p ks
+stuck_body beyond_across q of t rd true false ks = refl
+stuck_body beyond_across q of t rd true true ks = refl
+stuck_body beyond_across q of t rd false s ks = refl
+stuck_body beyond_inside q of t rd true false ks = refl
+stuck_body beyond_inside q of t rd true true ks = refl
+stuck_body beyond_inside q of t rd false s ks = refl
+
+pub stolen_body : (q : Record) (of t : Option ℕ) (rd l s : Bool) (ks : List Record)
+    → listed (out.Stuck q l s) Stolen ks ≡ listed (over_when_stuck (outlet (out.Stuck q l s) of t rd) q.id l s).phase Stolen ks
+stolen_body q of t rd true false ks = refl
+stolen_body q of t rd true true ks = refl
+stolen_body q of t rd false s ks = refl

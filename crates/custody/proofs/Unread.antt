@@ -6,13 +6,12 @@ use Rattle.custody.specs.Facts.{Has}
 use Rattle.custody.specs.Place.{Place}
 use Rattle.custody.specs.Unread.{NotOver}
 
--- an exit has read that its board has begun and left, where it did
+-- an exit has read that its board has begun, where it did
 pub record HasRead (ue : List SensorEvent) : Type 0 where
   pub begun : Has event.Begun ue → ⊥
-  pub left : Has event.Left ue → ⊥
 
 pub all_read : HasRead []
-all_read = record { begun = λ h. elim h [ ]; left = λ h. elim h [ ] }
+all_read = record { begun = λ h. elim h [ ] }
 
 -- an entry has read that its board begins, where it went across
 abbrev pub ReadFirst : List SensorEvent → Place → Type 0

@@ -55,6 +55,12 @@ pub data ExitFloor : Out → List SensorEvent → Bool → Place → Record → 
       → ExitFloor (out.Stuck r l s) (event.Back ∷ []) false Home r
   stuck_gone : {r : Record} {l s : Bool}
       → ExitFloor (out.Stuck r l s) (event.Taken ∷ []) false Lost r
+  -- or it has left, and that was unread as the connection was closed, the drive failed or a stop was
+  -- heard. Then it may have come inside, or have been taken out
+  stuck_left : {r : Record} {l s : Bool} {p : Place} → Beyond p
+      → ExitFloor (out.Stuck r l s) (event.Left ∷ []) false p r
+  stuck_left_gone : {r : Record} {l s : Bool}
+      → ExitFloor (out.Stuck r l s) (event.Left ∷ event.Taken ∷ []) false Stolen r
 
 -- whether an entry drive that was on for the handover still runs: it does; the board that came in
 -- stopped it; or it can't run, since the board was seen inside, was taken out, or was stolen while

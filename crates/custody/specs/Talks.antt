@@ -34,6 +34,10 @@ pub data Talks : Bool → SessionState → Out → Option ℕ → Bool → Sessi
   shaking_stuck : {q : Record} {p : Place}
       → Talks true Handshake (out.Stuck q false false) None false Handshake inn.Idle None false p
       (DownstreamService ∷ []) []
+  -- or beside one that waits inside, where the exit has still to read that the board has left
+  shaking_stuck_waiting : {q w : Record} {p : Place}
+      → Talks true Handshake (out.Stuck q false false) None false Handshake
+      (inn.Waiting w seen.Complete false) None false p (DownstreamService ∷ []) []
   -- the upstream machine answered with its own, and may offer behind it
   described : {of : Option ℕ} {p : Place} {rest : List DownWord} → Offers None rest of
       → Talks true Standing out.Idle of false Handshake inn.Idle None false p []

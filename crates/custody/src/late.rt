@@ -8,17 +8,14 @@ ghost use Rattle.line_base.specs.declared.states.SensorEvent.TheVariants as even
 ghost use Rattle.line_base.specs.declared.states.Side.TheVariants.{Entry, Exit};
 ghost use Rattle.line_base.specs.declared.states.Transfer.{Transfer as End};
 ghost use Rattle.board_record.specs.declared.record.Record.{Record as Board};
-ghost use Rattle.board_record.specs.declared.sensed.Sensed.{Sensed as Sight};
 ghost use Rattle.hermes_horizontal.specs.declared.message.Horizontal.{Horizontal as Message};
 ghost use Rattle.hermes_horizontal.specs.declared.message.Horizontal.TheVariants as message;
 ghost use Rattle.hermes_horizontal.specs.declared.message.Service.{Service as Description};
 ghost use Rattle.session_core.specs.declared.state.SessionState.TheVariants.{Handshake, Standing};
-ghost use Rattle.line_world.specs.Moves.{Around, around_move, exit_sees};
+ghost use Rattle.line_world.specs.Moves.{Around, around_move};
 ghost use Rattle.line_world.specs.declared.moves.Move.{Move};
 ghost use Rattle.line_world.specs.declared.moves.Move.TheVariants as moves;
-ghost use Rattle.handover_out.specs.Act.{drive_off, leaves};
-ghost use Rattle.handover_out.specs.Row.{outlet_row};
-ghost use Rattle.handover_out.specs.State.{OutState, board_of_phase as held_out};
+ghost use Rattle.handover_out.specs.State.{board_of_phase as held_out};
 ghost use Rattle.handover_out.specs.declared.input.OutInput.TheVariants as out_input;
 ghost use Rattle.handover_out.specs.declared.phase.Phase.TheVariants as out;
 ghost use Rattle.handover_in.specs.declared.input.InInput.TheVariants as in_input;
@@ -26,47 +23,29 @@ ghost use Rattle.custody.specs.Place.{InGap, MovesPlace, Place};
 ghost use Rattle.custody.specs.Facts.{Has};
 ghost use Rattle.custody.specs.Words.{down_words, events_at, sent};
 ghost use Rattle.custody.specs.Pair.{Ghost, LinkState, Pair};
-ghost use Rattle.custody.specs.Events.{EntryShut, EntryStep, ExitShut, ExitStep, gone_by, with_unread_up};
-ghost use Rattle.custody.specs.Steps.{outlet};
-ghost use Rattle.custody.specs.Unread.{HasReadLeft, IsBehind, IsEndRead, once_left};
+ghost use Rattle.custody.specs.Events.{EntryShut, EntryStep, ExitShut, ExitStep, gone_by};
+ghost use Rattle.custody.specs.Unread.{IsBehind, IsEndRead};
 
-/// The connection of an end is closed while events of its side are unread. The entry may have any
-/// of them unread, the exit any but that its board has left.
+/// The connection of an end is closed while events of its side are unread, whichever they are. An
+/// outlet whose board has left, and whose exit has not read so, is stuck until it does.
 pub fn an_end_is_closed_unread()
     ensures entry { (gone : ℕ → Bool) (kept : List Board) (g : Ghost) (l : LinkState) → Pair g l
         → IsBehind g l → EntryShut (gone_by gone) kept g l }
     ensures exit { (gone : ℕ → Bool) (g : Ghost) (l : LinkState) → Pair g l → IsBehind g l
-        → HasReadLeft l → ExitShut (gone_by gone) g l }
-{}
-
-/// The connection of an exit is closed as its board has left, before its machine has read so. The
-/// outlet is stuck with the board then, and lets it go as it reads that, saying nothing. Once it
-/// has, the link stands in the relation.
-pub fn an_exit_is_closed_before_it_reads()
-    ensures closed { (s : OutState) (q : Board) → s.phase ≡ out.Moving q true
-        → outlet_row s out_input.Closed
-        ≡ Some (record { after = outlet (out.Stuck q false false) None None false; act = drive_off }) }
-    ensures reads { (q : Board)
-        → outlet_row (outlet (out.Stuck q false false) None None false) (out_input.Sensed event.Left)
-        ≡ Some (record { after = outlet out.Idle None None false; act = leaves q None None }) }
-    ensures left { (g : Ghost) (l : LinkState) (q : Board) (rest : List Sight)
-        (said : List Message) → Pair g (with_unread_up l (exit_sees event.Left ∷ rest))
-        → l.outlet.phase ≡ out.Moving q true → down_words said ≡ []
-        → Pair g (once_left (with_unread_up l rest) said) }
+        → ExitShut (gone_by gone) g l }
 {}
 
 /// The drive of an exit fails, and that of an entry, while events of that side are unread.
 pub fn a_drive_fails_unread()
     ensures exit { (gone : ℕ → Bool) (g : Ghost) (l : LinkState) → Pair g l → IsBehind g l
-        → HasReadLeft l → ExitStep (gone_by gone) g l out_input.Fault l.around.up.unread l.up }
+        → ExitStep (gone_by gone) g l out_input.Fault l.around.up.unread l.up }
     ensures entry { (gone : ℕ → Bool) (kept : List Board) (g : Ghost) (l : LinkState) → Pair g l
         → IsBehind g l
         → EntryStep (gone_by gone) kept g l in_input.Fault l.around.down.unread l.down }
 {}
 
 /// An exit hears while events of its sensor are unread: what announces the downstream machine
-/// ready or not, the stop of a transport where it has read that its board has left, and the
-/// description of the downstream machine.
+/// ready or not, the stop of a transport, and the description of the downstream machine.
 pub fn an_exit_hears_unread()
     ensures ready { (gone : ℕ → Bool) (g : Ghost) (l : LinkState) (quality : Grade)
         (rest : List Message) → Pair g (record l { up = message.MachineReady quality ∷ rest })
@@ -79,7 +58,7 @@ pub fn an_exit_hears_unread()
         out_input.RevokeMachineReady l.around.up.unread rest }
     ensures stop { (gone : ℕ → Bool) (g : Ghost) (l : LinkState) (s : End) (z : ℕ)
         (rest : List Message) → Pair g (record l { up = message.StopTransport s z ∷ rest })
-        → IsBehind g l → HasReadLeft l → (l.exit ≡ Standing)
+        → IsBehind g l → (l.exit ≡ Standing)
         × ExitStep (gone_by gone) g (record l { up = message.StopTransport s z ∷ rest })
         (out_input.Stop s z) l.around.up.unread rest }
     ensures answered { (g : Ghost) (l : LinkState) (service answer : Description)

@@ -26,7 +26,7 @@ use Rattle.node_core.specs.Halves.{intake_row_did, outlet_row_did}
 use Rattle.node_core.specs.Reads.{all_read, reads}
 use Rattle.node_core.specs.Told.{drives, in_does, in_sends}
 use Rattle.node_core.specs.declared.lane.Body.{Body as Machine}
-use Rattle.custody.specs.Floor.{ExitFloor, at_start, begun_read, begun_unread, both_gone, both_unread, left_gone, left_unread, out_ended, out_idle, stuck_back, stuck_begun, stuck_gone}
+use Rattle.custody.specs.Floor.{ExitFloor, at_start, begun_read, begun_unread, both_gone, both_unread, left_gone, left_unread, out_ended, out_idle, stuck_back, stuck_begun, stuck_gone, stuck_left, stuck_left_gone}
 use Rattle.custody.specs.Place.{Beyond, Place}
 use Rattle.custody.specs.Words.{events_at}
 use Rattle.line_history.proofs.Halves.{leaves_not, out_inner}
@@ -37,6 +37,7 @@ use Rattle.line_history.proofs.Stepping.{inner_stays, leaving_append, tells_leav
 pub data LeavesBy : Out → List SensorEvent → Type 0 where
   by_left : {r : Record} {c : Bool} {es : List SensorEvent} → LeavesBy (out.Moving r c) (event.Left ∷ es)
   by_begun : {r : Record} {c : Bool} {es : List SensorEvent} → LeavesBy (out.Moving r c) (event.Begun ∷ event.Left ∷ es)
+  by_stuck : {r : Record} {l s : Bool} {es : List SensorEvent} → LeavesBy (out.Stuck r l s) (event.Left ∷ es)
 
 -- a board that is across or inside, and that the outlet holds
 pub leaves_by : {o : Out} {es : List SensorEvent} {drive : Bool} {p : Place} {r : Record} (q : Record) → ExitFloor o es drive p r → Beyond p → held_out o ≡ Some q → LeavesBy o es
@@ -52,12 +53,19 @@ leaves_by q left_gone far held = by_left
 leaves_by q stuck_begun far held = elim far [ ]
 leaves_by q stuck_back far held = elim far [ ]
 leaves_by q stuck_gone far held = elim far [ ]
+leaves_by q (stuck_left beyond) far held = by_stuck
+leaves_by q stuck_left_gone far held = by_stuck
 
 -- ---- reading them
 
 left_said : (desk : Desk) (body : Machine) (r : Record) (c : Bool) → body.outlet.phase ≡ out.Moving r c → tells_leaving (reads desk (record { side = Exit; event = event.Left }) body).acts ≡ true
 left_said desk body r true is = rw is refl
 left_said desk body r false is = rw is refl
+
+stuck_said : (desk : Desk) (body : Machine) (r : Record) (l s : Bool) → body.outlet.phase ≡ out.Stuck r l s → tells_leaving (reads desk (record { side = Exit; event = event.Left }) body).acts ≡ true
+stuck_said desk body r true true is = rw is refl
+stuck_said desk body r true false is = rw is refl
+stuck_said desk body r false s is = rw is refl
 
 begun_moves : (desk : Desk) (body : Machine) (r : Record) (c : Bool) → body.outlet.phase ≡ out.Moving r c → (reads desk (record { side = Exit; event = event.Begun }) body).body.outlet.phase ≡ out.Moving r true
 begun_moves desk body r true is = rw is refl
@@ -80,6 +88,9 @@ exit_leaves : (desk : Desk) (seen : SensorEvent) (others : List Sensed) (body : 
 exit_leaves desk seen others body _ _ later phase same (by_left {r = r} {c = c} {es = es}) =
     let is : seen ≡ event.Left = cc in
     said_now desk (record { side = Exit; event = seen }) others body (subst (λ (e : SensorEvent). tells_leaving (reads desk (record { side = Exit; event = e }) body).acts ≡ true) (sym is) (left_said desk body r c phase))
+exit_leaves desk seen others body _ _ later phase same (by_stuck {r = r} {l = l} {s = s} {es = es}) =
+    let is : seen ≡ event.Left = cc in
+    said_now desk (record { side = Exit; event = seen }) others body (subst (λ (e : SensorEvent). tells_leaving (reads desk (record { side = Exit; event = e }) body).acts ≡ true) (sym is) (stuck_said desk body r l s phase))
 exit_leaves desk seen others body _ _ later phase same (by_begun {r = r} {c = c} {es = es}) =
     let is : seen ≡ event.Begun = cc in
     let rest : events_at Exit others ≡ event.Left ∷ es = cc in
@@ -95,6 +106,7 @@ one_leaves desk Exit seen others later body o es phase same by = exit_leaves des
 none_by : {o : Out} {es : List SensorEvent} {X : Type 0} → [] ≡ es → LeavesBy o es → X
 none_by same by_left = cc
 none_by same by_begun = cc
+none_by same by_stuck = cc
 
 pub leaves_told : (desk : Desk) (unread : List Sensed) → Leaves desk unread
 leaves_told desk [] body o es phase same by = none_by same by

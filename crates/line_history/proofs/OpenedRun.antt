@@ -38,7 +38,7 @@ use Rattle.custody.specs.Flight.{Stale}
 use Rattle.custody.specs.LookBack.{just_started}
 use Rattle.custody.specs.Place.{Place}
 use Rattle.custody.specs.Shape.{intake_done, no_handover, start_and_stop_sent, start_sent}
-use Rattle.custody.specs.Talks.{Talks, apart, apart_start, apart_start_stop, described, described_waiting, live, shaking_idle, shaking_stuck, shaking_waiting}
+use Rattle.custody.specs.Talks.{Talks, apart, apart_start, apart_start_stop, described, described_waiting, live, shaking_idle, shaking_stuck, shaking_stuck_waiting, shaking_waiting}
 use Rattle.custody.specs.Words.{DownWord, UpWord, down_words, starts_in, up_words}
 use Rattle.custody.proofs.Asked.{exit_starts}
 use Rattle.custody.proofs.Starts.{one_start, readies_start_nothing}
@@ -91,6 +91,7 @@ flight (live _) = flies_none refl
 flight shaking_idle = flies_none refl
 flight shaking_waiting = flies_none refl
 flight shaking_stuck = flies_none refl
+flight shaking_stuck_waiting = flies_none refl
 flight (described offers) = flies_none refl
 flight (described_waiting offers) = flies_none refl
 flight (apart_start {x = x} starts away) = flies_alone x (one_start starts) refl

@@ -12,7 +12,7 @@ use Rattle.handover_out.specs.State.{board_of_phase as held_out}
 use Rattle.handover_in.specs.declared.phase.Phase.{Phase as In}
 use Rattle.handover_in.specs.State.{board_of_phase as held_in}
 use Rattle.custody.specs.Contents.{Kept}
-use Rattle.custody.specs.Floor.{EntryFloor, ExitFloor, GapAt, at_start, begun_read, begun_unread, both_gone, both_unread, gap_begun, gap_left, in_free, in_stopped, in_taken_in, in_taking, in_waiting, in_waiting_on, on_across, on_begun, left_gone, left_unread, out_ended, out_idle, sees_fresh, sees_home, stuck_back, stuck_begun, stuck_gone}
+use Rattle.custody.specs.Floor.{EntryFloor, ExitFloor, GapAt, at_start, begun_read, begun_unread, both_gone, both_unread, gap_begun, gap_left, in_free, in_stopped, in_taken_in, in_taking, in_waiting, in_waiting_on, left_gone, left_unread, on_across, on_begun, out_ended, out_idle, sees_fresh, sees_home, stuck_back, stuck_begun, stuck_gone, stuck_left, stuck_left_gone}
 use Rattle.custody.specs.Pair.{Body}
 use Rattle.custody.specs.Place.{Across, Fresh, Home, InGap, Inside, Lost, Place, Stolen, beyond_across, beyond_inside, is_upstream}
 use Rattle.custody.specs.Words.{events_at}
@@ -70,6 +70,8 @@ exit_board q left_gone held = cc
 exit_board q stuck_begun held = cc
 exit_board q stuck_back held = cc
 exit_board q stuck_gone held = cc
+exit_board q (stuck_left far) held = cc
+exit_board q stuck_left_gone held = cc
 
 -- a board that lies begun is the outlet's
 exit_in_gap : {o : Out} {es : List SensorEvent} {drive : Bool} {b : Record} {X : Type 0} → ExitFloor o es drive InGap b → held_out o ≡ None → X
@@ -80,6 +82,7 @@ exit_in_gap begun_read none = cc
 exit_in_gap (both_unread far) none = elim far [ ]
 exit_in_gap (left_unread far) none = elim far [ ]
 exit_in_gap stuck_begun none = cc
+exit_in_gap (stuck_left far) none = elim far [ ]
 
 -- a transport that has just started, and whose machine has read all events, is of a board upstream
 pub starts_upstream : {i : In} {drive : Bool} {p : Place} {b : Record} → EntryFloor i [] drive p b → IsJustStarted i → is_upstream p ≡ true

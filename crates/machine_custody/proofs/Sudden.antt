@@ -47,7 +47,7 @@ use Rattle.machine_custody.proofs.Reading.{faults_unread}
 
 follows : {us : List Sensed} {ga : Ghost} (side : Side) → IsReadEnough us ga → MayFollow side us ga
 follows Entry n = n.entry
-follows Exit n = record { begun = n.begun; left = n.left }
+follows Exit n = record { begun = n.begun }
 
 -- ---- a connection is found closed
 
@@ -129,7 +129,7 @@ did_ahead : {afar : Afar} {above : List Record} {us : List Sensed} {ga gb : Ghos
     → Good afar above us ga gb body c → IsFreeRead us body → GoesAhead afar above us ga gb c (event_did desk event body)
 did_ahead {body = body} desk _ (sudden_notice {side = side}) n g r = record { goes = notices_unread desk side (follows side n) g; read = notices_free desk side (is_open side body) body r }
 did_ahead {body = body} desk _ (sudden_fault {side = side}) n g r = record { goes = faults_unread desk side (follows side n) g; read = faults_free desk side body r }
-did_ahead {body = body} {c = c} desk _ sudden_tick n g r = record { goes = both_tick_unread body c desk n.entry (record { begun = n.begun; left = n.left }) g; read = both_tick_free desk body r }
+did_ahead {body = body} {c = c} desk _ sudden_tick n g r = record { goes = both_tick_unread body c desk n.entry (record { begun = n.begun }) g; read = both_tick_free desk body r }
 did_ahead {body = body} desk _ (sudden_will {side = side} {on = on}) n g r = record { goes = wills_go side on g; read = wills_free side on body r }
 
 pub sudden_goes : {afar : Afar} {above : List Record} {ga gb : Ghost} (desk : Desk) (read rest : List Sensed) (event : Event) (body : Machine) (c : Scene) → IsSudden event

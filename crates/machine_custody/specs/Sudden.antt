@@ -11,12 +11,10 @@ use Rattle.custody.specs.Unread.{NotOver}
 use Rattle.custody.specs.Words.{events_at}
 
 -- a machine that has these events unread as something befalls it has read that its board has begun
--- and left at its exit, where it did, and that the board at its entry begins, where that has gone
--- across
+-- at its exit, where it did, and that the board at its entry begins, where that has gone across
 pub record IsReadEnough (unread : List Sensed) (ga : Ghost) : Type 0 where
   pub entry : Has event.Begun (events_at Entry unread) → NotOver ga.place
   pub begun : Has event.Begun (events_at Exit unread) → ⊥
-  pub left : Has event.Left (events_at Exit unread) → ⊥
 
 -- what befalls a machine at a time of no machine's choosing: a connection is found closed, a drive
 -- fails, the clock ticks, a hand changes what the machine is willing to do

@@ -16,7 +16,7 @@ use Rattle.handover_out.specs.declared.phase.Phase.{Phase as Out}
 use Rattle.line_link.specs.Flow.{Stream, coming}
 use Rattle.custody.specs.Bytes.{Flows, Spoiled, texts_of}
 use Rattle.custody.specs.Place.{Place}
-use Rattle.custody.specs.Talks.{Talks, apart, apart_start, apart_start_stop, described, described_waiting, live, shaking_idle, shaking_stuck, shaking_waiting}
+use Rattle.custody.specs.Talks.{Talks, apart, apart_start, apart_start_stop, described, described_waiting, live, shaking_idle, shaking_stuck, shaking_stuck_waiting, shaking_waiting}
 use Rattle.custody.specs.Words.{BoardAvailable, DownWord, RevokeBoardAvailable, TransportFinished, UpWord, UpstreamService, before_down, down_words}
 use Rattle.machine_custody.specs.Flight.{AreOldest}
 use Rattle.link_messages.specs.Fit.{AreFit, IsFit}
@@ -50,6 +50,7 @@ exit_free (live shape) on is = inl refl
 exit_free shaking_idle on is = absurd (false≢true is)
 exit_free shaking_waiting on is = absurd (false≢true is)
 exit_free shaking_stuck on is = absurd (false≢true is)
+exit_free shaking_stuck_waiting on is = absurd (false≢true is)
 exit_free (described offers) on is = inr refl
 exit_free (described_waiting offers) on is = inr refl
 exit_free (apart_start s a) on is = absurd (false≢true on)
@@ -61,6 +62,7 @@ entry_free (live shape) on is = refl
 entry_free shaking_idle on is = absurd (false≢true is)
 entry_free shaking_waiting on is = absurd (false≢true is)
 entry_free shaking_stuck on is = absurd (false≢true is)
+entry_free shaking_stuck_waiting on is = absurd (false≢true is)
 entry_free (described offers) on is = refl
 entry_free (described_waiting offers) on is = refl
 entry_free (apart_start s a) on is = absurd (false≢true on)
@@ -72,6 +74,7 @@ connected_there (live shape) on is = absurd (cc)
 connected_there shaking_idle on is = absurd (cc)
 connected_there shaking_waiting on is = absurd (cc)
 connected_there shaking_stuck on is = absurd (cc)
+connected_there shaking_stuck_waiting on is = absurd (cc)
 connected_there (described offers) on is = absurd (cc)
 connected_there (described_waiting offers) on is = absurd (cc)
 connected_there (apart_start s a) on is = absurd (false≢true on)

@@ -76,6 +76,7 @@ use Rattle.custody.specs.Talks.{
   live,
   shaking_idle,
   shaking_stuck,
+  shaking_stuck_waiting,
   shaking_waiting,
 }
 use Rattle.custody.specs.Words.{DownWord, DownstreamService, UpWord}
@@ -560,6 +561,7 @@ exit_shakes (live shape) on = absurd (shape_no_description shape)
 exit_shakes shaking_idle on = refl
 exit_shakes shaking_waiting on = refl
 exit_shakes shaking_stuck on = refl
+exit_shakes shaking_stuck_waiting on = refl
 exit_shakes (apart_start s a) on = absurd (starts_no_description s)
 exit_shakes (apart_start_stop s a) on = absurd (starts_no_description s)
 exit_shakes (apart x e) on = exit_alone_shakes x on

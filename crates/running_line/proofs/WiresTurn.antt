@@ -28,7 +28,7 @@ use Rattle.node_core.specs.declared.lane.Lane.{Lane}
 use Rattle.node_core.specs.declared.word.Word.{Word}
 use Rattle.custody.specs.Apart.{Exit as LoneExit, Entry as LoneEntry, entry_described, entry_described_waiting, entry_none, entry_shaking, entry_shaking_waiting, entry_waits, entry_waits_heard, entry_waits_in, exit_called, exit_called_stuck, exit_described, exit_described_stuck, exit_none, exit_none_stuck, exit_shaking, exit_shaking_stuck}
 use Rattle.custody.specs.Place.{Place}
-use Rattle.custody.specs.Talks.{Talks, apart, apart_start, apart_start_stop, described, described_waiting, live, shaking_idle, shaking_stuck, shaking_waiting}
+use Rattle.custody.specs.Talks.{Talks, apart, apart_start, apart_start_stop, described, described_waiting, live, shaking_idle, shaking_stuck, shaking_stuck_waiting, shaking_waiting}
 use Rattle.custody.specs.Words.{DownWord, UpWord}
 use Rattle.line_step.specs.Opened.{opened_by}
 use Rattle.one_standing.proofs.Counting.{input_words, is_bytes_to, step_hears_none}
@@ -70,6 +70,7 @@ talk_exit (live shape) off = not_off off
 talk_exit shaking_idle off = (refl, refl)
 talk_exit shaking_waiting off = (refl, refl)
 talk_exit shaking_stuck off = (refl, refl)
+talk_exit shaking_stuck_waiting off = (refl, refl)
 talk_exit (described offers) off = not_off off
 talk_exit (described_waiting offers) off = not_off off
 talk_exit (apart_start s a) off = not_off off
@@ -81,6 +82,7 @@ talk_entry (live shape) off = not_off off
 talk_entry shaking_idle off = (refl, refl)
 talk_entry shaking_waiting off = (refl, refl)
 talk_entry shaking_stuck off = (refl, refl)
+talk_entry shaking_stuck_waiting off = (refl, refl)
 talk_entry (described offers) off = (refl, refl)
 talk_entry (described_waiting offers) off = (refl, refl)
 talk_entry (apart_start s a) off = (refl, refl)

@@ -87,7 +87,7 @@ use Rattle.custody.specs.Shape.{
   stuck_transporting,
   transporting,
 }
-use Rattle.custody.specs.Talks.{Talks, apart, live, shaking_stuck}
+use Rattle.custody.specs.Talks.{Talks, apart, live, shaking_stuck, shaking_stuck_waiting}
 use Rattle.custody.specs.Words.{DownWord, UpWord, down_words}
 use Rattle.standings.specs.Marks.{has_id, is_held}
 use Rattle.line_step.specs.Numbered.{node_at}
@@ -384,6 +384,7 @@ talk_passed : {Q : Record
     → Talks b x o of rd y i f ri p up down → holds_out id o ≡ true → Passed Q i f down
 talk_passed id (live shape) holds = shape_passed id shape holds
 talk_passed id shaking_stuck holds = record { offers = open_none; offer = no_offer }
+talk_passed id shaking_stuck_waiting holds = record { offers = open_none; offer = no_offer }
 talk_passed id (apart exit entry) holds = entry_passed entry (exit_holds id exit holds)
 talk_passed id _ holds = absurd (false≢true holds)
 

@@ -87,6 +87,8 @@ use Rattle.custody.specs.Floor.{
   stuck_back,
   stuck_begun,
   stuck_gone,
+  stuck_left,
+  stuck_left_gone,
 }
 use Rattle.custody.specs.Place.{
   Across,
@@ -282,6 +284,8 @@ left_or_stolen q left_gone held leaving = inr refl
 left_or_stolen q stuck_begun held leaving = absurd (let never : false ≡ true = leaving in cc)
 left_or_stolen q stuck_back held leaving = absurd (let never : false ≡ true = leaving in cc)
 left_or_stolen q stuck_gone held leaving = absurd (let never : false ≡ true = leaving in cc)
+left_or_stolen q (stuck_left far) held leaving = inl far
+left_or_stolen q stuck_left_gone held leaving = inr refl
 
 no_leaving : {X : Type 0} {p : Place} → Beyond p ⊎ (p ≡ Stolen) → is_upstream p ≡ true → X
 no_leaving (inl beyond_across) up = absurd (let never : false ≡ true = up in cc)

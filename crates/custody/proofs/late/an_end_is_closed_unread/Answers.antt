@@ -6,4 +6,4 @@ pub returns-clause-entry : goal.returns-clause-entry
 returns-clause-entry c = λ gone kept g l k behind. entry_closes g l k behind.entry
 
 pub returns-clause-exit : goal.returns-clause-exit
-returns-clause-exit c = λ gone g l k behind left. exit_closes g l k (has_read g l behind left)
+returns-clause-exit c = λ gone g l k behind. exit_closes g l k (has_read g l behind)

@@ -8,7 +8,7 @@ pub returns-clause-revoked : goal.returns-clause-revoked
 returns-clause-revoked c = λ gone g l rest k. hears_revoke_ready_unread g l rest k
 
 pub returns-clause-stop : goal.returns-clause-stop
-returns-clause-stop c = λ gone g l s z rest k behind left. hears_stop_unread g l s z rest k (has_read g l behind left)
+returns-clause-stop c = λ gone g l s z rest k behind. hears_stop_unread g l s z rest k (has_read g l behind)
 
 pub returns-clause-answered : goal.returns-clause-answered
 returns-clause-answered c = λ g l service answer rest k x free. hears_downstream_unread g l service answer rest k x free
