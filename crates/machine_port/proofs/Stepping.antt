@@ -1,5 +1,5 @@
 -- What a step leaves in a port, from what the calls of it say.
-use Rattle.std.proofs.Common.{◌≡◌, ◌∙◌, [], ◌∷◌, ℤ, List, Bool, true, false, Option, None, Some, refl, ap, sym, subst}
+use Rattle.std.proofs.Common.{◌≡◌, ◌∙◌, [], ◌∷◌, ℕ, ℤ, List, Bool, true, false, Option, None, Some, refl, ap, sym, subst}
 use Rattle.line_base.specs.declared.states.Side.{Side}
 use Rattle.line_base.specs.declared.states.Side.TheVariants.{Entry, Exit}
 use Rattle.board_record.specs.declared.sensed.Sensed.{Sensed}
@@ -12,72 +12,75 @@ use Rattle.node_core.specs.Step.{Steps}
 use Rattle.node_core.specs.declared.act.Act.{Act}
 use Rattle.node_core.specs.declared.input.Input.{Input}
 use Rattle.machine_port.specs.Levels.{levels_after}
-use Rattle.machine_port.specs.Port.{HasStepped, PortState, closed_by, dropped, is_second, routed, stepped}
+use Rattle.machine_port.specs.Port.{HasStepped, PortState, closed_by, dropped, is_second, made_after, routed, stepped}
 use Rattle.machine_port.specs.declared.levels.Levels.{Levels}
 
--- while a step is made the port is spent; its machine is another behind it
-abbrev pub during : Option Side → NodeState → PortState → PortState
-during closed node s = record (dropped closed (record s { spent = true })) { node = node }
+-- while a step is made the port is spent, and its id is counted; its machine is another behind it
+abbrev pub during : Option Side → ℕ → NodeState → PortState → PortState
+during closed made node s = record (dropped closed (record s { spent = true; made = made })) { node = node }
 
 -- and at its end
 abbrev pub ended : NodeState → List Act → PortState → PortState
 ended node acts r = record r { spent = false; levels = levels_after r.levels acts; last = acts }
 
-pub ended_is : (closed : Option Side) (second : Bool) (acts : List Act) (node : NodeState) (s : PortState)
-    → ended node acts (routed second acts (during closed node s))
+pub ended_is : (closed : Option Side) (second : Bool) (acts : List Act) (made : ℕ) (node : NodeState) (s : PortState)
+    → ended node acts (routed second acts (during closed made node s))
     ≡ record (routed second acts (dropped closed s)) {
       spent = false;
+      made = made;
       node = node;
       levels = levels_after s.levels acts;
       last = acts;
     }
-ended_is None true [] node s = refl
-ended_is None true (act ∷ acts) node s = refl
-ended_is None false acts node s = refl
-ended_is (Some Entry) true [] node s = refl
-ended_is (Some Entry) true (act ∷ acts) node s = refl
-ended_is (Some Entry) false acts node s = refl
-ended_is (Some Exit) true [] node s = refl
-ended_is (Some Exit) true (act ∷ acts) node s = refl
-ended_is (Some Exit) false acts node s = refl
+ended_is None true [] made node s = refl
+ended_is None true (act ∷ acts) made node s = refl
+ended_is None false acts made node s = refl
+ended_is (Some Entry) true [] made node s = refl
+ended_is (Some Entry) true (act ∷ acts) made node s = refl
+ended_is (Some Entry) false acts made node s = refl
+ended_is (Some Exit) true [] made node s = refl
+ended_is (Some Exit) true (act ∷ acts) made node s = refl
+ended_is (Some Exit) false acts made node s = refl
 
-pub node_stays : (closed : Option Side) (second : Bool) (acts : List Act) (node : NodeState) (s : PortState)
-    → (routed second acts (during closed node s)).node ≡ node
-node_stays None true [] node s = refl
-node_stays None true (act ∷ acts) node s = refl
-node_stays None false acts node s = refl
-node_stays (Some Entry) true [] node s = refl
-node_stays (Some Entry) true (act ∷ acts) node s = refl
-node_stays (Some Entry) false acts node s = refl
-node_stays (Some Exit) true [] node s = refl
-node_stays (Some Exit) true (act ∷ acts) node s = refl
-node_stays (Some Exit) false acts node s = refl
+pub node_stays : (closed : Option Side) (second : Bool) (acts : List Act) (made : ℕ) (node : NodeState) (s : PortState)
+    → (routed second acts (during closed made node s)).node ≡ node
+node_stays None true [] made node s = refl
+node_stays None true (act ∷ acts) made node s = refl
+node_stays None false acts made node s = refl
+node_stays (Some Entry) true [] made node s = refl
+node_stays (Some Entry) true (act ∷ acts) made node s = refl
+node_stays (Some Entry) false acts made node s = refl
+node_stays (Some Exit) true [] made node s = refl
+node_stays (Some Exit) true (act ∷ acts) made node s = refl
+node_stays (Some Exit) false acts made node s = refl
 
-dropped_node : (closed : Option Side) (s : PortState) → (dropped closed (record s { spent = true })).node ≡ s.node
-dropped_node None s = refl
-dropped_node (Some Entry) s = refl
-dropped_node (Some Exit) s = refl
+dropped_node : (closed : Option Side) (made : ℕ) (s : PortState)
+    → (dropped closed (record s { spent = true; made = made })).node ≡ s.node
+dropped_node None made s = refl
+dropped_node (Some Entry) made s = refl
+dropped_node (Some Exit) made s = refl
 
 -- the machine's step between the calls that drop, route and set levels
 pub whole_step : (sensed : List Sensed) (input : Input) (moment : ℤ) (second : Bool) (listed obeyed acts : List Act)
-    (levels : Levels) (s d r : PortState) (node : NodeState)
-    → second ≡ is_second input → d ≡ dropped (closed_by input) (record s { spent = true })
+    (levels : Levels) (made : ℕ) (s d r : PortState) (node : NodeState)
+    → made ≡ made_after input s.made
+    → second ≡ is_second input → d ≡ dropped (closed_by input) (record s { spent = true; made = made })
     → r ≡ routed second listed (record d { node = node }) → listed ≡ acts
     → levels ≡ levels_after r.levels obeyed → obeyed ≡ acts
     → Steps d.node sensed input moment node acts → IsBrokenOff d.node sensed input moment node acts
     → IsBounded node → IsWilling node.bridge node.lane.body
     → own_of node.lane.body ≡ own_after (own_of d.node.lane.body) acts
     → HasStepped sensed input moment s (record r { spent = false; levels = levels; last = acts })
-whole_step sensed input moment second listed obeyed acts levels s d r node is_it drops routes same sets same_set steps wrong bounded willing own =
-    let r_is : r ≡ routed (is_second input) acts (during (closed_by input) node s) =
+whole_step sensed input moment second listed obeyed acts levels made s d r node counts is_it drops routes same sets same_set steps wrong bounded willing own =
+    let r_is : r ≡ routed (is_second input) acts (during (closed_by input) made node s) =
     routes
     ∙ ap (λ (b : Bool). routed b listed (record d { node = node })) is_it
     ∙ ap (λ (l : List Act). routed (is_second input) l (record d { node = node })) same
     ∙ ap (λ (x : PortState). routed (is_second input) acts (record x { node = node })) drops in
-    let node_is : r.node ≡ node = ap (λ (x : PortState). x.node) r_is ∙ node_stays (closed_by input) (is_second input) acts node s in
-    let from : d.node ≡ s.node = ap (λ (x : PortState). x.node) drops ∙ dropped_node (closed_by input) s in
+    let node_is : r.node ≡ node = ap (λ (x : PortState). x.node) r_is ∙ node_stays (closed_by input) (is_second input) acts made node s in
+    let from : d.node ≡ s.node = ap (λ (x : PortState). x.node) drops ∙ dropped_node (closed_by input) made s in
     let levels_is : levels ≡ levels_after r.levels acts = sets ∙ ap (levels_after r.levels) same_set in
-    let end_is : record r { spent = false; levels = levels; last = acts } ≡ ended node acts (routed (is_second input) acts (during (closed_by input) node s)) =
+    let end_is : record r { spent = false; levels = levels; last = acts } ≡ ended node acts (routed (is_second input) acts (during (closed_by input) made node s)) =
     ap (λ (v : Levels). record r { spent = false; levels = v; last = acts }) levels_is
     ∙ ap (ended node acts) r_is in
     record {
@@ -91,7 +94,8 @@ whole_step sensed input moment second listed obeyed acts levels s d r node is_it
           (subst (λ (n : NodeState). own_of node.lane.body ≡ own_after (own_of n.lane.body) acts) from own);
       after =
           end_is
-          ∙ ended_is (closed_by input) (is_second input) acts node s
+          ∙ ended_is (closed_by input) (is_second input) acts made node s
+          ∙ ap (λ (m : ℕ). record (stepped input node acts s) { made = m }) counts
           ∙ ap (λ (n : NodeState). stepped input n acts s) (sym node_is);
     }
 

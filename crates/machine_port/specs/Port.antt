@@ -1,6 +1,6 @@
 -- A MACHINE BEHIND ITS PORT: the machine, what waits on the ways to its neighbours, the levels of
 -- its drives and signals, and what it did last.
-use Rattle.std.specs.Prelude.{◌≡◌, ℕ, ℤ, Bool, true, false, List, [], ◌∷◌, Option, None, Some, Result, Ok, Err, drop}
+use Rattle.std.specs.Prelude.{◌≡◌, ◌+◌, ℕ, ℤ, Bool, true, false, List, [], ◌∷◌, Option, None, Some, Result, Ok, Err, drop}
 use Rattle.line_base.specs.declared.states.Side.{Side}
 use Rattle.line_base.specs.declared.states.Side.TheVariants.{Entry, Exit}
 use Rattle.board_record.specs.declared.sensed.Sensed.{Sensed}
@@ -21,10 +21,13 @@ use Rattle.machine_port.specs.Levels.{all_off, levels_after}
 use Rattle.machine_port.specs.Ways.{WayState, at_rest, said_at, way_after, way_sent}
 use Rattle.machine_port.specs.declared.levels.Levels.{Levels}
 
--- a port is spent once memory was wanting. `refusal` is the text for a second connection of the
--- downstream neighbour, and `last` are the acts of the last step
+-- a port is spent once memory was wanting. `number` is the number in the ids that its machine
+-- makes, and `made` how many it made, with those before it was new; `refusal` is the text for a
+-- second connection of the downstream neighbour, and `last` are the acts of the last call that was done
 pub record PortState : Type 0 where
   pub spent : Bool
+  pub number : ℕ
+  pub made : ℕ
   pub node : NodeState
   pub entry : WayState
   pub exit : WayState
@@ -36,6 +39,8 @@ pub record PortState : Type 0 where
 abbrev pub new_port : NodeProfile → PortState
 new_port profile = record {
   spent = false;
+  number = profile.number;
+  made = profile.used;
   node = new_node profile;
   entry = at_rest;
   exit = at_rest;
@@ -103,11 +108,19 @@ abbrev pub routed : Bool → List Act → PortState → PortState
 routed true told s = said_to_second told s
 routed false told s = on_ways told s
 
+-- how many ids are made once an input was given: a board that is put in, and one that replaces
+-- another, has a new one
+abbrev pub made_after : Input → ℕ → ℕ
+made_after (inputs.Insert barcode) made = made + 1
+made_after (inputs.Replace id) made = made + 1
+made_after _ made = made
+
 -- THE PORT AFTER A STEP of its machine, that did these acts
 abbrev pub stepped : Input → NodeState → List Act → PortState → PortState
 stepped input node told s =
     record (routed (is_second input) told (dropped (closed_by input) s)) {
       spent = false;
+      made = made_after input s.made;
       node = node;
       levels = levels_after s.levels told;
       last = told;
@@ -124,10 +137,10 @@ pub record HasStepped (sensed : List Sensed) (input : Input) (moment : ℤ) (s t
   pub after : t ≡ stepped input t.node t.last s
 
 -- THE CONNECTION OF A SIDE IS CLOSED, by whomever: what waits there is dropped, and the machine
--- makes a step where it has a connection there still
+-- makes a step where it has a connection there still; else it does nothing
 abbrev pub HasClosed : Result (Unit {0}) No → Side → ℤ → PortState → PortState → Type 0
 HasClosed (Ok done) side moment s t = HasStepped [] (inputs.Notice side) moment s t
-HasClosed (Err why) side moment s t = t ≡ with_way side at_rest s
+HasClosed (Err why) side moment s t = t ≡ record (with_way side at_rest s) { last = [] }
 
 -- so many bytes from the front of a way are sent
 abbrev pub sent : Side → ℕ → PortState → PortState

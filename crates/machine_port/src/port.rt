@@ -2,7 +2,7 @@ ghost use Rattle.std.specs.Prelude.{◌≡◌, ◌≤◌, ◌<◌, ◌^◌, ◌+
 ghost use Rattle.line_base.specs.declared.states.Side.TheVariants.{Exit};
 ghost use Rattle.node_core.specs.May.{may_do, may_of};
 ghost use Rattle.node_core.specs.declared.input.Input.TheVariants as inputs;
-ghost use Rattle.machine_port.specs.Port.{HasClosed, HasStepped, closed_by, dropped, is_second, may_take, new_port, on_ways, routed, said_to_second, sent, sent_refusal, way_at, with_way};
+ghost use Rattle.machine_port.specs.Port.{HasClosed, HasStepped, closed_by, dropped, is_second, made_after, may_take, new_port, on_ways, routed, said_to_second, sent, sent_refusal, way_at, with_way};
 ghost use Rattle.machine_port.specs.Ways.{at_rest, said_at};
 
 use crate::error::NotDone;
@@ -21,7 +21,10 @@ use std::marker::Model;
 /// still and its connections to be closed.
 #[derive(Drop)]
 pub struct Port {
+    alloc: Global,
     spent: bool,
+    number: u32,
+    made: u64,
     node: Node,
     entry: Outgoing,
     exit: Outgoing,
@@ -31,12 +34,15 @@ pub struct Port {
 }
 
 impl Model for Port {
+    ghost use Rattle.std.specs.Prelude.{◌≡◌, ◌<◌, ◌^◌, false};
     ghost use Rattle.machine_port.specs.Port.{PortState};
 
     ghost Value = { PortState };
 
     ghost view = { λ port. record {
       spent = port.spent;
+      number = port.number;
+      made = port.made;
       node = port.node;
       entry = port.entry;
       exit = port.exit;
@@ -44,6 +50,10 @@ impl Model for Port {
       levels = port.levels;
       last = port.last;
     } };
+
+    // the count of ids is that of its machine
+    ghost invariant = { λ port. (port.made < 2 ^ 48)
+        × (port.spent ≡ false → port.made ≡ port.node.maker.used) };
 }
 
 impl Port {
@@ -54,8 +64,13 @@ impl Port {
         requires used { profile.used < 2 ^ 48 }
         ensures { IfOk result (λ port. port ≡ new_port profile) }
     {
+        let number = profile.number;
+        let made = profile.used;
         Ok(Port {
+            alloc,
             spent: false,
+            number,
+            made,
             node: Node::new(alloc, profile)?,
             entry: Outgoing::new(alloc),
             exit: Outgoing::new(alloc),
@@ -85,6 +100,10 @@ impl Port {
         ensures memory { self.old.spent ≡ false → may_take self.old input.entry ≡ may_do
             → IfErr result (λ why. why ≡ NotDone.Memory) }
         ensures lost { result ≡ Err NotDone.Memory → self.new.spent ≡ true }
+        // an id that a step made is counted, too, where memory was wanting behind it
+        ensures counted { self.old.spent ≡ false → self.new.spent ≡ true
+            → self.new.made ≡ made_after input.entry self.old.made }
+        ensures still { self.old.spent ≡ true → self.new ≡ self.old }
         ensures stepped { OnOk result
             (HasStepped sensed.now input.entry moment self.old self.new) }
     {
@@ -101,12 +120,15 @@ impl Port {
     }
 
     /// The connection of a side is closed, by whomever: what waits there is dropped, and where the
-    /// machine has a connection there still it makes a step.
+    /// machine has a connection there still it makes a step; else it does nothing, and there are no
+    /// last acts.
     ///
     /// `Memory` where there is none; the port is spent then.
     pub fn close(&mut self, side: Side, moment: Moment) -> Result<(), Memory>
         ensures spent { self.old.spent ≡ true → IsErr result }
         ensures lost { OnErr result (self.new.spent ≡ true) }
+        ensures counted { self.new.made ≡ self.old.made }
+        ensures still { self.old.spent ≡ true → self.new ≡ self.old }
         ensures closed { OnOk result
             (HasClosed (may_of self.old.node (inputs.Notice side)) side moment self.old self.new) }
     {
@@ -115,6 +137,7 @@ impl Port {
         }
         if self.node.may(&Input::Notice(side)).is_err() {
             self.rest(side);
+            self.last = Outputs::new(self.alloc);
             return Ok(());
         }
         self.take(&[], Input::Notice(side), moment)
@@ -133,12 +156,16 @@ impl Port {
 
     /// A step, where the machine can take the input.
     fn take(&mut self, sensed: &[Sensed], input: Input<'_>, moment: Moment) -> Result<(), Memory>
-        requires { may_of self.old.node input ≡ may_do }
+        requires unspent { self.old.spent ≡ false }
+        requires may { may_of self.old.node input ≡ may_do }
         ensures lost { OnErr result (self.new.spent ≡ true) }
+        ensures counted { self.new.made ≡ made_after input.entry self.old.made }
         ensures stepped { OnOk result
             (HasStepped sensed.now input.entry moment self.old self.new) }
     {
+        let made = self.made_after(&input);
         self.spent = true;
+        self.made = made;
         let second = is_second(&input);
         self.drop_closed(&input);
         let acts = self.node.step(sensed, input, moment)?;
@@ -147,6 +174,19 @@ impl Port {
         self.last = acts;
         self.spent = false;
         Ok(())
+    }
+
+    /// How many ids are made, once this input was given.
+    fn made_after(&self, input: &Input<'_>) -> u64
+        requires unspent { self.now.spent ≡ false }
+        requires may { may_of self.now.node input.now ≡ may_do }
+        ensures same { result ≡ made_after input.now self.now.made }
+        ensures bounded { result < 2 ^ 48 }
+    {
+        match input {
+            Input::Insert(_) | Input::Replace(_) => self.made + 1,
+            _ => self.made,
+        }
     }
 
     /// What waits on a connection that is found closed is dropped.
@@ -170,6 +210,7 @@ impl Port {
     /// The messages of a step's acts go their ways, at a second connection the first to that.
     fn route(&mut self, second: bool, acts: &[Act]) -> Result<(), Memory>
         ensures lost { self.new.spent ≡ self.old.spent }
+        ensures counted { self.new.made ≡ self.old.made }
         ensures routed { OnOk result (self.new ≡ routed second acts.now self.old) }
     {
         if second {
@@ -180,6 +221,7 @@ impl Port {
 
     fn put(&mut self, acts: &[Act]) -> Result<(), Memory>
         ensures lost { self.new.spent ≡ self.old.spent }
+        ensures counted { self.new.made ≡ self.old.made }
         ensures put { OnOk result (self.new ≡ on_ways acts.now self.old) }
     {
         self.entry.put(Side::Entry, acts)?;
@@ -188,6 +230,7 @@ impl Port {
 
     fn say_to_second(&mut self, acts: &[Act]) -> Result<(), Memory>
         ensures lost { self.new.spent ≡ self.old.spent }
+        ensures counted { self.new.made ≡ self.old.made }
         ensures said { OnOk result (self.new ≡ said_to_second acts.now self.old) }
     {
         self.refusal.clear();
@@ -205,6 +248,21 @@ impl Port {
         ensures { result.now ≡ self.now.node }
     {
         &self.node
+    }
+
+    /// The number in the ids that it makes.
+    pub fn number(&self) -> u32
+        ensures { result ≡ self.now.number }
+    {
+        self.number
+    }
+
+    /// How many ids it made, with those before it was new.
+    pub fn ids_made(&self) -> u64
+        ensures count { result ≡ self.now.made }
+        ensures machine { self.now.spent ≡ false → self.now.made ≡ self.now.node.maker.used }
+    {
+        self.made
     }
 
     /// Whether memory was wanting.
