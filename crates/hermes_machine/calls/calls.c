@@ -67,11 +67,11 @@ static int32_t with_used(uint64_t used) {
 
 static void show(const char *what, const hermes_view *v) {
     printf("%s: size %u spent %u bridge %u supervised %u state %u %u held %u %u drive %u %u signal %u %u %u %u close %u %u %u %u"
-           " kept %llu acts %llu unsent %llu %llu %llu %llu\n", what, v->size, v->spent, v->bridge, v->supervised, v->state[0],
+           " kept %llu acts %llu unsent %llu %llu %llu %llu ids %llu\n", what, v->size, v->spent, v->bridge, v->supervised, v->state[0],
            v->state[1], v->held[0], v->held[1], v->drive[0], v->drive[1], v->signal[0], v->signal[1], v->signal[2], v->signal[3],
            v->close[0], v->close[1], v->close[2], v->close[3], (unsigned long long)v->kept, (unsigned long long)v->acts,
            (unsigned long long)v->unsent[0], (unsigned long long)v->unsent[1], (unsigned long long)v->unsent[2],
-           (unsigned long long)v->unsent[3]);
+           (unsigned long long)v->unsent[3], (unsigned long long)v->ids_made);
 }
 
 static void profiles(void) {
@@ -149,7 +149,7 @@ static void shortages(void) {
     printf("live %zu\n", live);
 }
 
-static const hermes_input nothing = {sizeof(hermes_input), HERMES_NOTHING, 0, 0, 0, 0, {0}};
+static const hermes_input nothing = {sizeof(hermes_input), HERMES_NOTHING, 0, 0, 0, 0, {0}, 0};
 static const int64_t noon = INT64_C(1790000000000);
 
 static int32_t told(hermes_machine *m, uint32_t kind, uint32_t side, uint32_t what, const char *bytes) {
@@ -181,12 +181,12 @@ static void bad_inputs(void) {
     uint8_t bytes[HERMES_MOST_BYTES + 1] = {0};
     printf("step of none: %d\n", at_moment(&m, noon));
     new_of(&m, good, "Loader");
-    i.size = 39;
+    i.size = 47;
     printf("size: %d", hermes_machine_step(&m, &i, bytes, 0, noon));
     i = nothing;
     i.zero = 1;
     printf(" zero: %d\n", hermes_machine_step(&m, &i, bytes, 0, noon));
-    printf("kind: %d %d\n", told(&m, 17, 0, 0, ""), told(&m, UINT32_MAX, 0, 0, ""));
+    printf("kind: %d %d\n", told(&m, 20, 0, 0, ""), told(&m, UINT32_MAX, 0, 0, ""));
     printf("sides: %d %d %d %d %d %d %d %d\n", told(&m, HERMES_CONNECTED, 2, 0, ""), told(&m, HERMES_SECOND, 0, 0, ""),
            told(&m, HERMES_BYTES, 2, 0, ""), told(&m, HERMES_CLOSED, 3, 0, ""), told(&m, HERMES_SENSED, 2, 0, ""),
            told(&m, HERMES_FAULT, 2, 0, ""), told(&m, HERMES_WILL, 2, 0, ""), told(&m, HERMES_LEVEL, 3, 0, ""));
@@ -195,6 +195,7 @@ static void bad_inputs(void) {
            told(&m, HERMES_SENSED, HERMES_EXIT, HERMES_SAW_TAKEN, ""));
     printf("levels: %d %d %d %d\n", told(&m, HERMES_WILL, 0, 2, ""), told(&m, HERMES_LEVEL, 0, 2, ""),
            told(&m, HERMES_INSERT, 0, 2, ""), told(&m, HERMES_MARK, 0, 3, ""));
+    printf("asked: %d %d\n", told(&m, HERMES_ASK, 0, 3, "x"), told(&m, HERMES_SUPERVISE, 0, 2, ""));
     printf("moments: %d %d %d %d\n", at_moment(&m, INT64_C(-62135596800001)), at_moment(&m, INT64_C(-62135596800000)),
            at_moment(&m, INT64_C(253402300799999)), at_moment(&m, INT64_C(253402300800000)));
     printf("bytes: %d %d\n", hermes_machine_step(&m, &nothing, bytes, HERMES_MOST_BYTES, noon),
@@ -225,6 +226,42 @@ static void reasons(void) {
     look("full", &m);
     hermes_machine_free(&m);
     hermes_machine_free(&n);
+}
+
+static void show_id(const uint8_t id[16]) {
+    for (int i = 0; i < 16; i++) printf("%s%02x", i == 4 || i == 6 || i == 8 || i == 10 ? "-" : "", id[i]);
+}
+
+/* the acts of the last step, each with its text */
+static void show_acts(const char *what, hermes_machine *m) {
+    static const uint8_t no_id[16] = {0};
+    hermes_act a = {.size = sizeof a};
+    char text[200];
+    for (uint32_t i = 0; hermes_machine_act(m, i, &a) == HERMES_DONE; i++) {
+        int64_t n = hermes_machine_act_text(m, i, 0, (uint8_t *)text, sizeof text);
+        printf("%s: kind %u side %u what %u query %llu", what, a.kind, a.side, a.what, (unsigned long long)a.query);
+        if (memcmp(a.id, no_id, 16)) printf(" id "), show_id(a.id);
+        if (memcmp(a.other, no_id, 16)) printf(" other "), show_id(a.other);
+        printf(" | %.*s\n", (int)n, text);
+    }
+}
+
+static int64_t field_of(hermes_machine *m, uint32_t place, uint32_t index, uint32_t field, char *to, size_t room) {
+    return hermes_machine_field(m, place, index, field, (uint8_t *)to, room);
+}
+
+static void show_board(const char *what, hermes_machine *m, uint32_t place) {
+    hermes_board b = {.size = sizeof b};
+    char text[200];
+    printf("%s: %d", what, hermes_machine_board(m, place, 0, &b));
+    printf(" quality %u flip %u ", b.quality, b.flip);
+    show_id(b.id);
+    for (uint32_t f = 0; f < HERMES_FIELDS; f++) {
+        int64_t n = field_of(m, place, 0, f, text, sizeof text);
+        if (b.has[f]) printf(" %u %.*s", f, (int)n, text);
+        if (!b.has[f] && n != HERMES_NONE) printf(" %u?", f);
+    }
+    printf("\n");
 }
 
 /* all that waits on a way goes over to another machine, some bytes at a time */
@@ -258,7 +295,11 @@ static void handover(void) {
         carry(&a, HERMES_EXIT, &b, HERMES_ENTRY, 7);
     }
     look("open above", &a);
+    show_acts("open above", &a);
+    show_board("outlet", &a, HERMES_OUTLET);
     look("open below", &b);
+    show_acts("open below", &b);
+    show_board("intake", &b, HERMES_INTAKE);
     say("begun above", told(&a, HERMES_SENSED, HERMES_EXIT, HERMES_SAW_BEGUN, ""));
     say("below", told(&b, HERMES_SENSED, HERMES_ENTRY, HERMES_SAW_BEGUN, ""));
     say("left above", told(&a, HERMES_SENSED, HERMES_EXIT, HERMES_SAW_LEFT, ""));
@@ -268,7 +309,9 @@ static void handover(void) {
         carry(&a, HERMES_EXIT, &b, HERMES_ENTRY, 7);
     }
     look("over above", &a);
+    show_acts("over above", &a);
     look("over below", &b);
+    show_acts("over below", &b);
     printf("second: %d\n", told(&a, HERMES_SECOND, HERMES_EXIT, 0, ""));
     hermes_machine_view(&a, &v);
     say("its text waits", v.unsent[HERMES_REFUSAL] > 0);
@@ -288,6 +331,145 @@ static void handover(void) {
     printf("live %zu\n", live);
 }
 
+/* what is read of none, with another size, of a place or field that is none, and where there is nothing */
+static void nothing_to_read(void) {
+    hermes_machine m = {0};
+    hermes_act a;
+    hermes_board b;
+    char text[8];
+    uint8_t *to = (uint8_t *)text;
+    memset(&a, 0x55, sizeof a);
+    memset(&b, 0x55, sizeof b);
+    memset(text, 0x55, sizeof text);
+    printf("of none: %d %lld %d %lld %lld\n", hermes_machine_act(&m, 0, &a), (long long)hermes_machine_act_text(&m, 0, 0, to, 8),
+           hermes_machine_board(&m, 0, 0, &b), (long long)field_of(&m, 0, 0, 0, text, 8), (long long)hermes_machine_order(&m, 1, to, 8));
+    new_of(&m, good, "Loader");
+    printf("of another size: %d %d\n", hermes_machine_act(&m, 0, &a), hermes_machine_board(&m, 0, 0, &b));
+    printf("unchanged: %d\n", a.size == 0x55555555 && a.other[15] == 0x55 && b.size == 0x55555555 && b.id[15] == 0x55);
+    a.size = sizeof a;
+    b.size = sizeof b;
+    printf("nothing there: %d %lld %d %lld %lld\n", hermes_machine_act(&m, 0, &a), (long long)hermes_machine_act_text(&m, 0, 0, to, 8),
+           hermes_machine_board(&m, 0, 0, &b), (long long)field_of(&m, 0, 0, 0, text, 8), (long long)hermes_machine_order(&m, 1, to, 8));
+    printf("places: %d %d %d\n", hermes_machine_board(&m, HERMES_OUTLET, 0, &b), hermes_machine_board(&m, HERMES_INTAKE, 0, &b),
+           hermes_machine_board(&m, 3, 0, &b));
+    printf("fields: %lld %lld %lld\n", (long long)field_of(&m, 3, 0, 0, text, 8), (long long)field_of(&m, 0, 0, 12, text, 8),
+           (long long)field_of(&m, 0, 0, 13, text, 8));
+    printf("unchanged: %d\n", a.kind == 0x55555555 && b.quality == 0x55555555 && text[0] == 0x55);
+    hermes_machine_free(&m);
+}
+
+static int32_t told_of(hermes_machine *m, uint32_t kind, uint32_t what, const uint8_t id[16]) {
+    hermes_input i = nothing;
+    i.kind = kind;
+    i.what = what;
+    memcpy(i.id, id, 16);
+    return hermes_machine_step(m, &i, (const uint8_t *)"", 0, noon);
+}
+
+/* a board is put in, marked and replaced; texts in parts */
+static void read_of_boards(void) {
+    hermes_machine m = {0};
+    hermes_board b = {.size = sizeof b};
+    char text[200] = {0};
+    uint8_t *to = (uint8_t *)text;
+    new_of(&m, good, "Loader");
+    told(&m, HERMES_INSERT, 0, 1, "4711");
+    show_acts("insert", &m);
+    show_board("board", &m, HERMES_KEPT);
+    printf("parts: %lld", (long long)hermes_machine_act_text(&m, 0, 0, to, 6));
+    printf(" %.6s", text);
+    printf(" %lld", (long long)hermes_machine_act_text(&m, 0, 44, to, 6));
+    printf(" %.1s %lld %lld %lld\n", text, (long long)hermes_machine_act_text(&m, 0, 45, to, 6),
+           (long long)hermes_machine_act_text(&m, 0, SIZE_MAX, to, 6), (long long)hermes_machine_act_text(&m, 1, 0, to, 6));
+    printf("a part of a field: %lld", (long long)field_of(&m, 0, 0, HERMES_FIELD_TOP_BARCODE, text, 2));
+    printf(" %.2s\n", text);
+    hermes_machine_board(&m, 0, 0, &b);
+    printf("mark: %d\n", told_of(&m, HERMES_MARK, HERMES_FAILED, b.id));
+    show_acts("mark", &m);
+    show_board("board", &m, HERMES_KEPT);
+    printf("replace: %d\n", told_of(&m, HERMES_REPLACE, 0, b.id));
+    show_acts("replace", &m);
+    show_board("board", &m, HERMES_KEPT);
+    printf("second board: %d\n", hermes_machine_board(&m, 0, 1, &b));
+    printf("hold: %d\n", told(&m, HERMES_WILL, HERMES_EXIT, 0, ""));
+    show_acts("hold", &m);
+    hermes_machine_free(&m);
+}
+
+static int32_t answered(hermes_machine *m, uint64_t query, const char *order) {
+    hermes_input i = nothing;
+    i.kind = HERMES_ANSWER;
+    i.query = query;
+    return hermes_machine_step(m, &i, (const uint8_t *)order, strlen(order), noon);
+}
+
+static void show_order(hermes_machine *m, uint64_t query) {
+    char text[200];
+    int64_t n = hermes_machine_order(m, query, (uint8_t *)text, sizeof text);
+    printf("order %llu: %lld%s%.*s\n", (unsigned long long)query, (long long)n, n > 0 ? " " : "", n > 0 ? (int)n : 0, text);
+}
+
+/* a work order is asked for and answered, once */
+static void orders(void) {
+    hermes_machine m = {0};
+    new_of(&m, good, "Loader");
+    printf("not supervised: %d %d\n", told(&m, HERMES_ASK, 0, HERMES_BY_ORDER, "x"), answered(&m, 1, "WO-7"));
+    say("supervise", told(&m, HERMES_SUPERVISE, 0, 1, ""));
+    show_acts("supervise", &m);
+    told(&m, HERMES_INSERT, 0, 0, "");
+    show_acts("insert", &m);
+    say("ask by what is no text", told(&m, HERMES_ASK, 0, HERMES_BY_BARCODE, "\xff"));
+    say("ask by an order", told(&m, HERMES_ASK, 0, HERMES_BY_ORDER, "4711"));
+    show_acts("ask", &m);
+    show_order(&m, 0);
+    show_order(&m, 1);
+    say("ask by a barcode", told(&m, HERMES_ASK, 0, HERMES_BY_BARCODE, "4711"));
+    say("ask by a place", told(&m, HERMES_ASK, 0, HERMES_BY_PLACE, "M"));
+    show_acts("ask", &m);
+    say("answer to none", answered(&m, 4, "WO-7"));
+    say("answer that is no text", answered(&m, 1, "\x01"));
+    say("answer", answered(&m, 1, "WO-7"));
+    show_acts("answer", &m);
+    say("another answer", answered(&m, 1, "WO-8"));
+    show_order(&m, 1);
+    show_order(&m, 2);
+    show_order(&m, UINT64_MAX);
+    hermes_machine_free(&m);
+}
+
+/* Memory is wanting for a text: nothing is copied, and the machine is as it was. Then it is wanting in a step, each time one
+ * call later: the machine is spent, and has counted the id. */
+static void wants(void) {
+    hermes_machine m = {0};
+    hermes_view v = {.size = sizeof v};
+    char text[8] = "unread";
+    int32_t answer = 1;
+    int right = 1;
+    new_of(&m, good, "Loader");
+    told(&m, HERMES_INSERT, 0, 1, "4711");
+    fails_at = asked + 1;
+    printf("no text: %lld", (long long)hermes_machine_act_text(&m, 0, 0, (uint8_t *)text, sizeof text));
+    fails_at = asked + 1;
+    printf(" %lld", (long long)field_of(&m, 0, 0, HERMES_FIELD_CREATED_BY, text, sizeof text));
+    fails_at = 0;
+    hermes_machine_view(&m, &v);
+    printf(" %s spent %u kept %llu\n", text, v.spent, (unsigned long long)v.kept);
+    hermes_machine_free(&m);
+    for (size_t turn = 1; answer != HERMES_DONE; turn++) {
+        new_of(&m, good, "Loader");
+        fails_at = asked + turn;
+        answer = told(&m, HERMES_INSERT, 0, 1, "a barcode that takes memory of its own");
+        fails_at = 0;
+        hermes_machine_view(&m, &v);
+        if (answer == HERMES_MEMORY && v.spent)
+            right = right && v.ids_made == 1 && v.close[0] && v.close[1] && told(&m, HERMES_NOTHING, 0, 0, "") == HERMES_MEMORY;
+        else
+            right = right && v.ids_made == (answer == HERMES_DONE) && v.kept == v.ids_made;
+        hermes_machine_free(&m);
+    }
+    printf("no memory in a step: %d\nlive %zu\n", right, live);
+}
+
 int main(void) {
     printf("abi: %d\n", hermes_machine_abi() == HERMES_MACHINE_ABI);
     profiles();
@@ -297,5 +479,9 @@ int main(void) {
     bad_inputs();
     reasons();
     handover();
+    nothing_to_read();
+    read_of_boards();
+    orders();
+    wants();
     return 0;
 }

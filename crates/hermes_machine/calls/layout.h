@@ -17,7 +17,7 @@ AT(hermes_profile, bridge, 16);
 AT(hermes_profile, zero, 20);
 AT(hermes_profile, used, 24);
 
-SIZE(hermes_view, 120);
+SIZE(hermes_view, 128);
 AT(hermes_view, size, 0);
 AT(hermes_view, spent, 4);
 AT(hermes_view, bridge, 8);
@@ -30,8 +30,9 @@ AT(hermes_view, close, 56);
 AT(hermes_view, kept, 72);
 AT(hermes_view, acts, 80);
 AT(hermes_view, unsent, 88);
+AT(hermes_view, ids_made, 120);
 
-SIZE(hermes_input, 40);
+SIZE(hermes_input, 48);
 AT(hermes_input, size, 0);
 AT(hermes_input, kind, 4);
 AT(hermes_input, side, 8);
@@ -39,3 +40,20 @@ AT(hermes_input, what, 12);
 AT(hermes_input, slot, 16);
 AT(hermes_input, zero, 20);
 AT(hermes_input, id, 24);
+AT(hermes_input, query, 40);
+
+SIZE(hermes_act, 56);
+AT(hermes_act, size, 0);
+AT(hermes_act, kind, 4);
+AT(hermes_act, side, 8);
+AT(hermes_act, what, 12);
+AT(hermes_act, query, 16);
+AT(hermes_act, id, 24);
+AT(hermes_act, other, 40);
+
+SIZE(hermes_board, 80);
+AT(hermes_board, size, 0);
+AT(hermes_board, quality, 4);
+AT(hermes_board, flip, 8);
+AT(hermes_board, has, 12);
+AT(hermes_board, id, 64);

@@ -10,7 +10,7 @@ static hermes_machine m;
 
 static int32_t tell(uint32_t kind, uint32_t side, uint32_t what, const void *bytes, size_t len) {
     struct timespec t;
-    hermes_input i = {sizeof i, kind, side, what, 0, 0, {0}};
+    hermes_input i = {sizeof i, kind, side, what, 0, 0, {0}, 0};
     clock_gettime(CLOCK_REALTIME, &t);
     return hermes_machine_step(&m, &i, bytes, len, t.tv_sec * INT64_C(1000) + t.tv_nsec / 1000000);
 }

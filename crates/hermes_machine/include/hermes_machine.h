@@ -3,8 +3,9 @@
  *
  * A control program owns sockets, time and sensors; the library owns sessions, handovers and records. What happens is told by
  * hermes_machine_step; what is to be done is read back by hermes_machine_view and hermes_machine_unsent. These are levels, no
- * edges: nothing is lost where several steps are made before they are read. SO FAR a machine has no supervisor's way, and
- * its acts and records aren't told apart, but for their number.
+ * edges: nothing is lost where several steps are made before they are read. The acts alone (hermes_machine_act, _act_text)
+ * are those of the last step. SO FAR a machine has no way of its own to a supervisory system: your program has that
+ * connection, and tells the machine that it is supervised, what it asks, and what is answered.
  *
  * WHOSE IS WHAT. The library opens nothing, waits for nothing, starts no thread, calls nothing of yours but the three
  * calls of memory below, and keeps nothing outside the handle and what it takes by these.
@@ -46,7 +47,7 @@ extern "C" {
 #endif
 
 /* Raised by each change of a struct, a number or a call. Compare it with hermes_machine_abi() once. */
-#define HERMES_MACHINE_ABI 2u
+#define HERMES_MACHINE_ABI 3u
 
 /* A handle: a machine, or, all zero, none. Its fields are the library's. */
 typedef struct hermes_machine {
@@ -82,7 +83,8 @@ enum {
     HERMES_MEMORY = -2,    /* memory was wanting */
     HERMES_BAD_INPUT = -3, /* a size or a number that is none */
     HERMES_BAD_TEXT = -4,  /* no text: not UTF-8, a character that XML forbids, or too few or too many bytes */
-    HERMES_NOT_EMPTY = -5  /* hermes_machine_new: the handle has a machine already */
+    HERMES_NOT_EMPTY = -5, /* hermes_machine_new: the handle has a machine already */
+    HERMES_NONE = -6       /* there is no such act, record, field or work order */
 };
 
 /* ---- sides and ways. A machine's two sides have the numbers of their ways ---- */
@@ -119,7 +121,7 @@ typedef struct hermes_view {
     uint32_t size;       /* sizeof(hermes_view), set by the caller */
     uint32_t spent;      /* 1 where memory was wanting in a step: then both drives are 0 and both connections to be closed */
     uint32_t bridge;     /* as in the profile */
-    uint32_t supervised; /* 1 while a supervisor's session stands */
+    uint32_t supervised; /* 1 while it is supervised */
     uint32_t state[2];   /* HERMES_STATE_.. of entry and exit */
     uint32_t held[2];    /* 1 where the intake, the outlet holds the record of a board between two machines */
     uint32_t drive[2];   /* 1 while the drive of entry, of exit is to run: a level, set it after each step */
@@ -129,6 +131,7 @@ typedef struct hermes_view {
     uint64_t kept;       /* how many records are kept */
     uint64_t acts;       /* how many acts the last step had */
     uint64_t unsent[4];  /* bytes that wait to be sent, by the number of the way */
+    uint64_t ids_made;   /* for `used` of the next profile: how many ids it made, with those before it was new */
 } hermes_view;
 
 /* ---- what happens. Fields that a kind doesn't name are passed over. `bytes` are those of the call ---- */
@@ -139,7 +142,7 @@ enum {
     HERMES_SECOND = 2,    /* side = EXIT: a second one was accepted: send it HERMES_REFUSAL's text, then close it */
     HERMES_BYTES = 3,     /* side, bytes: these came there, at most HERMES_MOST_BYTES in a call */
     HERMES_CLOSED = 4,    /* side: its connection is closed, by whomever. What waits there is dropped. Always taken; a step
-                             is made where the machine has a connection there still */
+                             is made where the machine has a connection there still, and else there are no last acts */
     HERMES_TICK = 5,      /* once a second, say: behind two silent ticks it sends a CheckAlive */
     HERMES_SENSED = 6,    /* side, what = HERMES_SAW_..: a sensor at that gap saw this: BEGUN, FULL, BACK or TAKEN at the
                              entry, BEGUN, LEFT, BACK or TAKEN at the exit */
@@ -152,11 +155,22 @@ enum {
     HERMES_MARK = 13,     /* id, what = HERMES_UNKNOWN, _GOOD, _FAILED */
     HERMES_SHUTDOWN = 14, /* both connections are to end */
     HERMES_FORECAST = 15, /* the downstream neighbour is told which board comes next */
-    HERMES_QUERY = 16     /* bytes, a top barcode: the upstream neighbour is asked for that board */
+    HERMES_QUERY = 16,    /* bytes, a top barcode: the upstream neighbour is asked for that board */
+    /* what your program does with a supervisory system of its own */
+    HERMES_ASK = 17,       /* what = HERMES_BY_.., bytes, slot (BY_PLACE): a work order is wanted. The act TELLS names the
+                              question's number, from 1 */
+    HERMES_SUPERVISE = 18, /* what = 0 or 1: from now on it is supervised, or not: the acts TELLS name the boards that come
+                              and go, and it may ask */
+    HERMES_ANSWER = 19     /* query, bytes: that question is answered by this work order */
 };
 enum { HERMES_SAW_BEGUN = 0, HERMES_SAW_LEFT = 1, HERMES_SAW_FULL = 2, HERMES_SAW_BACK = 3, HERMES_SAW_TAKEN = 4 };
 enum { HERMES_LINE_READY = 0, HERMES_LINE_AVAILABLE = 1, HERMES_LINE_FAILED = 2 };
 enum { HERMES_UNKNOWN = 0, HERMES_GOOD = 1, HERMES_FAILED = 2 };
+enum {
+    HERMES_BY_BARCODE = 0, /* of the board with this barcode */
+    HERMES_BY_ORDER = 1,   /* the order with this id */
+    HERMES_BY_PLACE = 2    /* of the board in this slot of the magazine that the bytes name */
+};
 
 #define HERMES_MOST_BYTES 4096u
 
@@ -165,10 +179,99 @@ typedef struct hermes_input {
     uint32_t kind;
     uint32_t side;
     uint32_t what;
-    uint32_t slot;  /* no kind names it yet */
+    uint32_t slot;
     uint32_t zero;  /* 0 */
     uint8_t id[16]; /* a board's id, the most significant byte first, as a UUID is written */
+    uint64_t query; /* a question's number */
 } hermes_input;
+
+/* ---- one act of the last step. What a kind doesn't name is 0 ---- */
+enum {
+    HERMES_ACT_READS = 0,     /* side, what = HERMES_SAW_..: a sensor event was read */
+    HERMES_ACT_HEARS = 1,     /* side, what = HERMES_MSG_.. */
+    HERMES_ACT_BREACHES = 2,  /* side: what came there is refused, as its text says. The connection ends */
+    HERMES_ACT_SENDS = 3,     /* side, what = HERMES_MSG_.. */
+    HERMES_ACT_CLOSES = 4,    /* side */
+    HERMES_ACT_NOTICES = 5,   /* side: its connection is found closed */
+    HERMES_ACT_CONNECTS = 6,  /* to the upstream neighbour */
+    HERMES_ACT_OPENS = 7,     /* side = EXIT, id: the handover is open, and the outlet holds the record */
+    HERMES_ACT_REFUSES = 8,   /* side = EXIT, id */
+    HERMES_ACT_LEAVES = 9,    /* side = EXIT, id: the board is the downstream machine's */
+    HERMES_ACT_RETURNS = 10,  /* side = EXIT, id: the board is in the machine again, its record at the front */
+    HERMES_ACT_LOSES = 11,    /* side = EXIT, id: the board was taken out by hand */
+    HERMES_ACT_STARTS = 12,   /* side = ENTRY, id: the intake holds the record */
+    HERMES_ACT_SETTLES = 13,  /* side = ENTRY, id: the board is this machine's, its record at the back */
+    HERMES_ACT_DROPS = 14,    /* side = ENTRY, id: the board didn't come */
+    HERMES_ACT_DRIVE = 15,    /* side, what = 0 or 1 */
+    HERMES_ACT_SIGNALS = 16,  /* side = the place in view.signal, what = 0 or 1 */
+    HERMES_ACT_MARKS = 17,    /* id, what = HERMES_UNKNOWN, _GOOD, _FAILED */
+    HERMES_ACT_INSERTS = 18,  /* id */
+    HERMES_ACT_REMOVES = 19,  /* id */
+    HERMES_ACT_REPLACES = 20, /* id by other */
+    HERMES_ACT_TELLS = 21,    /* what = HERMES_MSG_BOARD_ARRIVED or _DEPARTED, id: a board came or went;
+                                 HERMES_MSG_QUERY_WORK_ORDER_INFO, query: a work order is asked for */
+    HERMES_ACT_ANSWERED = 22, /* query */
+    HERMES_ACT_SETS = 23      /* it was told otherwise, as its text says */
+};
+enum {
+    HERMES_MSG_CHECK_ALIVE = 0,
+    HERMES_MSG_SERVICE_DESCRIPTION = 1,
+    HERMES_MSG_NOTIFICATION = 2,
+    HERMES_MSG_BOARD_AVAILABLE = 3,
+    HERMES_MSG_REVOKE_BOARD_AVAILABLE = 4,
+    HERMES_MSG_MACHINE_READY = 5,
+    HERMES_MSG_REVOKE_MACHINE_READY = 6,
+    HERMES_MSG_START_TRANSPORT = 7,
+    HERMES_MSG_STOP_TRANSPORT = 8,
+    HERMES_MSG_TRANSPORT_FINISHED = 9,
+    HERMES_MSG_BOARD_FORECAST = 10,
+    HERMES_MSG_QUERY_BOARD_INFO = 11,
+    HERMES_MSG_SEND_BOARD_INFO = 12,
+    HERMES_MSG_BOARD_ARRIVED = 16,
+    HERMES_MSG_BOARD_DEPARTED = 17,
+    HERMES_MSG_QUERY_WORK_ORDER_INFO = 18,
+    HERMES_MSG_OTHER = 31 /* one that the standard doesn't name */
+};
+typedef struct hermes_act {
+    uint32_t size; /* sizeof(hermes_act), set by the caller */
+    uint32_t kind;
+    uint32_t side;
+    uint32_t what;
+    uint64_t query;
+    uint8_t id[16];
+    uint8_t other[16];
+} hermes_act;
+
+/* ---- records ---- */
+enum {
+    HERMES_KEPT = 0,   /* the kept records, index 0 at the front */
+    HERMES_OUTLET = 1, /* index 0: the record that the outlet holds */
+    HERMES_INTAKE = 2  /* index 0: the record that the intake holds */
+};
+/* fields of a record, each as its text; lengths (mm), the speed (mm/s) and the weight (g) as decimals */
+enum {
+    HERMES_FIELD_CREATED_BY = 0, /* the name of the machine that made the id. Each record has it */
+    HERMES_FIELD_PRODUCT = 1,
+    HERMES_FIELD_TOP_BARCODE = 2,
+    HERMES_FIELD_BOTTOM_BARCODE = 3,
+    HERMES_FIELD_LENGTH = 4,
+    HERMES_FIELD_WIDTH = 5,
+    HERMES_FIELD_THICKNESS = 6,
+    HERMES_FIELD_SPEED = 7,
+    HERMES_FIELD_TOP_CLEARANCE = 8,
+    HERMES_FIELD_BOTTOM_CLEARANCE = 9,
+    HERMES_FIELD_WEIGHT = 10,
+    HERMES_FIELD_ORDER = 11,
+    HERMES_FIELD_BATCH = 12
+};
+#define HERMES_FIELDS 13u
+typedef struct hermes_board {
+    uint32_t size;                /* sizeof(hermes_board), set by the caller */
+    uint32_t quality;             /* HERMES_UNKNOWN, _GOOD, _FAILED */
+    uint32_t flip;                /* 0 unknown, 1 top side up, 2 bottom side up */
+    uint32_t has[HERMES_FIELDS]; /* 1 where field f is there */
+    uint8_t id[16];
+} hermes_board;
 
 /* ==== the calls ==== */
 
@@ -195,8 +298,9 @@ int32_t hermes_machine_free(hermes_machine *m);
  * HERMES_DONE. HERMES_MEMORY may stand in place of the last two: where it comes of the step itself the machine is spent.
  * Proved: which answer; at HERMES_DONE, that state and acts are those of the machine step (docs/standard/machine.md), with all
  * that is promised of it, that each way's text is the old one and the text of each message that was sent there, in order, and that
- * drives, signals and ways to be closed are those of the acts; at HERMES_MEMORY, that it is spent or unchanged; at the others,
- * unchanged; and that a spent machine never answers HERMES_DONE. */
+ * drives, signals and ways to be closed are those of the acts; at HERMES_MEMORY, that it is spent or unchanged, and that
+ * view.ids_made counts an id of that step; at the others, unchanged; and that a spent machine never answers HERMES_DONE, and
+ * stays as it is. */
 int32_t hermes_machine_step(hermes_machine *m, const hermes_input *input, const uint8_t *bytes, size_t len, int64_t now_ms);
 
 /* Copies the front of what waits on a way into `to`, and answers how many bytes: the least of `room` and what waits.
@@ -210,8 +314,36 @@ int64_t hermes_machine_unsent(hermes_machine *m, uint32_t way, uint8_t *to, size
 int32_t hermes_machine_sent(hermes_machine *m, uint32_t way, size_t count);
 
 /* How things stand. The first of these that holds is the answer: HERMES_EMPTY; HERMES_BAD_INPUT (view->size); else
- * HERMES_DONE. Proved: which answer; at HERMES_DONE, each field; at the others, that `view` is as it was; unchanged. */
+ * HERMES_DONE. Proved: which answer; at HERMES_DONE, each field, and that ids_made is the count of the machine's id maker where
+ * it isn't spent; at the others, that `view` is as it was; unchanged. */
 int32_t hermes_machine_view(hermes_machine *m, hermes_view *view);
+
+/* Act number `index` of the last step that was HERMES_DONE, from 0. The first of these that holds is the answer: HERMES_EMPTY; HERMES_BAD_INPUT
+ * (act->size); HERMES_NONE (there is no such act); else HERMES_DONE. Proved: which answer; at HERMES_DONE, each field; at the
+ * others, that `act` is as it was; unchanged. */
+int32_t hermes_machine_act(hermes_machine *m, uint32_t index, hermes_act *act);
+
+/* The text of that act, from byte `from` on: its line in the log of `node` (docs/standard/node.md), without the number of the turn in front
+ * and without the line's end; a drive has one, too. The number of the machine in it is that of its profile. As
+ * hermes_machine_unsent: it answers how many bytes. HERMES_EMPTY, or else HERMES_NONE; HERMES_MEMORY may stand in place of a
+ * number of bytes, and nothing is spent by it. Proved: which answer; the bytes; that the rest of `to` is as it was; unchanged.
+ * No text has more than 6,000 bytes (measured). */
+int64_t hermes_machine_act_text(hermes_machine *m, uint32_t index, size_t from, uint8_t *to, size_t room);
+
+/* A record. The first of these that holds is the answer: HERMES_EMPTY; HERMES_BAD_INPUT (board->size, place); HERMES_NONE
+ * (there is none); else HERMES_DONE. Proved: which answer; at HERMES_DONE, each field; at the others, that `board` is as it
+ * was; unchanged. */
+int32_t hermes_machine_board(hermes_machine *m, uint32_t place, uint32_t index, hermes_board *board);
+
+/* The text of a record's field, at most 1,024 bytes: as hermes_machine_unsent. HERMES_EMPTY; else HERMES_BAD_INPUT (place, field); else
+ * HERMES_NONE (there is no such record, or it hasn't the field); HERMES_MEMORY may stand in place of a number of bytes, and
+ * nothing is spent by it. Proved: which answer; the bytes; that the rest of `to` is as it was; unchanged. */
+int64_t hermes_machine_field(hermes_machine *m, uint32_t place, uint32_t index, uint32_t field, uint8_t *to, size_t room);
+
+/* The work order that question number `query` (from 1) was answered with, at most 1,024 bytes: as hermes_machine_unsent.
+ * HERMES_EMPTY; else HERMES_NONE (it wasn't asked, or isn't answered). Proved: which answer; the bytes; that the rest of `to`
+ * is as it was; unchanged. */
+int64_t hermes_machine_order(hermes_machine *m, uint64_t query, uint8_t *to, size_t room);
 
 #ifdef __cplusplus
 }

@@ -6,7 +6,7 @@ use Rattle.std.specs.Borrow.{Bor}
 use Rattle.node_core.specs.May.{may_do}
 use Rattle.machine_port.specs.Port.{PortState}
 use Rattle.hermes_machine.specs.Calls.{AnswersStep}
-use Rattle.hermes_machine.specs.Meanings.{HasText, Happens, happening_of, may_happen, told_of, wants_text}
+use Rattle.hermes_machine.specs.Meanings.{HasText, Happens, happening_of, made_by, may_happen, told_of, wants_text}
 use Rattle.hermes_machine.specs.Numbers.{number_of_no}
 use Rattle.hermes_machine.specs.declared.input.HermesInput.{HermesInput}
 use Rattle.hermes_machine.specs.declared.meaning.Meaning.{Meaning}
@@ -22,8 +22,9 @@ pub tell_answers : (i : HermesInput) (bytes : Bor (List ℕ)) (now moment : ℤ)
     → (answer ≡ pos 0 → Happens (happening_of meaning bytes) moment s t)
     → (¬ (answer ≡ pos 0) → ¬ (answer ≡ neg_ℤ (pos 2)) → t ≡ s)
     → (answer ≡ neg_ℤ (pos 2) → t.spent ≡ false → t ≡ s) → (s.spent ≡ true → ¬ (answer ≡ pos 0))
+    → (s.spent ≡ false → t.spent ≡ true → t.made ≡ made_by (happening_of meaning bytes) s.made) → (s.spent ≡ true → t ≡ s)
     → AnswersStep i bytes now s t answer
-tell_answers i bytes now moment s t meaning answer told is_now bad_text reason memory text happens stays lost again = record {
+tell_answers i bytes now moment s t meaning answer told is_now bad_text reason memory text happens stays lost again counted still = record {
   bad_input = λ none. absurd (false≢true (sym none ∙ ap is_some told));
   bad_text = subst (λ (o : Option Meaning). IfSome o (λ m. ¬ (HasText (wants_text m) bytes.now) → answer ≡ neg_ℤ (pos 4))) (sym told) bad_text;
   no = subst (λ (o : Option Meaning). IfSome o (λ m. s.spent ≡ false → HasText (wants_text m) bytes.now
@@ -34,4 +35,6 @@ tell_answers i bytes now moment s t meaning answer told is_now bad_text reason m
   stays = stays;
   lost = lost;
   again = again;
+  counted = subst (λ (o : Option Meaning). IfSome o (λ m. s.spent ≡ false → t.spent ≡ true → t.made ≡ made_by (happening_of m bytes) s.made)) (sym told) counted;
+  still = still;
 }

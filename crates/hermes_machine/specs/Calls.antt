@@ -1,10 +1,13 @@
 -- WHAT THE CALLS DO to the machine of a handle.
-use Rattle.std.specs.Prelude.{◌≡◌, ℕ, ℤ, pos, neg_ℤ, true, false, IfErr, IfSome, is_some, ◌==◌, ◌++◌, Option, None, Some, List, drop, length, min, take, if◌then◌else◌}
+use Rattle.std.specs.Prelude.{◌≡◌, ℕ, ℤ, pos, neg_ℤ, true, false, IfErr, IfSome, is_some, ◌==◌, ◌&&◌, ◌++◌, Bool, Option, None, Some, Result, Ok, Err, List, drop, length, min, nat_le, option_and_then, option_map, slice_get, take, if◌then◌else◌}
 use Rattle.std.specs.Borrow.{Bor}
 use Rattle.line_base.specs.declared.states.Side.TheVariants.{Entry, Exit}
 use Rattle.node_core.specs.May.{may_do}
 use Rattle.machine_port.specs.Port.{PortState, sent, sent_refusal}
-use Rattle.hermes_machine.specs.Meanings.{HasText, Happens, happening_of, may_happen, told_of, wants_text}
+use Rattle.supervisory_core.specs.Orders.{answer_to}
+use Rattle.machine_views.specs.Records.{field_text, record_at}
+use Rattle.machine_views.specs.Texts.{log_text}
+use Rattle.hermes_machine.specs.Meanings.{HasText, Happens, happening_of, made_by, may_happen, told_of, wants_text}
 use Rattle.hermes_machine.specs.Numbers.{number_of_no}
 use Rattle.hermes_machine.specs.declared.input.HermesInput.{HermesInput}
 use Rattle.hermes_machine.specs.declared.meaning.Meaning.{Meaning}
@@ -20,7 +23,7 @@ pub record HasTold (i : HermesInput) (bytes : Bor (List ℕ)) (now : ℤ) (s t :
 -- THE ANSWER TO A STEP, the first of these: a bad input; no text; the reason why the machine can't
 -- take it now; done. Memory may be wanting in place of the last two. But where it is done or
 -- memory is wanting, the machine is as it was; and where memory is wanting it is spent, or as it was.
--- Of a spent machine nothing is done any more
+-- The step in which it was spent has counted its id; and of a spent machine nothing is done any more
 pub record AnswersStep (i : HermesInput) (bytes : Bor (List ℕ)) (now : ℤ) (s t : PortState)
     (answer : ℤ) : Type 0 where
   pub bad_input : is_some (told_of i bytes.now now) ≡ false → answer ≡ neg_ℤ (pos 3)
@@ -38,6 +41,10 @@ pub record AnswersStep (i : HermesInput) (bytes : Bor (List ℕ)) (now : ℤ) (s
   pub stays : ¬ (answer ≡ pos 0) → ¬ (answer ≡ neg_ℤ (pos 2)) → t ≡ s
   pub lost : answer ≡ neg_ℤ (pos 2) → t.spent ≡ false → t ≡ s
   pub again : s.spent ≡ true → ¬ (answer ≡ pos 0)
+  pub counted : IfSome (told_of i bytes.now now)
+      (λ meaning. s.spent ≡ false → t.spent ≡ true
+      → t.made ≡ made_by (happening_of meaning bytes) s.made)
+  pub still : s.spent ≡ true → t ≡ s
 
 -- the text that waits on a way, by its number
 abbrev pub unsent_on : ℕ → PortState → Option (List ℕ)
@@ -59,3 +66,67 @@ pub record IsCopied (text before after : List ℕ) (count : ℤ) : Type 0 where
   pub bytes : after
       ≡ take (min (length text) (length before)) text
       ++ drop (min (length text) (length before)) before
+
+-- ---- what is read of a machine
+
+-- the answer where a struct is to be filled in: the struct's numbers are none; there is nothing to
+-- be read; done
+abbrev pub read_answer : Bool → Bool → ℤ
+read_answer false there = neg_ℤ (pos 3)
+read_answer true false = neg_ℤ (pos 6)
+read_answer true true = pos 0
+
+abbrev pub act_answer : ℕ → ℕ → Option PortState → ℤ
+act_answer size index None = neg_ℤ (pos 1)
+act_answer size index (Some s) = read_answer (size == 56) (is_some (slice_get s.last index))
+
+abbrev pub board_answer : ℕ → ℕ → ℕ → Option PortState → ℤ
+board_answer size place index None = neg_ℤ (pos 1)
+board_answer size place index (Some s) =
+    read_answer (size == 80 && nat_le place 2) (is_some (record_at place index s.node))
+
+-- a text that is wanted, or the answer in its place
+abbrev pub text_or_none : Option (List ℕ) → Result (List ℕ) ℤ
+text_or_none None = Err (neg_ℤ (pos 6))
+text_or_none (Some text) = Ok text
+
+-- that of an act, from a byte on
+abbrev pub text_of_act : ℕ → ℕ → Option PortState → Result (List ℕ) ℤ
+text_of_act index from None = Err (neg_ℤ (pos 1))
+text_of_act index from (Some s) =
+    text_or_none (option_map (λ act. drop from (log_text s.number act)) (slice_get s.last index))
+
+-- that of a record's field
+abbrev pub field_in : ℕ → ℕ → ℕ → PortState → Result (List ℕ) ℤ
+field_in place index field s =
+    text_or_none (option_and_then (field_text field) (record_at place index s.node))
+
+abbrev pub text_of_field : ℕ → ℕ → ℕ → Option PortState → Result (List ℕ) ℤ
+text_of_field place index field None = Err (neg_ℤ (pos 1))
+text_of_field place index field (Some s) =
+    if nat_le place 2 && nat_le field 12 then field_in place index field s else
+    Err (neg_ℤ (pos 3))
+
+-- that of a work order
+abbrev pub text_of_order : ℕ → Option PortState → Result (List ℕ) ℤ
+text_of_order query None = Err (neg_ℤ (pos 1))
+text_of_order query (Some s) = text_or_none (answer_to s.node.orders query)
+
+-- nothing was copied, and this is why
+pub record IsRefused (why : ℤ) (before after : List ℕ) (answer : ℤ) : Type 0 where
+  pub why_is : answer ≡ why
+  pub uncopied : after ≡ before
+
+-- A TEXT WAS READ: its front was copied
+abbrev pub IsRead : Result (List ℕ) ℤ → List ℕ → List ℕ → ℤ → Type 0
+IsRead (Err why) before after answer = IsRefused why before after answer
+IsRead (Ok text) before after answer = IsCopied text before after answer
+
+-- or memory was wanting, and nothing was copied
+pub record IsCopiedOrWanting (text before after : List ℕ) (answer : ℤ) : Type 0 where
+  pub copied : ¬ (answer ≡ neg_ℤ (pos 2)) → IsCopied text before after answer
+  pub wanting : answer ≡ neg_ℤ (pos 2) → after ≡ before
+
+abbrev pub IsReadOrWanting : Result (List ℕ) ℤ → List ℕ → List ℕ → ℤ → Type 0
+IsReadOrWanting (Err why) before after answer = IsRefused why before after answer
+IsReadOrWanting (Ok text) before after answer = IsCopiedOrWanting text before after answer

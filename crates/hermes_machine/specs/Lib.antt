@@ -1,6 +1,5 @@
 pub mod Owned
 pub mod Made
-pub mod Seen
 pub mod Numbers
 pub mod Meanings
 pub mod Calls

@@ -7,13 +7,14 @@ use Rattle.line_base.specs.Text.{IsText}
 use Rattle.line_base.specs.declared.states.Quality.{Quality}
 use Rattle.line_base.specs.declared.states.Side.{Side}
 use Rattle.line_base.specs.declared.states.Side.TheVariants.{Entry, Exit}
+use Rattle.hermes_vertical.specs.declared.message.Question.TheVariants as questions
 use Rattle.smema_bridge.specs.declared.line.SegmentLine.{SegmentLine}
 use Rattle.board_record.specs.declared.sensed.Sensed.{Sensed}
 use Rattle.node_core.specs.declared.input.Input.{Input}
 use Rattle.node_core.specs.declared.input.Input.TheVariants as inputs
 use Rattle.node_core.specs.May.{may_do, may_of}
 use Rattle.node_core.specs.declared.input.No.{No}
-use Rattle.machine_port.specs.Port.{HasClosed, HasStepped, PortState, may_take}
+use Rattle.machine_port.specs.Port.{HasClosed, HasStepped, PortState, made_after, may_take}
 use Rattle.hermes_machine.specs.Numbers.{level_of, quality_of, seen_at, side_of, signal_of}
 use Rattle.hermes_machine.specs.declared.happening.Happening.{Happening}
 use Rattle.hermes_machine.specs.declared.happening.Happening.TheVariants as haps
@@ -59,6 +60,16 @@ id_of i = from_be_bytes w128 i.id
 abbrev pub mark_of : ℕ → Option Quality → Option Meaning
 mark_of id quality = option_map (means.Mark id) quality
 
+-- the supervisor is asked by a barcode, an order's id, or a place in a magazine
+abbrev pub ask_of : ℕ → ℕ → Option Meaning
+ask_of by slot =
+    if by == 0 then Some means.AskBarcode else
+    (if by == 1 then Some means.AskOrder else
+    (if by == 2 then Some (means.AskPlace slot) else None))
+
+abbrev pub supervise_of : Option Bool → Option Meaning
+supervise_of on = option_map means.Supervise on
+
 -- of a kind that names a side and nothing else
 abbrev pub of_side : ℕ → Option Side → Option Meaning
 of_side kind side =
@@ -83,18 +94,25 @@ kind_of i =
     (if i.kind == 14 then Some means.Shutdown else
     (if i.kind == 15 then Some means.Forecast else
     (if i.kind == 16 then Some means.Query else
-    of_side i.kind (side_of i.side)))))))))))))
+    (if i.kind == 17 then ask_of i.what i.slot else
+    (if i.kind == 18 then supervise_of (level_of i.what) else
+    (if i.kind == 19 then Some (means.Answer i.query) else
+    of_side i.kind (side_of i.side))))))))))))))))
 
 -- WHAT AN INPUT MEANS: nothing where it says another size than its own, or a number is out of its
 -- range
 abbrev pub meaning_of : HermesInput → Option Meaning
-meaning_of i = if i.size == 40 && i.zero == 0 then kind_of i else None
+meaning_of i = if i.size == 48 && i.zero == 0 then kind_of i else None
 
 -- ---- and what that is for the machine
 
 abbrev pub wants_text : Meaning → Bool
 wants_text means.InsertWith = true
 wants_text means.Query = true
+wants_text means.AskBarcode = true
+wants_text means.AskOrder = true
+wants_text (means.AskPlace slot) = true
+wants_text (means.Answer query) = true
 wants_text _ = false
 
 -- the input of the machine step, with the bytes of the call
@@ -115,6 +133,11 @@ input_of (means.Mark id quality) bytes = inputs.Mark id quality
 input_of means.Shutdown bytes = inputs.Shutdown
 input_of means.Forecast bytes = inputs.Forecast
 input_of means.Query bytes = inputs.Query bytes.now
+input_of means.AskBarcode bytes = inputs.Ask (questions.Barcode bytes.now)
+input_of means.AskOrder bytes = inputs.Ask (questions.Order bytes.now)
+input_of (means.AskPlace slot) bytes = inputs.Ask (questions.Place bytes.now slot)
+input_of (means.Supervise on) bytes = inputs.Supervise on
+input_of (means.Answer query) bytes = inputs.Answer query bytes.now
 input_of _ bytes = inputs.Nothing
 
 -- what a sensor saw and a close are none
@@ -145,6 +168,12 @@ abbrev pub may_happen : PortState → Happening → Result (Unit {0}) No
 may_happen s (haps.Given input) = may_take s input
 may_happen s (haps.Sees sensed) = may_do
 may_happen s (haps.Closes side) = may_do
+
+-- how many ids it has made then
+abbrev pub made_by : Happening → ℕ → ℕ
+made_by (haps.Given input) made = made_after input made
+made_by (haps.Sees sensed) made = made
+made_by (haps.Closes side) made = made
 
 abbrev pub Happens : Happening → ℤ → PortState → PortState → Type 0
 Happens (haps.Given input) now s t = HasStepped [] input now s t

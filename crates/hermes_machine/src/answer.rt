@@ -23,6 +23,9 @@ pub const BAD_TEXT: i32 = -4;
 /// The handle holds a machine already.
 pub const NOT_EMPTY: i32 = -5;
 
+/// There is no such act, record, field or order.
+pub const NONE: i32 = -6;
+
 /// The number of a reason why an input can't be taken now.
 pub fn number_of_no(why: No) -> i32
     ensures { result ≡ number_of_no why }

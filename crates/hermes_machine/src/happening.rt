@@ -2,10 +2,13 @@ ghost use Rattle.std.specs.Prelude.{◌≡◌, ℕ, List, true, false, Err, IfEr
 ghost use Rattle.std.specs.Borrow.{Bor};
 ghost use Rattle.line_base.specs.Text.{IsText};
 ghost use Rattle.node_core.specs.May.{may_do};
-ghost use Rattle.hermes_machine.specs.Meanings.{HasText, Happens, happening_of, input_of, may_happen, wants_text};
+ghost use Rattle.node_core.specs.declared.input.Input.TheVariants as inputs;
+ghost use Rattle.hermes_machine.specs.declared.happening.Happening.TheVariants as haps;
+ghost use Rattle.hermes_machine.specs.Meanings.{HasText, Happens, happening_of, input_of, made_by, may_happen, wants_text};
 
 use crate::meaning::Meaning;
 use board_record::{BoardId, Sensed};
+use hermes_vertical::Question;
 use line_base::{Memory, Moment, Side, Text, TextError};
 use machine_port::{NotDone, Port};
 use node_core::Input;
@@ -67,6 +70,8 @@ fn wants_text(meaning: Meaning) -> bool
 {
     match meaning {
         Meaning::InsertWith | Meaning::Query => true,
+        Meaning::AskBarcode | Meaning::AskOrder | Meaning::AskPlace(_) => true,
+        Meaning::Answer(_) => true,
         _ => false,
     }
 }
@@ -78,8 +83,21 @@ fn with_text<'a>(meaning: Meaning, text: Text) -> Happening<'a>
 {
     match meaning {
         Meaning::InsertWith => Happening::Given(Input::Insert(Some(text))),
+        Meaning::AskBarcode => asks(Question::Barcode(text)),
+        Meaning::AskOrder => asks(Question::Order(text)),
+        Meaning::AskPlace(slot) => asks(Question::Place {
+            magazine: text,
+            slot,
+        }),
+        Meaning::Answer(query) => Happening::Given(Input::Answer { query, order: text }),
         _ => Happening::Given(Input::Query(text)),
     }
+}
+
+fn asks<'a>(question: Question) -> Happening<'a>
+    ensures { result ≡ haps.Given (inputs.Ask question) }
+{
+    Happening::Given(Input::Ask(question))
 }
 
 /// What happens, where it wants no text.
@@ -111,6 +129,7 @@ fn input_of<'a>(meaning: Meaning, bytes: &'a [u8]) -> Input<'a>
         Meaning::Mark(id, quality) => Input::Mark(BoardId::of(id), quality),
         Meaning::Shutdown => Input::Shutdown,
         Meaning::Forecast => Input::Forecast,
+        Meaning::Supervise(on) => Input::Supervise(on),
         _ => Input::Nothing,
     }
 }
@@ -124,6 +143,9 @@ pub fn happen(port: &mut Port, happening: Happening<'_>, moment: Moment) -> Resu
     ensures memory { port.old.spent ≡ false → may_happen port.old happening.entry ≡ may_do
         → IfErr result (λ why. why ≡ NotDone.Memory) }
     ensures lost { result ≡ Err NotDone.Memory → port.new.spent ≡ true }
+    ensures counted { port.old.spent ≡ false → port.new.spent ≡ true
+        → port.new.made ≡ made_by happening.entry port.old.made }
+    ensures still { port.old.spent ≡ true → port.new ≡ port.old }
     ensures happens { OnOk result (Happens happening.entry moment port.old port.new) }
 {
     match happening {

@@ -1,5 +1,5 @@
 /// How many bytes an input has.
-pub const INPUT_BYTES: u32 = 40;
+pub const INPUT_BYTES: u32 = 48;
 
 /// The most bytes that come with an input.
 pub const MOST_BYTES: usize = 4096;
@@ -8,7 +8,7 @@ pub const MOST_BYTES: usize = 4096;
 #[repr(C)]
 #[derive(Clone, Copy)]
 pub struct HermesInput {
-    /// How many bytes this has, 40.
+    /// How many bytes this has, 48.
     pub size: u32,
     /// The number of what happens.
     pub kind: u32,
@@ -16,10 +16,12 @@ pub struct HermesInput {
     pub side: u32,
     /// What was seen there, or a level, or a quality.
     pub what: u32,
-    /// Passed over by each kind that there is.
+    /// The slot of a magazine.
     pub slot: u32,
     /// 0.
     pub zero: u32,
     /// A board's id, the most significant byte first.
     pub id: [u8; 16],
+    /// The number of a question.
+    pub query: u64,
 }

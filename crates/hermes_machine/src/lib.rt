@@ -5,11 +5,13 @@
 //! handle without a machine, a number out of its range and bytes that are no text have their answer.
 #![tactic(auto)]
 
-ghost use Rattle.std.specs.Prelude.{◌≡◌, ◌==◌, true, false, None, Some, IfSome, is_some, option_map};
+ghost use Rattle.std.specs.Prelude.{◌≡◌, ◌==◌, true, false, None, Some, IfSome, is_some, option_map, slice_get};
 ghost use Rattle.machine_port.specs.Port.{new_port};
-ghost use Rattle.hermes_machine.specs.Calls.{AnswersStep, IsCopied, sent_on, unsent_on};
+ghost use Rattle.machine_views.specs.Acts.{act_seen};
+ghost use Rattle.machine_views.specs.Records.{board_seen, record_at};
+ghost use Rattle.machine_views.specs.Seen.{view_of};
+ghost use Rattle.hermes_machine.specs.Calls.{AnswersStep, IsCopied, IsRead, IsReadOrWanting, act_answer, board_answer, sent_on, text_of_act, text_of_field, text_of_order, unsent_on};
 ghost use Rattle.hermes_machine.specs.Made.{IsIdText, is_profile, profile_of};
-ghost use Rattle.hermes_machine.specs.Seen.{view_of};
 
 mod answer;
 mod handle;
@@ -17,32 +19,32 @@ mod happening;
 mod input;
 mod meaning;
 mod profile;
+mod reading;
 mod slot;
 mod step;
-mod view;
 mod ways;
 
-pub use answer::{BAD_INPUT, BAD_TEXT, DONE, EMPTY, MEMORY, NOT_EMPTY};
+pub use answer::{BAD_INPUT, BAD_TEXT, DONE, EMPTY, MEMORY, NONE, NOT_EMPTY};
 pub use handle::HermesMachine;
 pub use happening::Happening;
 pub use input::HermesInput;
 use machine_port::Port;
+use machine_views::{HermesAct, HermesBoard, HermesView, VIEW_BYTES, view_of};
 pub use meaning::Meaning;
 pub use profile::HermesProfile;
 use profile::{NotMade, made};
+use reading::{read_act, read_act_text, read_board, read_field, read_order};
 pub use slot::{Opaque, Slot};
 use std::alloc::Global;
 use step::tell;
-pub use view::HermesView;
-use view::{VIEW_BYTES, view_of};
 use ways::{copy_unsent, take_sent};
 
 /// The number of this library's structs, numbers and calls. A change of any raises it.
 #[unsafe(no_mangle)]
 pub extern "C" fn hermes_machine_abi() -> u32
-    ensures { result ≡ 2 }
+    ensures { result ≡ 3 }
 {
-    2
+    3
 }
 
 /// Puts a new machine into an empty handle: it keeps nothing, has no connection, and is willing on
@@ -196,6 +198,8 @@ pub extern "C" fn hermes_machine_view(
         → result ≡ DONE }
     ensures seen { result ≡ DONE → IfSome m.old.slot.held (λ s. view.new ≡ view_of s) }
     ensures unseen { ¬ (result ≡ DONE) → view.new ≡ view.old }
+    // the ids that it counts are those that the machine made
+    ensures ids { IfSome m.old.slot.held (λ s. s.spent ≡ false → s.made ≡ s.node.maker.used) }
     ensures stays { m.new.slot.held ≡ m.old.slot.held }
 {
     let Some(seen) = m.take(alloc) else {
@@ -206,13 +210,134 @@ pub extern "C" fn hermes_machine_view(
     answer
 }
 
+/// How an act of the last step is seen, by its place, from 0. `EMPTY` where the handle has no machine;
+/// else `BAD_INPUT` where the act says another size than its own; else `NONE` where there is no such
+/// act; else done. But where it is done `act` is as it was.
+#[unsafe(no_mangle)]
+pub extern "C" fn hermes_machine_act(
+    alloc: Global,
+    m: &mut HermesMachine,
+    index: u32,
+    act: &mut HermesAct,
+) -> i32
+    ensures answer { result ≡ act_answer act.old.size index m.old.slot.held }
+    ensures seen { result ≡ DONE → IfSome m.old.slot.held (λ s. IfSome (slice_get s.last index)
+        (λ told. act.new ≡ act_seen told)) }
+    ensures unseen { ¬ (result ≡ DONE) → act.new ≡ act.old }
+    ensures stays { m.new.slot.held ≡ m.old.slot.held }
+{
+    let Some(port) = m.take(alloc) else {
+        return EMPTY;
+    };
+    let answer = read_act(&port, index, act);
+    m.put(port);
+    answer
+}
+
+/// Copies the text of an act of the last step into `to`, from byte `from` on: its line in the log of
+/// a machine, without the turn. It answers how many bytes. `EMPTY` where the handle has no machine;
+/// else `NONE` where there is no such act; `MEMORY` where there is none for the text. `to` is as it
+/// was then.
+#[unsafe(no_mangle)]
+pub extern "C" fn hermes_machine_act_text(
+    alloc: Global,
+    m: &mut HermesMachine,
+    index: u32,
+    from: usize,
+    to: &mut [u8],
+) -> i64
+    ensures read { IsReadOrWanting (text_of_act index from m.old.slot.held)
+        to.old to.new result }
+    ensures stays { m.new.slot.held ≡ m.old.slot.held }
+{
+    let Some(port) = m.take(alloc) else {
+        return -1;
+    };
+    let answer = read_act_text(alloc, &port, index, from, to);
+    m.put(port);
+    answer
+}
+
+/// How a record is seen: of place 0 the kept ones, from 0 at the front, of 1 that of the outlet, of
+/// 2 that of the intake, each of index 0. `EMPTY` where the handle has no machine; else `BAD_INPUT`
+/// where the board says another size than its own, or there is no such place; else `NONE` where there
+/// is no such record; else done. But where it is done `board` is as it was.
+#[unsafe(no_mangle)]
+pub extern "C" fn hermes_machine_board(
+    alloc: Global,
+    m: &mut HermesMachine,
+    place: u32,
+    index: u32,
+    board: &mut HermesBoard,
+) -> i32
+    ensures answer { result ≡ board_answer board.old.size place index m.old.slot.held }
+    ensures seen { result ≡ DONE → IfSome m.old.slot.held
+        (λ s. IfSome (record_at place index s.node) (λ r. board.new ≡ board_seen r)) }
+    ensures unseen { ¬ (result ≡ DONE) → board.new ≡ board.old }
+    ensures stays { m.new.slot.held ≡ m.old.slot.held }
+{
+    let Some(port) = m.take(alloc) else {
+        return EMPTY;
+    };
+    let answer = read_board(&port, place, index, board);
+    m.put(port);
+    answer
+}
+
+/// Copies the text of a record's field into `to`, and answers how many bytes. `EMPTY` where the
+/// handle has no machine; else `BAD_INPUT` where there is no such place or field; else `NONE` where
+/// there is no such record, or it hasn't that field; `MEMORY` where there is none for the text. `to`
+/// is as it was then.
+#[unsafe(no_mangle)]
+pub extern "C" fn hermes_machine_field(
+    alloc: Global,
+    m: &mut HermesMachine,
+    place: u32,
+    index: u32,
+    field: u32,
+    to: &mut [u8],
+) -> i64
+    ensures read { IsReadOrWanting (text_of_field place index field m.old.slot.held)
+        to.old to.new result }
+    ensures stays { m.new.slot.held ≡ m.old.slot.held }
+{
+    let Some(port) = m.take(alloc) else {
+        return -1;
+    };
+    let answer = read_field(alloc, &port, place, index, field, to);
+    m.put(port);
+    answer
+}
+
+/// Copies the work order that the question of this number was answered with into `to`, and answers
+/// how many bytes. `EMPTY`, or else `NONE` where that question wasn't asked or not answered.
+#[unsafe(no_mangle)]
+pub extern "C" fn hermes_machine_order(
+    alloc: Global,
+    m: &mut HermesMachine,
+    query: u64,
+    to: &mut [u8],
+) -> i64
+    ensures read { IsRead (text_of_order query m.old.slot.held) to.old to.new result }
+    ensures stays { m.new.slot.held ≡ m.old.slot.held }
+{
+    let Some(port) = m.take(alloc) else {
+        return -1;
+    };
+    let answer = read_order(&port, query, to);
+    m.put(port);
+    answer
+}
+
 /// Writes how a machine stands, where the view has its size.
 fn see(machine: &Port, view: &mut HermesView) -> i32
     ensures bad_input { (view.old.size == VIEW_BYTES) ≡ false → result ≡ BAD_INPUT }
     ensures done { (view.old.size == VIEW_BYTES) ≡ true → result ≡ DONE }
     ensures seen { result ≡ DONE → view.new ≡ view_of machine.now }
     ensures unseen { ¬ (result ≡ DONE) → view.new ≡ view.old }
+    ensures ids { machine.now.spent ≡ false → machine.now.made ≡ machine.now.node.maker.used }
 {
+    let _ids_made = machine.ids_made();
     if view.size != VIEW_BYTES {
         return BAD_INPUT;
     }

@@ -1,5 +1,5 @@
 ghost use Rattle.std.specs.Prelude.{◌≡◌};
-ghost use Rattle.hermes_machine.specs.Meanings.{bridge_level, id_of, insert_of, kind_of, mark_of, meaning_of, of_side, second_at, seen, sensed_at, will_of};
+ghost use Rattle.hermes_machine.specs.Meanings.{ask_of, bridge_level, id_of, insert_of, kind_of, mark_of, meaning_of, of_side, second_at, seen, sensed_at, supervise_of, will_of};
 ghost use Rattle.hermes_machine.specs.Numbers.{level_of, quality_of, seen_at, side_of, signal_of};
 
 use crate::input::{HermesInput, INPUT_BYTES};
@@ -46,6 +46,16 @@ pub enum Meaning {
     Forecast,
     /// The upstream neighbour is asked for the board with the barcode that the bytes are.
     Query,
+    /// The supervisor is asked for the work order of the board with that barcode.
+    AskBarcode,
+    /// For the work order with the id that the bytes are.
+    AskOrder,
+    /// For that of this slot of the magazine that the bytes are.
+    AskPlace(u32),
+    /// From now on the machine is supervised, or not.
+    Supervise(bool),
+    /// The question of this number is answered by the work order that the bytes are.
+    Answer(u64),
 }
 
 fn side_of(number: u32) -> Option<Side>
@@ -167,6 +177,26 @@ fn mark_of(id: u128, quality: Option<Quality>) -> Option<Meaning>
     }
 }
 
+fn ask_of(by: u32, slot: u32) -> Option<Meaning>
+    ensures { result ≡ ask_of by slot }
+{
+    match by {
+        0 => Some(Meaning::AskBarcode),
+        1 => Some(Meaning::AskOrder),
+        2 => Some(Meaning::AskPlace(slot)),
+        _ => None,
+    }
+}
+
+fn supervise_of(on: Option<bool>) -> Option<Meaning>
+    ensures { result ≡ supervise_of on }
+{
+    match on {
+        Some(on) => Some(Meaning::Supervise(on)),
+        None => None,
+    }
+}
+
 /// What an input does at this side, where it is one.
 fn of_side(kind: u32, side: Option<Side>) -> Option<Meaning>
     ensures { result ≡ of_side kind side }
@@ -204,6 +234,9 @@ fn kind_of(input: &HermesInput) -> Option<Meaning>
         14 => Some(Meaning::Shutdown),
         15 => Some(Meaning::Forecast),
         16 => Some(Meaning::Query),
+        17 => ask_of(input.what, input.slot),
+        18 => supervise_of(level_of(input.what)),
+        19 => Some(Meaning::Answer(input.query)),
         kind => of_side(kind, side),
     }
 }

@@ -2,7 +2,7 @@ ghost use Rattle.std.specs.Prelude.{◌≡◌, true, false, IfErr, is_some};
 ghost use Rattle.line_base.specs.Moment.{IsMomentMillis};
 ghost use Rattle.node_core.specs.May.{may_do};
 ghost use Rattle.hermes_machine.specs.Calls.{AnswersStep};
-ghost use Rattle.hermes_machine.specs.Meanings.{HasText, Happens, happening_of, is_moment, may_happen, told_of, wants_text};
+ghost use Rattle.hermes_machine.specs.Meanings.{HasText, Happens, happening_of, is_moment, made_by, may_happen, told_of, wants_text};
 ghost use Rattle.hermes_machine.specs.Numbers.{answer_of, number_of_no};
 
 use crate::answer::{BAD_INPUT, BAD_TEXT, DONE, MEMORY, number_of_no};
@@ -62,6 +62,9 @@ fn mean(alloc: Global, port: &mut Port, meaning: Meaning, bytes: &[u8], now: Mom
     ensures stays { ¬ (result ≡ DONE) → ¬ (result ≡ MEMORY) → port.new ≡ port.old }
     ensures lost { result ≡ MEMORY → port.new.spent ≡ false → port.new ≡ port.old }
     ensures again { port.old.spent ≡ true → ¬ (result ≡ DONE) }
+    ensures counted { port.old.spent ≡ false → port.new.spent ≡ true
+        → port.new.made ≡ made_by (happening_of meaning bytes.entry) port.old.made }
+    ensures still { port.old.spent ≡ true → port.new ≡ port.old }
 {
     match happening_of(alloc, meaning, bytes) {
         Ok(happening) => answer_of(happen(port, happening, now)),

@@ -1,10 +1,11 @@
-ghost use Rattle.std.specs.Prelude.{◌≡◌, ◌++◌, false, true, IfSome, is_some, length, min, take, drop};
+ghost use Rattle.std.specs.Prelude.{◌≡◌, false, true, IfSome, is_some};
 ghost use Rattle.std.specs.Option.{option_copied};
 ghost use Rattle.hermes_machine.specs.Calls.{IsCopied, sent_on, unsent_on};
 
 use crate::answer::{BAD_INPUT, DONE};
 use line_base::Side;
 use machine_port::Port;
+use machine_views::copy_front;
 
 /// The text that waits on a way, by its number.
 fn unsent_on(port: &Port, way: u32) -> Option<&[u8]>
@@ -26,18 +27,9 @@ pub fn copy_unsent(port: &Port, way: u32, to: &mut [u8]) -> i64
     ensures uncopied { is_some (unsent_on way port.now) ≡ false → to.new ≡ to.old }
 {
     match unsent_on(port, way) {
-        Some(text) => copy_front(text, to) as i64,
+        Some(text) => copy_front(text, 0, to) as i64,
         None => -3,
     }
-}
-
-fn copy_front(from: &[u8], to: &mut [u8]) -> usize
-    ensures count { result ≡ min (length from.now) (length to.old) }
-    ensures bytes { to.new ≡ take result from.now ++ drop result to.old }
-{
-    let count = from.len().min(to.len());
-    to[..count].copy_from_slice(&from[..count]);
-    count
 }
 
 /// So many bytes of a way's text wait no more.

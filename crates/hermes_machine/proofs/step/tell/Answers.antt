@@ -11,5 +11,5 @@ returns-in-Some c =
     let back : to_z w32 (of_z w32 c.mean.result) ≡ c.mean.result = grind (arith, to_z-of_z) in
     let answers = tell_answers c.args.input.now c.args.bytes c.args.now_ms c.of_millis.result c.args.port.now c.mean.new.port c.in-Some.meaning c.mean.result
     (sym (ap (told_of c.args.input.now c.args.bytes.now) clock) ∙ (sym c.told_of.ensures.is ∙ c.in-Some.is)) (c.of_millis.ensures ∙ clock)
-    told.bad_text told.no told.memory told.text told.happens told.stays told.lost told.again in
+    told.bad_text told.no told.memory told.text told.happens told.stays told.lost told.again told.counted told.still in
     subst (AnswersStep c.args.input.now c.args.bytes c.args.now_ms c.args.port.now c.mean.new.port) (sym back) answers

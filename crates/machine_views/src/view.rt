@@ -1,18 +1,18 @@
 ghost use Rattle.std.specs.Prelude.{◌≡◌, ◌==◌};
-ghost use Rattle.hermes_machine.specs.Seen.{closes, flag, runs, state_number, view_of};
+ghost use Rattle.machine_views.specs.Seen.{closes, runs, view_of};
 
+use crate::numbers::{flag, state_number};
 use line_base::Side;
 use machine_port::Port;
-use node_core::HermesState;
 
 /// How many bytes a view has.
-pub const VIEW_BYTES: u32 = 120;
+pub const VIEW_BYTES: u32 = 128;
 
 /// How a machine stands. Of two, the first is the entry's, the second the exit's.
 #[repr(C)]
 #[derive(Clone, Copy)]
 pub struct HermesView {
-    /// How many bytes this has, 120.
+    /// How many bytes this has, 128.
     pub size: u32,
     /// 1 where memory was wanting in a step: then no drive may run, and each connection is to be
     /// closed.
@@ -38,28 +38,8 @@ pub struct HermesView {
     pub acts: u64,
     /// How many bytes wait to be sent, by the number of the way.
     pub unsent: [u64; 4],
-}
-
-fn state_number(state: HermesState) -> u32
-    ensures { result ≡ state_number state }
-{
-    match state {
-        HermesState::NotConnected => 0,
-        HermesState::ServiceDescription => 1,
-        HermesState::NotAvailableNotReady => 2,
-        HermesState::BoardAvailable => 3,
-        HermesState::MachineReady => 4,
-        HermesState::AvailableAndReady => 5,
-        HermesState::Transporting => 6,
-        HermesState::TransportStopped => 7,
-        HermesState::TransportFinished => 8,
-    }
-}
-
-fn flag(is: bool) -> u32
-    ensures { result ≡ flag is }
-{
-    if is { 1 } else { 0 }
+    /// How many ids it has made, those of the profile among them.
+    pub ids_made: u64,
 }
 
 /// How a machine stands.
@@ -100,6 +80,7 @@ pub fn view_of(port: &Port) -> HermesView
             0,
             port.refusal().len() as u64,
         ],
+        ids_made: port.ids_made(),
     }
 }
 

@@ -1,31 +1,13 @@
 -- How a machine is seen.
-use Rattle.std.specs.Prelude.{ℕ, Bool, true, false, ◌&&◌, ◌||◌, not, [], ◌∷◌, is_some, length}
+use Rattle.std.specs.Prelude.{ℕ, Bool, ◌&&◌, ◌||◌, not, [], ◌∷◌, is_some, length}
 use Rattle.line_base.specs.declared.states.Side.{Side}
 use Rattle.line_base.specs.declared.states.Side.TheVariants.{Entry, Exit}
 use Rattle.handover_out.specs.State as outlet
 use Rattle.handover_in.specs.State as intake
-use Rattle.node_core.specs.declared.hermes.HermesState.{HermesState}
-use Rattle.node_core.specs.declared.hermes.HermesState.TheVariants as states
 use Rattle.node_core.specs.Hermes.{hermes_state}
 use Rattle.machine_port.specs.Port.{PortState, way_at}
-use Rattle.hermes_machine.specs.declared.view.HermesView.{HermesView}
-
--- the numbers of the standard's states
-abbrev pub state_number : HermesState → ℕ
-state_number states.NotConnected = 0
-state_number states.ServiceDescription = 1
-state_number states.NotAvailableNotReady = 2
-state_number states.BoardAvailable = 3
-state_number states.MachineReady = 4
-state_number states.AvailableAndReady = 5
-state_number states.Transporting = 6
-state_number states.TransportStopped = 7
-state_number states.TransportFinished = 8
-
--- 1 for true
-abbrev pub flag : Bool → ℕ
-flag true = 1
-flag false = 0
+use Rattle.machine_views.specs.Numbers.{flag, state_number}
+use Rattle.machine_views.specs.declared.view.HermesView.{HermesView}
 
 -- a drive runs where its level is on, and none where memory was wanting
 abbrev pub runs : PortState → Bool → ℕ
@@ -38,7 +20,7 @@ closes s side = flag (s.spent || (way_at side s).closes)
 -- how a machine is seen; of two, the first is the entry's
 abbrev pub view_of : PortState → HermesView
 view_of s = record {
-  size = 120;
+  size = 128;
   spent = flag s.spent;
   bridge = flag (is_some s.node.bridge);
   supervised = flag s.node.supervised;
@@ -53,4 +35,5 @@ view_of s = record {
   kept = length s.node.lane.body.kept;
   acts = length s.last;
   unsent = length s.entry.text ∷ length s.exit.text ∷ 0 ∷ length s.refusal ∷ [];
+  ids_made = s.made;
 }
