@@ -1,4 +1,4 @@
-use crate::machine::{MACHINE_WORD, MachinePorts};
+use crate::machine::{MACHINE_WORD, MachinePorts, STORY_WORD};
 use std::net::{Ipv4Addr, Net, OpenListener, SocketAddr, SocketAddrV4, TcpListener};
 use std::process::{Child, Command, Output, Stdio};
 use std::{env, fmt, io};
@@ -29,6 +29,18 @@ pub fn start(rt: &HostRuntime, ports: MachinePorts) -> io::Result<Child> {
 
 fn text_of(rt: &HostRuntime, port: u16) -> io::Result<String> {
     Ok(format!(in rt.alloc(); "{port}")?)
+}
+
+/// Starts this program once more, as the machine of a story with these settings. Its log can be
+/// read.
+pub fn start_in_story(rt: &HostRuntime, settings: &str) -> io::Result<Child> {
+    let own = env::current_exe(rt)?;
+    let mut command = Command::new(rt.alloc(), &own)?;
+    command.arg(STORY_WORD)?;
+    command.arg(settings)?;
+    command.stdin(Stdio::null());
+    command.stdout(Stdio::piped());
+    command.spawn(rt)
 }
 
 /// How the machine ended and what it logged. One that was to be given up is killed first.

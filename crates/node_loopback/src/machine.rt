@@ -9,6 +9,9 @@ use std::{env, io};
 /// The first of the words with which this program is the machine.
 pub const MACHINE_WORD: &str = "machine";
 
+/// The first of the words with which it is a machine of a story.
+pub const STORY_WORD: &str = "story";
+
 /// At which ports the machine listens.
 #[derive(Clone, Copy)]
 pub struct MachinePorts {
@@ -38,10 +41,15 @@ pub fn run(rt: &HostRuntime, ports: MachinePorts) -> ExitCode {
 }
 
 fn run_node(rt: &HostRuntime, ports: MachinePorts) -> Result<NodeStatus, Memory> {
+    let settings = settings_of(rt.alloc(), ports)?;
+    run_with(rt, settings.as_slice())
+}
+
+/// Runs the machine of these settings.
+fn run_with(rt: &HostRuntime, settings: &[u8]) -> Result<NodeStatus, Memory> {
     let mut words = Words::new(rt.alloc());
     words.push(Word::of(rt.alloc(), b"settings")?)?;
-    let settings = settings_of(rt.alloc(), ports)?;
-    let mut file = MemorySource::new(rt.alloc(), settings.as_slice(), &[])?;
+    let mut file = MemorySource::new(rt.alloc(), settings, &[])?;
     let mut sockets = SocketPorts::new(copy_of(rt)?);
     let mut clock = HostClock::new(copy_of(rt)?);
     let mut log = WriterSink::new(io::writer(rt));
@@ -68,6 +76,25 @@ fn settings_of(alloc: Global, ports: MachinePorts) -> Result<Vec<u8>, Memory> {
         Ok(()) => Ok(text),
         Err(_) => Err(Memory),
     }
+}
+
+/// The settings of the machine of a story that this program is to be, if it is.
+pub fn asked_settings(rt: &HostRuntime) -> Option<String> {
+    let mut words = env::args(rt).ok()?.skip(1);
+    let first = words.next()?;
+    if first.as_str() != STORY_WORD {
+        return None;
+    }
+    words.next()
+}
+
+/// Runs a machine of a story, likewise.
+pub fn run_in_story(rt: &HostRuntime, settings: &str) -> ExitCode {
+    let status = match run_with(rt, settings.as_bytes()) {
+        Ok(status) => status,
+        Err(Memory) => NodeStatus::Memory,
+    };
+    ExitCode::from(status.exit_number())
 }
 
 fn copy_of(rt: &HostRuntime) -> Result<HostRuntime, Memory> {

@@ -8,7 +8,7 @@ use std::thread;
 use std::time::Duration;
 
 /// How often a socket is asked at most, with a pause of a millisecond behind each time.
-const ASKS: u32 = 20_000;
+pub const ASKS: u32 = 20_000;
 
 /// How long the pause is, in milliseconds.
 const PAUSE: u64 = 1;
@@ -31,7 +31,8 @@ impl<R: Net + Clock + Drop> Peer<R> {
         }
     }
 
-    fn pause(&self) {
+    /// Pauses for a millisecond.
+    pub fn pause(&self) {
         thread::sleep(&self.host, Duration::from_millis(PAUSE));
     }
 
@@ -41,12 +42,24 @@ impl<R: Net + Clock + Drop> Peer<R> {
         thread::sleep(&self.host, Duration::from_millis(WAIT));
     }
 
+    /// Listens for connections of a way, from this computer alone.
+    pub fn listen(&mut self, way: Way, port: u16) -> io::Result<()> {
+        match self.ports.listen(way, Address::at_loopback(port)) {
+            Opened::Done => Ok(()),
+            Opened::Failed => Err(io::Error::from(ErrorKind::AddrInUse)),
+        }
+    }
+
+    /// Looks once at what is there for a way.
+    pub fn poll(&mut self, way: Way, room: &mut [u8]) -> Got
+        requires { 0 < length room.old }
+    {
+        self.ports.poll(way, room)
+    }
+
     /// Connects to a port of this computer, once somebody listens there.
     pub fn connect(&mut self, way: Way, port: u16) -> io::Result<()> {
-        let address = Address {
-            host: [127, 0, 0, 1],
-            port,
-        };
+        let address = Address::at_loopback(port);
         let mut room = [0u8; 1];
         for _ in 0..ASKS {
             if self.ports.connect(way, address) == Opened::Done

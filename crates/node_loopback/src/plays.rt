@@ -80,13 +80,15 @@ fn play_with(
         Play::SecondConnection => second_connection(alloc, peer, ports, to)?,
         Play::LongLine => long_line(alloc, peer, ports, to)?,
     }
-    end(peer, ports)
+    end(peer, ports, play)
 }
 
-/// The panel ends the machine.
-fn end(peer: &mut Peer<HostRuntime>, ports: MachinePorts) -> io::Result<()> {
-    peer.close(Way::Panel);
-    peer.connect(Way::Panel, ports.panel)?;
+/// The panel ends the machine. Where the play has connected it, it isn't connected anew: a machine
+/// that hasn't found the close of the first connection refuses a second one.
+fn end(peer: &mut Peer<HostRuntime>, ports: MachinePorts, play: Play) -> io::Result<()> {
+    if play != Play::SecondConnection && play != Play::LongLine {
+        peer.connect(Way::Panel, ports.panel)?;
+    }
     peer.send(Way::Panel, b"end\n", WHOLE)
 }
 
