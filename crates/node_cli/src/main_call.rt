@@ -3,6 +3,7 @@ ghost use Rattle.one_run.specs.One.{EachPartIsAFront, EachRunIsOne};
 ghost use Rattle.node_cli.specs.Answered.{EachInputHasOneAnswer, IsAnswered};
 ghost use Rattle.node_cli.specs.Command.{DoesNode, FitsNode, HasCauses, is_one, status_of};
 ghost use Rattle.node_cli.specs.Logged.{LogTellsOwn, TextIsBounded};
+ghost use Rattle.node_connections.specs.Connections.{ConnectionsAreInOrder};
 
 use crate::settings_file::{FileError, read_file};
 use line_base::Words;
@@ -47,10 +48,13 @@ pub fn node_main<S: Source, P: Ports, C: Clock, K: Sink>(
     ensures owns { LogTellsOwn }
     // and a way on which too much text waits is closed
     ensures bounded { TextIsBounded }
+    // what is said on a connection is sent in its order, and what is given there heard in its order
+    ensures connections { ConnectionsAreInOrder }
 {
     node_run::laws::what_a_machine_owns_is_read_off_its_log();
     node_run::laws::too_much_text_closes_a_way();
     one_run::laws::a_run_is_one();
+    node_connections::laws::the_bytes_of_a_connection_are_in_order();
     run_named(alloc, words, file, ports, clock, log)
 }
 

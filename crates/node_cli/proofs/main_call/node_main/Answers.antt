@@ -19,3 +19,6 @@ returns-clause-one g c = c.a_run_is_one.ensures.whole
 
 pub returns-clause-part : goal.returns-clause-part
 returns-clause-part g c = c.a_run_is_one.ensures.part
+
+pub returns-clause-connections : goal.returns-clause-connections
+returns-clause-connections g c = c.the_bytes_of_a_connection_are_in_order.ensures
