@@ -32,15 +32,16 @@ impl<'a> Log<'a> {
     fn go_on(&mut self, sent_by_other: usize, to: &mut Vec<u8>) -> io::Result<bool> {
         let number = self.number;
         let before = self.done;
-        let mut sends_in = "";
+        let mut sends_in: &[u8] = b"";
         for line in self.text.lines().skip(before) {
             let (turn, text) = line.split_once(' ').unwrap_or(("", line));
-            if sends_in != "" && sends_in != turn || !self.may_take(text, sent_by_other) {
+            let is_next = !sends_in.is_empty() && sends_in != turn.as_bytes();
+            if is_next || !self.may_take(text, sent_by_other) {
                 break;
             }
             if text.starts_with("sends ") {
                 self.sent = self.sent.saturating_add(1);
-                sends_in = turn;
+                sends_in = turn.as_bytes();
             }
             writeln!(to, "{number} {line}")?;
             self.done = self.done.saturating_add(1);
