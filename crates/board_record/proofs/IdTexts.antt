@@ -1,5 +1,5 @@
 -- The text of an id is a text, and it is read as that id.
-use Rattle.std.proofs.Common.{◌≡◌, ◌^◌, ◌<◌, ◌==◌, ◌||◌, ◌&&◌, ℕ, zero, suc, Bool, true, false, cond, leb, List, [], ◌∷◌, Ok, refl, ap, ◌∙◌, sym, arith, inl}
+use Rattle.std.proofs.Common.{◌≡◌, ◌^◌, ◌<◌, ◌==◌, ◌||◌, ◌&&◌, ℕ, zero, suc, Bool, true, false, cond, leb, List, [], ◌∷◌, Ok, length, refl, ap, ◌∙◌, sym, arith, inl}
 use Rattle.std.proofs.lemmas.Bool.{and_from, and_parts}
 use Rattle.std.proofs.lemmas.Bool.Decides.{nat_tests}
 use Rattle.std.proofs.lemmas.List.Folds.{list_all-append}
@@ -45,6 +45,11 @@ printable_bytes [] h = refl
 printable_bytes (b ∷ bs) h =
     let parts = and_parts (is_id_byte b) (list_all is_id_byte bs) h in
     and_from (is_plain_byte b) (list_all is_plain_byte bs) (printable_byte b parts.0) (printable_bytes bs parts.1)
+
+-- an id's text has 36 bytes
+pub length-id : (id : ℕ) → length (id_text id) ≡ 36
+unfolding id_text
+length-id id = by_index_length 36 _
 
 pub IsText-id : (id : ℕ) → IsText (id_text id)
 unfolding id_text

@@ -1,6 +1,8 @@
-use Rattle.std.specs.Prelude.{ℕ, List, Some, None, slice_get, slice_set}
+use Rattle.std.specs.Prelude.{ℕ, Bool, false, List, [], ◌∷◌, ◌++◌, Some, None, slice_get, slice_set}
 use Rattle.line_base.specs.declared.states.Quality.{Quality}
 use Rattle.board_record.specs.declared.record.Record.{Record}
+use Rattle.board_record.specs.declared.sub_board.SubBoard.{SubBoard}
+use Rattle.board_record.specs.SubBoards.{is_full}
 
 -- what a machine keeps: the records, front first, and for how many more there is room
 pub record Shelf : Type 0 where
@@ -14,4 +16,20 @@ with_quality boards place quality =
       | None ↦ boards
       | Some board ↦ slice_set boards place
           (record board { quality = quality })
+    ]
+
+-- the records with one sub board more of the one at this place, and nothing else changed
+abbrev pub with_sub : List Record → ℕ → SubBoard → List Record
+with_sub boards place sub =
+    elim (slice_get boards place) [
+      | None ↦ boards
+      | Some board ↦ slice_set boards place (record board { subs = board.subs ++ sub ∷ [] })
+    ]
+
+-- the record at this place has no room for one sub board more
+abbrev pub is_full_at : List Record → ℕ → SubBoard → Bool
+is_full_at boards place sub =
+    elim (slice_get boards place) [
+      | None ↦ false
+      | Some board ↦ is_full board.subs sub
     ]

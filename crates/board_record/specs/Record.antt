@@ -1,4 +1,4 @@
-use Rattle.std.specs.Prelude.{ℕ, List, Option, None}
+use Rattle.std.specs.Prelude.{ℕ, List, [], Option, None}
 use Rattle.line_base.specs.declared.states.Quality.TheVariants as qualities
 use Rattle.line_base.specs.declared.states.Flip.TheVariants as flips
 use Rattle.board_record.specs.declared.record.Record.{Record}
@@ -22,4 +22,5 @@ plain_record id created_by top = record {
   weight = None;
   order = None;
   batch = None;
+  subs = [];
 }

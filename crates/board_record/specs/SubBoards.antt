@@ -1,5 +1,6 @@
 use Rattle.std.specs.Prelude.{◌==◌, ◌||◌, ◌+◌, ◌≤◌, ℕ, Bool, cond, decimal, Option, Some, None, List, [], ◌∷◌, ◌++◌, length, nat_le, nat_lt}
 use Rattle.line_base.specs.Bytes.{tab, line_feed, carriage_return, double_quote, ampersand, less_than, greater_than}
+use Rattle.line_base.specs.declared.states.Quality.TheVariants as qualities
 use Rattle.board_record.specs.declared.sub_board.SubBoard.{SubBoard}
 
 -- how many bytes spell one byte of a text: those of its escape, where it has one
@@ -46,3 +47,8 @@ are_too_many subs = nat_lt 256 (length subs) || nat_lt 24576 (size_of subs)
 pub record AreSubBoards (subs : List SubBoard) : Type 0 where
   pub few : length subs ≤ 256
   pub small : size_of subs ≤ 24576
+
+-- a sub board of which it isn't known whether it is good
+abbrev pub unknown_sub : ℕ → Option (List ℕ) → SubBoard
+unknown_sub place barcode =
+    record { pos = place; barcode = barcode; state = qualities.Unknown }

@@ -1,9 +1,12 @@
-ghost use Rattle.std.specs.Prelude.{◌≡◌, ◌==◌, ◌+◌, ◌-◌, ◌<◌, ◌≤◌, [], ◌∷◌, ◌++◌, Some, OnOk, OnErr, drop, length, position, remove, slice_get, slice_set, vec_capacity, vec_len};
+ghost use Rattle.std.specs.Prelude.{◌≡◌, ◌↔◌, ◌==◌, ◌+◌, ◌-◌, ◌<◌, ◌≤◌, [], ◌∷◌, ◌++◌, Err, Some, OnOk, OnErr, true, drop, length, position, remove, slice_get, slice_set, vec_capacity, vec_len};
 ghost use Rattle.board_record.specs.declared.record.Record.{Record};
-ghost use Rattle.board_record.specs.Kept.{Shelf, with_quality};
+ghost use Rattle.board_record.specs.Kept.{Shelf, is_full_at, with_quality, with_sub};
+ghost use Rattle.board_record.specs.declared.sub_boards.SubError.TheVariants as errors;
 
 use crate::id::BoardId;
 use crate::record::Record;
+use crate::sub_board::SubBoard;
+use crate::sub_boards::SubError;
 use line_base::{Memory, Quality};
 use std::alloc::Global;
 use std::marker::Model;
@@ -107,6 +110,20 @@ impl Kept {
         ensures spare { self.new.spare ≡ self.old.spare }
     {
         self.boards[place].quality = quality;
+    }
+
+    /// Gives the record at a place one sub board more, behind its others, and changes nothing else.
+    /// `Full` exactly where it has 256 already, or where all would take more than 24,576 bytes in a
+    /// message; then, and where memory is wanting, all stays as it was.
+    pub fn push_sub(&mut self, place: usize, sub: SubBoard) -> Result<(), SubError>
+        requires { place < length self.old.boards }
+        ensures full { (result ≡ Err errors.Full) ↔ (is_full_at self.old.boards place sub ≡ true) }
+        ensures pushed { OnOk result (self.new.boards ≡ with_sub self.old.boards place sub) }
+        ensures unchanged { OnErr result (self.new.boards ≡ self.old.boards) }
+        ensures spare { self.new.spare ≡ self.old.spare }
+    {
+        let alloc = *self.boards.allocator();
+        self.boards[place].subs.push(alloc, sub)
     }
 
     /// The first place with a board of this id; `None` exactly where there is none.

@@ -2,6 +2,7 @@ ghost use Rattle.std.specs.Prelude.{◌≡◌, IfOk, OnOk};
 ghost use Rattle.board_record.specs.Record.{plain_record};
 
 use crate::id::BoardId;
+use crate::sub_boards::SubBoards;
 use line_base::{Decimal, Flip, Memory, Quality, Text, take_text};
 use std::alloc::Global;
 
@@ -30,6 +31,8 @@ pub struct Record {
     /// The work order.
     pub order: Option<Text>,
     pub batch: Option<Text>,
+    /// The circuits of a panel that carries several.
+    pub subs: SubBoards,
 }
 
 impl Record {
@@ -54,10 +57,11 @@ impl Record {
             weight: None,
             order: None,
             batch: None,
+            subs: SubBoards::new(),
         }
     }
 
-    /// An equal record of its own.
+    /// An equal record of its own, but for the sub boards, which it shares.
     pub fn copy(&self, alloc: Global) -> Result<Record, Memory>
         ensures { IfOk result (λ copy. copy ≡ self.now) }
     {
@@ -78,6 +82,7 @@ impl Record {
             weight: self.weight,
             order: None,
             batch: None,
+            subs: self.subs.copy()?,
         };
         copy.take_texts(alloc, self)?;
         Ok(copy)

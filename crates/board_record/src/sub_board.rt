@@ -1,4 +1,4 @@
-ghost use Rattle.std.specs.Prelude.{◌≡◌, ◌≤◌, ◌*◌, IfOk, length};
+ghost use Rattle.std.specs.Prelude.{◌≡◌, ◌≤◌, ◌+◌, ◌*◌, IfOk, decimal, length};
 ghost use Rattle.board_record.specs.SubBoards.{spelled_byte, spelled_size, barcode_size, sub_size};
 
 use itoa::Buffer;
@@ -31,9 +31,17 @@ impl SubBoard {
         ensures size { result ≡ sub_size self.now }
         ensures bounded { result ≤ 6209 }
     {
-        let mut room = Buffer::new();
-        19 + room.format(self.pos).len() + barcode_size(&self.barcode)
+        element_size(self.pos, &self.barcode)
     }
+}
+
+/// How many bytes the element of a sub board with this place and this barcode takes.
+pub(crate) fn element_size(pos: u32, barcode: &Option<Text>) -> usize
+    ensures size { result ≡ 19 + length (decimal pos) + barcode_size barcode.now }
+    ensures bounded { result ≤ 6209 }
+{
+    let mut room = Buffer::new();
+    19 + room.format(pos).len() + barcode_size(barcode)
 }
 
 fn barcode_size(barcode: &Option<Text>) -> usize

@@ -1,9 +1,9 @@
 ghost use Rattle.std.specs.Prelude.{◌≡◌, ◌==◌, ◌↔◌, ◌<◌, ◌≤◌, ◌*◌, ◌++◌, ◌∷◌, [], IfOk, OnOk, OnErr, Err, length, true};
-ghost use Rattle.board_record.specs.SubBoards.{AreSubBoards, are_too_many, is_full, size_of, sub_sizes};
+ghost use Rattle.board_record.specs.SubBoards.{AreSubBoards, are_too_many, is_full, size_of, unknown_sub, sub_sizes};
 ghost use Rattle.board_record.specs.declared.sub_boards.SubError.TheVariants as errors;
 
-use crate::sub_board::SubBoard;
-use line_base::Memory;
+use crate::sub_board::{SubBoard, element_size};
+use line_base::{Memory, Text};
 use std::alloc::Global;
 use std::marker::Model;
 use std::rc::Rc;
@@ -98,6 +98,15 @@ impl SubBoards {
         list.len() >= MOST_SUBS || size_with(list, sub) > MOST_BYTES
     }
 
+    /// The same of a sub board with this place and this barcode, of which it isn't known whether it
+    /// is good.
+    pub fn is_full_with(&self, pos: u32, barcode: &Option<Text>) -> bool
+        ensures { result ≡ is_full self.now (unknown_sub pos barcode.now) }
+    {
+        let list = self.list();
+        list.len() >= MOST_SUBS || size_behind(list, pos, barcode) > MOST_BYTES
+    }
+
     /// Takes one sub board more, behind the others. `Full` exactly where there are 256 already, or
     /// where all would take more than 24,576 bytes in a message; then, and where memory is wanting,
     /// the list stays as it was.
@@ -146,6 +155,15 @@ fn size_with(subs: &[SubBoard], sub: &SubBoard) -> usize
     ensures { result ≡ size_of (subs.now ++ sub.now ∷ []) }
 {
     FRAME_BYTES + sizes(subs) + sub.size()
+}
+
+/// How many bytes a list takes in a message with a sub board more that has this place and this
+/// barcode.
+fn size_behind(subs: &[SubBoard], pos: u32, barcode: &Option<Text>) -> usize
+    requires { length subs.now < 256 }
+    ensures { result ≡ size_of (subs.now ++ unknown_sub pos barcode.now ∷ []) }
+{
+    FRAME_BYTES + sizes(subs) + element_size(pos, barcode)
 }
 
 fn sizes(subs: &[SubBoard]) -> usize

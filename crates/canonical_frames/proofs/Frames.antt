@@ -1,18 +1,17 @@
 -- A frame whose pieces are written canonically is the canonical spelling of a message.
-use Rattle.std.proofs.Common.{◌≡◌, ◌≢◌, ℕ, true, true≢false, List, [], ◌∷◌, ◌++◌, Option, None, option_map, codes, refl, sym, ap, subst, ◌∙◌, append_assoc}
+use Rattle.std.proofs.Common.{◌≡◌, ◌≢◌, ℕ, true, true≢false, List, [], ◌∷◌, ◌++◌, Option, option_map, codes, refl, sym, ap, subst, ◌∙◌, append_assoc}
 use Rattle.std.specs.List.{flat_map}
 use Rattle.line_base.specs.Name.{IsName}
-use Rattle.hermes_element.specs.Element.{Tree}
+use Rattle.hermes_element.specs.Element.{Tree, Forest}
 use Rattle.hermes_element.specs.Spelling as form
 use Rattle.hermes_element.specs.Canonical as form_text
-use Rattle.hermes_element.specs.Canonical.{canonical_attribute, unplaced}
+use Rattle.hermes_element.specs.Canonical.{canonical_attribute, canonical_forest, canonical_rest, unplaced}
 use Rattle.hermes_horizontal.specs.declared.kind.Kind.{Kind}
 use Rattle.hermes_horizontal.specs.declared.kind.Kind.TheVariants as kinds
 use Rattle.hermes_horizontal.specs.declared.message.Message.{Message}
-use Rattle.hermes_horizontal.specs.declared.message.Features.{Features}
 use Rattle.hermes_horizontal.specs.Values.{Value, timed}
 use Rattle.hermes_horizontal.specs.Rows.{stamp_column, columns_of, kind_text, kind_named}
-use Rattle.hermes_horizontal.specs.Parts.{parts, kind_of, name_of, features_of}
+use Rattle.hermes_horizontal.specs.Parts.{parts, kind_of, name_of, Inner, inner_of}
 use Rattle.hermes_horizontal.specs.Spelling.{Spells}
 use Rattle.hermes_horizontal.specs.Canonical.{canonical, assigned, assignment_if, attributes_of, body_spelling, rest_spelling, children_spelling, tree_of, IsProperIf, IsProperMessage, IsWritable}
 use Rattle.hermes_horizontal.proofs.Bodies.{name_of-kind}
@@ -22,7 +21,7 @@ use Rattle.hermes_horizontal.proofs.Writable.{tree_writable, tree_proper}
 use Rattle.hermes_horizontal.proofs.Writing.{assigned_is, body_written, message_written}
 use Rattle.canonical_frames.specs.Frame.{IsCanonical}
 use Rattle.canonical_frames.specs.Pieces.{IsAssigned, AreAssigned, IsOpened, IsRow, is_recognised}
-use Rattle.canonical_frames.proofs.Rows.{HasBody, row_body, moment_again}
+use Rattle.canonical_frames.proofs.Rows.{HasBody, IsBare, bare_writable, bare_proper, bare_children, row_body, moment_again}
 
 -- ---- names
 
@@ -63,8 +62,8 @@ no_other kind known e = true≢false (sym known ∙ ap is_recognised e)
 
 -- ---- the text of the whole
 
-childless_rest : (name : List ℕ) (features : Option Features) → features ≡ None → rest_spelling name features ≡ codes "/>"
-childless_rest name features e = ap (rest_spelling name) e
+childless_rest : (name : List ℕ) (inner : Inner) → IsBare inner → rest_spelling name inner ≡ codes "/>"
+childless_rest name inner bare = ap (λ (f : Forest). canonical_rest name f (canonical_forest f)) (bare_children inner bare)
 
 body_text : (kind : Kind) (bytes rest : List ℕ) (b : HasBody kind bytes rest) → body_spelling b.body ≡ ((codes "<" ++ name_of b.body) ++ flat_map canonical_attribute (attributes_of (columns_of kind) (parts b.body))) ++ codes "/>"
 body_text kind bytes rest b =
@@ -74,7 +73,7 @@ body_text kind bytes rest b =
     sym written
     ∙ ap (λ (t : List ℕ). t ++ children_spelling b.body) (assigned_is (codes "<" ++ name_of b.body) (columns_of (kind_of b.body)) (parts b.body))
     ∙ ap (λ (k : Kind). ((codes "<" ++ name_of b.body) ++ flat_map canonical_attribute (attributes_of (columns_of k) (parts b.body))) ++ children_spelling b.body) b.of_kind
-    ∙ ap (λ (t : List ℕ). ((codes "<" ++ name_of b.body) ++ flat_map canonical_attribute (attributes_of (columns_of kind) (parts b.body))) ++ t) (childless_rest (name_of b.body) (features_of b.body) b.childless)
+    ∙ ap (λ (t : List ℕ). ((codes "<" ++ name_of b.body) ++ flat_map canonical_attribute (attributes_of (columns_of kind) (parts b.body))) ++ t) (childless_rest (name_of b.body) (inner_of b.body) b.childless)
 
 message_text : (message : Message) → canonical message ≡ (((codes "<Hermes" ++ assignment_if stamp_column.attr (option_map timed message.stamp)) ++ codes ">") ++ body_spelling message.body) ++ codes "</Hermes>"
 message_text message =
@@ -135,6 +134,7 @@ same_name kind bytes rest b known = name_of-kind b.body (λ e. no_other kind kno
 writable : (frame : List ℕ) (p : HasPieces frame) (b : HasBody p.kind p.row (codes "/></Hermes>")) → IsWritable (message_of frame p b)
 writable frame p b = record {
   numbers = b.numbers;
+  subs = bare_writable (inner_of b.body) b.childless;
   named = ap kind_named (same_name p.kind p.row (codes "/></Hermes>") b p.recognised) ∙ named_back p.kind p.recognised ∙ sym b.of_kind;
 }
 
@@ -143,6 +143,7 @@ proper frame p b = record {
   stamp = subst IsProperIf (sym (same_stamp frame p)) p.stamp_is.proper;
   name = subst IsName (sym (same_name p.kind p.row (codes "/></Hermes>") b p.recognised)) (kind_is_name p.kind);
   values = b.proper;
+  subs = bare_proper (inner_of b.body) b.childless;
 }
 
 written : (frame : List ℕ) (p : HasPieces frame) (b : HasBody p.kind p.row (codes "/></Hermes>")) → canonical (message_of frame p b) ≡ frame

@@ -1,8 +1,10 @@
 -- The attributes of a row as they are written are those of a message of that row.
-use Rattle.std.proofs.Common.{◌≡◌, ℕ, zero, suc, ◌≤◌, Bool, true, false, true≢false, List, [], ◌∷◌, ◌++◌, Option, Some, None, option_map, refl, sym, ap, subst, ◌∙◌, arith, append_assoc}
+use Rattle.std.proofs.Common.{◌≡◌, ℕ, zero, suc, ◌≤◌, Bool, true, false, true≢false, List, [], ◌∷◌, ◌++◌, Option, Some, None, option_map, refl, sym, ap, subst, ◌∙◌, arith, append_assoc, lit≤}
 use Rattle.std.specs.List.{AllByRecursion, flat_map}
 use Rattle.std.proofs.lemmas.List.Concat.{flat_map-cons}
 use Rattle.board_record.specs.declared.record.Record.{Record}
+use Rattle.board_record.specs.declared.sub_board.SubBoard.{SubBoard}
+use Rattle.hermes_element.specs.Element.{none}
 use Rattle.hermes_element.specs.Canonical.{canonical_attribute}
 use Rattle.hermes_horizontal.specs.declared.attr.Attr.{Attr}
 use Rattle.hermes_horizontal.specs.declared.attr.Attr.TheVariants as attrs
@@ -14,8 +16,8 @@ use Rattle.hermes_horizontal.specs.declared.message.Horizontal.TheVariants as bo
 use Rattle.hermes_horizontal.specs.Values.{Value, worded, numbered, identified, measured, timed}
 use Rattle.hermes_horizontal.specs.Values as values
 use Rattle.hermes_horizontal.specs.Rows.{Column, columns_of, stamp_column, record_columns, board_columns, required, optional, ping, severity, quality, flip, transfer}
-use Rattle.hermes_horizontal.specs.Parts.{parts, info_of, info_parts, features_of, kind_of, of_ping, of_severity, of_quality, of_flip, of_transfer}
-use Rattle.hermes_horizontal.specs.Canonical.{attribute_of, attributes_of, assignment, assignment_if, IsProperIf, HasShortNumbers}
+use Rattle.hermes_horizontal.specs.Parts.{parts, info_of, info_parts, Inner, plain, featured, subbed, untold, inner_of, kind_of, of_ping, of_severity, of_quality, of_flip, of_transfer}
+use Rattle.hermes_horizontal.specs.Canonical.{attribute_of, attributes_of, assignment, assignment_if, children_of, IsProperIf, IsProperSub, HasShortNumbers, AreWritableSubs, HasWritableSubs, HasProperSubs}
 use Rattle.hermes_horizontal.proofs.Fitting.{IsFit}
 use Rattle.hermes_horizontal.proofs.PartsBack.{text_in, number_in, id_in, decimal_in, moment_in, or_zero, or_empty, ping_from, severity_from, quality_from, flip_from, transfer_from, ping_in, quality_in, flip_in}
 use Rattle.canonical_frames.specs.Pieces.{AreAssigned, is_recognised}
@@ -196,16 +198,41 @@ transfer_needed attr (Some (timed n)) fit = absurd fit
 
 -- ---- a message of the row
 
+-- nothing stands in its element
+abbrev pub IsBare : Inner → Type 0
+IsBare plain = Unit {0}
+IsBare (featured features) = ⊥
+IsBare (subbed subs) = subs ≡ []
+IsBare (untold subs) = subs ≡ []
+
+pub bare_writable : (inner : Inner) → IsBare inner → HasWritableSubs inner
+bare_writable plain bare = tt
+bare_writable (featured features) bare = tt
+bare_writable (subbed subs) bare = subst AreWritableSubs (sym bare) (record { places = tt; list = record { few = lit≤ tt; small = lit≤ tt } })
+bare_writable (untold subs) bare = bare
+
+pub bare_proper : (inner : Inner) → IsBare inner → HasProperSubs inner
+bare_proper plain bare = tt
+bare_proper (featured features) bare = tt
+bare_proper (subbed subs) bare = subst (λ (l : List SubBoard). AllByRecursion IsProperSub l) (sym bare) tt
+bare_proper (untold subs) bare = tt
+
+pub bare_children : (inner : Inner) → IsBare inner → children_of inner ≡ none
+bare_children plain bare = refl
+bare_children (featured features) bare = absurd bare
+bare_children (subbed subs) bare = ap (λ (l : List SubBoard). children_of (subbed l)) bare
+bare_children (untold subs) bare = refl
+
 -- a message whose attributes are written so
 pub record HasBody (kind : Kind) (bytes rest : List ℕ) : Type 0 where
   pub body : Horizontal
   pub of_kind : kind_of body ≡ kind
-  pub childless : features_of body ≡ None
+  pub childless : IsBare (inner_of body)
   pub numbers : HasShortNumbers body
   pub proper : AllByRecursion IsProperIf (parts body)
   pub spelled : bytes ≡ flat_map canonical_attribute (attributes_of (columns_of kind) (parts body)) ++ rest
 
-with_body : (kind : Kind) (body : Horizontal) (bytes rest : List ℕ) (row : AreAssigned (columns_of kind) bytes rest) → kind_of body ≡ kind → features_of body ≡ None → HasShortNumbers body
+with_body : (kind : Kind) (body : Horizontal) (bytes rest : List ℕ) (row : AreAssigned (columns_of kind) bytes rest) → kind_of body ≡ kind → IsBare (inner_of body) → HasShortNumbers body
     → parts body ≡ values_in (columns_of kind) bytes rest row → HasBody kind bytes rest
 with_body kind body bytes rest row of_kind childless numbers same = record {
   body = body;
@@ -241,6 +268,7 @@ told whole bytes rest r = record {
   weight = decimal_in r.2.2.2.2.2.2.2.2.2.2.2.2.2.1.value;
   order = text_in r.2.2.2.2.2.2.2.2.2.2.2.2.2.2.1.value;
   batch = text_in r.2.2.2.2.2.2.2.2.2.2.2.2.2.2.2.1.value;
+  subs = [];
 }
 
 -- a whole record
@@ -262,6 +290,7 @@ whole_record bytes rest r = record {
   weight = decimal_in r.2.2.2.2.2.2.2.2.2.2.2.2.2.1.value;
   order = text_in r.2.2.2.2.2.2.2.2.2.2.2.2.2.2.1.value;
   batch = text_in r.2.2.2.2.2.2.2.2.2.2.2.2.2.2.2.1.value;
+  subs = [];
 }
 
 record_again : (bytes rest : List ℕ) (r : AreAssigned record_columns bytes rest)
@@ -304,29 +333,29 @@ whole_again bytes rest r =
 pub row_body : (kind : Kind) (bytes rest : List ℕ) → is_recognised kind ≡ true → AreAssigned (columns_of kind) bytes rest → HasBody kind bytes rest
 unfolding values_in
 row_body kinds.CheckAlive bytes rest known r =
-    with_body kinds.CheckAlive (bodies.CheckAlive (ping_in r.1.value) (text_in r.2.1.value)) bytes rest r refl refl tt
+    with_body kinds.CheckAlive (bodies.CheckAlive (ping_in r.1.value) (text_in r.2.1.value)) bytes rest r refl tt tt
     (more_same (ping_again attrs.AliveType r.1.value r.1.fit) (more_same (text_again attrs.Id r.2.1.value r.2.1.fit) none_same))
 row_body kinds.Notification bytes rest known r =
     let code = number_needed attrs.NotificationCode r.1.value r.1.fit in
-    with_body kinds.Notification (bodies.Notification (record { number = or_zero (number_in r.1.value) }) (severity_from (or_zero (number_in r.2.1.value))) (or_empty (text_in r.2.2.1.value))) bytes rest r refl refl code.1
+    with_body kinds.Notification (bodies.Notification (record { number = or_zero (number_in r.1.value) }) (severity_from (or_zero (number_in r.2.1.value))) (or_empty (text_in r.2.2.1.value))) bytes rest r refl tt code.1
     (more_same code.0 (more_same (severity_needed attrs.Severity r.2.1.value r.2.1.fit) (more_same (text_needed attrs.Description r.2.2.1.value r.2.2.1.fit) none_same)))
 row_body kinds.BoardAvailable bytes rest known r =
     with_body kinds.BoardAvailable (bodies.BoardAvailable (whole_record bytes rest r)) bytes rest r refl refl tt (whole_again bytes rest r)
-row_body kinds.RevokeBoardAvailable bytes rest known r = with_body kinds.RevokeBoardAvailable bodies.RevokeBoardAvailable bytes rest r refl refl tt none_same
+row_body kinds.RevokeBoardAvailable bytes rest known r = with_body kinds.RevokeBoardAvailable bodies.RevokeBoardAvailable bytes rest r refl tt tt none_same
 row_body kinds.MachineReady bytes rest known r =
-    with_body kinds.MachineReady (bodies.MachineReady (quality_from (or_zero (number_in r.1.value)))) bytes rest r refl refl tt (more_same (quality_needed attrs.FailedBoard r.1.value r.1.fit) none_same)
-row_body kinds.RevokeMachineReady bytes rest known r = with_body kinds.RevokeMachineReady bodies.RevokeMachineReady bytes rest r refl refl tt none_same
+    with_body kinds.MachineReady (bodies.MachineReady (quality_from (or_zero (number_in r.1.value)))) bytes rest r refl tt tt (more_same (quality_needed attrs.FailedBoard r.1.value r.1.fit) none_same)
+row_body kinds.RevokeMachineReady bytes rest known r = with_body kinds.RevokeMachineReady bodies.RevokeMachineReady bytes rest r refl tt tt none_same
 row_body kinds.StartTransport bytes rest known r =
-    with_body kinds.StartTransport (bodies.StartTransport (or_zero (id_in r.1.value))) bytes rest r refl refl tt (more_same (id_needed attrs.BoardId r.1.value r.1.fit) none_same)
+    with_body kinds.StartTransport (bodies.StartTransport (or_zero (id_in r.1.value))) bytes rest r refl tt tt (more_same (id_needed attrs.BoardId r.1.value r.1.fit) none_same)
 row_body kinds.StopTransport bytes rest known r =
-    with_body kinds.StopTransport (bodies.StopTransport (transfer_from (or_zero (number_in r.1.value))) (or_zero (id_in r.2.1.value))) bytes rest r refl refl tt
+    with_body kinds.StopTransport (bodies.StopTransport (transfer_from (or_zero (number_in r.1.value))) (or_zero (id_in r.2.1.value))) bytes rest r refl tt tt
     (more_same (transfer_needed attrs.TransferState r.1.value r.1.fit) (more_same (id_needed attrs.BoardId r.2.1.value r.2.1.fit) none_same))
 row_body kinds.TransportFinished bytes rest known r =
-    with_body kinds.TransportFinished (bodies.TransportFinished (transfer_from (or_zero (number_in r.1.value))) (or_zero (id_in r.2.1.value))) bytes rest r refl refl tt
+    with_body kinds.TransportFinished (bodies.TransportFinished (transfer_from (or_zero (number_in r.1.value))) (or_zero (id_in r.2.1.value))) bytes rest r refl tt tt
     (more_same (transfer_needed attrs.TransferState r.1.value r.1.fit) (more_same (id_needed attrs.BoardId r.2.1.value r.2.1.fit) none_same))
 row_body kinds.BoardForecast bytes rest known r = with_body kinds.BoardForecast (bodies.BoardForecast (told false bytes rest r)) bytes rest r refl refl tt (told_again bytes rest r)
 row_body kinds.QueryBoardInfo bytes rest known r =
-    with_body kinds.QueryBoardInfo (bodies.QueryBoardInfo (text_in r.1.value) (text_in r.2.1.value)) bytes rest r refl refl tt
+    with_body kinds.QueryBoardInfo (bodies.QueryBoardInfo (text_in r.1.value) (text_in r.2.1.value)) bytes rest r refl tt tt
     (more_same (text_again attrs.TopBarcode r.1.value r.1.fit) (more_same (text_again attrs.BottomBarcode r.2.1.value r.2.1.fit) none_same))
 row_body kinds.SendBoardInfo bytes rest known r = with_body kinds.SendBoardInfo (bodies.SendBoardInfo (told false bytes rest r)) bytes rest r refl refl tt (told_again bytes rest r)
 row_body kinds.ServiceDescription bytes rest known r = absurd (true≢false (sym known))

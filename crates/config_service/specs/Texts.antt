@@ -1,9 +1,7 @@
--- The texts of the reasons and of the errors.
+-- The texts of the reasons.
 use Rattle.std.specs.Prelude.{ℕ, List, ◌++◌, codes}
 use Rattle.std.specs.Fmt.{decimal}
 use Rattle.hermes_element.specs.Refusal.{why_text}
-use Rattle.config_service.specs.declared.fault.ConfigError.{ConfigError}
-use Rattle.config_service.specs.declared.fault.ConfigError.TheVariants as errors
 use Rattle.config_service.specs.declared.fault.ConfigFault.{ConfigFault}
 use Rattle.config_service.specs.declared.fault.ConfigFault.TheVariants as faults
 use Rattle.config_service.specs.Names.{attr_text}
@@ -18,7 +16,3 @@ fault_text (faults.BadValue attr) = codes "bad " ++ attr_text attr
 -- the reason's text, ` at ` and the place
 abbrev pub refusal_text : ConfigFault → ℕ → List ℕ
 refusal_text why at = fault_text why ++ codes " at " ++ decimal at
-
-abbrev pub error_text : ConfigError → List ℕ
-error_text (errors.Refused at why) = refusal_text why at
-error_text errors.Memory = codes "out of memory"

@@ -25,8 +25,7 @@ pub enum ConfigFault {
 }
 
 impl ConfigFault {
-    /// The text of a refusal for this reason at this index: the reason, ` at ` and the index. It
-    /// is what `ConfigError::Refused` displays.
+    /// The text of a refusal for this reason at this index: the reason, ` at ` and the index.
     pub fn text(self, alloc: Global, at: usize) -> Result<Text, Memory>
         ensures { IfOk result (λ text. text ≡ refusal_text self at) }
     {
@@ -56,26 +55,12 @@ impl fmt::Display for ConfigFault {
 }
 
 /// Why no message was read.
-#[derive(Clone, Copy, Debug, PartialEq, Eq, Error)]
+#[derive(Clone, Copy, Debug, PartialEq, Eq)]
 pub enum ConfigError {
     /// The bytes spell no message: at this index, for this reason.
     Refused { at: usize, why: ConfigFault },
     /// Memory was wanting.
     Memory,
-}
-
-impl fmt::Display for ConfigError {
-    ghost use Rattle.std.specs.Prelude.{Some};
-    ghost use Rattle.config_service.specs.Texts.{error_text};
-
-    ghost output = { λ error. Some (error_text error) };
-
-    fn fmt<W: fmt::Write>(&self, f: &mut fmt::Formatter<W>) -> fmt::Result {
-        match self {
-            ConfigError::Refused { at, why } => write!(f, "{why} at {at}"),
-            ConfigError::Memory => f.write_str("out of memory"),
-        }
-    }
 }
 
 /// Where and why an element says no message.

@@ -18,7 +18,7 @@ pub fn tell_read(alloc: Global, bytes: &[u8], to: &mut Vec<u8>) -> io::Result<()
 
 pub fn tell_error(error: ConfigError, to: &mut Vec<u8>) -> io::Result<()> {
     match error {
-        ConfigError::Refused { .. } => write!(to, "refused: {error}"),
+        ConfigError::Refused { at, why } => write!(to, "refused: {why} at {at}"),
         ConfigError::Memory => within(Err(Memory)),
     }
 }

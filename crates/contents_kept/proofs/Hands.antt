@@ -1,6 +1,6 @@
--- Over the step of a machine: what it has of a board behind it is what it had before, or the same with another quality, where
--- the step tells the mark.
-use Rattle.std.proofs.Common.{Bool, Err, List, Ok, Option, Result, Some, [], ap, arith, false, inl, inr, refl, subst, suc, sym, true, zero, ℕ, ◌+◌, ◌-◌, ◌∙◌, ◌∷◌, ◌≡◌, ◌⊎◌}
+-- Over the step of a machine: what it has of a board behind it is what it had before, or the same with another quality or a
+-- circuit more, where the step tells that.
+use Rattle.std.proofs.Common.{Bool, Err, List, Ok, Option, Result, Some, [], ap, arith, false, inl, inr, refl, subst, suc, sym, true, zero, ℕ, ◌+◌, ◌++◌, ◌-◌, ◌∙◌, ◌∷◌, ◌≡◌, ◌⊎◌}
 use Rattle.std.specs.Prelude.{slice_get}
 use Rattle.std.proofs.lemmas.Option.{none-some}
 use Rattle.line_base.specs.declared.states.Quality.{Quality}
@@ -8,7 +8,9 @@ use Rattle.line_base.specs.declared.states.Quality.TheVariants as qualities
 use Rattle.board_record.specs.Maker.{Maker, after_next, next_id}
 use Rattle.board_record.specs.declared.maker.IdsUsedUp.{IdsUsedUp}
 use Rattle.board_record.specs.declared.record.Record.{Record}
-use Rattle.handover_out.specs.State.{held}
+use Rattle.board_record.specs.SubBoards.{unknown_sub}
+use Rattle.handover_out.specs.State.{OutState, held}
+use Rattle.handover_out.specs.declared.phase.Phase.TheVariants as phases
 use Rattle.handover_in.specs.State.{held as in_held}
 use Rattle.standings.specs.Ledger.{are_different}
 use Rattle.standings.specs.declared.mark.Mark.TheVariants as marks
@@ -19,7 +21,6 @@ use Rattle.line_report.specs.declared.happening.Happening.{Happening}
 use Rattle.line_report.specs.declared.happening.Happening.TheVariants as happenings
 use Rattle.node_core.specs.Event.{Level, Event, Insert, Replace, event_of, maker_after, with_new}
 use Rattle.smema_bridge.specs.declared.line.SegmentLine.{SegmentLine}
-use Rattle.node_core.specs.Bridge.{tells_level}
 use Rattle.node_core.specs.Reads.{all_read}
 use Rattle.node_core.specs.Node.{NodeState, desk_of}
 use Rattle.node_core.specs.Own.{ids_of, own_of}
@@ -28,6 +29,8 @@ use Rattle.node_core.specs.declared.act.Act.TheVariants as acts
 use Rattle.node_core.specs.declared.input.Input.{Input}
 use Rattle.node_core.specs.declared.input.Input.TheVariants as inputs
 use Rattle.node_core.specs.declared.lane.Body.{Body}
+use Rattle.node_core.proofs.KeptIds.{LeavesId}
+use Rattle.node_core.specs.Bridge.{tells_level}
 use Rattle.custody.specs.Contents.{Kept, kept_first, kept_later}
 use Rattle.line_step.specs.Lines.{met as met_on}
 use Rattle.line_step.specs.Numbered.{no_node, node_at}
@@ -36,21 +39,20 @@ use Rattle.line_step.specs.Steps.{MachineSteps, moment_of, unread_by}
 use Rattle.line_step.proofs.Makers.{AreNumbered, IsOld}
 use Rattle.line_step.proofs.Numbers.{machine_set_own}
 use Rattle.one_standing.specs.Carried.{Trace}
-use Rattle.one_standing.specs.Contents.{In, in_first, in_later}
+use Rattle.contents_kept.specs.Records.{In, in_first, in_later}
 use Rattle.one_standing.specs.Stands.{Stands}
 use Rattle.one_standing.specs.Told.{IsTold}
-use Rattle.one_standing.proofs.ApartHands.{body_then, fails_told, marks_told}
-use Rattle.one_standing.proofs.FactsContents.{Has, HasIn, has_held, has_kept, has_taking}
+use Rattle.one_standing.proofs.ApartHands.{body_then, fails_told, marks_told, subs_told}
 use Rattle.one_standing.proofs.LedgerLine.{made_here}
-use Rattle.one_standing.proofs.LedgerMarks.{differ_of, kept_alone, mark_old}
+use Rattle.one_standing.proofs.LedgerMarks.{differ_of, kept_alone, mark_old, in_own_gap}
 use Rattle.one_standing.proofs.LedgerSteps.{kept_different}
 use Rattle.one_standing.proofs.LedgerTurns.{different_first, different_rest}
-use Rattle.one_standing.proofs.MarksOf.{has_intake as has_intake_mark, has_kept as has_kept_mark, has_outlet as has_outlet_mark, kept_id}
+use Rattle.one_standing.proofs.MarksOf.{has_intake as has_intake_mark, has_outlet as has_outlet_mark, kept_id, has_kept as has_kept_mark}
 use Rattle.one_standing.proofs.MarksPlace.{kept_unheld}
-use Rattle.one_standing.proofs.OneStand.{has_end, same_link}
+use Rattle.one_standing.proofs.OneStand.{has_end, same_link, by_numbers}
 use Rattle.one_standing.proofs.RestLine.{node_there}
-use Rattle.contents_kept.specs.Contents.{IsFailedFront, IsMarkOf}
-use Rattle.contents_kept.proofs.Pieces.{IsByHand, IsMarkBy, MarksFront, level_has, read_has, step_front, step_held, step_kept}
+use Rattle.contents_kept.specs.Contents.{IsChangeOf, IsFailedFront, IsMarkOf, IsSubOf}
+use Rattle.contents_kept.proofs.Pieces.{IsByHand, MarksFront, level_has, level_outlet, level_untouched, read_has, reads_rest, step_front, step_held, step_kept, Has, HasIn, IsChangedIn, has_held, has_kept, has_taking}
 
 -- ---- a machine has one record of an id
 
@@ -90,25 +92,22 @@ IsOneRecord body = (q p : Record) → HasIn q body → HasIn p body → q.id ≡
 one_some : {a : Option Record} {q p : Record} → a ≡ Some q → a ≡ Some p → p ≡ q
 one_some is also = cc
 
-own_gap : (j : ℕ) → j + 1 ≡ j + 1 - 1 → ⊥
-own_gap j e = omega (arith, e)
-
 one_record_at : {t : Trace} {s : LineState} (j : ℕ) → Stands t s → IsOneRecord (node_at s (j + 1)).lane.body
 one_record_at {t} {s} j st = λ q p has also same. by q p (sits_of body q has) (sits_of body p also) same where
   body : Body
   body = (node_at s (j + 1)).lane.body
 
   both : {x : ℕ} {q p : Record} → held body.outlet ≡ Some q → q.id ≡ x → in_held body.intake ≡ Some p → p.id ≡ x → ⊥
-  both {x} out one into two = own_gap j (same_link {x = x} {mark = marks.Outlet (j + 1)} {other = marks.Intake (j + 1)} st (has_outlet_mark out one) (has_intake_mark into two))
+  both {x} out one into two = in_own_gap j (same_link {x = x} {mark = marks.Outlet (j + 1)} {other = marks.Intake (j + 1)} (by_numbers st) (has_outlet_mark out one) (has_intake_mark into two))
 
   by : (q p : Record) → Sits body q → Sits body p → q.id ≡ p.id → p ≡ q
   by q p (sits_kept i) (sits_kept k) same = one_kept q p body.kept (kept_different (own_of body) (differ_of (j + 1) st)) i k same
   by q p (sits_kept i) (sits_held out) same = absurd (kept_unheld (j + 1) (j + 1) (has_end t s st) st.keeps (in_kept i same) out refl)
-  by q p (sits_kept i) (sits_taking into) same = absurd (kept_alone j st (in_kept i same) into refl)
+  by q p (sits_kept i) (sits_taking into) same = absurd (kept_alone j (by_numbers st) (in_kept i same) into refl)
   by q p (sits_held out) (sits_kept i) same = absurd (kept_unheld (j + 1) (j + 1) (has_end t s st) st.keeps (in_kept i (sym same)) out refl)
   by q p (sits_held out) (sits_held also) same = one_some out also
   by q p (sits_held out) (sits_taking into) same = absurd (both out same into refl)
-  by q p (sits_taking into) (sits_kept i) same = absurd (kept_alone j st (in_kept i (sym same)) into refl)
+  by q p (sits_taking into) (sits_kept i) same = absurd (kept_alone j (by_numbers st) (in_kept i (sym same)) into refl)
   by q p (sits_taking into) (sits_held out) same = absurd (both out (sym same) into refl)
   by q p (sits_taking into) (sits_taking also) same = one_some into also
 
@@ -128,7 +127,7 @@ one_record_of {s = s} (suc j) st = let next : j + 1 ≡ suc j = omega arith in s
 -- ---- a machine before a line and behind it
 
 pub record Whole (told : List Happening) (machine : ℕ) (was now : Body) : Type 0 where
-  pub kept : (q p : Record) → HasIn q was → In p now.kept → q.id ≡ p.id → (p ≡ q) ⊎ IsMarkOf told machine q p
+  pub kept : (q p : Record) → HasIn q was → In p now.kept → q.id ≡ p.id → (p ≡ q) ⊎ IsChangeOf told machine q p
   pub out : (q p : Record) → HasIn q was → held now.outlet ≡ Some p → q.id ≡ p.id → p ≡ q
 
 pub held_has : (body : Body) (q : Record) → held body.outlet ≡ Some q → HasIn q body
@@ -145,17 +144,35 @@ whole_itself {body = body} one = record {
 
 -- ---- what hands do
 
--- a record whose quality is changed is the one that was there before, and it is told
-mark_of : {told : List Happening} {machine id : ℕ} {quality : Quality} {now : Body} (was : Body) (q p : Record) → IsOneRecord was → ((r : Record) → HasIn r now → HasIn r was) → HasIn q was → q.id ≡ p.id
-    → (m : IsMarkBy id quality now p) → IsTold (happenings.Done machine (acts.Marks id quality)) told → IsMarkOf told machine q p
-mark_of {told} {machine} {id} {quality} was q p one before has same m tells =
-    let own : p.id ≡ m.was.id = ap (λ (r : Record). r.id) m.is in
-    let is : m.was ≡ q = one q m.was has (before m.was (has_kept m.there)) (same ∙ own) in
+-- a record that is changed is the one that was there before
+record IsThatChanged (id : ℕ) (change : Record → Record) (q p : Record) : Type 0 where
+  named : p.id ≡ id
+  is : p ≡ change q
+
+changed_of : {id : ℕ} {change : Record → Record} (was now : Body) (q p : Record) → IsOneRecord was → ((r : Record) → HasIn r now → HasIn r was) → HasIn q was → q.id ≡ p.id → LeavesId change
+    → IsChangedIn id change now.kept p → IsThatChanged id change q p
+changed_of {change = change} was now q p one before has same leaves m =
+    let own : p.id ≡ m.was.id = ap (λ (r : Record). r.id) m.is ∙ leaves m.was in
     record {
-      quality = quality;
-      marks = subst (λ (x : ℕ). IsTold (happenings.Done machine (acts.Marks x quality)) told) (sym (own ∙ m.named)) tells;
-      is = m.is ∙ ap (λ (r : Record). record r { quality = quality }) is;
+      named = own ∙ m.named;
+      is = m.is ∙ ap change (one q m.was has (before m.was (has_kept m.there)) (same ∙ own));
     }
+
+-- and it is told
+mark_of : {told : List Happening} {machine id : ℕ} {q p : Record} (quality : Quality) → IsTold (happenings.Done machine (acts.Marks id quality)) told → IsThatChanged id (λ r. record r { quality = quality }) q p → IsMarkOf told machine q p
+mark_of {told} {machine} quality tells m = record {
+  quality = quality;
+  marks = subst (λ (x : ℕ). IsTold (happenings.Done machine (acts.Marks x quality)) told) (sym m.named) tells;
+  is = m.is;
+}
+
+sub_of : {told : List Happening} {machine id : ℕ} {q p : Record} (place : ℕ) (barcode : Option (List ℕ)) → IsTold (happenings.Done machine (acts.Subs id place)) told → IsThatChanged id (λ r. record r { subs = r.subs ++ unknown_sub place barcode ∷ [] }) q p → IsSubOf told machine q p
+sub_of {told} {machine} place barcode tells m = record {
+  place = place;
+  barcode = barcode;
+  tells = subst (λ (x : ℕ). IsTold (happenings.Done machine (acts.Subs x place)) told) (sym m.named) tells;
+  is = m.is;
+}
 
 new_by : (bridge : Option BridgeLevels) (maker : Maker) (body : Body) (found : Result ℕ IdsUsedUp) (event : ℕ → Event) (p : Record) → next_id maker ≡ found → ((id : ℕ) → IsByHand bridge body (event id) p → p.id ≡ id) → IsByHand bridge body (with_new found event) p
     → (id : ℕ) × (next_id maker ≡ Ok id) × (p.id ≡ id)
@@ -188,7 +205,7 @@ new_not number m input before after told a steps makes q p has same hand =
 
 hand_whole : (number m : ℕ) (input : Input) (before after : LineState) (told : List Happening) (steps : MachineSteps number m input before after told) → Starting before → IsOneRecord steps.node.lane.body
     → (q p : Record) → HasIn q (node_at before m).lane.body → HasIn q steps.node.lane.body → q.id ≡ p.id
-    → IsByHand steps.node.bridge (body_then number m input before after told steps) (event_of steps.node.maker input steps.steps.lane.words) p → IsMarkOf told m q p
+    → IsByHand steps.node.bridge (body_then number m input before after told steps) (event_of steps.node.maker input steps.steps.lane.words) p → IsChangeOf told m q p
 hand_whole number m (inputs.Insert barcode) before after told steps a one q p there has same hand =
     let body : Body = body_then number m (inputs.Insert barcode) before after told steps in
     absurd (new_not number m (inputs.Insert barcode) before after told a steps refl q p there same
@@ -198,17 +215,20 @@ hand_whole number m (inputs.Replace old) before after told steps a one q p there
     absurd (new_not number m (inputs.Replace old) before after told a steps refl q p there same
     (new_by steps.node.bridge steps.node.maker body (next_id steps.node.maker) (Replace old) p refl (λ id is. is) hand))
 hand_whole number m (inputs.Mark id quality) before after told steps a one q p there has same hand =
-    mark_of steps.node.lane.body q p one (λ r h. read_has (desk_of steps.node (moment_of number)) (unread_by m before.world) steps.node.lane.body r h) has same hand
-    (marks_told number m id quality before after told steps hand.kept)
+    inl (mark_of quality (marks_told number m id quality before after told steps hand.0)
+    (changed_of steps.node.lane.body (body_then number m (inputs.Mark id quality) before after told steps) q p one (λ r h. read_has (desk_of steps.node (moment_of number)) (unread_by m before.world) steps.node.lane.body r h) has same (λ _. refl) hand.1))
+hand_whole number m (inputs.Sub id place barcode) before after told steps a one q p there has same hand =
+    inr (sub_of place barcode (subs_told number m id place barcode before after told steps hand.0)
+    (changed_of steps.node.lane.body (body_then number m (inputs.Sub id place barcode) before after told steps) q p one (λ r h. read_has (desk_of steps.node (moment_of number)) (unread_by m before.world) steps.node.lane.body r h) has same (λ _. refl) hand.1))
 hand_whole number m (inputs.Level line on) before after told steps a one q p there has same hand =
     let body : Body = body_then number m (inputs.Level line on) before after told steps in
-    mark_of steps.node.lane.body q p one (λ r h. read_has (desk_of steps.node (moment_of number)) (unread_by m before.world) steps.node.lane.body r (level_has line on body r h)) has same hand.2
-    (fails_told number m hand.0 line on before after told steps hand.1 hand.2.kept)
+    inl (mark_of qualities.Failed (fails_told number m hand.0 line on before after told steps hand.1 hand.2)
+    (changed_of steps.node.lane.body (tells_level line on body).body q p one (λ r h. read_has (desk_of steps.node (moment_of number)) (unread_by m before.world) steps.node.lane.body r (level_has line on body r h)) has same (λ _. refl) hand.3))
 hand_whole number m _ before after told steps a one q p there has same hand = absurd hand
 
 -- the step of a machine, whose hands do only this
 pub machine_by : (number m : ℕ) (input : Input) (before after : LineState) (told : List Happening) → IsOneRecord (node_at before m).lane.body → (steps : MachineSteps number m input before after told)
-    → ((q p : Record) → HasIn q (node_at before m).lane.body → HasIn q steps.node.lane.body → q.id ≡ p.id → IsByHand steps.node.bridge (body_then number m input before after told steps) (event_of steps.node.maker input steps.steps.lane.words) p → IsMarkOf told m q p)
+    → ((q p : Record) → HasIn q (node_at before m).lane.body → HasIn q steps.node.lane.body → q.id ≡ p.id → IsByHand steps.node.bridge (body_then number m input before after told steps) (event_of steps.node.maker input steps.steps.lane.words) p → IsChangeOf told m q p)
     → Whole told m (node_at before m).lane.body (node_at after m).lane.body
 machine_by number m input before after told single steps hands =
     let node_is : node_at before m ≡ steps.node = node_there m before steps.node steps.there in
@@ -241,7 +261,7 @@ met_whole number m connections.Second before after told one steps = machine_by n
 
 -- the step in which a level is set
 pub front_whole : (number m : ℕ) (line : SegmentLine) (on : Bool) (before after : LineState) (told : List Happening) → IsOneRecord (node_at before m).lane.body → MachineSteps number m (inputs.Level line on) before after told
-    → (q p : Record) → HasIn q (node_at before m).lane.body → In p (node_at after m).lane.body.kept → q.id ≡ p.id → (p ≡ q) ⊎ IsFailedFront after m q p
+    → (q p : Record) → HasIn q (node_at before m).lane.body → In p (node_at after m).lane.body.kept → q.id ≡ p.id → (p ≡ q) ⊎ IsFailedFront before after m q p
 front_whole number m line on before after told single steps q p there i same =
     let node_is : node_at before m ≡ steps.node = node_there m before steps.node steps.there in
     let next_is : node_at after m ≡ steps.next = node_there m after steps.next (ap (machine_in m) steps.after_is ∙ machine_set_own m before steps.node steps.next steps.there) in
@@ -256,14 +276,18 @@ front_whole number m line on before after told single steps q p there i same =
     elim found [
       | inl then ↦ inl (one q p has then same)
       | inr hand ↦
-          let k : IsMarkBy hand.0 qualities.Failed (tells_level line on (all_read desk unread was).body).body p = hand.2 in
-          let f : MarksFront (all_read desk unread was).body hand.0 now.kept = step_front desk unread line on was hand.0 hand.1 k.kept in
-          let own : p.id ≡ k.was.id = ap (λ (r : Record). r.id) k.is in
-          let marked : k.was ≡ q = one q k.was has (read_has desk unread was k.was (level_has line on (all_read desk unread was).body k.was (has_kept k.there))) (same ∙ own) in
-          let front : f.front ≡ q = one q f.front has (read_has desk unread was f.front (has_kept f.there)) (same ∙ own ∙ k.named ∙ sym f.named) in
-          let is : p ≡ record q { quality = qualities.Failed } = k.is ∙ ap (λ (r : Record). record r { quality = qualities.Failed }) marked in
+          let read : Body = (all_read desk unread was).body in
+          let f : MarksFront read hand.0 now.kept = step_front desk unread line on was hand.0 hand.1 hand.2 in
+          let c : IsThatChanged hand.0 (λ r. record r { quality = qualities.Failed }) q p = changed_of was (tells_level line on read).body q p one (λ r h. read_has desk unread was r (level_has line on read r h)) has same (λ _. refl) hand.3 in
+          let front : f.front ≡ q = one q f.front has (read_has desk unread was f.front (has_kept f.there)) (same ∙ c.named ∙ sym f.named) in
           inr (record {
-            first = ap (λ (b : Body). slice_get b.kept 0) body_is ∙ f.first ∙ ap (λ (r : Record). Some (record r { quality = qualities.Failed })) front ∙ ap (λ (r : Record). Some r) (sym is);
-            is = is;
+            first = ap (λ (b : Body). slice_get b.kept 0) body_is ∙ f.first ∙ ap (λ (r : Record). Some (record r { quality = qualities.Failed })) front ∙ ap (λ (r : Record). Some r) (sym c.is);
+            is = c.is;
+            untouched = λ offered.
+                let body_was : (node_at before m).lane.body ≡ was = ap (λ (n : NodeState). n.lane.body) node_is in
+                let rest : was.outlet.phase ≡ phases.Idle = subst (λ (b : Body). b.outlet.phase ≡ phases.Idle) body_was offered.rest in
+                let touched : was.outlet.touched ≡ Some q.id = subst (λ (b : Body). b.outlet.touched ≡ Some q.id) body_was offered.touched in
+                let stays : (tells_level line on read).body.outlet ≡ was.outlet = level_outlet line on read ∙ reads_rest desk unread was rest in
+                level_untouched desk.bridge line on (tells_level line on read).body hand.0 hand.1 (ap (λ (o : OutState). o.touched) stays ∙ touched ∙ ap (λ (id : ℕ). Some id) (same ∙ c.named));
           })
     ]

@@ -3,9 +3,10 @@
 use Rattle.std.proofs.Common.{inl, inr, ◌⊎◌, if◌then◌else◌, subst, ◌≡◌, ◌++◌, ◌==◌, ℕ, Bool, true, false, List, [], ◌∷◌, Option, Some, None, refl, sym, ap, eqb-true, eq-eqb, ◌∙◌, ◌&&◌, not}
 use Rattle.std.specs.Prelude.{slice_get}
 use Rattle.std.proofs.lemmas.Bool.{false≢true}
+use Rattle.line_base.specs.declared.states.SensorEvent.{SensorEvent}
+use Rattle.line_base.specs.declared.states.SensorEvent.TheVariants as sensors
 use Rattle.line_base.specs.declared.states.Side.{Side}
 use Rattle.line_base.specs.declared.states.Side.TheVariants.{Entry, Exit}
-use Rattle.line_base.specs.declared.states.Quality.{Quality}
 use Rattle.board_record.specs.declared.record.Record.{Record}
 use Rattle.board_record.specs.declared.sensed.Sensed.{Sensed as Seen}
 use Rattle.board_record.specs.Record.{plain_record}
@@ -13,7 +14,9 @@ use Rattle.session_core.specs.End.{SessionEnd, at_rest}
 use Rattle.handover_out.specs.declared.input.OutInput.{OutInput}
 use Rattle.handover_out.specs.declared.input.OutInput.TheVariants as out_input
 use Rattle.handover_out.specs.State.{OutState, held, would_open}
-use Rattle.handover_out.specs.Row.{OutRow}
+use Rattle.handover_out.specs.Row.{OutRow, back_row as back_of, begun_row, left_row, taken_row}
+use Rattle.handover_out.specs.declared.phase.Phase.{Phase}
+use Rattle.handover_out.specs.declared.phase.Phase.TheVariants as phases
 use Rattle.handover_out.specs.Table.{
   IsOutletRow,
   offers,
@@ -72,11 +75,12 @@ use Rattle.node_core.specs.Halves.{
   given_back,
   settled,
   intake_row_did,
+  outlet_row_did,
   opening_board,
   behind_opening,
 }
-use Rattle.node_core.specs.Reads.{all_read}
-use Rattle.node_core.specs.Boards.{without, with_instead, with_kept, with_mark, is_kept, if_kept}
+use Rattle.node_core.specs.Reads.{all_read, saw}
+use Rattle.node_core.specs.Boards.{without, with_kept, with_mark, is_kept, if_kept, takes_sub, with_changed}
 use Rattle.node_core.specs.Announces.{
   is_front,
   revokes_now,
@@ -91,11 +95,10 @@ use Rattle.node_core.specs.Announces.{
   start_by,
   announces,
 }
-use Rattle.node_core.specs.Event.{Event, Insert, Replace, Mark, event_did, Level}
+use Rattle.node_core.specs.Event.{Event, Insert, Replace, Mark, Sub, event_did, Level}
 use Rattle.node_core.specs.Step.{machine_step}
 use Rattle.node_core.proofs.HalfRows.{IsNoStart}
-use Rattle.one_standing.specs.Contents.{In, in_first, in_later}
-use Rattle.one_standing.proofs.FactsContents.{Has, HasIn, has_held, has_kept, has_taking}
+use Rattle.contents_kept.specs.Records.{In, in_first, in_later}
 use Rattle.node_core.specs.Bridge.{failed_front, fails, sets_level, tells_level}
 use Rattle.smema_bridge.specs.Levels.{BridgeLevels}
 use Rattle.smema_bridge.specs.declared.line.SegmentLine.{SegmentLine}
@@ -111,9 +114,7 @@ use Rattle.step_rules.specs.Causes.{
   Reading,
   ToIntake,
   ToOutlet,
-  hand_fails,
   hand_inserts,
-  hand_marks,
   hand_removes,
   hand_replaces,
   in_closed,
@@ -124,6 +125,10 @@ use Rattle.step_rules.specs.Causes.{
   out_closed,
   out_offer,
   out_revoke,
+  hand_changes,
+  changes_quality,
+  changes_circuits,
+  changes_front,
 }
 use Rattle.step_rules.specs.Made.{
   Made,
@@ -152,6 +157,16 @@ use Rattle.step_rules.proofs.Steps.{
   revoke_made,
   unready_made,
 }
+
+-- ---- a record in the three places of a machine
+
+pub data Has (q : Record) : List Record → Option Record → Option Record → Type 0 where
+  has_kept : {kept : List Record} {mine taking : Option Record} → In q kept → Has q kept mine taking
+  has_held : {kept : List Record} {taking : Option Record} → Has q kept (Some q) taking
+  has_taking : {kept : List Record} {mine : Option Record} → Has q kept mine (Some q)
+
+abbrev pub HasIn : Record → Body → Type 0
+HasIn q body = Has q body.kept (held body.outlet) (in_held body.intake)
 
 -- a micro event after which a machine has no record that it did not have before
 record Brings (body : Body) (d : Done) : Type 0 where
@@ -240,22 +255,23 @@ in_row_brings outlet kept _ plain q h = h
 
 -- ---- by hand
 
--- a record that was kept, with another quality
-pub record IsMarkBy (id : ℕ) (quality : Quality) (body : Body) (q : Record) : Type 0 where
+-- a record that was among these, changed so
+pub record IsChangedIn (id : ℕ) (change : Record → Record) (kept : List Record) (q : Record) : Type 0 where
   pub was : Record
-  pub there : In was body.kept
+  pub there : In was kept
   pub named : was.id ≡ id
-  pub is : q ≡ record was { quality = quality }
-  pub kept : is_kept id body.kept ≡ true
+  pub is : q ≡ change was
 
 -- a record that a machine keeps now and did not have before is that of a board that was put in or replaced, or one that was
--- kept and is marked
+-- kept and is marked or has a circuit more
 abbrev pub IsByHand : Option BridgeLevels → Body → Event → Record → Type 0
 IsByHand bridge body (Insert id barcode) q = q.id ≡ id
 IsByHand bridge body (Replace old new) q = q.id ≡ new
-IsByHand bridge body (Mark id quality) q = IsMarkBy id quality body q
+IsByHand bridge body (Mark id quality) q = (is_kept id body.kept ≡ true) × IsChangedIn id (λ r. record r { quality = quality }) body.kept q
+IsByHand bridge body (Sub id sub) q = (takes_sub id sub body.kept ≡ true) × IsChangedIn id (λ r. record r { subs = r.subs ++ sub ∷ [] }) body.kept q
 IsByHand bridge body (Level line on) q =
-    (id : ℕ) × (failed_front bridge line on (tells_level line on body).body ≡ Some id) × IsMarkBy id qualities.Failed (tells_level line on body).body q
+    (id : ℕ) × (failed_front bridge line on (tells_level line on body).body ≡ Some id) × (is_kept id (tells_level line on body).body.kept ≡ true)
+    × IsChangedIn id (λ r. record r { quality = qualities.Failed }) (tells_level line on body).body.kept q
 IsByHand bridge body _ q = ⊥
 
 record Meets (bridge : Option BridgeLevels) (event : Event) (body : Body) (d : Done) : Type 0 where
@@ -282,59 +298,33 @@ in_without q id (k ∷ kept) i = without_by (k.id == id) i (λ j. in_without q i
   without_by false (in_first is) later = in_first is
   without_by false (in_later i) later = in_later (later i)
 
-in_instead : (q other : Record) (id : ℕ) (kept : List Record) → In q (with_instead id other kept) → In q kept ⊎ (q ≡ other)
-in_instead q other id [] i = elim i [ ]
-in_instead q other id (k ∷ kept) i = instead_by (k.id == id) i (λ j. in_instead q other id kept j) where
-  instead_by : (test : Bool) → In q (if test then other ∷ kept else k ∷ with_instead id other kept) → (In q (with_instead id other kept) → In q kept ⊎ (q ≡ other)) → In q (k ∷ kept) ⊎ (q ≡ other)
-  instead_by true (in_first is) later = inr is
-  instead_by true (in_later i) later = inl (in_later i)
-  instead_by false (in_first is) later = inl (in_first is)
-  instead_by false (in_later i) later = elim (later i) [ inl before ↦ inl (in_later before) | inr is ↦ inr is ]
-
--- a record among them is as it was, or the one that is marked
-record IsMarkIn (id : ℕ) (quality : Quality) (kept : List Record) (q : Record) : Type 0 where
-  was : Record
-  there : In was kept
-  named : was.id ≡ id
-  is : q ≡ record was { quality = quality }
-
-mark_later : {id : ℕ} {quality : Quality} {k q : Record} {kept : List Record} → IsMarkIn id quality kept q → IsMarkIn id quality (k ∷ kept) q
-mark_later m = record { was = m.was; there = in_later m.there; named = m.named; is = m.is }
-
-in_marked : (q : Record) (id : ℕ) (quality : Quality) (kept : List Record) → In q (with_mark id quality kept) → In q kept ⊎ IsMarkIn id quality kept q
-in_marked q id quality [] i = elim i [ ]
-in_marked q id quality (k ∷ kept) i = marked_by (k.id == id) refl i (λ j. in_marked q id quality kept j) where
-  marked_by : (test : Bool) → (k.id == id) ≡ test → In q (if test then record k { quality = quality } ∷ kept else k ∷ with_mark id quality kept) → (In q (with_mark id quality kept) → In q kept ⊎ IsMarkIn id quality kept q) → In q (k ∷ kept) ⊎ IsMarkIn id quality (k ∷ kept) q
-  marked_by true is (in_first same) later = inr (record { was = k; there = in_first refl; named = eqb-true k.id id is; is = same })
-  marked_by true is (in_later i) later = inl (in_later i)
-  marked_by false is (in_first same) later = inl (in_first same)
-  marked_by false is (in_later i) later = elim (later i) [ inl before ↦ inl (in_later before) | inr mark ↦ inr (mark_later mark) ]
+-- a record among them is as it was, or the one that is changed
+in_changed : (q : Record) (id : ℕ) (change : Record → Record) (kept : List Record) → In q (with_changed id change kept) → In q kept ⊎ IsChangedIn id change kept q
+in_changed q id change [] i = elim i [ ]
+in_changed q id change (k ∷ kept) i = by (k.id == id) refl i (λ j. in_changed q id change kept j) where
+  by : (test : Bool) → (k.id == id) ≡ test → In q (if test then change k ∷ kept else k ∷ with_changed id change kept) → (In q (with_changed id change kept) → In q kept ⊎ IsChangedIn id change kept q) → In q (k ∷ kept) ⊎ IsChangedIn id change (k ∷ kept) q
+  by true is (in_first same) later = inr (record { was = k; there = in_first refl; named = eqb-true k.id id is; is = same })
+  by true is (in_later i) later = inl (in_later i)
+  by false is (in_first same) later = inl (in_first same)
+  by false is (in_later i) later = elim (later i) [ inl before ↦ inl (in_later before) | inr m ↦ inr (record { was = m.was; there = in_later m.there; named = m.named; is = m.is }) ]
 
 kept_by_hand : {P : Type 0} {q : Record} {kept now : List Record} {mine taking : Option Record} → (In q now → In q kept ⊎ P) → Has q now mine taking → Has q kept mine taking ⊎ P
 kept_by_hand each (has_kept i) = elim (each i) [ inl before ↦ inl (has_kept before) | inr is ↦ inr is ]
 kept_by_hand each has_held = inl has_held
 kept_by_hand each has_taking = inl has_taking
 
-replaced : {bridge : Option BridgeLevels} (desk : Desk) (old new : ℕ) (body : Body) (test : Bool) → Meets bridge (Replace old new) body (if_kept test (record body { kept = with_instead old (plain_record new desk.name None) body.kept }) (acts.Replaces old new) body)
-replaced desk old new body true = record {
-  each = λ q h. kept_by_hand (λ i. elim (in_instead q (plain_record new desk.name None) old body.kept i) [ inl before ↦ inl before | inr is ↦ inr (ap (λ (r : Record). r.id) is) ]) h;
+-- the first record of an id is changed, where the test passes
+changed : {bridge : Option BridgeLevels} (event : Event) (id : ℕ) (change : Record → Record) (act : Act) (body : Body) (test : Bool) → ((q : Record) → test ≡ true → IsChangedIn id change body.kept q → IsByHand bridge body event q)
+    → Meets bridge event body (if_kept test (record body { kept = with_changed id change body.kept }) act body)
+changed event id change act body true hand = record {
+  each = λ q h. kept_by_hand (λ i. elim (in_changed q id change body.kept i) [ inl before ↦ inl before | inr m ↦ inr (hand q refl m) ]) h;
   out = λ q is. held_has q body is;
 }
-replaced desk old new body false = met (Replace old new) (record { each = λ q h. h })
+changed event id change act body false hand = met event (record { each = λ q h. h })
 
 none_or : {A : Type 0} → A ⊎ ⊥ → A
 none_or (inl a) = a
 none_or (inr none) = absurd none
-
-mark_by : {id : ℕ} {quality : Quality} {body : Body} {q : Record} → is_kept id body.kept ≡ true → IsMarkIn id quality body.kept q → IsMarkBy id quality body q
-mark_by kept m = record { was = m.was; there = m.there; named = m.named; is = m.is; kept = kept }
-
-marked : {bridge : Option BridgeLevels} (id : ℕ) (quality : Quality) (body : Body) (test : Bool) → is_kept id body.kept ≡ test → Meets bridge (Mark id quality) body (if_kept test (record body { kept = with_mark id quality body.kept }) (acts.Marks id quality) body)
-marked id quality body true is = record {
-  each = λ q h. kept_by_hand (λ i. elim (in_marked q id quality body.kept i) [ inl before ↦ inl before | inr mark ↦ inr (mark_by is mark) ]) h;
-  out = λ q held_is. held_has q body held_is;
-}
-marked id quality body false is = met (Mark id quality) (record { each = λ q h. h })
 
 -- a level of the segment may mark the front board
 pub level_has : (line : SegmentLine) (on : Bool) (body : Body) (q : Record) → HasIn q (tells_level line on body).body → HasIn q body
@@ -350,11 +340,11 @@ fails_bring bridge line on body None is = record {
 }
 fails_bring bridge line on body (Some id) is =
     let one : Body = (tells_level line on body).body in
-    let k = marked {bridge = bridge} id qualities.Failed one (is_kept id one.kept) refl in
+    let k = changed {bridge = bridge} (Mark id qualities.Failed) id (λ r. record r { quality = qualities.Failed }) (acts.Marks id qualities.Failed) one (is_kept id one.kept) (λ q kept m. (kept, m)) in
     record {
       each = λ q h. elim (k.each q h) [
         | inl before ↦ inl (level_has line on body q before)
-        | inr hand ↦ inr (id, is, hand)
+        | inr hand ↦ inr (id, is, hand.0, hand.1)
       ];
       out = λ q held_is. level_has line on body q (k.out q held_is);
     }
@@ -371,6 +361,7 @@ BringsNone (Announcing starting) = starting ≡ false
 BringsNone (Meeting (Insert id barcode)) = ⊥
 BringsNone (Meeting (Replace old new)) = ⊥
 BringsNone (Meeting (Mark id quality)) = ⊥
+BringsNone (Meeting (Sub id sub)) = ⊥
 BringsNone (Meeting (Level line on)) = ⊥
 BringsNone (Meeting event) = Unit {0}
 
@@ -386,8 +377,9 @@ by_hand hand_inserts none = absurd none
 by_hand (hand_removes {id = id} {body = body} is) none =
     record { each = λ q h. none_or (kept_by_hand (λ i. inl (in_without q id body.kept i)) h) }
 by_hand (hand_replaces is) none = absurd none
-by_hand (hand_marks is) none = absurd none
-by_hand (hand_fails front is) none = absurd none
+by_hand (hand_changes (changes_quality is)) none = absurd none
+by_hand (hand_changes (changes_circuits is)) none = absurd none
+by_hand (hand_changes (changes_front front is)) none = absurd none
 
 brings : {desk : Desk} {cause : Cause} {body : Body} {d : Done} → Made desk cause body d
     → BringsNone cause → Brings body d
@@ -427,8 +419,11 @@ event_brings desk (Insert id barcode) body = record {
       ]) h;
   out = λ q is. held_has q body is;
 }
-event_brings desk (Replace old new) body = replaced desk old new body (is_kept old body.kept)
-event_brings desk (Mark id quality) body = marked id quality body (is_kept id body.kept) refl
+event_brings desk (Replace old new) body =
+    changed (Replace old new) old (λ _. plain_record new desk.name None) (acts.Replaces old new) body (is_kept old body.kept)
+    (λ q kept m. ap (λ (r : Record). r.id) m.is)
+event_brings desk (Mark id quality) body = changed (Mark id quality) id (λ r. record r { quality = quality }) (acts.Marks id quality) body (is_kept id body.kept) (λ q kept m. (kept, m))
+event_brings desk (Sub id sub) body = changed (Sub id sub) id (λ r. record r { subs = r.subs ++ sub ∷ [] }) (acts.Subs id sub.pos) body (takes_sub id sub body.kept) (λ q takes m. (takes, m))
 event_brings desk (Level line on) body = levels_bring desk line on body
 event_brings desk event body = met event (brings (event_made desk event body) tt)
 
@@ -572,6 +567,46 @@ level_marks desk line on body id is kept =
       named = f.named;
       first = ap (λ (rs : List Record). slice_get rs 0) (ap g is ∙ ap h kept) ∙ front_marked id one.kept f;
     }
+
+-- ---- what a level marks isn't known downstream
+
+none_by : (one two known : Bool) (front : Option ℕ) (id : ℕ) → known ≡ true → (if one && two && not known then front else None) ≡ Some id → ⊥
+none_by one two false front id e is = false≢true e
+none_by true true true front id e is = let h : ◌≡◌ {A = Option ℕ} None (Some id) = is in cc
+none_by true false true front id e is = let h : ◌≡◌ {A = Option ℕ} None (Some id) = is in cc
+none_by false true true front id e is = let h : ◌≡◌ {A = Option ℕ} None (Some id) = is in cc
+none_by false false true front id e is = let h : ◌≡◌ {A = Option ℕ} None (Some id) = is in cc
+
+pub level_untouched : (bridge : Option BridgeLevels) (line : SegmentLine) (on : Bool) (body : Body) (id : ℕ) → failed_front bridge line on body ≡ Some id → body.outlet.touched ≡ Some id → ⊥
+level_untouched None line on body id is touched = let h : ◌≡◌ {A = Option ℕ} None (Some id) = is in cc
+level_untouched (Some levels) line on body id is touched =
+    let f : IsFrontOf id body.kept = front_by id body.kept (failed_is_front (Some levels) line on body id is) in
+    let known : is_front body.outlet.touched (slice_get body.kept 0) ≡ true =
+    ap (λ (t : Option ℕ). is_front t (slice_get body.kept 0)) touched ∙ ap (λ (rs : List Record). is_front (Some id) (slice_get rs 0)) f.is ∙ eq-eqb id f.front.id (sym f.named) in
+    none_by (becomes_available line on levels.segment) levels.segment.failed (is_front body.outlet.touched (slice_get body.kept 0)) (front_id body.kept) id known is
+
+pub level_outlet : (line : SegmentLine) (on : Bool) (body : Body) → (tells_level line on body).body.outlet ≡ body.outlet
+level_outlet Ready on body = refl
+level_outlet Available on body = refl
+level_outlet Failed on body = refl
+
+-- an outlet at rest stays as it is, whatever is read
+saw_rest : (desk : Desk) (side : Side) (event : SensorEvent) (body : Body) → body.outlet.phase ≡ phases.Idle → (saw desk side event body).body.outlet ≡ body.outlet
+saw_rest desk Entry event body is = by (intake_row body.intake (in_input.Sensed event)) where
+  by : (row : Option InRow) → (intake_row_did desk body row).body.outlet ≡ body.outlet
+  by None = refl
+  by (Some row) = refl
+saw_rest desk Exit sensors.Begun body is = ap (λ (p : Phase). (outlet_row_did desk body (begun_row p body.outlet)).body.outlet) is
+saw_rest desk Exit sensors.Left body is = ap (λ (p : Phase). (outlet_row_did desk body (left_row p body.outlet)).body.outlet) is
+saw_rest desk Exit sensors.Full body is = refl
+saw_rest desk Exit sensors.Back body is = ap (λ (p : Phase). (outlet_row_did desk body (back_of p body.outlet)).body.outlet) is
+saw_rest desk Exit sensors.Taken body is = ap (λ (p : Phase). (outlet_row_did desk body (taken_row p body.outlet)).body.outlet) is
+
+pub reads_rest : (desk : Desk) (unread : List Seen) (body : Body) → body.outlet.phase ≡ phases.Idle → (all_read desk unread body).body.outlet ≡ body.outlet
+reads_rest desk [] body is = refl
+reads_rest desk (seen ∷ others) body is =
+    let one = saw_rest desk seen.side seen.event body is in
+    reads_rest desk others (saw desk seen.side seen.event body).body (ap (λ (o : OutState). o.phase) one ∙ is) ∙ one
 
 -- ---- the step
 

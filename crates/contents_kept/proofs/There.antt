@@ -3,9 +3,10 @@
 use Rattle.std.proofs.Common.{Bool, List, None, Option, Some, [], ap, arith, eqb-true, false, inl, inr, length, refl, subst, suc, sym, take, true, zero, ℕ, ◌+◌, ◌∙◌, ◌∷◌, ◌≡◌, ◌≤◌, ◌<◌}
 use Rattle.std.specs.Prelude.{nat_le, nat_lt}
 use Rattle.std.proofs.lemmas.List.{get_or_past}
-use Rattle.std.specs.List.{AllByRecursion, list_all}
+use Rattle.std.specs.List.{AllByRecursion}
 use Rattle.std.proofs.lemmas.Bool.{and_parts, leb-true, ltb-true}
 use Rattle.std.proofs.lemmas.Option.{none-some}
+use Rattle.one_standing.proofs.LedgerStandings.{all_at}
 use Rattle.board_record.specs.declared.record.Record.{Record}
 use Rattle.handover_out.specs.State.{board_of_phase as held_out}
 use Rattle.handover_in.specs.State.{board_of_phase as held_in}
@@ -24,7 +25,7 @@ use Rattle.one_standing.specs.Stands.{Stands}
 use Rattle.one_standing.proofs.Carrying.{SaysAlone}
 use Rattle.one_standing.proofs.LineForms.{ConnectsBear}
 use Rattle.one_standing.proofs.LineRun.{AreStood, none_stood, run_stood}
-use Rattle.one_standing.proofs.MarksOf.{Among, HasMark, Passes, among_first, among_later, first_among, has_intake, has_kept, has_outlet, mark_stands, passing}
+use Rattle.one_standing.proofs.MarksOf.{HasMark, Passes, first_among, has_intake, has_kept, has_outlet, mark_stands, passing}
 use Rattle.contents_kept.specs.There.{NamesWhatIsThere, StandingsNameWhatIsThere}
 
 -- ---- a machine that keeps a record
@@ -49,10 +50,6 @@ kept_there {x} s m k = (
   none_past beyond = absurd (none_kept (subst (λ (n : NodeState). Kept x n.lane.body.kept) (past s m beyond) k))
 
 -- ---- the marks of a standing
-
-all_at : {mark : Mark} {some : List Mark} (test : Mark → Bool) → list_all test some ≡ true → Among mark some → test mark ≡ true
-all_at test all (among_first {mark = mark} {some = some}) = (and_parts (test mark) (list_all test some) all).0
-all_at test all (among_later {other = other} {some = some} there) = all_at test (and_parts (test other) (list_all test some) all).1 there
 
 machine_of : {x : ℕ} {mark : Mark} (s : LineState) (machine : ℕ) → HasMark (stand_of s) x mark → is_kept_by machine mark ≡ true → (1 ≤ machine) × (machine ≤ length s.machines)
 machine_of s machine (has_kept {m = m} k) is =

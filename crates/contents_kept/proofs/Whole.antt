@@ -28,18 +28,18 @@ use Rattle.smema_bridge.specs.declared.line.SegmentLine.{SegmentLine}
 use Rattle.std.specs.Prelude.{slice_get}
 use Rattle.line_step.proofs.Makers.{AreNumbered, IsOld}
 use Rattle.one_standing.specs.Carried.{Trace}
-use Rattle.one_standing.specs.Contents.{In}
+use Rattle.contents_kept.specs.Records.{In, AreContentsKept, ContentsAreKept, KeepsContents, IsChanged, by_mark, by_sub}
 use Rattle.one_standing.specs.Stands.{Stands}
 use Rattle.one_standing.specs.Told.{IsTold}
 use Rattle.one_standing.proofs.ApartStep.{told_before, told_behind}
 use Rattle.one_standing.proofs.Carrying.{SaysAlone}
-use Rattle.one_standing.proofs.FactsContents.{HasIn, has_kept}
 use Rattle.one_standing.proofs.LedgerLine.{same_nodes}
 use Rattle.one_standing.proofs.LineForms.{ConnectsBear}
 use Rattle.one_standing.proofs.LineRun.{AreStood, Stood, none_stood, run_stood}
 use Rattle.contents_kept.specs.Contents.{AreContentsWhole, ChangesFrontAlone, ContentsStayWhole, HasRecord, IsFailedFront, StaysWhole}
 use Rattle.contents_kept.proofs.Hands.{IsOneRecord, front_whole, Starting, Whole, has_none, held_has, machine_whole, met_whole, starting_of, taking_has, whole_itself}
 use Rattle.contents_kept.proofs.There.{past}
+use Rattle.contents_kept.proofs.Pieces.{HasIn, has_kept}
 
 -- each machine of a line
 abbrev AreWhole : List Happening → LineState → LineState → Type 0
@@ -76,7 +76,8 @@ more_told : {told all : List Happening} {machine : ℕ} {was now : Body} → ((h
 more_told each whole = record {
   kept = λ q p has i same. elim (whole.kept q p has i same) [
     | inl is ↦ inl is
-    | inr mark ↦ inr (record { quality = mark.quality; marks = each _ mark.marks; is = mark.is })
+    | inr (inl mark) ↦ inr (inl (record { quality = mark.quality; marks = each _ mark.marks; is = mark.is }))
+    | inr (inr sub) ↦ inr (inr (record { place = sub.place; barcode = sub.barcode; tells = each _ sub.tells; is = sub.is }))
   ];
   out = λ q p has is same. whole.out q p has is same;
 }
@@ -156,7 +157,7 @@ line_whole t number line before after told st steps =
 
 -- a line that sets a level
 level_front : (number m : ℕ) (level : SegmentLine) (on : Bool) (before next : LineState) (told : List Happening) → Starting before → LineTurns number before next told (requests.gives m (inputs.Level level on))
-    → (q p : Record) → HasIn q (node_at before m).lane.body → In p (node_at next m).lane.body.kept → q.id ≡ p.id → (p ≡ q) ⊎ IsFailedFront next m q p
+    → (q p : Record) → HasIn q (node_at before m).lane.body → In p (node_at next m).lane.body.kept → q.id ≡ p.id → (p ≡ q) ⊎ IsFailedFront before next m q p
 level_front number m level on before next told a (turns.stays _ same none) q p has i ids =
     inl (a.one m q p has (has_kept (subst (λ (n : NodeState). In p n.lane.body.kept) (same_nodes before next same m) i)) ids)
 level_front number m level on before next told a (turns.steps _ _ given may did) q p has i ids = front_whole number m level on before next told (a.one m) did q p has i ids
@@ -166,11 +167,11 @@ front_alone t number (lines.Signal m level on) before after told st steps = λ w
   is : node_at after m ≡ node_at steps.next m
   is = same_nodes steps.next after (ap (λ (s : LineState). s.machines) steps.after_is) m
 
-  back : (was now : Record) → (now ≡ was) ⊎ IsFailedFront steps.next m was now → (now ≡ was) ⊎ IsFailedFront after m was now
+  back : (was now : Record) → (now ≡ was) ⊎ IsFailedFront before steps.next m was now → (now ≡ was) ⊎ IsFailedFront before after m was now
   back was now (inl same) = inl same
-  back was now (inr front) = inr (record { first = ap (λ (n : NodeState). slice_get n.lane.body.kept 0) is ∙ front.first; is = front.is })
+  back was now (inr front) = inr (record { first = ap (λ (n : NodeState). slice_get n.lane.body.kept 0) is ∙ front.first; is = front.is; untouched = front.untouched })
 
-  by : (was now : Record) → HasRecord before m was → In now (node_at after m).lane.body.kept → was.id ≡ now.id → (now ≡ was) ⊎ IsFailedFront after m was now
+  by : (was now : Record) → HasRecord before m was → In now (node_at after m).lane.body.kept → was.id ≡ now.id → (now ≡ was) ⊎ IsFailedFront before after m was now
   by was now has i ids =
       back was now (level_front number m level on before steps.next steps.done (starting_of st) (line_turns number (lines.Signal m level on) before steps.next steps.done steps.does) was now (has_in before m was has)
       (subst (λ (n : NodeState). In now n.lane.body.kept) is i) ids)
@@ -189,3 +190,21 @@ whole_run s (line ∷ asked) (point ∷ points) (suc n) was run all = (line_whol
 -- THE LAW
 pub contents_whole : SaysAlone → ConnectsBear → ContentsStayWhole
 contents_whole alone connects asked points n fit few run honest = whole_run no_line asked points n none_stood run (run_stood alone connects no_line asked points n fit (omega (arith, few)) none_stood run honest)
+
+-- ---- of the records that are kept alone
+
+kept_line : {told : List Happening} {before after : LineState} → StaysWhole told before after → KeepsContents (IsChanged told) before after
+kept_line whole machine was now i j same = elim (whole.kept machine was now (inl i) j same) [
+  | inl one ↦ inl one
+  | inr (inl mark) ↦ inr (by_mark mark.quality mark.marks)
+  | inr (inr sub) ↦ inr (by_sub sub.place sub.tells)
+]
+
+kept_run : (s : LineState) (asked : List ScriptLine) (points : List Point) → IsRun s asked points → (n : ℕ) → AreContentsWhole s asked (take n points) → AreContentsKept s (take n points)
+kept_run s asked points run zero whole = tt
+kept_run s asked [] run (suc n) whole = tt
+kept_run s [] (point ∷ points) run (suc n) whole = elim run [ ]
+kept_run s (line ∷ asked) (point ∷ points) run (suc n) whole = (kept_line whole.0, kept_run point.after asked points run.1 n whole.2)
+
+pub contents_are_kept : ContentsStayWhole → ContentsAreKept
+contents_are_kept law asked points n fit few run honest = kept_run no_line asked points run n (law asked points n fit few run honest)

@@ -1,11 +1,14 @@
 -- CONTENTS ARE KEPT, WITH ALL PARTS: over a line, what a machine has of a board changes in its
--- quality alone, and by a mark alone, whatever else the line does to the machine.
-use Rattle.std.specs.Prelude.{List, Some, false, length, slice_get, take, ℕ, ◌∷◌, ◌≡◌, ◌≤◌, ◌⊎◌}
+-- quality alone, by a mark alone, or has one circuit of a panel more, by that alone, whatever else
+-- the line does to the machine.
+use Rattle.std.specs.Prelude.{List, [], Option, Some, false, length, slice_get, take, ℕ, ◌++◌, ◌∷◌, ◌≡◌, ◌≤◌, ◌⊎◌}
 use Rattle.std.specs.List.{AllByRecursion}
 use Rattle.line_base.specs.declared.states.Quality.{Quality}
 use Rattle.line_base.specs.declared.states.Quality.TheVariants.{Failed}
 use Rattle.board_record.specs.declared.record.Record.{Record}
+use Rattle.board_record.specs.SubBoards.{unknown_sub}
 use Rattle.handover_out.specs.State.{board_of_phase as held_out}
+use Rattle.handover_out.specs.declared.phase.Phase.TheVariants.{Idle}
 use Rattle.handover_in.specs.State.{board_of_phase as held_in}
 use Rattle.line_script.specs.declared.line.ScriptLine.{ScriptLine}
 use Rattle.line_script.specs.declared.line.ScriptLine.TheVariants as lines
@@ -16,7 +19,7 @@ use Rattle.line_step.specs.Lies.{has_lie}
 use Rattle.line_step.specs.Numbered.{node_at}
 use Rattle.line_step.specs.Runs.{IsRun, Point}
 use Rattle.line_step.specs.State.{LineState, no_line}
-use Rattle.one_standing.specs.Contents.{KeepsRecord}
+use Rattle.contents_kept.specs.Records.{KeepsRecord}
 use Rattle.one_standing.specs.Standing.{IsFitLine}
 use Rattle.one_standing.specs.Told.{IsTold}
 
@@ -40,26 +43,44 @@ pub record IsMarkOf (told : List Happening) (machine : ℕ) (was now : Record) :
   pub marks : IsTold (happenings.Done machine (acts.Marks now.id quality)) told
   pub is : now ≡ record was { quality = quality }
 
+-- the machine told that the board has a circuit more, at this place of the panel, and the record is
+-- as it was but for this circuit, behind those that it had. Whether it is good isn't known
+pub record IsSubOf (told : List Happening) (machine : ℕ) (was now : Record) : Type 0 where
+  pub place : ℕ
+  pub barcode : Option (List ℕ)
+  pub tells : IsTold (happenings.Done machine (acts.Subs now.id place)) told
+  pub is : now ≡ record was { subs = was.subs ++ unknown_sub place barcode ∷ [] }
+
+abbrev pub IsChangeOf : List Happening → ℕ → Record → Record → Type 0
+IsChangeOf told machine was now = IsMarkOf told machine was now ⊎ IsSubOf told machine was now
+
 -- what a machine has of a board before a line, and what it has of it behind: a record that it
--- keeps, also one that came back or settled, is the same, or marked; one that its outlet holds,
--- also one that was opened in this line, is the same
+-- keeps, also one that came back or settled, is the same, or marked, or has a circuit more; one
+-- that its outlet holds, also one that was opened in this line, is the same
 pub record StaysWhole (told : List Happening) (before after : LineState) : Type 0 where
   pub kept : (machine : ℕ) (was now : Record) → HasRecord before machine was
       → KeepsRecord after machine now → was.id ≡ now.id
-      → (now ≡ was) ⊎ IsMarkOf told machine was now
+      → (now ≡ was) ⊎ IsChangeOf told machine was now
   pub held : (machine : ℕ) (was now : Record) → HasRecord before machine was
       → HoldsRecord after machine now → was.id ≡ now.id → now ≡ was
 
--- it is the first that the machine keeps, and the one from before, failed
-pub record IsFailedFront (after : LineState) (machine : ℕ) (was now : Record) : Type 0 where
+-- the outlet of a machine is at rest, and the machine has offered this board since it was not
+pub record IsOfferedAtRest (s : LineState) (machine : ℕ) (id : ℕ) : Type 0 where
+  pub rest : (node_at s machine).lane.body.outlet.phase ≡ Idle
+  pub touched : (node_at s machine).lane.body.outlet.touched ≡ Some id
+
+-- it is the first that the machine keeps, and the one from before, failed; and it isn't known
+-- downstream: not one that the machine had offered before the line, its outlet at rest
+pub record IsFailedFront (before after : LineState) (machine : ℕ) (was now : Record) : Type 0 where
   pub first : slice_get (node_at after machine).lane.body.kept 0 ≡ Some now
   pub is : now ≡ record was { quality = Failed }
+  pub untouched : ¬ (IsOfferedAtRest before machine was.id)
 
 -- a line that sets a level of a bridge's segment changes no record but the front one, to failed
 abbrev pub ChangesFrontAlone : ScriptLine → LineState → LineState → Type 0
 ChangesFrontAlone (lines.Signal machine line on) before after =
     (was now : Record) → HasRecord before machine was → KeepsRecord after machine now
-    → was.id ≡ now.id → (now ≡ was) ⊎ IsFailedFront after machine was now
+    → was.id ≡ now.id → (now ≡ was) ⊎ IsFailedFront before after machine was now
 ChangesFrontAlone _ before after = Unit {0}
 
 -- along the points of a run, from a state on

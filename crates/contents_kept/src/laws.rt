@@ -1,12 +1,14 @@
 //! What a machine has of a board stays as it is, and what a standing names is there.
 
 ghost use Rattle.contents_kept.specs.Contents.{ContentsStayWhole};
+ghost use Rattle.contents_kept.specs.Records.{ContentsAreKept};
 ghost use Rattle.contents_kept.specs.There.{StandingsNameWhatIsThere};
 
 /// Over each line of a script, up to the first one that told of a sensor event that was not: what
 /// a machine has of a board before the line, kept, in its outlet or in its intake, and keeps
 /// behind it, is the same record with all its parts, unless the line tells that this machine
-/// marked that board; then it is that record with the quality of the mark. What its outlet holds
+/// marked that board, or that the board has a circuit more; then it is that record with the quality
+/// of the mark, or with that circuit behind those that it had. What its outlet holds
 /// behind the line is the same in any case. So a record that comes back is the one that was
 /// opened, and one that settles the one that the intake held. A line that sets a level of a
 /// bridge's segment changes no record of the bridge but the front one, to failed.
@@ -18,6 +20,15 @@ pub fn contents_stay_whole()
     link_messages::laws::fit_messages_are_sayable();
     link_messages::laws::the_words_of_fit_messages_are_fit();
     link_messages::laws::the_words_behind_a_nul_are_fit();
+}
+
+/// Contents are kept: over each of the same lines, a record that a machine keeps before the line
+/// and behind it is the same, unless the line tells that the machine marked that board, or that the
+/// board has a circuit more.
+pub fn contents_are_kept_over_each_line()
+    ensures { ContentsAreKept }
+{
+    contents_stay_whole();
 }
 
 /// After each of the same lines, a standing of an id names what is there: a machine of the line,

@@ -25,7 +25,7 @@ use Rattle.custody.specs.Apart.{Exit, entry_idle, exit_called, exit_described, e
 use Rattle.custody.specs.Events.{EntryStep, with_unread_down}
 use Rattle.custody.specs.Floor.{EntryFloor, ExitFloor, GapAt, gap_begun, gap_fresh, gap_home, gap_inside, gap_left, gap_lost, gap_stolen, in_free, in_stopped, in_taken_in, in_taking, in_waiting, on_back, on_full, on_gone, on_stolen, out_ended, out_idle, sees_across, sees_back, sees_begun, sees_full, sees_gone, sees_stolen}
 use Rattle.custody.specs.Pair.{Ghost, LinkState, Pair}
-use Rattle.custody.specs.Place.{Place}
+use Rattle.custody.specs.Place.{NotAcross, Place}
 use Rattle.custody.specs.Shape.{intake_done, no_handover}
 use Rattle.custody.specs.Steps.{intake}
 use Rattle.custody.specs.Talks.{Talks, apart, apart_start, apart_start_stop, live}
@@ -135,7 +135,7 @@ frees_read g l e rest row k is free = has_read l.intake.offer l.intake.ready row
 -- ---- no board moves at the gap of a free intake whose session stands
 
 -- an outlet that holds no board
-data HoldsNone : Out → Type 0 where
+pub data HoldsNone : Out → Type 0 where
   holds_idle : HoldsNone out.Idle
   holds_ended : {x : ℕ} → HoldsNone (out.Ended x)
 
@@ -158,25 +158,28 @@ free_beside (apart_start_stop _ a) = elim a [ ]
 free_beside (apart a (entry_idle _)) = exit_holds_none a
 
 -- nothing lies in the gap, and the drive of the exit is off
-record Rests (g : Gap) (xd : Bool) : Type 0 where
-  free : g ≡ gaps.Free
-  off : xd ≡ false
+pub record Rests (g : Gap) (xd : Bool) : Type 0 where
+  pub free : g ≡ gaps.Free
+  pub off : xd ≡ false
 
-rests : {o : Out} {ue un : List SensorEvent} {xd ed : Bool} {p : Place} {r : Record} {g : Gap} → HoldsNone o → ExitFloor o ue xd p r → EntryFloor inn.Idle un ed p r → GapAt g p r → Rests g xd
-rests holds_idle (out_idle _ n) (in_free _ m) gap_fresh = record { free = refl; off = refl }
-rests holds_idle (out_idle _ n) (in_free _ m) gap_home = record { free = refl; off = refl }
-rests holds_idle (out_idle _ n) (in_free _ m) gap_begun = elim n [ ]
-rests holds_idle (out_idle _ n) (in_free _ m) gap_left = elim m [ ]
-rests holds_idle (out_idle _ n) (in_free _ m) gap_inside = record { free = refl; off = refl }
-rests holds_idle (out_idle _ n) (in_free _ m) gap_lost = record { free = refl; off = refl }
-rests holds_idle (out_idle _ n) (in_free _ m) gap_stolen = record { free = refl; off = refl }
-rests holds_ended (out_ended _ n) (in_free _ m) gap_fresh = record { free = refl; off = refl }
-rests holds_ended (out_ended _ n) (in_free _ m) gap_home = record { free = refl; off = refl }
-rests holds_ended (out_ended _ n) (in_free _ m) gap_begun = elim n [ ]
-rests holds_ended (out_ended _ n) (in_free _ m) gap_left = elim m [ ]
-rests holds_ended (out_ended _ n) (in_free _ m) gap_inside = record { free = refl; off = refl }
-rests holds_ended (out_ended _ n) (in_free _ m) gap_lost = record { free = refl; off = refl }
-rests holds_ended (out_ended _ n) (in_free _ m) gap_stolen = record { free = refl; off = refl }
+pub rests : {o : Out} {ue : List SensorEvent} {xd : Bool} {p : Place} {r : Record} {g : Gap} → HoldsNone o → ExitFloor o ue xd p r → NotAcross p → GapAt g p r → Rests g xd
+rests holds_idle (out_idle _ n) m gap_fresh = record { free = refl; off = refl }
+rests holds_idle (out_idle _ n) m gap_home = record { free = refl; off = refl }
+rests holds_idle (out_idle _ n) m gap_begun = elim n [ ]
+rests holds_idle (out_idle _ n) m gap_left = elim m [ ]
+rests holds_idle (out_idle _ n) m gap_inside = record { free = refl; off = refl }
+rests holds_idle (out_idle _ n) m gap_lost = record { free = refl; off = refl }
+rests holds_idle (out_idle _ n) m gap_stolen = record { free = refl; off = refl }
+rests holds_ended (out_ended _ n) m gap_fresh = record { free = refl; off = refl }
+rests holds_ended (out_ended _ n) m gap_home = record { free = refl; off = refl }
+rests holds_ended (out_ended _ n) m gap_begun = elim n [ ]
+rests holds_ended (out_ended _ n) m gap_left = elim m [ ]
+rests holds_ended (out_ended _ n) m gap_inside = record { free = refl; off = refl }
+rests holds_ended (out_ended _ n) m gap_lost = record { free = refl; off = refl }
+rests holds_ended (out_ended _ n) m gap_stolen = record { free = refl; off = refl }
+
+pub free_near : {un : List SensorEvent} {ed : Bool} {p : Place} {r : Record} → EntryFloor inn.Idle un ed p r → NotAcross p
+free_near (in_free _ m) = m
 
 none_moves : (step : Move) (up down : AtMachine) (ed : Bool) (c : Around) → around_move step (record { up = up; between = record { lies = gaps.Free; exit_drive = false; entry_drive = ed }; down = down }) ≡ Ok c → ⊥
 none_moves moves.Begin up down ed c e = cc
@@ -186,8 +189,11 @@ none_moves moves.Back up down ed c e = cc
 none_moves moves.HandIn up down ed c e = cc
 none_moves moves.Take up down ed c e = cc
 
-pub moves_not : (step : Move) (l : LinkState) (g : Ghost) (c : Around) → Pair g l → l.entry ≡ Standing → l.intake.phase ≡ inn.Idle → around_move step l.around ≡ Ok c → ⊥
-moves_not step l g c k y i e =
-    let n = rests (free_beside (rw (y, i) at k.talk)) k.out (rw i at k.in) k.gap in
+-- so no board moves there
+pub rests_still : (step : Move) (l : LinkState) (c : Around) → Rests l.around.between.lies l.around.between.exit_drive → around_move step l.around ≡ Ok c → ⊥
+rests_still step l c n e =
     let P : Gap → Bool → Type 0 = λ lies drive. around_move step (record { up = l.around.up; between = record { lies = lies; exit_drive = drive; entry_drive = l.around.between.entry_drive }; down = l.around.down }) ≡ Ok c in
     none_moves step l.around.up l.around.down l.around.between.entry_drive c (subst (λ drive. P gaps.Free drive) n.off (subst (λ lies. P lies l.around.between.exit_drive) n.free e))
+
+pub moves_not : (step : Move) (l : LinkState) (g : Ghost) (c : Around) → Pair g l → l.entry ≡ Standing → l.intake.phase ≡ inn.Idle → around_move step l.around ≡ Ok c → ⊥
+moves_not step l g c k y i e = rests_still step l c (rests (free_beside (rw (y, i) at k.talk)) k.out (free_near (rw i at k.in)) k.gap) e

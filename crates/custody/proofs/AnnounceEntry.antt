@@ -57,15 +57,15 @@ pub offered : {Q : Record → Type 0} {q : Record} → OfferIs Q (Some q) → Q 
 offered (offer_is n) = n
 
 -- the record that a start names is the one that was offered
-starts_taken : {Gone : ℕ → Type 0} {b : Bool} {ks : List Record} {t : Option ℕ} {q : Record} {up : List UpWord} {down : List DownWord} (ws : List UpWord)
-    → Stale down → Contents Gone b ks t inn.Idle (Some q) up down → Contents Gone b ks t (inn.Taking q seen.NotStarted false) None (sent ws b up) down
-starts_taken {Gone = Gone} {b = b} {ks = ks} {t = t} ws s h =
-    record { offers = stale_open s; offer = no_offer; start = λ r stands held _. subst (λ n. Named Gone n ks t r) stands (subst (Named Gone b ks t) (same_board held) (offered h.offer)) }
+starts_taken : {Gone : ℕ → Type 0} {b : Bool} {ks : List Record} {t last : Option ℕ} {q : Record} {up : List UpWord} {down : List DownWord} (ws : List UpWord)
+    → Stale down → Contents Gone b ks t last inn.Idle (Some q) up down → Contents Gone b ks t last (inn.Taking q seen.NotStarted false) None (sent ws b up) down
+starts_taken {Gone = Gone} {b = b} {ks = ks} {t = t} {last = last} ws s h =
+    record { offers = stale_open s; offer = no_offer; start = λ r stands held _. subst (λ n. Named Gone n ks t last r) stands (subst (Named Gone b ks t last) (same_board held) (offered h.offer)) }
 
 -- a start says StartTransport for the offered board, and its handover begins: the ghost is aimed at it
 pub announce_start : {Gone : ℕ → Type 0} {b : Bool} {x : SessionState} {o : Out} {of : Option ℕ} {rd : Bool} {q : Record} {p : Place} {r : Record} {up : List UpWord} {down : List DownWord} {ed : Bool} {ue : List SensorEvent} {xd : Bool} {g : Gap}
     → Talks b x o of rd Standing inn.Idle (Some q) true p up down → EntryFloor inn.Idle [] ed p r → ExitFloor o ue xd p r → GapAt g p r
     → EntryBegan Gone in_input.Start (intake inn.Idle (Some q) true) ed b x o of rd Standing ue xd g p up down
 announce_start {q = q} {up = up} (live (no_handover a c)) (in_free _ m) (out_idle e n) g =
-    record { row = _; is = refl; place = Fresh; board = q; out = out_idle e not_begun_fresh; «in» = in_taking sees_fresh; gap = free_gap q n m g; talk = live (start_sent (readies_start _ a) (offers_stale c)); above = λ ks. refl; body = λ ks. refl; contents = λ ks t h. starts_taken (StartTransport q.id ∷ []) (offers_stale c) h; lets = λ l. is_not_beyond not_beyond_fresh; recalls = starts_recalled q; asked = λ l d. asked_held (starts-append up _ ∙ ap (λ ids. ids ++ (q.id ∷ [])) (readies_start_nothing a)) }
-announce_start {q = q} (apart a (entry_idle c)) (in_free _ m) h g = let k = aimed q a h in record { row = _; is = refl; place = Fresh; board = q; out = k.out; «in» = in_taking sees_fresh; gap = free_gap q k.before m g; talk = apart a (entry_transporting (offers_stale c)); above = k.above; body = λ ks. refl; contents = λ ks t h. starts_taken (StartTransport q.id ∷ []) (offers_stale c) h; lets = λ l. is_not_beyond not_beyond_fresh; recalls = starts_recalled q; asked = λ l d. asks_nothing (exit_starts a) }
+    record { row = _; is = refl; place = Fresh; board = q; out = out_idle e not_begun_fresh; «in» = in_taking sees_fresh; gap = free_gap q n m g; talk = live (start_sent (readies_start _ a) (offers_stale c)); above = λ ks. refl; body = λ ks. refl; contents = λ ks t last h. starts_taken (StartTransport q.id ∷ []) (offers_stale c) h; lets = λ l. is_not_beyond not_beyond_fresh; recalls = starts_recalled q; asked = λ l d. asked_held (starts-append up _ ∙ ap (λ ids. ids ++ (q.id ∷ [])) (readies_start_nothing a)) }
+announce_start {q = q} (apart a (entry_idle c)) (in_free _ m) h g = let k = aimed q a h in record { row = _; is = refl; place = Fresh; board = q; out = k.out; «in» = in_taking sees_fresh; gap = free_gap q k.before m g; talk = apart a (entry_transporting (offers_stale c)); above = k.above; body = λ ks. refl; contents = λ ks t last h. starts_taken (StartTransport q.id ∷ []) (offers_stale c) h; lets = λ l. is_not_beyond not_beyond_fresh; recalls = starts_recalled q; asked = λ l d. asks_nothing (exit_starts a) }

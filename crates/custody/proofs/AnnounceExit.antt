@@ -55,12 +55,12 @@ announce_revoke (apart_start_stop a c) = apart_start_stop a c
 announce_revoke (apart (exit_idle a) c) = apart (exit_idle a) c
 
 -- the offered record is that of the front, which is touched now
-pub contents_offer : {Gone : ℕ → Type 0} {q : Record} {ks : List Record} {t : Option ℕ} {i : In} {f : Option Record} {up : List UpWord} {down : List DownWord} (b : Bool)
-    → Contents Gone b (q ∷ ks) t i f up down → Contents Gone b (q ∷ ks) (Some q.id) i f up (sent (BoardAvailable q ∷ []) b down)
+pub contents_offer : {Gone : ℕ → Type 0} {q : Record} {ks : List Record} {t last : Option ℕ} {i : In} {f : Option Record} {up : List UpWord} {down : List DownWord} (b : Bool)
+    → Contents Gone b (q ∷ ks) t last i f up down → Contents Gone b (q ∷ ks) (Some q.id) (Some q.id) i f up (sent (BoardAvailable q ∷ []) b down)
 contents_offer {q = q} true h = record { offers = open_offer q named_front (open_map touched_front h.offers); offer = offer_map touched_front h.offer; start = λ r s k some. touched_front r (h.start r s k some) }
 contents_offer false h = record { offers = open_map touched_front h.offers; offer = offer_map touched_front h.offer; start = λ r s _ _. absurd (not_standing s) }
 
-pub contents_revoke : {Gone : ℕ → Type 0} {ks : List Record} {t : Option ℕ} {i : In} {f : Option Record} {up : List UpWord} {down : List DownWord} (b : Bool)
-    → Contents Gone b ks t i f up down → Contents Gone b ks t i f up (sent (RevokeBoardAvailable ∷ []) b down)
+pub contents_revoke : {Gone : ℕ → Type 0} {ks : List Record} {t last : Option ℕ} {i : In} {f : Option Record} {up : List UpWord} {down : List DownWord} (b : Bool)
+    → Contents Gone b ks t last i f up down → Contents Gone b ks t last i f up (sent (RevokeBoardAvailable ∷ []) b down)
 contents_revoke true h = record { offers = open_revoke h.offers; offer = h.offer; start = h.start }
 contents_revoke false h = record { offers = h.offers; offer = h.offer; start = h.start }

@@ -186,5 +186,5 @@ close_entry (apart a (entry_inside_awaited c d)) n (in_stopped s) =
     record { row = _; is = refl; «in» = in_waiting s; talk = apart a (entry_waits_heard c); silent = refl; settles_not = refl; offerless = refl; body = λ ks. refl; recalls = λ s k. shut_recalls s k.0; asked = λ l d a. a }
 
 -- and what was offered: on a closed entry nothing is, and the outlet that goes on by itself may keep anything
-pub contents_left : {Gone : ℕ → Type 0} {ks : List Record} {t : Option ℕ} {i : In} {f : Option Record} {up : List UpWord} → f ≡ None → Contents Gone false ks t i f up []
+pub contents_left : {Gone : ℕ → Type 0} {ks : List Record} {t last : Option ℕ} {i : In} {f : Option Record} {up : List UpWord} → f ≡ None → Contents Gone false ks t last i f up []
 contents_left e = record { offers = open_none; offer = none_open e; start = λ r s _ _. absurd (not_standing s) }

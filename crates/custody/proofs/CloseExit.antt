@@ -13,38 +13,39 @@ use Rattle.custody.specs.Place.{Place, not_begun_fresh}
 use Rattle.custody.specs.Steps.{ExitClosed, outlet}
 use Rattle.custody.specs.Talks.{Talks, apart}
 use Rattle.custody.specs.Words.{DownWord, UpWord}
-use Rattle.custody.proofs.Contents.{contents_back}
+use Rattle.custody.proofs.Contents.{contents_free, contents_shut}
 use Rattle.custody.proofs.Lets.{lets_ended}
+use Rattle.custody.proofs.Open.{beside_moving}
 use Rattle.custody.proofs.Sides.{anywhere, anywhere_ended, anywhere_moving, held_moving, held_stuck}
 use Rattle.custody.proofs.Split.{split}
 use Rattle.custody.proofs.Unread.{HasRead}
 
 closed_exit : {Gone : ℕ → Type 0} {s : Bool} {x : SessionState} {o : Out} {of : Option ℕ} {rd : Bool} {y : SessionState} {i : In} {f : Option Record} {ri : Bool} {p : Place} {r : Record} {before : List UpWord} {down : List DownWord} {ue : List SensorEvent} {xd b : Bool} (t : Option ℕ)
     → HasRead ue → ExitFloor o ue xd p r → Exit b x o of rd [] → Entry b y i f ri p down → ExitClosed Gone (outlet o of t rd) ue xd s y i f ri p r before down
-closed_exit t h (out_idle a n) e c = record { row = _; is = refl; out = out_idle a n; talk = apart exit_none (anywhere e c); silent = refl; body = λ ks. refl; contents = λ ks c. contents_back None c; lets = λ l n. n }
+closed_exit t h (out_idle a n) e c = record { row = _; is = refl; out = out_idle a n; talk = apart exit_none (anywhere e c); silent = refl; body = λ ks. refl; contents = λ ks last c. contents_shut c; lets = λ l n. n }
 closed_exit t h (out_ended a n) e c =
-    record { row = _; is = refl; out = out_idle a n; talk = apart exit_none (anywhere_ended e c); silent = refl; body = λ ks. refl; contents = λ ks c. contents_back None c; lets = λ l n. lets_ended n }
+    record { row = _; is = refl; out = out_idle a n; talk = apart exit_none (anywhere_ended e c); silent = refl; body = λ ks. refl; contents = λ ks last c. contents_shut c; lets = λ l n. lets_ended n }
 closed_exit t h at_start e c =
-    record { row = _; is = refl; out = out_idle none_taken not_begun_fresh; talk = apart exit_none (anywhere_moving e c); silent = refl; body = λ ks. refl; contents = λ ks c. contents_back (Some _) c; lets = λ l _. is_not_beyond not_beyond_fresh }
+    record { row = _; is = refl; out = out_idle none_taken not_begun_fresh; talk = apart exit_none (anywhere_moving e c); silent = refl; body = λ ks. refl; contents = λ ks last _. contents_free (beside_moving e c) refl; lets = λ l _. is_not_beyond not_beyond_fresh }
 closed_exit t h begun_read e c =
-    record { row = _; is = refl; out = stuck_begun; talk = apart exit_none_stuck (held_moving e c); silent = refl; body = λ ks. refl; contents = λ ks c. contents_back None c; lets = λ l _. lets_not still_stuck }
+    record { row = _; is = refl; out = stuck_begun; talk = apart exit_none_stuck (held_moving e c); silent = refl; body = λ ks. refl; contents = λ ks last c. contents_shut c; lets = λ l _. lets_not still_stuck }
 closed_exit t h stuck_begun e c =
-    record { row = _; is = refl; out = stuck_begun; talk = apart exit_none_stuck (held_stuck e c); silent = refl; body = λ ks. refl; contents = λ ks c. contents_back None c; lets = λ l _. lets_not still_stuck }
+    record { row = _; is = refl; out = stuck_begun; talk = apart exit_none_stuck (held_stuck e c); silent = refl; body = λ ks. refl; contents = λ ks last c. contents_shut c; lets = λ l _. lets_not still_stuck }
 closed_exit t h stuck_back e c =
-    record { row = _; is = refl; out = stuck_back; talk = apart exit_none_stuck (held_stuck e c); silent = refl; body = λ ks. refl; contents = λ ks c. contents_back None c; lets = λ l _. lets_not still_stuck }
+    record { row = _; is = refl; out = stuck_back; talk = apart exit_none_stuck (held_stuck e c); silent = refl; body = λ ks. refl; contents = λ ks last c. contents_shut c; lets = λ l _. lets_not still_stuck }
 closed_exit t h stuck_gone e c =
-    record { row = _; is = refl; out = stuck_gone; talk = apart exit_none_stuck (held_stuck e c); silent = refl; body = λ ks. refl; contents = λ ks c. contents_back None c; lets = λ l _. lets_not still_stuck }
+    record { row = _; is = refl; out = stuck_gone; talk = apart exit_none_stuck (held_stuck e c); silent = refl; body = λ ks. refl; contents = λ ks last c. contents_shut c; lets = λ l _. lets_not still_stuck }
 closed_exit t h begun_unread e c = absurd (h.begun has_first)
 closed_exit t h (both_unread _) e c = absurd (h.begun has_first)
 closed_exit t h both_gone e c = absurd (h.begun has_first)
 closed_exit t h (left_unread n) e c =
-    record { row = _; is = refl; out = stuck_left n; talk = apart exit_none_stuck (held_moving e c); silent = refl; body = λ ks. refl; contents = λ ks c. contents_back None c; lets = λ l _. lets_not still_stuck }
+    record { row = _; is = refl; out = stuck_left n; talk = apart exit_none_stuck (held_moving e c); silent = refl; body = λ ks. refl; contents = λ ks last c. contents_shut c; lets = λ l _. lets_not still_stuck }
 closed_exit t h left_gone e c =
-    record { row = _; is = refl; out = stuck_left_gone; talk = apart exit_none_stuck (held_moving e c); silent = refl; body = λ ks. refl; contents = λ ks c. contents_back None c; lets = λ l _. lets_not still_stuck }
+    record { row = _; is = refl; out = stuck_left_gone; talk = apart exit_none_stuck (held_moving e c); silent = refl; body = λ ks. refl; contents = λ ks last c. contents_shut c; lets = λ l _. lets_not still_stuck }
 closed_exit t h (stuck_left n) e c =
-    record { row = _; is = refl; out = stuck_left n; talk = apart exit_none_stuck (held_stuck e c); silent = refl; body = λ ks. refl; contents = λ ks c. contents_back None c; lets = λ l _. lets_not still_stuck }
+    record { row = _; is = refl; out = stuck_left n; talk = apart exit_none_stuck (held_stuck e c); silent = refl; body = λ ks. refl; contents = λ ks last c. contents_shut c; lets = λ l _. lets_not still_stuck }
 closed_exit t h stuck_left_gone e c =
-    record { row = _; is = refl; out = stuck_left_gone; talk = apart exit_none_stuck (held_stuck e c); silent = refl; body = λ ks. refl; contents = λ ks c. contents_back None c; lets = λ l _. lets_not still_stuck }
+    record { row = _; is = refl; out = stuck_left_gone; talk = apart exit_none_stuck (held_stuck e c); silent = refl; body = λ ks. refl; contents = λ ks last c. contents_shut c; lets = λ l _. lets_not still_stuck }
 
 pub close_exit : {Gone : ℕ → Type 0} {b : Bool} {x y : SessionState} {o : Out} {of : Option ℕ} {rd : Bool} {i : In} {f : Option Record} {ri : Bool} {p : Place} {r : Record} {up : List UpWord} {down : List DownWord} {ue : List SensorEvent} {xd : Bool}
     → Talks b x o of rd y i f ri p up down → HasRead ue → ExitFloor o ue xd p r → (t : Option ℕ) → ExitClosed Gone (outlet o of t rd) ue xd b y i f ri p r up down

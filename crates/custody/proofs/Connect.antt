@@ -80,6 +80,6 @@ accept (apart exit_none_stuck entry_shaking) _ _ = shaking_stuck
 accept (apart exit_none_stuck entry_shaking_waiting) _ _ = shaking_stuck_waiting
 
 -- nothing is offered on a new connection
-pub contents_new : {Gone : ℕ → Type 0} {b c : Bool} {ks : List Record} {t : Option ℕ} {i : In} {f : Option Record} {up us : List UpWord}
-    → starts_in us ≡ [] → Contents Gone b ks t i f up [] → f ≡ None → Contents Gone c ks t i f us []
+pub contents_new : {Gone : ℕ → Type 0} {b c : Bool} {ks : List Record} {t last : Option ℕ} {i : In} {f : Option Record} {up us : List UpWord}
+    → starts_in us ≡ [] → Contents Gone b ks t last i f up [] → f ≡ None → Contents Gone c ks t last i f us []
 contents_new quiet h e = record { offers = open_none; offer = none_open e; start = λ r _ _ some. absurd (some quiet) }

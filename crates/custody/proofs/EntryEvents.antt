@@ -86,7 +86,7 @@ hears_upstream {Gone = Gone} {above = above} g l service rest k =
     let m : LinkState = hearing_down l (message.ServiceDescription service) rest in
     let x : l.entry ≡ Handshake = entry_shakes k.talk in
     let t = subst (λ y. Talks l.stands l.exit l.outlet.phase l.outlet.offered l.outlet.ready y l.intake.phase l.intake.offer l.intake.ready g.place (up_words l.up) (UpstreamService ∷ down_words rest)) x k.talk in
-    let d : EntryDid (Named Gone l.stands above l.outlet.touched) in_input.Stand l.intake [] l.around.between.entry_drive l.stands l.exit l.outlet.phase l.outlet.offered l.outlet.ready Standing g.place g.board (up_words l.up) (UpstreamService ∷ down_words rest) (down_words rest) = hear_upstream_service t k.in in (
+    let d : EntryDid (Named Gone l.stands above l.outlet.touched l.last_offer) in_input.Stand l.intake [] l.around.between.entry_drive l.stands l.exit l.outlet.phase l.outlet.offered l.outlet.ready Standing g.place g.board (up_words l.up) (UpstreamService ∷ down_words rest) (down_words rest) = hear_upstream_service t k.in in (
       x,
       record {
         row = d.row;
@@ -127,7 +127,7 @@ pub says_ready : {Gone : ℕ → Type 0} {above : List Record} (g : Ghost) (l : 
     → l.intake.ready ≡ false
     → EntryStep Gone above g (with_unread_down l []) in_input.Ready [] l.down
 says_ready {Gone = Gone} {above = above} g l k y i r =
-    let P : SessionState → In → Bool → Type 0 = λ y i r. EntryDid (Named Gone l.stands above l.outlet.touched) in_input.Ready (intake i l.intake.offer r) [] l.around.between.entry_drive l.stands l.exit l.outlet.phase l.outlet.offered l.outlet.ready y g.place g.board (up_words l.up) (down_words l.down) (down_words l.down) in
+    let P : SessionState → In → Bool → Type 0 = λ y i r. EntryDid (Named Gone l.stands above l.outlet.touched l.last_offer) in_input.Ready (intake i l.intake.offer r) [] l.around.between.entry_drive l.stands l.exit l.outlet.phase l.outlet.offered l.outlet.ready y g.place g.board (up_words l.up) (down_words l.down) (down_words l.down) in
     let d : P Standing inn.Idle false = announce_ready (rw (y, i, r) at k.talk) (rw i at k.in) in
     let e : P l.entry l.intake.phase l.intake.ready = rw (y, i, r) d in
     entry_step g (with_unread_down l []) in_input.Ready [] l.down k e
@@ -136,7 +136,7 @@ pub says_unready : {Gone : ℕ → Type 0} {above : List Record} (g : Ghost) (l 
     → EntryStep Gone above g (with_unread_down l []) in_input.Unready [] l.down
 says_unready {Gone = Gone} {above = above} g l k i r =
     let y : l.entry ≡ Standing = ready_stands (rw (i, r) at k.talk) in
-    let P : SessionState → In → Bool → Type 0 = λ y i r. EntryDid (Named Gone l.stands above l.outlet.touched) in_input.Unready (intake i l.intake.offer r) [] l.around.between.entry_drive l.stands l.exit l.outlet.phase l.outlet.offered l.outlet.ready y g.place g.board (up_words l.up) (down_words l.down) (down_words l.down) in
+    let P : SessionState → In → Bool → Type 0 = λ y i r. EntryDid (Named Gone l.stands above l.outlet.touched l.last_offer) in_input.Unready (intake i l.intake.offer r) [] l.around.between.entry_drive l.stands l.exit l.outlet.phase l.outlet.offered l.outlet.ready y g.place g.board (up_words l.up) (down_words l.down) (down_words l.down) in
     let d : P Standing inn.Idle true = announce_unready (rw (y, i, r) at k.talk) (rw i at k.in) in
     let e : P l.entry l.intake.phase l.intake.ready = rw (y, i, r) d in
     entry_step g (with_unread_down l []) in_input.Unready [] l.down k e
@@ -152,7 +152,7 @@ start_said {above = above} g l e = record {
   pair = λ ms same. record { out = e.out; «in» = e.in; gap = e.gap; talk = rw (sent_up l.stands ms l.up, same) e.talk };
   body = λ o p kept boards s. body_entry (e.body kept) s;
   above_body = λ kept i q boards s. body_exit (e.above kept) s;
-  contents = λ ms same c. rw (sent_up l.stands ms l.up, same) (e.contents above l.outlet.touched c);
+  contents = λ ms same c. rw (sent_up l.stands ms l.up, same) (e.contents above l.outlet.touched l.last_offer c);
   lets = e.lets;
   recalls = e.recalls;
   asked = λ ms same last dropped. rw (sent_up l.stands ms l.up, same) (e.asked last dropped);

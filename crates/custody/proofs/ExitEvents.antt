@@ -12,6 +12,7 @@ use Rattle.hermes_horizontal.specs.declared.message.Service.{Service}
 use Rattle.session_core.specs.declared.state.SessionState.{SessionState}
 use Rattle.session_core.specs.declared.state.SessionState.TheVariants.{Handshake, Standing}
 use Rattle.line_world.specs.Moves.{exit_sees}
+use Rattle.handover_out.specs.Row.{last_after}
 use Rattle.handover_out.specs.State.{board_of_phase as held_out}
 use Rattle.handover_out.specs.declared.input.OutInput.TheVariants as out_input
 use Rattle.handover_out.specs.declared.phase.Phase.{Phase as Out}
@@ -95,7 +96,7 @@ hears_start g l z brought kept rest k looks front floor c =
         pair = λ ms e. record { out = d.out; «in» = d.in; gap = d.gap; talk = rw (sent_down l.stands ms l.down, e) d.talk };
         body = λ kept i q boards s. body_exit (d.body kept) s;
         below = λ o p kept boards s. body_entry (d.below kept) s;
-        contents = λ kept ms e. rw (sent_down l.stands ms l.down, e) (d.contents kept d.row.after.touched);
+        contents = λ kept ms e. rw (sent_down l.stands ms l.down, e) (d.contents kept d.row.after.touched (last_after d.row l.last_offer));
         lets = d.lets;
         asked = λ ms last dropped. asks_nothing d.only;
       },
@@ -147,7 +148,7 @@ closes_unread {Gone = Gone} g l k n =
       silent = d.silent;
       pair = λ ms e. record { out = d.out; «in» = k.in; gap = k.gap; talk = rw (said_nothing l.stands ms l.down e) d.talk };
       body = λ kept i q boards s. body_exit (d.body kept) s;
-      contents = λ kept ms e c. rw (said_nothing l.stands ms l.down e) (d.contents kept c);
+      contents = λ kept ms e c. rw (said_nothing l.stands ms l.down e) (d.contents kept l.last_offer c);
       lets = d.lets;
     }
 

@@ -20,7 +20,7 @@ use Rattle.custody.proofs.Contents.{contents_heard}
 becomes_ready : {Gone : ℕ → Type 0} {b : Bool} {x y : SessionState} {of : Option ℕ} {i : In} {f : Option Record} {ri : Bool} {p : Place} {r : Record} {up : List UpWord} {down : List DownWord} {ue : List SensorEvent} {xd : Bool} (t : Option ℕ)
     → ExitFloor out.Idle ue xd p r → Talks b x out.Idle of true y i f ri p up down
     → ExitDid Gone out_input.MachineReady (outlet out.Idle of t false) ue xd b x y i f ri p r (MachineReady ∷ up) up down
-becomes_ready t h k = record { row = _; is = refl; out = h; talk = k; body = λ ks. refl; contents = λ ks c. contents_heard refl c; lets = λ l n. n; starts = refl; answers = λ l. refl }
+becomes_ready t h k = record { row = _; is = refl; out = h; talk = k; body = λ ks. refl; contents = λ ks last c. contents_heard refl c; lets = λ l n. n; starts = refl; answers = λ l. refl }
 
 pub hear_ready : {Gone : ℕ → Type 0} {b : Bool} {x y : SessionState} {o : Out} {of : Option ℕ} {rd : Bool} {i : In} {f : Option Record} {ri : Bool} {p : Place} {r : Record} {up : List UpWord} {down : List DownWord} {ue : List SensorEvent} {xd : Bool}
     → (t : Option ℕ) → ExitFloor o ue xd p r → Talks b x o of rd y i f ri p (MachineReady ∷ up) down
@@ -35,7 +35,7 @@ hear_ready t h (apart (exit_idle (readies_up a)) c) = becomes_ready t h (apart (
 becomes_unready : {Gone : ℕ → Type 0} {b : Bool} {x y : SessionState} {of : Option ℕ} {i : In} {f : Option Record} {ri : Bool} {p : Place} {r : Record} {up : List UpWord} {down : List DownWord} {ue : List SensorEvent} {xd : Bool} (t : Option ℕ)
     → ExitFloor out.Idle ue xd p r → Talks b x out.Idle of false y i f ri p up down
     → ExitDid Gone out_input.RevokeMachineReady (outlet out.Idle of t true) ue xd b x y i f ri p r (RevokeMachineReady ∷ up) up down
-becomes_unready t h k = record { row = _; is = refl; out = h; talk = k; body = λ ks. refl; contents = λ ks c. contents_heard refl c; lets = λ l n. n; starts = refl; answers = λ l. refl }
+becomes_unready t h k = record { row = _; is = refl; out = h; talk = k; body = λ ks. refl; contents = λ ks last c. contents_heard refl c; lets = λ l n. n; starts = refl; answers = λ l. refl }
 
 pub hear_revoke_ready : {Gone : ℕ → Type 0} {b : Bool} {x y : SessionState} {o : Out} {of : Option ℕ} {rd : Bool} {i : In} {f : Option Record} {ri : Bool} {p : Place} {r : Record} {up : List UpWord} {down : List DownWord} {ue : List SensorEvent} {xd : Bool}
     → (t : Option ℕ) → ExitFloor o ue xd p r → Talks b x o of rd y i f ri p (RevokeMachineReady ∷ up) down

@@ -30,8 +30,8 @@ service_open (open_back h) = open_back (service_open h)
 service_open (open_end h) = open_end (service_open h)
 service_open (open_service h) = open_service (service_open h)
 
-pub contents_described : {Gone : ℕ → Type 0} {kept : List Record} {t : Option ℕ} {i : In} {f : Option Record} {up : List UpWord} {down : List DownWord} (b : Bool)
-    → Contents Gone b kept t i f (DownstreamService ∷ up) down → Contents Gone b kept t i f up (sent (UpstreamService ∷ []) b down)
+pub contents_described : {Gone : ℕ → Type 0} {kept : List Record} {t last : Option ℕ} {i : In} {f : Option Record} {up : List UpWord} {down : List DownWord} (b : Bool)
+    → Contents Gone b kept t last i f (DownstreamService ∷ up) down → Contents Gone b kept t last i f up (sent (UpstreamService ∷ []) b down)
 contents_described true h = record { offers = service_open h.offers; offer = h.offer; start = h.start }
 contents_described false h = record { offers = h.offers; offer = h.offer; start = h.start }
 

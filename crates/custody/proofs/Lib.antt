@@ -54,4 +54,5 @@ pub mod Spoils
 pub mod Messages
 pub mod HandsFloor
 pub mod Ahead
+pub mod Awaited
 pub mod Taken

@@ -8,7 +8,7 @@ use Rattle.handover_out.specs.declared.phase.Phase.TheVariants as out
 use Rattle.handover_in.specs.State.{passes_offers_over}
 use Rattle.handover_in.specs.declared.phase.Phase.{Phase as In}
 use Rattle.handover_in.specs.declared.phase.Phase.TheVariants as inn
-use Rattle.custody.specs.Apart.{Entry, entry_none, entry_shaking, entry_shaking_waiting, entry_stopped, entry_transporting, entry_waits, entry_waits_in, exit_called_stuck, exit_described_stuck, exit_idle, exit_none_stuck, exit_shaking_stuck, exit_stop_sent, exit_stuck, exit_stuck_stop_sent, exit_transporting}
+use Rattle.custody.specs.Apart.{Entry, Exit, entry_none, entry_shaking, entry_shaking_waiting, entry_stopped, entry_transporting, entry_waits, entry_waits_in, exit_called_stuck, exit_described_stuck, exit_idle, exit_none_stuck, exit_shaking_stuck, exit_stop_sent, exit_stuck, exit_stuck_stop_sent, exit_transporting}
 use Rattle.custody.specs.Contents.{OfferIs, OpenAll, no_offer, offer_is, open_back, open_end, open_new, open_none, open_passed, open_service}
 use Rattle.custody.specs.Flight.{Finishes, Stale, finishes_now, finishes_offer, finishes_revoke, stale_none, stale_offer, stale_revoke}
 use Rattle.custody.specs.Place.{Place}
@@ -84,12 +84,17 @@ entry_open entry_shaking_waiting = record { offers = open_none; offer = refl }
 entry_open (entry_transporting s) = record { offers = stale_open s; offer = refl }
 entry_open (entry_stopped s) = record { offers = stale_open s; offer = refl }
 
+-- and so it is as a connection is closed while a board is being moved out
+pub beside_moving : {b : Bool} {x y : SessionState} {of : Option ℕ} {rd : Bool} {i : In} {f : Option Record} {ri : Bool} {p : Place} {up : List UpWord} {down : List DownWord} {q : Record} {c : Bool}
+    → Exit b x (out.Moving q c) of rd up → Entry b y i f ri p down → NothingOpen i f down
+beside_moving exit_transporting e = entry_open e
+beside_moving exit_stop_sent e = entry_open e
+
 pub moving_open : {b : Bool} {x y : SessionState} {of : Option ℕ} {rd : Bool} {i : In} {f : Option Record} {ri : Bool} {p : Place} {up : List UpWord} {down : List DownWord} {q : Record} {c : Bool}
     → Talks b x (out.Moving q c) of rd y i f ri p up down → NothingOpen i f down
 moving_open (live (transporting s)) = record { offers = stale_open s; offer = refl }
 moving_open (live (stop_sent s)) = record { offers = stale_open s; offer = refl }
-moving_open (apart exit_transporting c) = entry_open c
-moving_open (apart exit_stop_sent c) = entry_open c
+moving_open (apart e c) = beside_moving e c
 
 pub stuck_open : {b : Bool} {x y : SessionState} {of : Option ℕ} {rd : Bool} {i : In} {f : Option Record} {ri : Bool} {p : Place} {up : List UpWord} {down : List DownWord} {q : Record} {l s : Bool}
     → Talks b x (out.Stuck q l s) of rd y i f ri p up down → NothingOpen i f down

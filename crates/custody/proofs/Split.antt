@@ -53,6 +53,6 @@ pub cut : {b : Bool} {x y : SessionState} {o : Out} {of : Option ℕ} {rd : Bool
     → Talks b x o of rd y i f ri p up down → Talks false x o of rd y i f ri p [] []
 cut t = let s = split t in apart s.exit (emptied s.entry)
 
-pub contents_cut : {Gone : ℕ → Type 0} {b : Bool} {ks : List Record} {t : Option ℕ} {i : In} {f : Option Record} {up : List UpWord} {down : List DownWord}
-    → Contents Gone b ks t i f up down → Contents Gone false ks t i f [] []
+pub contents_cut : {Gone : ℕ → Type 0} {b : Bool} {ks : List Record} {t last : Option ℕ} {i : In} {f : Option Record} {up : List UpWord} {down : List DownWord}
+    → Contents Gone b ks t last i f up down → Contents Gone false ks t last i f [] []
 contents_cut h = record { offers = open_none; offer = offer_map named_cut h.offer; start = λ r s _ _. absurd (not_standing s) }

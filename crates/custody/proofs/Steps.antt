@@ -53,7 +53,7 @@ exit_step g l w unread rest k did = record {
   is = did.is;
   pair = λ ms e. pair_exit g l w unread rest ms k did e;
   body = λ kept i q boards s. body_exit (did.body kept) s;
-  contents = λ kept ms e c. rw (sent_down l.stands ms l.down, e) (did.contents kept c);
+  contents = λ kept ms e c. rw (sent_down l.stands ms l.down, e) (did.contents kept l.last_offer c);
   lets = did.lets;
   asked = λ ms last dropped a. rw (did.answers last, sym did.starts) a;
 }
@@ -67,14 +67,14 @@ still_quiet (w ∷ ws) false us _ = refl
 pub still_starts : (b : Bool) (ms us : List Horizontal) (ws : List UpWord) → up_words ms ≡ ws → starts_in ws ≡ [] → starts_in (up_words (sent ms b us)) ≡ starts_in (up_words us)
 still_starts b ms us ws e quiet = ap starts_in (sent_up b ms us ∙ ap (λ ws. sent ws b (up_words us)) e) ∙ still_quiet ws b (up_words us) quiet
 
-pub entry_contents : {Gone : ℕ → Type 0} {b : Bool} {kept : List Record} {t : Option ℕ} {i i2 : In} {f f2 : Option Record} {up us : List UpWord} {before down : List DownWord}
+pub entry_contents : {Gone : ℕ → Type 0} {b : Bool} {kept : List Record} {t last : Option ℕ} {i i2 : In} {f f2 : Option Record} {up us : List UpWord} {before down : List DownWord}
     → ((q : Record) → held_in i2 ≡ Some q → held_in i ≡ Some q) → starts_in us ≡ starts_in up
-    → OpenAll (Named Gone b kept t) (passes_offers_over i2) down × OfferIs (Named Gone b kept t) f2
-    → Contents Gone b kept t i f up before → Contents Gone b kept t i2 f2 us down
+    → OpenAll (Named Gone b kept t last) (passes_offers_over i2) down × OfferIs (Named Gone b kept t last) f2
+    → Contents Gone b kept t last i f up before → Contents Gone b kept t last i2 f2 us down
 entry_contents holds e o c = record { offers = o.0; offer = o.1; start = λ r s k some. c.start r s (holds r k) (λ none. some (e ∙ none)) }
 
 pub entry_step : {Gone : ℕ → Type 0} {above : List Record} (g : Ghost) (l : LinkState) (w : InInput) (unread : List Sensed) (rest : List Horizontal) → Pair g l
-    → EntryDid (Named Gone l.stands above l.outlet.touched) w l.intake (events_at sides.Entry unread) l.around.between.entry_drive l.stands l.exit l.outlet.phase l.outlet.offered l.outlet.ready l.entry g.place g.board (up_words l.up) (down_words l.down) (down_words rest)
+    → EntryDid (Named Gone l.stands above l.outlet.touched l.last_offer) w l.intake (events_at sides.Entry unread) l.around.between.entry_drive l.stands l.exit l.outlet.phase l.outlet.offered l.outlet.ready l.entry g.place g.board (up_words l.up) (down_words l.down) (down_words rest)
     → EntryStep Gone above g l w unread rest
 entry_step g l w unread rest k did = record {
   row = did.row;

@@ -7,7 +7,7 @@ use Rattle.hermes_horizontal.specs.declared.message.Horizontal.TheVariants as me
 use Rattle.hermes_horizontal.specs.declared.message.Service.{Service}
 use Rattle.session_core.specs.declared.state.SessionState.TheVariants.{Handshake, NotConnected, Standing}
 use Rattle.line_world.specs.declared.board.Board.{Board}
-use Rattle.handover_out.specs.Row.{OutRow, outlet_row}
+use Rattle.handover_out.specs.Row.{OutRow, last_after, outlet_row}
 use Rattle.handover_out.specs.State.{board_of_phase as held_out}
 use Rattle.handover_out.specs.declared.input.OutInput.{OutInput}
 use Rattle.handover_out.specs.declared.input.OutInput.TheVariants as out_input
@@ -29,6 +29,7 @@ abbrev pub exit_after : LinkState → OutRow → List Sensed → List Horizontal
     → LinkState
 exit_after l row unread up ms = record l {
   outlet = row.after;
+  last_offer = last_after row l.last_offer;
   up = up;
   down = sent ms l.stands l.down;
   around = record l.around {
@@ -76,6 +77,7 @@ abbrev pub exit_shut : LinkState → OutRow → List Horizontal → LinkState
 exit_shut l row ms = record l {
   exit = NotConnected;
   outlet = row.after;
+  last_offer = last_after row l.last_offer;
   stands = false;
   up = [];
   down = sent ms l.stands l.down;
@@ -106,8 +108,8 @@ gone_by gone id = gone id ≡ true
 -- what was offered and what is on its way, as the relation of a link's contents has it
 abbrev pub IsContent : (Gone : ℕ → Type 0) → LinkState → List Record → Type 0
 IsContent Gone l kept =
-    Contents Gone l.stands kept l.outlet.touched l.intake.phase l.intake.offer (up_words l.up)
-    (down_words l.down)
+    Contents Gone l.stands kept l.outlet.touched l.last_offer l.intake.phase l.intake.offer
+    (up_words l.up) (down_words l.down)
 
 -- and the last start that the entry said
 abbrev pub IsAsked : LinkState → Option ℕ → Bool → Type 0
@@ -245,6 +247,7 @@ abbrev pub offered_on : LinkState → Record → LinkState
 offered_on l q =
     record l {
       outlet = record l.outlet { offered = Some q.id; touched = Some q.id };
+      last_offer = Some q.id;
       down = sent (message.BoardAvailable q ∷ []) l.stands l.down;
     }
 

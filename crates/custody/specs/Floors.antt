@@ -51,6 +51,7 @@ new_link =
     record {
       exit = NotConnected;
       outlet = outlet out.Idle None None false;
+      last_offer = None;
       entry = NotConnected;
       intake = intake inn.Idle None false;
       stands = false;

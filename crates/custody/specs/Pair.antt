@@ -1,5 +1,5 @@
 -- The relation of a link and that of a machine, over the values that the layers below keep.
-use Rattle.std.specs.Prelude.{Bool, List, None, Option, Some, [], false, map, true, ◌++◌, ◌∷◌, ◌≡◌}
+use Rattle.std.specs.Prelude.{Bool, List, None, Option, Some, [], false, map, true, ℕ, ◌++◌, ◌∷◌, ◌≡◌}
 use Rattle.line_base.specs.declared.states.Side.TheVariants as sides
 use Rattle.board_record.specs.declared.record.Record.{Record}
 use Rattle.hermes_horizontal.specs.declared.message.Horizontal.{Horizontal}
@@ -21,12 +21,13 @@ pub record Ghost : Type 0 where
   pub place : Place
   pub board : Record
 
--- the exit of a machine, the entry of the next one, and what is between them: whether the link
--- stands and the exit has a session, the gap with the machines on either side of it, and the
--- messages that are sent and not heard yet
+-- the exit of a machine with the id that it offered last, the entry of the next one, and what is
+-- between them: whether the link stands and the exit has a session, the gap with the machines on
+-- either side of it, and the messages that are sent and not heard yet
 pub record LinkState : Type 0 where
   pub exit : SessionState
   pub outlet : OutState
+  pub last_offer : Option ℕ
   pub entry : SessionState
   pub intake : InState
   pub stands : Bool

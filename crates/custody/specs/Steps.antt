@@ -7,7 +7,7 @@ use Rattle.board_record.specs.declared.record.Record.{Record}
 use Rattle.session_core.specs.declared.state.SessionState.{SessionState}
 use Rattle.session_core.specs.declared.state.SessionState.TheVariants.{NotConnected}
 use Rattle.line_world.specs.declared.gap.Gap.{Gap}
-use Rattle.handover_out.specs.Row.{OutRow, outlet_row}
+use Rattle.handover_out.specs.Row.{OutRow, last_after, outlet_row}
 use Rattle.handover_out.specs.State.{OutState, board_of_phase as held_out, is_id}
 use Rattle.handover_out.specs.declared.input.OutInput.{OutInput}
 use Rattle.handover_out.specs.declared.input.OutInput.TheVariants as out_input
@@ -45,8 +45,9 @@ pub record ExitDid (Gone : ℕ → Type 0) (w : OutInput) (s : OutState) (ue : L
       (sent (out_says row.act.send None) b down)
   pub body : (ks : List Record)
       → listed s.phase p ks ≡ listed row.after.phase p (back_to row.act.back ks)
-  pub contents : (ks : List Record) → Contents Gone b ks s.touched i f before down
-      → Contents Gone b (back_to row.act.back ks) row.after.touched i f up
+  pub contents : (ks : List Record) (last : Option ℕ)
+      → Contents Gone b ks s.touched last i f before down
+      → Contents Gone b (back_to row.act.back ks) row.after.touched (last_after row last) i f up
       (sent (out_says row.act.send None) b down)
   pub lets : (l : Option Record) → LetGo p s.phase r l
       → LetGo p row.after.phase r (let_after row.act.deed (held_out s.phase) l)
@@ -95,8 +96,8 @@ pub record ExitBegan (Gone : ℕ → Type 0) (w : OutInput) (s : OutState) (brou
   pub body : (ks : List Record)
       → listed s.phase p (back_to brought ks) ≡ listed row.after.phase place ks
   pub below : (ks : List Record) → listed_last i p ks ≡ listed_last i place ks
-  pub contents : (ks : List Record) (t : Option ℕ)
-      → Contents Gone b ks t i f up (sent (out_says row.act.send None) b down)
+  pub contents : (ks : List Record) (t last : Option ℕ)
+      → Contents Gone b ks t last i f up (sent (out_says row.act.send None) b down)
   pub lets : (l : Option Record) → LetGo p s.phase r l
       → LetGo place row.after.phase board (let_after row.act.deed (held_out s.phase) l)
   pub only : starts_in up ≡ []
@@ -118,8 +119,9 @@ pub record EntryBegan (Gone : ℕ
   pub above : (ks : List Record) → listed o p ks ≡ listed o place ks
   pub body : (ks : List Record)
       → listed_last s.phase p ks ≡ listed_last row.after.phase place (keep_at row.act.keep ks)
-  pub contents : (ks : List Record) (t : Option ℕ) → Contents Gone b ks t s.phase s.offer up down
-      → Contents Gone b ks t row.after.phase row.after.offer
+  pub contents : (ks : List Record) (t last : Option ℕ)
+      → Contents Gone b ks t last s.phase s.offer up down
+      → Contents Gone b ks t last row.after.phase row.after.offer
       (sent (in_says row.act.send) b up) down
   pub lets : (l : Option Record) → LetGo place o board l
   pub recalls : Recalls row.after.phase just_started
@@ -140,8 +142,10 @@ pub record ExitClosed (Gone : ℕ
       [] down
   pub body : (ks : List Record)
       → listed s.phase p ks ≡ listed row.after.phase p (back_to row.act.back ks)
-  pub contents : (ks : List Record) → Contents Gone b ks s.touched i f before down
-      → Contents Gone false (back_to row.act.back ks) row.after.touched i f [] down
+  pub contents : (ks : List Record) (last : Option ℕ)
+      → Contents Gone b ks s.touched last i f before down
+      → Contents Gone false (back_to row.act.back ks) row.after.touched (last_after row last) i f
+      [] down
   pub lets : (l : Option Record) → LetGo p s.phase r l
       → LetGo p row.after.phase r (let_after row.act.deed (held_out s.phase) l)
 

@@ -1,5 +1,5 @@
 -- What may be unread where a machine takes an input before it has read all that its sensors saw.
-use Rattle.std.specs.Prelude.{List, []}
+use Rattle.std.specs.Prelude.{List, [], ℕ, ◌≡◌}
 use Rattle.line_base.specs.declared.states.SensorEvent.{SensorEvent}
 use Rattle.line_base.specs.declared.states.SensorEvent.TheVariants as event
 use Rattle.line_base.specs.declared.states.Side.TheVariants as sides
@@ -8,7 +8,7 @@ use Rattle.line_base.specs.declared.states.Transfer.TheVariants as transfer
 use Rattle.custody.specs.Facts.{Has}
 use Rattle.custody.specs.Pair.{Ghost, LinkState}
 use Rattle.custody.specs.Place.{Fresh, Home, InGap, Lost, Place}
-use Rattle.custody.specs.Words.{events_at}
+use Rattle.custody.specs.Words.{DownWord, TransportFinished, UpstreamService, events_at}
 
 -- the board has not gone across the gap
 pub data NotOver : Place → Type 0 where
@@ -28,3 +28,10 @@ pub record IsBehind (g : Ghost) (l : LinkState) : Type 0 where
 pub data IsEndRead : Transfer → List SensorEvent → Type 0 where
   all_is_read : {e : Transfer} → IsEndRead e []
   is_complete : {es : List SensorEvent} → IsEndRead transfer.Complete es
+
+-- a word that tells the entry where the board is: the upstream machine's description, and the end of
+-- a transfer that isn't complete
+pub data IsAwaited : DownWord → Type 0 where
+  awaits_description : IsAwaited UpstreamService
+  awaits_end : {e : Transfer} {z : ℕ} → (e ≡ transfer.Complete → ⊥)
+      → IsAwaited (TransportFinished e z)

@@ -345,7 +345,8 @@ pub fn boards_change_by_hand()
         → Body o p js i at boards }
 {}
 
-/// And what is offered on the link below goes on, also where a board of the link above settles.
+/// And what is offered on the link below goes on, also where a board of the link above settles, and
+/// where a board that wasn't offered last is given away: its id isn't gone then.
 pub fn offers_outlive_changes_by_hand()
     ensures inserted { (gone gone2 : ℕ → Bool) (l : LinkState) (kept : List Board) (n : Board)
         → ((x : ℕ) → gone x ≡ true → gone2 x ≡ true) → IsContent (gone_by gone) l kept
@@ -364,4 +365,7 @@ pub fn offers_outlive_changes_by_hand()
     ensures marked { (gone : ℕ → Bool) (l : LinkState) (q n : Board) (ks js : List Board)
         → n.id ≡ q.id → (l.outlet.touched ≡ Some q.id → ⊥) → PutFor q n ks js
         → IsContent (gone_by gone) l ks → IsContent (gone_by gone) l js }
+    ensures given { (gone : ℕ → Bool) (l : LinkState) (q : Board) (ks js : List Board)
+        → (l.last_offer ≡ Some q.id → ⊥) → TakenOut q ks js → IsContent (gone_by gone) l ks
+        → IsContent (gone_by gone) l js }
 {}

@@ -20,11 +20,11 @@ ghost use Rattle.handover_out.specs.declared.input.OutInput.TheVariants as out_i
 ghost use Rattle.handover_out.specs.declared.phase.Phase.TheVariants as out;
 ghost use Rattle.handover_in.specs.declared.input.InInput.TheVariants as in_input;
 ghost use Rattle.custody.specs.Place.{InGap, MovesPlace, Place};
-ghost use Rattle.custody.specs.Facts.{Has};
-ghost use Rattle.custody.specs.Words.{down_words, events_at, sent};
+ghost use Rattle.custody.specs.Facts.{Has, HasDown, HasUp};
+ghost use Rattle.custody.specs.Words.{DownWord, StartTransport, down_words, events_at, sent, up_words};
 ghost use Rattle.custody.specs.Pair.{Ghost, LinkState, Pair};
 ghost use Rattle.custody.specs.Events.{EntryShut, EntryStep, ExitShut, ExitStep, gone_by};
-ghost use Rattle.custody.specs.Unread.{IsBehind, IsEndRead};
+ghost use Rattle.custody.specs.Unread.{IsAwaited, IsBehind, IsEndRead};
 
 /// The connection of an end is closed while events of its side are unread, whichever they are. An
 /// outlet whose board has left, and whose exit has not read so, is stuck until it does.
@@ -104,4 +104,15 @@ pub fn a_board_is_let_go_behind_the_reading()
         → IsBehind (record { place = place; board = g.board }) (record l { around = c }) }
     ensures begun { (g : Ghost) (l : LinkState) → g.place ≡ InGap
         → (Has event.Begun (events_at Exit l.around.up.unread) → ⊥) → IsBehind g l }
+{}
+
+/// While a word is on its way that tells where the board is, no board moves at the gap: the upstream
+/// machine's description, the end of a transfer that isn't complete, and a start. So what was unread
+/// as it was said is all that may be unread as it is heard.
+pub fn no_board_moves_before_what_is_told()
+    ensures down { (step : Move) (g : Ghost) (l : LinkState) (c : Around) (w : DownWord)
+        → Pair g l → IsAwaited w → HasDown w (down_words l.down) → around_move step l.around ≡ Ok c
+        → ⊥ }
+    ensures up { (step : Move) (g : Ghost) (l : LinkState) (c : Around) (z : ℕ) → Pair g l
+        → HasUp (StartTransport z) (up_words l.up) → around_move step l.around ≡ Ok c → ⊥ }
 {}

@@ -41,8 +41,6 @@ use Rattle.first_in_first_out.proofs.Queue.{AreFirst, Queues, after_both, did_qu
 -- the switching of a drive and a bridge's own signals are nothing to the order
 looked_at : (order : List ℕ) (act : Act) → order_with order act ≡ order_after order (told_of_act act)
 looked_at order (acts.Drive side on) = refl
-looked_at order (acts.Signals signal on) = refl
-looked_at order (acts.Tells message) = refl
 looked_at order _ = refl
 
 order_one : (machine : ℕ) (order : List ℕ) (h : Happening) → order_by machine order h ≡ order_after order (done_act machine h)

@@ -57,7 +57,6 @@ not_so is = cc
 
 silent_told : {order end : List ℕ} (act : Act) (told : List Act) → is_silent act ≡ true → Queues order told end → Queues order (act ∷ told) end
 silent_told (acts.Deed (deeds.Opens id)) told is k = not_so is
-silent_told (acts.Deed (deeds.Refuses id)) told is k = record { leads = k.leads; firsts = (tt, k.firsts) }
 silent_told (acts.Deed (deeds.Leaves id)) told is k = not_so is
 silent_told (acts.Deed (deeds.Returns id)) told is k = not_so is
 silent_told (acts.Deed (deeds.Loses id)) told is k = not_so is

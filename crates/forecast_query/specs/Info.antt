@@ -23,6 +23,7 @@ info_of board = record {
   weight = board.weight;
   order = board.order;
   batch = board.batch;
+  subs = board.subs;
 }
 
 -- quality, flip, product and barcodes of a board that is to come, and no id

@@ -27,6 +27,7 @@ pub fn info_of(alloc: Global, board: &Record) -> Result<Info, Memory>
         weight: board.weight,
         order: copied_text(alloc, &board.order)?,
         batch: copied_text(alloc, &board.batch)?,
+        subs: board.subs.copy()?,
     })
 }
 

@@ -3,8 +3,8 @@
 //!
 //! `forecasts 70` adds so many forecasts with the products 1, 2, .. and tells how many are kept
 //! and the first and the last. `find a - x:y p:-` asks for a top and a bottom barcode among
-//! boards, each given by its own two. `info a b` and `forecast a b` tell of a board with these
-//! barcodes.
+//! boards, each given by its own two. `info a:b` and `forecast a:b` tell of a board with these
+//! barcodes, `info a:b 2` and `forecast a:b 2` of one that is a panel with two circuits.
 #![tactic(auto)]
 
 mod asked;

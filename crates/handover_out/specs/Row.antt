@@ -5,6 +5,7 @@ use Rattle.line_base.specs.declared.states.SensorEvent.TheVariants as sensor
 use Rattle.board_record.specs.declared.record.Record.{Record}
 use Rattle.handover_out.specs.declared.act.OutAct.{OutAct}
 use Rattle.handover_out.specs.declared.act.OutDeed.TheVariants.{Opens, Refuses}
+use Rattle.handover_out.specs.declared.act.OutSend.{OutSend}
 use Rattle.handover_out.specs.declared.act.OutSend.TheVariants.{BoardAvailable, RevokeBoardAvailable, Finished}
 use Rattle.handover_out.specs.declared.input.OutInput.{OutInput}
 use Rattle.handover_out.specs.declared.input.OutInput.TheVariants as input
@@ -25,6 +26,17 @@ row after act = Some (record { after = after; act = act })
 abbrev pub row_if : Bool → OutState → OutAct → Option OutRow
 row_if true after act = row after act
 row_if false _ _ = None
+
+-- the board that was offered last, beside a row: the one that it offers, or that of before. Nothing
+-- clears it
+abbrev pub last_by : Option OutSend → Option ℕ → Option ℕ → Option ℕ
+last_by (Some BoardAvailable) offered last = offered
+last_by (Some RevokeBoardAvailable) offered last = last
+last_by (Some (Finished _ _)) offered last = last
+last_by None offered last = last
+
+abbrev pub last_after : OutRow → Option ℕ → Option ℕ
+last_after row last = last_by row.act.send row.after.offered last
 
 -- a handover goes on
 abbrev pub goes_on : OutState → Phase → OutState

@@ -6,7 +6,6 @@ pub mod Checks
 pub mod Spelling
 pub mod Refusal
 pub mod Canonical
-pub mod Texts
 pub mod Machine
 pub mod Steps
 pub mod Lent

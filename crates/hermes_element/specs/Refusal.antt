@@ -1,7 +1,6 @@
 -- Which bytes are refused, where, and why.
 use Rattle.std.specs.Prelude.{◌≡◌, ◌⊎◌, ℕ, ◌+◌, ◌-◌, ◌<◌, ◌≤◌, ◌==◌, ◌&&◌, Bool, cond, List, [], ◌∷◌, ◌++◌, length, take, drop, nat_lt, nat_eq, slice_index, codes}
 use Rattle.std.specs.List.{AllByRecursion, starts_with}
-use Rattle.std.specs.Fmt.{decimal}
 use Rattle.hermes_element.specs.Plain.{Document, IsSpelledBy, IsDocument}
 use Rattle.hermes_element.specs.Checks.{Fault, faults_of}
 use Rattle.hermes_element.specs.declared.refusal.Why.{Why}
@@ -81,6 +80,3 @@ why_text why.Reference = codes "reference"
 why_text why.LongValue = codes "long value"
 why_text why.Deep = codes "deep"
 why_text why.Many = codes "many attributes"
-
-abbrev pub refusal_text : Why → ℕ → List ℕ
-refusal_text reason at = why_text reason ++ codes " at " ++ decimal at

@@ -5,6 +5,7 @@ ghost use Rattle.line_base.specs.Name.{IsName};
 ghost use Rattle.line_base.specs.Text.{IsText};
 ghost use Rattle.hermes_element.specs.Element.{none, add, trees_of};
 
+use crate::tag::MOST_OPEN;
 use line_base::{Memory, Name, Text};
 use std::alloc::Global;
 use std::marker::Model;
@@ -12,6 +13,10 @@ use std::marker::Model;
 /// How many attributes an element has room for from its first one on. No message's row of the
 /// table asks for more, and to grow the list twice cost more than the room does.
 const ROOM_FOR_ATTRIBUTES: usize = 16;
+
+/// The same of an element in which no other can lie. A message has such elements by the hundred,
+/// each with three attributes at most.
+const ROOM_IN_A_LIST: usize = 4;
 
 /// An element, lent by its bytes. `at` is the index of its `<`.
 #[derive(Drop)]
@@ -151,12 +156,17 @@ impl<'a> LentAttributes<'a> {
         }
     }
 
-    /// Adds an attribute at the end.
-    pub(crate) fn push(&mut self, attribute: LentAttribute<'a>) -> Result<(), Memory>
+    /// Adds an attribute at the end, of an element around which so many are open. The first one
+    /// makes room for others.
+    pub(crate) fn push(
+        &mut self,
+        attribute: LentAttribute<'a>,
+        open_count: usize,
+    ) -> Result<(), Memory>
         ensures ok { OnOk result (self.new ≡ self.old ++ attribute.entry ∷ []) }
         ensures memory { OnErr result (self.new ≡ self.old) }
     {
-        if self.list.is_empty() && self.list.reserve(ROOM_FOR_ATTRIBUTES).is_err() {
+        if self.list.is_empty() && self.list.reserve(room_for_attributes(open_count)).is_err() {
             return Err(Memory);
         }
         match self.list.push(attribute) {
@@ -177,6 +187,15 @@ impl<'a> LentAttributes<'a> {
         ensures { result.items ≡ self.entry }
     {
         self.list
+    }
+}
+
+/// How many attributes to make room for in an element around which so many are open.
+fn room_for_attributes(open_count: usize) -> usize {
+    if open_count < MOST_OPEN - 1 {
+        ROOM_FOR_ATTRIBUTES
+    } else {
+        ROOM_IN_A_LIST
     }
 }
 

@@ -67,7 +67,7 @@ impl Display for Why {
 }
 
 /// Why no element was read.
-#[derive(Clone, Copy, Debug, PartialEq, Eq, Error)]
+#[derive(Clone, Copy, Debug, PartialEq, Eq)]
 pub enum ElementError {
     /// The bytes spell no element: at this index, for this reason.
     Refused { at: usize, why: Why },
@@ -75,26 +75,10 @@ pub enum ElementError {
     Memory,
 }
 
-impl Display for ElementError {
-    ghost use Rattle.std.specs.Prelude.{Some};
-    ghost use Rattle.hermes_element.specs.Texts.{error_text};
-
-    ghost output = { λ error. Some (error_text error) };
-
-    fn fmt<W: Write>(&self, f: &mut Formatter<W>) -> FmtResult {
-        match self {
-            ElementError::Refused { at, why } => write!(f, "{why} at {at}"),
-            ElementError::Memory => f.write_str("out of memory"),
-        }
-    }
-}
-
 /// Why a child was not added to an element.
-#[derive(Clone, Copy, Debug, PartialEq, Eq, Error)]
+#[derive(Clone, Copy, Debug, PartialEq, Eq)]
 pub enum ChildError {
     /// The element would have more than four levels of elements.
-    #[error("too deep")]
     Deep,
-    #[error("out of memory")]
     Memory,
 }

@@ -17,7 +17,7 @@ use std::alloc::Global;
 const MOST_ATTRIBUTES: usize = 64;
 
 /// The most elements that are open where another one begins.
-const MOST_OPEN: usize = 4;
+pub(crate) const MOST_OPEN: usize = 4;
 
 /// Reads a start tag from its name on, where so many elements are open. Answers its element
 /// without children, and the index where its attributes and the blanks behind them end.
@@ -42,7 +42,7 @@ pub(crate) fn read_tag<'a>(
     }
     let name_end = name_end(bytes, at);
     let name = LentName::of(&bytes[at..name_end]);
-    match read_attributes(alloc, bytes, name_end) {
+    match read_attributes(alloc, bytes, name_end, open_count) {
         Ok((attributes, end)) => Ok((
             LentElement {
                 name,
@@ -56,12 +56,13 @@ pub(crate) fn read_tag<'a>(
     }
 }
 
-/// Reads the attributes of a start tag from behind its name. Answers them, and the index where
-/// they and the blanks behind them end.
+/// Reads the attributes of a start tag from behind its name, where so many elements are open.
+/// Answers them, and the index where they and the blanks behind them end.
 fn read_attributes<'a>(
     alloc: Global,
     bytes: &'a [u8],
     at: usize,
+    open_count: usize,
 ) -> Result<(LentAttributes<'a>, usize), Stop>
     requires here { at ≤ length bytes.now }
     ensures reads { ReadsAttributes bytes.now at result }
@@ -76,7 +77,7 @@ fn read_attributes<'a>(
             return Ok((attributes, next));
         }
         match read_attribute(alloc, bytes, next, &attributes) {
-            Ok((attribute, behind)) => match attributes.push(attribute) {
+            Ok((attribute, behind)) => match attributes.push(attribute, open_count) {
                 Ok(()) => end = behind,
                 Err(_) => return Err(Stop::Memory),
             },

@@ -6,6 +6,7 @@ use Rattle.std.proofs.lemmas.Bool.{and_parts}
 use Rattle.std.proofs.lemmas.Bool.Decides.{nat_tests}
 use Rattle.line_base.specs.Name.{is_name_start, is_name_byte, IsName}
 use Rattle.line_base.proofs.Printable.{IsText-moment}
+use Rattle.board_record.specs.declared.sub_board.SubBoard.{SubBoard}
 use Rattle.hermes_element.specs.Canonical.{canonical_attribute, canonical_forest, canonical_rest, canonical_front}
 use Rattle.hermes_stream.specs.Frames.{most_bytes, end_tag, IsOneFrame}
 use Rattle.hermes_stream.proofs.Alone.{IsQuiet, quiet-none, quiet-append, quiet, is_quiet, quiet-no_open, quiet-start, one_frame}
@@ -15,15 +16,17 @@ use Rattle.hermes_horizontal.specs.declared.message.Horizontal.{Horizontal}
 use Rattle.hermes_horizontal.specs.declared.message.Horizontal.TheVariants as bodies
 use Rattle.hermes_horizontal.specs.declared.message.Message.{Message}
 use Rattle.hermes_horizontal.specs.Values.{timed}
-use Rattle.hermes_horizontal.specs.Rows.{columns_of, stamp_column}
-use Rattle.hermes_horizontal.specs.Parts.{parts, kind_of, name_of}
-use Rattle.hermes_horizontal.specs.Canonical.{attribute_of, attributes_of, assignment, assignment_if, children_of, children_spelling, body_spelling, canonical, IsProperMessage, IsWritable}
+use Rattle.hermes_horizontal.specs.declared.kind.Kind.TheVariants as kinds
+use Rattle.hermes_horizontal.specs.Rows.{Column, columns_of, stamp_column}
+use Rattle.hermes_horizontal.specs.Parts.{parts, featured, subbed, inner_of, kind_of, name_of}
+use Rattle.hermes_horizontal.specs.Canonical.{attribute_of, attributes_of, assignment, assignment_if, children_of, rest_spelling, children_spelling, body_spelling, canonical, AreWritableSubs, HasWritableSubs, HasProperSubs, IsProperMessage, IsWritable}
 use Rattle.hermes_horizontal.proofs.Fitting.{fit_parts}
 use Rattle.hermes_horizontal.proofs.Writable.{tree_proper}
 use Rattle.hermes_horizontal.proofs.Writing.{message_written}
 use Rattle.hermes_frames.specs.Framed.{HasShortName}
 use Rattle.hermes_frames.proofs.Opens.{free_name, free_attribute, free_attributes}
 use Rattle.hermes_frames.proofs.Lengths.{room, attributes_room, stamp_length}
+use Rattle.hermes_frames.proofs.SubsFramed.{subs_quiet, subs_length}
 
 -- ---- what stands behind the start tag of a message
 
@@ -31,7 +34,7 @@ abbrev features_with : Bool → Bool → Bool → Bool → Features
 features_with a b c d = record { check_alive = a; forecast = b; query = c; send = d }
 
 abbrev features_spelling : Features → List ℕ
-features_spelling features = canonical_rest (codes "ServiceDescription") (children_of (Some features)) (canonical_forest (children_of (Some features)))
+features_spelling features = canonical_rest (codes "ServiceDescription") (children_of (featured features)) (canonical_forest (children_of (featured features)))
 
 is_quiet_features : (a b c d : Bool) → is_quiet (features_spelling (features_with a b c d)) ≡ true
 is_quiet_features true true true true = refl
@@ -69,11 +72,13 @@ short_features false false true false = lit≤ tt
 short_features false false false true = lit≤ tt
 short_features false false false false = lit≤ tt
 
-children_quiet : (body : Horizontal) → IsQuiet (children_spelling body)
-children_quiet (bodies.ServiceDescription service) =
+children_quiet : (body : Horizontal) → HasWritableSubs (inner_of body) → HasProperSubs (inner_of body) → IsQuiet (children_spelling body)
+children_quiet (bodies.BoardAvailable board) writable proper = subs_quiet (codes "BoardAvailable") board.subs writable proper (quiet (codes "</SubBoards></BoardAvailable>") refl)
+children_quiet (bodies.SendBoardInfo info) writable proper = subs_quiet (codes "SendBoardInfo") info.subs writable proper (quiet (codes "</SubBoards></SendBoardInfo>") refl)
+children_quiet (bodies.ServiceDescription service) writable proper =
     let f = service.features in
     quiet (features_spelling f) (is_quiet_features f.check_alive f.forecast f.query f.send)
-children_quiet _ = quiet (47 ∷ 62 ∷ []) refl
+children_quiet _ writable proper = quiet (47 ∷ 62 ∷ []) refl
 
 -- ---- the length of a message's element
 
@@ -81,14 +86,20 @@ children_quiet _ = quiet (47 ∷ 62 ∷ []) refl
 abbrev FitsFrame : Horizontal → Type 0
 FitsFrame body = length (name_of body) + room (columns_of (kind_of body)) + length (children_spelling body) ≤ 65_482
 
-body_fits : (body : Horizontal) → HasShortName body → FitsFrame body
-body_fits (bodies.Other name) short = omega (arith, short)
-body_fits (bodies.ServiceDescription service) short =
+board_fits : (name : List ℕ) (columns : List Column) (subs : List SubBoard) → AreWritableSubs subs → length name + room columns ≤ 40_000 → length name ≤ 100
+    → length name + room columns + length (rest_spelling name (subbed subs)) ≤ 65_482
+board_fits name columns subs writable row short = let h = subs_length name subs writable.places in let small = writable.list.small in omega (arith, h, small, row, short)
+
+body_fits : (body : Horizontal) → HasWritableSubs (inner_of body) → HasShortName body → FitsFrame body
+body_fits (bodies.Other name) writable short = omega (arith, short)
+body_fits (bodies.BoardAvailable board) writable short = board_fits (codes "BoardAvailable") (columns_of kinds.BoardAvailable) board.subs writable (lit≤ tt) (lit≤ tt)
+body_fits (bodies.SendBoardInfo info) writable short = board_fits (codes "SendBoardInfo") (columns_of kinds.SendBoardInfo) info.subs writable (lit≤ tt) (lit≤ tt)
+body_fits (bodies.ServiceDescription service) writable short =
     let f = service.features in
     let h = short_features f.check_alive f.forecast f.query f.send in
     let few : length (codes "ServiceDescription") + room (columns_of (kind_of (bodies.ServiceDescription service))) ≤ 60_000 = lit≤ tt in
     omega (arith, h, few)
-body_fits _ short = lit≤ tt
+body_fits _ writable short = lit≤ tt
 
 -- ---- names that start a tag
 
@@ -126,13 +137,13 @@ body_ready message proper writable short =
     let tags = (tree_proper message proper writable).below in
     let free = free_attributes attributes tags.0.each in
     let few = attributes_room (columns_of (kind_of body)) (parts body) fit proper.values in
-    let all = body_fits body short in
+    let all = body_fits body writable.subs short in
     let k = length-append (60 ∷ name_of body) (flat_map canonical_attribute attributes) in
     let l = length-append (canonical_front (name_of body) attributes) (children_spelling body) in
     record {
       quiet = quiet-append (canonical_front (name_of body) attributes) (children_spelling body)
           (quiet-append (60 ∷ name_of body) (flat_map canonical_attribute attributes) (start_quiet (name_of body) proper.name) (quiet-no_open (flat_map canonical_attribute attributes) free.all))
-          (children_quiet body);
+          (children_quiet body writable.subs proper.subs);
       short = omega (arith, k, l, few, all);
     }
 

@@ -9,7 +9,7 @@ use Rattle.line_base.specs.Decimal.{six_digits, without_trailing_zeros, decimal_
 use Rattle.line_base.specs.Moment.{moment_text}
 use Rattle.line_base.proofs.DecimalTexts.{without_trailing_zeros-IsCut}
 use Rattle.line_base.proofs.Printable.{IsText-moment, length-decimal, point_length}
-use Rattle.board_record.proofs.IdTexts.{IsText-id}
+use Rattle.board_record.proofs.IdTexts.{length-id}
 use Rattle.hermes_element.specs.declared.attribute.Attribute.{Attribute}
 use Rattle.hermes_element.specs.Canonical.{escaped_byte, canonical_attribute}
 use Rattle.hermes_element.proofs.Unescaped.{unescaped}
@@ -43,7 +43,7 @@ length-escaped (b ∷ bytes) =
     let l = length-append (escaped_byte b) (flat_map escaped_byte bytes) in
     rw (flat_map-cons escaped_byte b bytes) (omega (arith, l, one, others))
 
-length-attribute : (a : Attribute) → length (canonical_attribute a) ≡ length a.name + length (flat_map escaped_byte a.value) + 4
+pub length-attribute : (a : Attribute) → length (canonical_attribute a) ≡ length a.name + length (flat_map escaped_byte a.value) + 4
 length-attribute a =
     let value = flat_map escaped_byte a.value in
     let k = length-append (32 ∷ a.name) (61 ∷ 34 ∷ []) in
@@ -72,7 +72,7 @@ room_of values.text = 6200
 room_of values.number = 200
 room_of values.long_number = 200
 room_of (values.choice low high) = 200
-room_of values.identity = 6200
+room_of values.identity = 260
 room_of values.decimal = 200
 room_of values.moment = 6200
 
@@ -85,7 +85,7 @@ value_room values.text (worded bytes) fit proper = let h = proper.short in omega
 value_room values.number (numbered n) fit proper = let h = length-number n fit in omega (arith, h)
 value_room values.long_number (numbered n) fit proper = let h = length-decimal n fit in omega (arith, h)
 value_room (values.choice low high) (numbered n) fit proper = let h = length-number n fit.short in omega (arith, h)
-value_room values.identity (identified id) fit proper = let h = (IsText-id id).short in omega (arith, h)
+value_room values.identity (identified id) fit proper = let h = length-id id in omega (arith, h)
 value_room values.decimal (measured millionths) fit proper = let h = length-decimal_text millionths proper in omega (arith, h)
 value_room values.moment (timed millis) fit proper = let h = (IsText-moment millis).short in omega (arith, h)
 value_room _ _ fit proper = absurd fit

@@ -1,3 +1,4 @@
 pub mod Lengths
 pub mod Opens
+pub mod SubsFramed
 pub mod Framed

@@ -8,8 +8,9 @@ ghost use Rattle.hermes_frames.specs.Framed.{HasShortName};
 use hermes_horizontal::Message;
 
 /// What is written of this message is one message of a stream and nothing else, and has at most
-/// 65,536 bytes, if it is writable: the lane and the code are at most 999,999,999, and the name in
-/// `Other` is none of the thirteen. That name has at most 65,480 bytes.
+/// 65,536 bytes, if it is writable: the lane, the code and the places of sub boards are at most
+/// 999,999,999, a forecast has no sub boards, and the name in `Other` is none of the thirteen. That
+/// name has at most 65,480 bytes.
 ///
 /// The call states the law: it goes over the message's parts, and changes nothing.
 pub fn text_is_one_frame(message: &Message)

@@ -17,8 +17,8 @@ use Rattle.hermes_horizontal.specs.declared.message.Horizontal.TheVariants as bo
 use Rattle.hermes_horizontal.specs.Attrs.{attr_text}
 use Rattle.hermes_horizontal.specs.Values.{ValueKind, Value, read_as, identity, text}
 use Rattle.hermes_horizontal.specs.Rows.{quality, flip, required_if, columns_of, board_columns, kind_text, kind_among, kind_named, message_kinds}
-use Rattle.hermes_horizontal.specs.Parts.{parts, info_parts, features_of, kind_of, name_of}
-use Rattle.hermes_horizontal.specs.Spelling.{values_of, value_at, value_or_bad, first_named, then_ok, mapped_ok, features_said, refusal_of_result}
+use Rattle.hermes_horizontal.specs.Parts.{parts, info_parts, inner_of, kind_of, name_of}
+use Rattle.hermes_horizontal.specs.Spelling.{values_of, value_at, value_or_bad, first_named, then_ok, mapped_ok, inner_said, row_refusal}
 use Rattle.hermes_horizontal.specs.Reading.{Refuses, ReadsRow, ReadsBody, IsWhole}
 use Rattle.hermes_horizontal.proofs.Finding.{same_bytes}
 
@@ -59,9 +59,9 @@ row_reads child kind (Ok body) other k r = record {
   kind = k ∙ sym r.of_kind;
   name = named child.name kind other k ∙ ap kind_text (sym r.of_kind) ∙ sym (name_of-kind body (λ e. other (sym r.of_kind ∙ e)));
   values = subst (λ (x : Kind). values_of child.at child.attributes (columns_of x) ≡ Ok (parts body)) (sym r.of_kind) r.values;
-  features = subst (λ (x : Kind). features_said x child.children ≡ features_of body) (sym r.of_kind) r.features;
+  inner = subst (λ (x : Kind). inner_said x child.children ≡ Ok (inner_of body)) (sym r.of_kind) r.inner;
 }
-row_reads child kind (Err error) other k r = subst (λ (x : Kind). Refuses (refusal_of_result (values_of child.at child.attributes (columns_of x))) error) (sym k) r
+row_reads child kind (Err error) other k r = subst (λ (x : Kind). Refuses (row_refusal x child.at child.attributes child.children) error) (sym k) r
 
 -- ---- what is required is there
 

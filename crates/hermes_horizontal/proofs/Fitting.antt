@@ -14,6 +14,7 @@ use Rattle.line_base.specs.declared.states.Transfer.TheVariants as transfers
 use Rattle.line_base.proofs.Printable.{IsText-moment, IsText-millionths, number_is_text, number_of-decimal}
 use Rattle.line_base.proofs.DecimalTexts.{decimal_of-decimal_text}
 use Rattle.line_base.proofs.MomentTexts.{moment_of-moment_text}
+use Rattle.board_record.specs.declared.sub_board.SubBoard.{SubBoard}
 use Rattle.board_record.proofs.IdTexts.{IsText-id, read_id-id_text}
 use Rattle.hermes_horizontal.specs.declared.attr.Attr.TheVariants as attrs
 use Rattle.hermes_horizontal.specs.declared.kind.Kind.{Kind}
@@ -27,8 +28,8 @@ use Rattle.hermes_horizontal.specs.Values.{ValueKind, Value, worded, numbered, i
 use Rattle.hermes_horizontal.specs.Values as values
 use Rattle.hermes_horizontal.specs.Rows as rows
 use Rattle.hermes_horizontal.specs.Rows.{Column, columns_of, board_columns}
-use Rattle.hermes_horizontal.specs.Parts.{parts, info_of, info_parts, kind_of, of_ping, of_severity, of_quality, of_flip, of_transfer}
-use Rattle.hermes_horizontal.specs.Canonical.{IsProper, IsProperIf, HasShortNumbers}
+use Rattle.hermes_horizontal.specs.Parts.{parts, sub_parts, info_of, info_parts, kind_of, of_ping, of_severity, of_quality, of_flip, of_transfer}
+use Rattle.hermes_horizontal.specs.Canonical.{IsProper, IsProperIf, IsProperSub, HasShortNumbers}
 use Rattle.hermes_horizontal.proofs.Again.{AreSuited, columns_apart}
 use Rattle.hermes_horizontal.proofs.LongNumbers.{long_number_of-decimal}
 
@@ -221,6 +222,14 @@ fit_parts (bodies.BoardForecast info) numbers = fit_info info
 fit_parts (bodies.QueryBoardInfo top bottom) numbers = (fit_text top, (fit_text bottom, tt))
 fit_parts (bodies.SendBoardInfo info) numbers = fit_info info
 fit_parts (bodies.Other name) numbers = tt
+
+-- ---- the values of a sub board
+
+pub fit_sub : (sub : SubBoard) → sub.pos ≤ 999_999_999 → AreFit rows.sub_columns (sub_parts sub)
+fit_sub sub place = (place, (fit_text sub.barcode, (of_quality_kind sub.state, tt)))
+
+pub proper_sub : (sub : SubBoard) → IsProperSub sub → AllByRecursion IsProperIf (sub_parts sub)
+proper_sub sub barcode = (tt, (barcode, (tt, tt)))
 
 -- ---- no row has a name twice
 

@@ -6,6 +6,9 @@ pub mod Messages
 pub mod Answering
 pub mod Again
 pub mod Fitting
+pub mod SubsBack
+pub mod SubsSpelled
+pub mod SubsRead
 pub mod Returning
 pub mod Writable
 pub mod Plain

@@ -8,11 +8,12 @@ use Rattle.line_base.specs.declared.states.Severity.{Severity}
 use Rattle.line_base.specs.declared.states.Severity.TheVariants as severities
 use Rattle.line_base.specs.declared.states.Transfer.{Transfer}
 use Rattle.line_base.specs.declared.states.Transfer.TheVariants as transfers
+use Rattle.board_record.specs.declared.sub_board.SubBoard.{SubBoard}
 use Rattle.hermes_horizontal.specs.declared.message.Ping.{Ping}
 use Rattle.hermes_horizontal.specs.declared.message.Ping.TheVariants as pings
 use Rattle.hermes_horizontal.specs.declared.message.Features.{Features}
 use Rattle.hermes_horizontal.specs.Values.{Value, worded, numbered, identified, measured, timed}
-use Rattle.hermes_horizontal.specs.Parts.{of_ping, of_severity, of_quality, of_flip, of_transfer}
+use Rattle.hermes_horizontal.specs.Parts.{of_ping, of_severity, of_quality, of_flip, of_transfer, Inner, featured, subbed, untold}
 use Rattle.hermes_horizontal.specs.Said.{features_listed}
 
 abbrev pub text_in : Option Value → Option (List ℕ)
@@ -121,3 +122,12 @@ part values i = get_or values i None
 abbrev pub or_no_features : Option Features → Features
 or_no_features None = features_listed []
 or_no_features (Some features) = features
+
+abbrev pub features_inside : Inner → Features
+features_inside (featured features) = features
+features_inside _ = features_listed []
+
+abbrev pub subs_inside : Inner → List SubBoard
+subs_inside (subbed subs) = subs
+subs_inside (untold subs) = subs
+subs_inside _ = []

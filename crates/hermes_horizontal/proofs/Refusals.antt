@@ -68,6 +68,10 @@ attr_short attrs.QueryId = refl
 attr_short attrs.Barcode = refl
 attr_short attrs.MagazineId = refl
 attr_short attrs.SlotId = refl
+attr_short attrs.SubBoards = refl
+attr_short attrs.Pos = refl
+attr_short attrs.Bc = refl
+attr_short attrs.St = refl
 
 pub attr_length : (attr : Attr) → length (attr_text attr) ≤ 30
 attr_length attr = (short_from (attr_text attr) (attr_short attr)).short

@@ -3,6 +3,7 @@ use Rattle.std.proofs.Common.{◌≡◌, ℕ, ℤ, ◌≤◌, not, Bool, true, f
 use Rattle.std.specs.List.{AllByRecursion, IsDistinct, list_any}
 use Rattle.std.specs.Str.{bytes_eq}
 use Rattle.std.proofs.lemmas.Bool.{and_parts, or_parts, not-true}
+use Rattle.board_record.specs.declared.sub_board.SubBoard.{SubBoard}
 use Rattle.hermes_element.proofs.Back.{other_way}
 use Rattle.line_base.specs.Name.{IsName}
 use Rattle.line_base.proofs.Printable.{IsText-moment}
@@ -18,11 +19,11 @@ use Rattle.hermes_horizontal.specs.declared.message.Features.{Features}
 use Rattle.hermes_horizontal.specs.declared.message.Message.{Message}
 use Rattle.hermes_horizontal.specs.Attrs.{attr_text}
 use Rattle.hermes_horizontal.specs.Values.{Value, timed}
-use Rattle.hermes_horizontal.specs.Rows.{Column, columns_of, stamp_column}
-use Rattle.hermes_horizontal.specs.Parts.{parts, features_of, kind_of, name_of}
-use Rattle.hermes_horizontal.specs.Canonical.{attribute_of, attribute_if, attributes_of, child_if, feature_children, children_of, row_tree, stamped, tree_of, IsProper, IsProperIf, IsWritable, IsProperMessage}
+use Rattle.hermes_horizontal.specs.Rows.{Column, columns_of, sub_columns, stamp_column}
+use Rattle.hermes_horizontal.specs.Parts.{parts, sub_parts, Inner, plain, featured, subbed, untold, of_features, inner_of, kind_of, name_of}
+use Rattle.hermes_horizontal.specs.Canonical.{attribute_of, attribute_if, attributes_of, child_if, feature_children, sub_children, children_of, row_tree, stamped, tree_of, IsProper, IsProperIf, IsProperSub, HasWritableSubs, HasProperSubs, IsWritable, IsProperMessage}
 use Rattle.hermes_horizontal.proofs.Again.{is_named, columns_apart}
-use Rattle.hermes_horizontal.proofs.Fitting.{AreFit, IsOfKind, fit_parts, rows_apart, text_of_value}
+use Rattle.hermes_horizontal.proofs.Fitting.{AreFit, IsOfKind, fit_parts, fit_sub, proper_sub, rows_apart, text_of_value}
 
 attr_is_name : (attr : Attr) → IsName (attr_text attr)
 attr_is_name attrs.Timestamp = refl
@@ -58,6 +59,10 @@ attr_is_name attrs.QueryId = refl
 attr_is_name attrs.Barcode = refl
 attr_is_name attrs.MagazineId = refl
 attr_is_name attrs.SlotId = refl
+attr_is_name attrs.SubBoards = refl
+attr_is_name attrs.Pos = refl
+attr_is_name attrs.Bc = refl
+attr_is_name attrs.St = refl
 
 -- ---- the attributes of a row
 
@@ -70,7 +75,7 @@ few (column ∷ columns) (Some value ∷ values) = let h = few columns values in
 proper_attribute : (attr : Attr) (column : Column) (value : Value) → IsOfKind column.kind value → IsProper value → IsProperAttribute (attribute_of attr value)
 proper_attribute attr column value fit proper = record { name = attr_is_name attr; value = text_of_value column.kind value fit proper }
 
-each_proper : (columns : List Column) (values : List (Option Value)) → AreFit columns values → AllByRecursion IsProperIf values → AllByRecursion IsProperAttribute (attributes_of columns values)
+pub each_proper : (columns : List Column) (values : List (Option Value)) → AreFit columns values → AllByRecursion IsProperIf values → AllByRecursion IsProperAttribute (attributes_of columns values)
 each_proper [] values fit proper = tt
 each_proper (column ∷ columns) [] fit proper = tt
 each_proper (column ∷ columns) (None ∷ values) fit proper = each_proper columns values fit.1 proper.1
@@ -145,9 +150,16 @@ feature_few features =
     if_few features.check_alive (codes "FeatureCheckAliveResponse") _ (if_few features.forecast (codes "FeatureBoardForecast") _
     (if_few features.query (codes "FeatureQueryBoardInfo") _ (if_few features.send (codes "FeatureSendBoardInfo") none tt)))
 
-children_few : (features : Option Features) → HaveFewDistinct (children_of features)
-children_few None = tt
-children_few (Some features) = (no_few, feature_few features, tt)
+sub_few : (subs : List SubBoard) → HaveFewDistinct (sub_children subs)
+sub_few [] = tt
+sub_few (sub ∷ subs) = (row_few sub_columns (sub_parts sub) (lit≤ tt) refl, tt, sub_few subs)
+
+children_few : (inner : Inner) → HaveFewDistinct (children_of inner)
+children_few plain = tt
+children_few (featured features) = (no_few, feature_few features, tt)
+children_few (subbed []) = tt
+children_few (subbed (sub ∷ subs)) = (no_few, sub_few (sub ∷ subs), tt)
+children_few (untold subs) = tt
 
 if_tags : (test : Bool) (name : List ℕ) (rest : Forest) → IsName name → HaveProperTags rest → HaveProperTags (child_if test name rest)
 if_tags true name rest named h = (empty_tag name named, tt, h)
@@ -158,9 +170,17 @@ feature_tags features =
     if_tags features.check_alive (codes "FeatureCheckAliveResponse") _ refl (if_tags features.forecast (codes "FeatureBoardForecast") _ refl
     (if_tags features.query (codes "FeatureQueryBoardInfo") _ refl (if_tags features.send (codes "FeatureSendBoardInfo") none refl tt)))
 
-children_tags : (features : Option Features) → HaveProperTags (children_of features)
-children_tags None = tt
-children_tags (Some features) = (empty_tag (codes "SupportedFeatures") refl, feature_tags features, tt)
+sub_tags : (subs : List SubBoard) → AllByRecursion (λ (sub : SubBoard). sub.pos ≤ 999_999_999) subs → AllByRecursion IsProperSub subs → HaveProperTags (sub_children subs)
+sub_tags [] places proper = tt
+sub_tags (sub ∷ subs) places proper =
+    (row_tag (codes "SB") sub_columns (sub_parts sub) refl (fit_sub sub places.0) (proper_sub sub proper.0), tt, sub_tags subs places.1 proper.1)
+
+children_tags : (inner : Inner) → HasWritableSubs inner → HasProperSubs inner → HaveProperTags (children_of inner)
+children_tags plain writable proper = tt
+children_tags (featured features) writable proper = (empty_tag (codes "SupportedFeatures") refl, feature_tags features, tt)
+children_tags (subbed []) writable proper = tt
+children_tags (subbed (sub ∷ subs)) writable proper = (empty_tag (codes "SubBoards") refl, sub_tags (sub ∷ subs) writable.places proper, tt)
+children_tags (untold subs) writable proper = tt
 
 if_depth : (test : Bool) (name : List ℕ) (rest : Forest) → depth_of rest ≤ 1 → depth_of (child_if test name rest) ≤ 1
 if_depth true name rest h = omega (arith, h)
@@ -174,32 +194,44 @@ feature_depth features =
     if_depth features.check_alive (codes "FeatureCheckAliveResponse") b (if_depth features.forecast (codes "FeatureBoardForecast") c
     (if_depth features.query (codes "FeatureQueryBoardInfo") d (if_depth features.send (codes "FeatureSendBoardInfo") none (omega arith))))
 
-children_depth : (features : Option Features) → depth_of (children_of features) ≤ 2
-children_depth None = omega arith
-children_depth (Some features) = let h = feature_depth features in omega (arith, h)
+sub_depth : (subs : List SubBoard) → depth_of (sub_children subs) ≤ 1
+sub_depth [] = omega arith
+sub_depth (sub ∷ subs) = let h = sub_depth subs in omega (arith, h)
+
+children_depth : (inner : Inner) → depth_of (children_of inner) ≤ 2
+children_depth plain = omega arith
+children_depth (featured features) = let h = feature_depth features in omega (arith, h)
+children_depth (subbed []) = omega arith
+children_depth (subbed (sub ∷ subs)) = let h = sub_depth (sub ∷ subs) in omega (arith, h)
+children_depth (untold subs) = omega arith
+
+-- where there are features or nothing there are no sub boards
+pub no_subs : (features : Option Features) → HasWritableSubs (of_features features) × HasProperSubs (of_features features)
+no_subs None = (tt, tt)
+no_subs (Some features) = (tt, tt)
 
 -- ---- the whole element
 
-pub row_writable : (stamp : Option ℤ) (name : List ℕ) (columns : List Column) (values : List (Option Value)) (features : Option Features)
-    → length columns ≤ 64 → columns_apart columns ≡ true → form.IsWritable (stamped stamp (row_tree name columns values features))
-row_writable stamp name columns values features short apart = record {
+pub row_writable : (stamp : Option ℤ) (name : List ℕ) (columns : List Column) (values : List (Option Value)) (inner : Inner)
+    → length columns ≤ 64 → columns_apart columns ≡ true → form.IsWritable (stamped stamp (row_tree name columns values inner))
+row_writable stamp name columns values inner short apart = record {
   own = root_few stamp;
-  below = (row_few columns values short apart, children_few features, tt);
-  depth = (let h = children_depth features in omega (arith, h));
+  below = (row_few columns values short apart, children_few inner, tt);
+  depth = (let h = children_depth inner in omega (arith, h));
 }
 
-pub row_proper : (stamp : Option ℤ) (name : List ℕ) (columns : List Column) (values : List (Option Value)) (features : Option Features)
-    → IsName name → AreFit columns values → AllByRecursion IsProperIf values → form.IsProper (stamped stamp (row_tree name columns values features))
-row_proper stamp name columns values features named fit proper = record {
+pub row_proper : (stamp : Option ℤ) (name : List ℕ) (columns : List Column) (values : List (Option Value)) (inner : Inner)
+    → IsName name → AreFit columns values → AllByRecursion IsProperIf values → HasWritableSubs inner → HasProperSubs inner → form.IsProper (stamped stamp (row_tree name columns values inner))
+row_proper stamp name columns values inner named fit proper writable_subs proper_subs = record {
   own = root_tag stamp;
-  below = (row_tag name columns values named fit proper, children_tags features, tt);
+  below = (row_tag name columns values named fit proper, children_tags inner writable_subs proper_subs, tt);
 }
 
 pub tree_writable : (message : Message) → form.IsWritable (tree_of message)
 tree_writable message =
     let k = short_row (kind_of message.body) in
-    row_writable message.stamp (name_of message.body) (columns_of (kind_of message.body)) (parts message.body) (features_of message.body) (omega (arith, k)) (rows_apart (kind_of message.body))
+    row_writable message.stamp (name_of message.body) (columns_of (kind_of message.body)) (parts message.body) (inner_of message.body) (omega (arith, k)) (rows_apart (kind_of message.body))
 
 pub tree_proper : (message : Message) → IsProperMessage message → IsWritable message → form.IsProper (tree_of message)
 tree_proper message proper writable =
-    row_proper message.stamp (name_of message.body) (columns_of (kind_of message.body)) (parts message.body) (features_of message.body) proper.name (fit_parts message.body writable.numbers) proper.values
+    row_proper message.stamp (name_of message.body) (columns_of (kind_of message.body)) (parts message.body) (inner_of message.body) proper.name (fit_parts message.body writable.numbers) proper.values writable.subs proper.subs

@@ -14,7 +14,7 @@ use Rattle.hermes_horizontal.specs.declared.message.Horizontal.{Horizontal}
 use Rattle.hermes_horizontal.specs.declared.message.Message.{Message}
 use Rattle.hermes_horizontal.specs.Values.{Value, worded, identified, measured, timed}
 use Rattle.hermes_horizontal.specs.Rows.{Column, columns_of, board_columns, stamp_column}
-use Rattle.hermes_horizontal.specs.Parts.{parts, features_of, kind_of, name_of, of_quality, of_flip}
+use Rattle.hermes_horizontal.specs.Parts.{parts, Inner, featured, inner_of, kind_of, name_of, of_quality, of_flip}
 use Rattle.hermes_horizontal.specs.Canonical.{attribute_of, attribute_if, attributes_of, assigned, assignment, assignment_if, child_if, feature_children, children_of, row_tree, body_tree, stamped, rest_spelling, children_spelling, body_spelling, canonical}
 
 abbrev pub spelled_if : Bool → List ℕ → List ℕ
@@ -51,7 +51,7 @@ grouped t p q r s = simp (append_assoc, append-nil)
 
 pub features_spelled : (features : Features) (t : List ℕ) → (features.check_alive || features.forecast || features.query || features.send) ≡ true
     → (((((t ++ codes "<SupportedFeatures>") ++ spelled_if features.check_alive (codes "FeatureCheckAliveResponse")) ++ spelled_if features.forecast (codes "FeatureBoardForecast")) ++ spelled_if features.query (codes "FeatureQueryBoardInfo")) ++ spelled_if features.send (codes "FeatureSendBoardInfo")) ++ codes "</SupportedFeatures>"
-    ≡ t ++ canonical_forest (children_of (Some features))
+    ≡ t ++ canonical_forest (children_of (featured features))
 features_spelled features t h =
     let a = features.check_alive in let b = features.forecast in let c = features.query in let d = features.send in
     grouped t (spelled_if a (codes "FeatureCheckAliveResponse")) (spelled_if b (codes "FeatureBoardForecast")) (spelled_if c (codes "FeatureQueryBoardInfo")) (spelled_if d (codes "FeatureSendBoardInfo"))
@@ -66,7 +66,7 @@ pub features_written : (features : Features) (t0 t1 t2 t3 t4 t5 t6 : List ℕ) �
     → t4 ≡ t3 ++ spelled_if features.query (codes "FeatureQueryBoardInfo")
     → t5 ≡ t4 ++ spelled_if features.send (codes "FeatureSendBoardInfo")
     → t6 ≡ t5 ++ codes "</SupportedFeatures>"
-    → t6 ≡ t0 ++ canonical_forest (children_of (Some features))
+    → t6 ≡ t0 ++ canonical_forest (children_of (featured features))
 features_written features t0 t1 t2 t3 t4 t5 t6 h e1 e2 e3 e4 e5 e6 = rw (e6, e5, e4, e3, e2, e1) (features_spelled features t0 h)
 
 -- ---- attributes one after another
@@ -84,18 +84,18 @@ assigned_is front (column ∷ columns) (Some value ∷ values) =
 body_grouped : (t name attributes children : List ℕ) → (((t ++ (60 ∷ [])) ++ name) ++ attributes) ++ children ≡ t ++ (((60 ∷ name) ++ attributes) ++ children)
 body_grouped t name attributes children = simp append_assoc
 
-pub row_written : (name : List ℕ) (columns : List Column) (values : List (Option Value)) (features : Option Features) (t0 t1 t2 t3 t4 : List ℕ)
-    → t1 ≡ t0 ++ (60 ∷ []) → t2 ≡ t1 ++ name → t3 ≡ assigned t2 columns values → t4 ≡ t3 ++ rest_spelling name features
-    → t4 ≡ t0 ++ canonical_tree (row_tree name columns values features)
-row_written name columns values features t0 t1 t2 t3 t4 e1 e2 e3 e4 =
+pub row_written : (name : List ℕ) (columns : List Column) (values : List (Option Value)) (inner : Inner) (t0 t1 t2 t3 t4 : List ℕ)
+    → t1 ≡ t0 ++ (60 ∷ []) → t2 ≡ t1 ++ name → t3 ≡ assigned t2 columns values → t4 ≡ t3 ++ rest_spelling name inner
+    → t4 ≡ t0 ++ canonical_tree (row_tree name columns values inner)
+row_written name columns values inner t0 t1 t2 t3 t4 e1 e2 e3 e4 =
     let attributes = flat_map canonical_attribute (attributes_of columns values) in
     let e5 : t3 ≡ t2 ++ attributes = e3 ∙ assigned_is t2 columns values in
-    e4 ∙ ap (λ (x : List ℕ). x ++ rest_spelling name features) (e5 ∙ ap (λ (x : List ℕ). x ++ attributes) (e2 ∙ ap (λ (x : List ℕ). x ++ name) e1))
-    ∙ body_grouped t0 name attributes (rest_spelling name features)
+    e4 ∙ ap (λ (x : List ℕ). x ++ rest_spelling name inner) (e5 ∙ ap (λ (x : List ℕ). x ++ attributes) (e2 ∙ ap (λ (x : List ℕ). x ++ name) e1))
+    ∙ body_grouped t0 name attributes (rest_spelling name inner)
 
 pub body_written : (body : Horizontal) (t0 t1 t2 t3 t4 : List ℕ) → t1 ≡ t0 ++ (60 ∷ []) → t2 ≡ t1 ++ name_of body → t3 ≡ assigned t2 (columns_of (kind_of body)) (parts body) → t4 ≡ t3 ++ children_spelling body
     → t4 ≡ t0 ++ body_spelling body
-body_written body = row_written (name_of body) (columns_of (kind_of body)) (parts body) (features_of body)
+body_written body = row_written (name_of body) (columns_of (kind_of body)) (parts body) (inner_of body)
 
 stamp_written : (attr : Attr) (value : Option Value) → assignment_if attr value ≡ flat_map canonical_attribute (attribute_if attr value)
 stamp_written attr None = refl

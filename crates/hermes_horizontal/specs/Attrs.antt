@@ -37,6 +37,10 @@ attr_text attrs.QueryId = codes "QueryId"
 attr_text attrs.Barcode = codes "Barcode"
 attr_text attrs.MagazineId = codes "MagazineId"
 attr_text attrs.SlotId = codes "SlotId"
+attr_text attrs.SubBoards = codes "SubBoards"
+attr_text attrs.Pos = codes "Pos"
+attr_text attrs.Bc = codes "Bc"
+attr_text attrs.St = codes "St"
 
 -- a space, the name, and `="`
 abbrev pub opening_of : Attr → List ℕ

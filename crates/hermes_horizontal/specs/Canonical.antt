@@ -4,6 +4,8 @@ use Rattle.std.specs.List.{AllByRecursion}
 use Rattle.line_base.specs.Text.{IsText}
 use Rattle.line_base.specs.Name.{IsName}
 use Rattle.line_base.specs.Moment.{IsMomentMillis}
+use Rattle.board_record.specs.SubBoards.{AreSubBoards}
+use Rattle.board_record.specs.declared.sub_board.SubBoard.{SubBoard}
 use Rattle.hermes_element.specs.Element.{Tree, Forest, none, more}
 use Rattle.hermes_element.specs.Canonical as form
 use Rattle.hermes_element.specs.declared.attribute.Attribute.{Attribute}
@@ -14,8 +16,8 @@ use Rattle.hermes_horizontal.specs.declared.message.Horizontal.TheVariants as bo
 use Rattle.hermes_horizontal.specs.declared.message.Message.{Message}
 use Rattle.hermes_horizontal.specs.Attrs.{attr_text}
 use Rattle.hermes_horizontal.specs.Values.{Value, worded, numbered, identified, measured, timed, value_text}
-use Rattle.hermes_horizontal.specs.Rows.{Column, columns_of, stamp_column, kind_named}
-use Rattle.hermes_horizontal.specs.Parts.{parts, features_of, kind_of, name_of}
+use Rattle.hermes_horizontal.specs.Rows.{Column, columns_of, sub_columns, stamp_column, kind_named}
+use Rattle.hermes_horizontal.specs.Parts.{parts, sub_parts, Inner, plain, featured, subbed, untold, inner_of, kind_of, name_of}
 
 -- ---- a message as an element; its places are all 0
 
@@ -44,25 +46,40 @@ feature_children features =
     (child_if features.query (codes "FeatureQueryBoardInfo")
     (child_if features.send (codes "FeatureSendBoardInfo") none)))
 
--- SupportedFeatures is always written in a service description
-abbrev pub children_of : Option Features → Forest
-children_of None = none
-children_of (Some features) =
+-- an SB for each sub board
+abbrev pub sub_children : List SubBoard → Forest
+sub_children [] = none
+sub_children (sub ∷ subs) =
+    more (codes "SB") 0 (attributes_of sub_columns (sub_parts sub)) none (sub_children subs)
+
+-- the spelling of one SB
+abbrev pub sub_spelling : SubBoard → List ℕ
+sub_spelling sub =
+    form.canonical_front (codes "SB") (attributes_of sub_columns (sub_parts sub)) ++ 47 ∷ 62 ∷ []
+
+-- SubBoards is written where there are any, and SupportedFeatures always in a service description
+abbrev pub children_of : Inner → Forest
+children_of plain = none
+children_of (featured features) =
     more (codes "SupportedFeatures") 0 [] (feature_children features) none
+children_of (subbed []) = none
+children_of (subbed (sub ∷ subs)) =
+    more (codes "SubBoards") 0 [] (sub_children (sub ∷ subs)) none
+children_of (untold subs) = none
 
 -- the element of a name with the values of a row of the table
-abbrev pub row_tree : List ℕ → List Column → List (Option Value) → Option Features → Tree
-row_tree name columns values features =
+abbrev pub row_tree : List ℕ → List Column → List (Option Value) → Inner → Tree
+row_tree name columns values inner =
     record {
       name = name;
       at = 0;
       attributes = attributes_of columns values;
-      children = children_of features;
+      children = children_of inner;
     }
 
 abbrev pub body_tree : Horizontal → Tree
 body_tree body =
-    row_tree (name_of body) (columns_of (kind_of body)) (parts body) (features_of body)
+    row_tree (name_of body) (columns_of (kind_of body)) (parts body) (inner_of body)
 
 abbrev pub root_of : List Attribute → Tree → Tree
 root_of attributes child =
@@ -100,12 +117,12 @@ assigned front (column ∷ columns) (value ∷ values) =
     assigned (front ++ assignment_if column.attr value) columns values
 
 -- the end of a message's start tag, and what follows it
-abbrev pub rest_spelling : List ℕ → Option Features → List ℕ
-rest_spelling name features =
-    form.canonical_rest name (children_of features) (form.canonical_forest (children_of features))
+abbrev pub rest_spelling : List ℕ → Inner → List ℕ
+rest_spelling name inner =
+    form.canonical_rest name (children_of inner) (form.canonical_forest (children_of inner))
 
 abbrev pub children_spelling : Horizontal → List ℕ
-children_spelling body = rest_spelling (name_of body) (features_of body)
+children_spelling body = rest_spelling (name_of body) (inner_of body)
 
 abbrev pub body_spelling : Horizontal → List ℕ
 body_spelling body = form.canonical (body_tree body)
@@ -119,8 +136,20 @@ HasShortNumbers (bodies.ServiceDescription service) = service.lane ≤ 999_999_9
 HasShortNumbers (bodies.Notification code severity text) = code.number ≤ 999_999_999
 HasShortNumbers _ = Unit {0}
 
+-- the places of sub boards are numbers of at most 9 digits
+pub record AreWritableSubs (subs : List SubBoard) : Type 0 where
+  pub places : AllByRecursion (λ (sub : SubBoard). sub.pos ≤ 999_999_999) subs
+  pub list : AreSubBoards subs
+
+-- a forecast has no sub boards
+abbrev pub HasWritableSubs : Inner → Type 0
+HasWritableSubs (subbed subs) = AreWritableSubs subs
+HasWritableSubs (untold subs) = subs ≡ []
+HasWritableSubs _ = Unit {0}
+
 pub record IsWritable (message : Message) : Type 0 where
   pub numbers : HasShortNumbers message.body
+  pub subs : HasWritableSubs (inner_of message.body)
   pub named : kind_named (name_of message.body) ≡ kind_of message.body
 
 -- ---- what holds of every message of a program, by the types of its parts
@@ -136,7 +165,16 @@ abbrev pub IsProperIf : Option Value → Type 0
 IsProperIf None = Unit {0}
 IsProperIf (Some value) = IsProper value
 
+abbrev pub IsProperSub : SubBoard → Type 0
+IsProperSub sub = IsProperIf (option_map worded sub.barcode)
+
+-- the barcodes of sub boards are texts
+abbrev pub HasProperSubs : Inner → Type 0
+HasProperSubs (subbed subs) = AllByRecursion IsProperSub subs
+HasProperSubs _ = Unit {0}
+
 pub record IsProperMessage (message : Message) : Type 0 where
   pub stamp : IsProperIf (option_map timed message.stamp)
   pub name : IsName (name_of message.body)
   pub values : AllByRecursion IsProperIf (parts message.body)
+  pub subs : HasProperSubs (inner_of message.body)

@@ -11,6 +11,7 @@ use Rattle.line_base.specs.declared.states.Severity.TheVariants as severities
 use Rattle.line_base.specs.declared.states.Transfer.{Transfer}
 use Rattle.line_base.specs.declared.states.Transfer.TheVariants as transfers
 use Rattle.board_record.specs.declared.record.Record.{Record}
+use Rattle.board_record.specs.declared.sub_board.SubBoard.{SubBoard}
 use Rattle.hermes_horizontal.specs.declared.message.Ping.{Ping}
 use Rattle.hermes_horizontal.specs.declared.message.Ping.TheVariants as pings
 use Rattle.hermes_horizontal.specs.declared.message.Info.{Info}
@@ -104,6 +105,7 @@ info_of board = record {
   weight = board.weight;
   order = board.order;
   batch = board.batch;
+  subs = board.subs;
 }
 
 -- what tells nothing of a board
@@ -125,6 +127,7 @@ no_info = record {
   weight = None;
   order = None;
   batch = None;
+  subs = [];
 }
 
 abbrev pub service_parts : Service → List (Option Value)
@@ -149,10 +152,29 @@ parts (bodies.QueryBoardInfo top bottom) = option_map worded top ∷ option_map 
 parts (bodies.SendBoardInfo info) = info_parts info
 parts (bodies.Other name) = []
 
--- the features that a service description lists
-abbrev pub features_of : Horizontal → Option Features
-features_of (bodies.ServiceDescription service) = Some service.features
-features_of _ = None
+abbrev pub sub_parts : SubBoard → List (Option Value)
+sub_parts sub =
+    Some (numbered sub.pos) ∷ option_map worded sub.barcode ∷ Some (of_quality sub.state) ∷ []
+
+-- what a message has beside its attributes: nothing, the features that it lists, or the sub boards
+-- of its board, which are told of, or aren't
+pub data Inner : Type 0 where
+  plain : Inner
+  featured : Features → Inner
+  subbed : List SubBoard → Inner
+  untold : List SubBoard → Inner
+
+abbrev pub of_features : Option Features → Inner
+of_features None = plain
+of_features (Some features) = featured features
+
+-- a forecast tells no sub boards
+abbrev pub inner_of : Horizontal → Inner
+inner_of (bodies.ServiceDescription service) = featured service.features
+inner_of (bodies.BoardAvailable board) = subbed board.subs
+inner_of (bodies.BoardForecast info) = untold info.subs
+inner_of (bodies.SendBoardInfo info) = subbed info.subs
+inner_of _ = plain
 
 abbrev pub kind_of : Horizontal → Kind
 kind_of (bodies.CheckAlive ping id) = kinds.CheckAlive

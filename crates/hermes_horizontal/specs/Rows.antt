@@ -66,6 +66,11 @@ board_columns whole =
     ∷ required_if whole attrs.FailedBoard quality ∷ required_if whole attrs.FlippedBoard flip ∷
     record_columns
 
+-- one sub board: its place on the panel, its barcode and its quality
+abbrev pub sub_columns : List Column
+sub_columns =
+    required attrs.Pos number ∷ optional attrs.Bc text ∷ required attrs.St quality ∷ []
+
 abbrev pub transfer_columns : List Column
 transfer_columns = required attrs.TransferState transfer ∷ required attrs.BoardId identity ∷ []
 

@@ -1,6 +1,6 @@
 //! What both channels say alike: signs of life and notifications.
 
-ghost use Rattle.std.specs.Prelude.{◌≡◌, ℕ, OnOk, option_map};
+ghost use Rattle.std.specs.Prelude.{◌≡◌, ℕ, OnErr, OnOk, option_map};
 ghost use Rattle.hermes_element.specs.Standing.{StillStands};
 ghost use Rattle.hermes_horizontal.specs.Canonical.{assigned};
 ghost use Rattle.hermes_horizontal.specs.Opened.{ReadsParts};
@@ -72,8 +72,27 @@ pub fn read_notice(
     })
 }
 
-/// Appends the attributes of a CheckAlive.
+/// Appends the attributes of a CheckAlive. Where memory is wanting, `to` is as it was.
 pub fn append_alive(ping: Option<Ping>, id: Option<&Text>, to: &mut Vec<u8>) -> Result<(), Memory>
+    ensures kept { StillStands to.old.items to.new.items }
+    ensures written { OnOk result
+        (to.new.items
+        ≡ assigned to.old.items alive_columns
+        (alive_parts ping (option_map (λ text. text.now) id.entry))) }
+    ensures unchanged { OnErr result (to.new.items ≡ to.old.items) }
+{
+    let before = to.len();
+    match put_alive(ping, id, to) {
+        Ok(()) => Ok(()),
+        Err(Memory) => {
+            to.truncate(before);
+            Err(Memory)
+        }
+    }
+}
+
+/// The same, but where memory is wanting a part of it may stand there.
+fn put_alive(ping: Option<Ping>, id: Option<&Text>, to: &mut Vec<u8>) -> Result<(), Memory>
     ensures kept { StillStands to.old.items to.new.items }
     ensures written { OnOk result
         (to.new.items
@@ -84,13 +103,30 @@ pub fn append_alive(ping: Option<Ping>, id: Option<&Text>, to: &mut Vec<u8>) -> 
     append_optional_text(Attr::Id, id, to)
 }
 
-/// Appends the attributes of a Notification.
+/// Appends the attributes of a Notification. Where memory is wanting, `to` is as it was.
 pub fn append_notice(
     code: Code,
     severity: Severity,
     text: &Text,
     to: &mut Vec<u8>,
 ) -> Result<(), Memory>
+    ensures kept { StillStands to.old.items to.new.items }
+    ensures written { OnOk result
+        (to.new.items ≡ assigned to.old.items notice_columns (notice_parts code severity text.now)) }
+    ensures unchanged { OnErr result (to.new.items ≡ to.old.items) }
+{
+    let before = to.len();
+    match put_notice(code, severity, text, to) {
+        Ok(()) => Ok(()),
+        Err(Memory) => {
+            to.truncate(before);
+            Err(Memory)
+        }
+    }
+}
+
+/// The same, but where memory is wanting a part of it may stand there.
+fn put_notice(code: Code, severity: Severity, text: &Text, to: &mut Vec<u8>) -> Result<(), Memory>
     ensures kept { StillStands to.old.items to.new.items }
     ensures written { OnOk result
         (to.new.items ≡ assigned to.old.items notice_columns (notice_parts code severity text.now)) }

@@ -1,4 +1,5 @@
-//! Attributes, written one by one.
+//! Attributes, written one by one. Where memory is wanting, the calls that are given out leave the
+//! text as it was; of those in here it is said that what stood there before still stands.
 
 ghost use Rattle.std.specs.Prelude.{◌≡◌, ◌++◌, OnOk, OnErr, option_map};
 ghost use Rattle.hermes_element.specs.Standing.{StillStands};
@@ -24,6 +25,7 @@ pub fn append(to: &mut Vec<u8>, bytes: &[u8]) -> Result<(), Memory>
 pub fn append_text(attr: Attr, text: &Text, to: &mut Vec<u8>) -> Result<(), Memory>
     ensures kept { StillStands to.old.items to.new.items }
     ensures written { OnOk result (to.new.items ≡ to.old.items ++ assignment attr (worded text.now)) }
+    ensures unchanged { OnErr result (to.new.items ≡ to.old.items) }
 {
     write_attribute(attr.text().as_bytes(), text.bytes(), to)
 }
@@ -33,6 +35,7 @@ pub fn append_optional_text(attr: Attr, text: Option<&Text>, to: &mut Vec<u8>) -
     ensures written { OnOk result
         (to.new.items ≡ to.old.items
         ++ assignment_if attr (option_map (λ text. worded text.now) text.entry)) }
+    ensures unchanged { OnErr result (to.new.items ≡ to.old.items) }
 {
     match text {
         Some(text) => append_text(attr, text, to),
@@ -41,6 +44,22 @@ pub fn append_optional_text(attr: Attr, text: Option<&Text>, to: &mut Vec<u8>) -
 }
 
 pub fn append_number(attr: Attr, number: u32, to: &mut Vec<u8>) -> Result<(), Memory>
+    ensures kept { StillStands to.old.items to.new.items }
+    ensures written { OnOk result (to.new.items ≡ to.old.items ++ assignment attr (numbered number)) }
+    ensures unchanged { OnErr result (to.new.items ≡ to.old.items) }
+{
+    let before = to.len();
+    match put_number(attr, number, to) {
+        Ok(()) => Ok(()),
+        Err(Memory) => {
+            to.truncate(before);
+            Err(Memory)
+        }
+    }
+}
+
+/// The same, but where memory is wanting a part of it may stand there.
+fn put_number(attr: Attr, number: u32, to: &mut Vec<u8>) -> Result<(), Memory>
     ensures kept { StillStands to.old.items to.new.items }
     ensures written { OnOk result (to.new.items ≡ to.old.items ++ assignment attr (numbered number)) }
 {
@@ -57,6 +76,7 @@ pub fn append_optional_number(
     ensures kept { StillStands to.old.items to.new.items }
     ensures written { OnOk result
         (to.new.items ≡ to.old.items ++ assignment_if attr (option_map numbered number)) }
+    ensures unchanged { OnErr result (to.new.items ≡ to.old.items) }
 {
     match number {
         Some(number) => append_number(attr, number, to),
@@ -65,6 +85,22 @@ pub fn append_optional_number(
 }
 
 pub fn append_id(attr: Attr, id: BoardId, to: &mut Vec<u8>) -> Result<(), Memory>
+    ensures kept { StillStands to.old.items to.new.items }
+    ensures written { OnOk result (to.new.items ≡ to.old.items ++ assignment attr (identified id)) }
+    ensures unchanged { OnErr result (to.new.items ≡ to.old.items) }
+{
+    let before = to.len();
+    match put_id(attr, id, to) {
+        Ok(()) => Ok(()),
+        Err(Memory) => {
+            to.truncate(before);
+            Err(Memory)
+        }
+    }
+}
+
+/// The same, but where memory is wanting a part of it may stand there.
+fn put_id(attr: Attr, id: BoardId, to: &mut Vec<u8>) -> Result<(), Memory>
     ensures kept { StillStands to.old.items to.new.items }
     ensures written { OnOk result (to.new.items ≡ to.old.items ++ assignment attr (identified id)) }
 {
@@ -112,6 +148,22 @@ pub fn append_optional_decimal(
 fn append_moment(attr: Attr, moment: Moment, to: &mut Vec<u8>) -> Result<(), Memory>
     ensures kept { StillStands to.old.items to.new.items }
     ensures written { OnOk result (to.new.items ≡ to.old.items ++ assignment attr (timed moment)) }
+    ensures unchanged { OnErr result (to.new.items ≡ to.old.items) }
+{
+    let before = to.len();
+    match put_moment(attr, moment, to) {
+        Ok(()) => Ok(()),
+        Err(Memory) => {
+            to.truncate(before);
+            Err(Memory)
+        }
+    }
+}
+
+/// The same, but where memory is wanting a part of it may stand there.
+fn put_moment(attr: Attr, moment: Moment, to: &mut Vec<u8>) -> Result<(), Memory>
+    ensures kept { StillStands to.old.items to.new.items }
+    ensures written { OnOk result (to.new.items ≡ to.old.items ++ assignment attr (timed moment)) }
 {
     append(to, attr.opening().as_bytes())?;
     moment.write(to)?;
@@ -126,6 +178,7 @@ pub fn append_optional_moment(
     ensures kept { StillStands to.old.items to.new.items }
     ensures written { OnOk result
         (to.new.items ≡ to.old.items ++ assignment_if attr (option_map timed moment)) }
+    ensures unchanged { OnErr result (to.new.items ≡ to.old.items) }
 {
     match moment {
         Some(moment) => append_moment(attr, moment, to),

@@ -37,6 +37,11 @@ pub enum Attr {
     Barcode,
     MagazineId,
     SlotId,
+    /// The child that lists the sub boards of a board: no attribute, but refusals name it.
+    SubBoards,
+    Pos,
+    Bc,
+    St,
 }
 
 impl Attr {
@@ -81,6 +86,10 @@ impl Attr {
             Attr::Barcode => "Barcode",
             Attr::MagazineId => "MagazineId",
             Attr::SlotId => "SlotId",
+            Attr::SubBoards => "SubBoards",
+            Attr::Pos => "Pos",
+            Attr::Bc => "Bc",
+            Attr::St => "St",
         }
     }
 
@@ -122,6 +131,10 @@ impl Attr {
             Attr::Barcode => " Barcode=\"",
             Attr::MagazineId => " MagazineId=\"",
             Attr::SlotId => " SlotId=\"",
+            Attr::SubBoards => " SubBoards=\"",
+            Attr::Pos => " Pos=\"",
+            Attr::Bc => " Bc=\"",
+            Attr::St => " St=\"",
         }
     }
 }

@@ -5,6 +5,7 @@ ghost use Rattle.hermes_horizontal.specs.Parts.{no_info};
 
 use crate::message::{Horizontal, Info, Message, Service};
 use crate::said::Said;
+use board_record::SubBoards;
 use line_base::{Memory, Name, copied_text, take_text};
 use std::alloc::Global;
 
@@ -124,6 +125,7 @@ impl Info {
             weight: self.weight,
             order: None,
             batch: None,
+            subs: self.subs.copy()?,
         };
         copy.take_texts(alloc, self)?;
         Ok(copy)
@@ -173,6 +175,7 @@ pub fn no_info() -> Info
         weight: None,
         order: None,
         batch: None,
+        subs: SubBoards::new(),
     }
 }
 

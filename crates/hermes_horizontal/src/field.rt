@@ -80,10 +80,7 @@ impl<'a> Field<'a> {
             (value_at at (rows.required self.now.attr values.number) self.now.found) }
     {
         match &self.found {
-            Some(attribute) => match read_number(attribute.value.bytes()) {
-                Some(number) => Ok(number),
-                None => Err(bad(self.attr, attribute)),
-            },
+            Some(attribute) => plain_number_in(self.attr, attribute),
             None => Err(missing(self.attr, at)),
         }
     }
@@ -280,7 +277,7 @@ fn read_long_number(bytes: &[u8]) -> Option<u64>
     }
 }
 
-fn missing(attr: Attr, at: usize) -> Refusal
+pub fn missing(attr: Attr, at: usize) -> Refusal
     ensures { result ≡ record { at = at; why = Fault.Missing attr } }
 {
     Refusal {
@@ -308,6 +305,16 @@ fn left_out<T>(attr: Attr, at: usize, required: bool) -> Result<Option<T>, Refus
     Ok(None)
 }
 
+pub fn plain_number_in(attr: Attr, attribute: &LentAttribute<'_>) -> Result<u32, Refusal>
+    ensures { Gives (λ number. Some (values.numbered number)) result
+        (value_or_bad attribute.now.at attr (values.read_as values.number attribute.now.value)) }
+{
+    match read_number(attribute.value.bytes()) {
+        Some(number) => Ok(number),
+        None => Err(bad(attr, attribute)),
+    }
+}
+
 fn id_in(attr: Attr, attribute: &LentAttribute<'_>) -> Result<BoardId, Refusal>
     ensures { Gives (λ id. Some (values.identified id)) result
         (value_or_bad attribute.now.at attr (values.read_as values.identity attribute.now.value)) }
@@ -318,7 +325,7 @@ fn id_in(attr: Attr, attribute: &LentAttribute<'_>) -> Result<BoardId, Refusal>
     }
 }
 
-fn quality_in(attr: Attr, attribute: &LentAttribute<'_>) -> Result<Quality, Refusal>
+pub fn quality_in(attr: Attr, attribute: &LentAttribute<'_>) -> Result<Quality, Refusal>
     ensures { Gives (λ quality. Some (of_quality quality)) result
         (value_or_bad attribute.now.at attr (values.read_as rows.quality attribute.now.value)) }
 {

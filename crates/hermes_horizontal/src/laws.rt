@@ -19,8 +19,9 @@ impl Message {
         parts_are_proper(self);
     }
 
-    /// What is written of this message is read as this message, if it is writable: the lane and
-    /// the code are at most 999,999,999, and the name in `Other` is none of the thirteen.
+    /// What is written of this message is read as this message, if it is writable: the lane, the
+    /// code and the places of sub boards are at most 999,999,999, a forecast has no sub boards, and
+    /// the name in `Other` is none of the thirteen.
     ///
     /// Nothing else is asked of it. The call states the law: it goes over the message's parts, and
     /// changes nothing.

@@ -22,6 +22,7 @@ mod read;
 mod root;
 mod rows;
 mod said;
+mod subs;
 mod write;
 
 pub use attr::Attr;

@@ -3,7 +3,7 @@ ghost use Rattle.hermes_horizontal.specs.Parts.{kind_of, name_of};
 
 use crate::kind::Kind;
 use crate::said::Said;
-use board_record::{BoardId, Record};
+use board_record::{BoardId, Record, SubBoards};
 use line_base::{Code, Decimal, Flip, Moment, Name, Quality, Severity, Text, Transfer};
 
 /// A message: what it says, and when it was sent, where it tells.
@@ -105,6 +105,7 @@ pub struct Info {
     pub weight: Option<Decimal>,
     pub order: Option<Text>,
     pub batch: Option<Text>,
+    pub subs: SubBoards,
 }
 
 impl Horizontal {

@@ -5,12 +5,12 @@ ghost use Rattle.std.specs.Prelude.{◌<◌, ◌^◌, option_map};
 ghost use Rattle.std.specs.List.{AllByRecursion};
 ghost use Rattle.line_base.specs.Name.{IsName};
 ghost use Rattle.line_base.specs.Text.{IsText};
-ghost use Rattle.hermes_horizontal.specs.Canonical.{IsProperIf, IsProperMessage};
-ghost use Rattle.hermes_horizontal.specs.Parts.{name_of, parts, info_of, info_parts, service_parts};
+ghost use Rattle.hermes_horizontal.specs.Canonical.{HasProperSubs, IsProperIf, IsProperMessage, IsProperSub};
+ghost use Rattle.hermes_horizontal.specs.Parts.{inner_of, name_of, parts, info_of, info_parts, service_parts};
 ghost use Rattle.hermes_horizontal.specs.Values.{worded, identified, measured, timed};
 
 use crate::message::{Horizontal, Info, Message, Service};
-use board_record::{BoardId, Record};
+use board_record::{BoardId, Record, SubBoard};
 use line_base::{Decimal, Moment, Text};
 
 /// Every part of a message is within what its type allows.
@@ -20,6 +20,7 @@ pub fn parts_are_proper(message: &Message)
     optional_moment_is_proper(message.stamp);
     name_is_proper(message.body.what());
     values_are_proper(message.body.what());
+    subs_are_proper(message.body.what());
 }
 
 fn name_is_proper(body: &Horizontal)
@@ -48,6 +49,24 @@ fn values_are_proper(body: &Horizontal)
         }
         Horizontal::SendBoardInfo(info) => info_is_proper(info),
         _ => {}
+    }
+}
+
+fn subs_are_proper(body: &Horizontal)
+    ensures { HasProperSubs (inner_of body.now) }
+{
+    match body {
+        Horizontal::BoardAvailable(board) => barcodes_are_proper(board.subs.list()),
+        Horizontal::SendBoardInfo(info) => barcodes_are_proper(info.subs.list()),
+        _ => {}
+    }
+}
+
+fn barcodes_are_proper(subs: &[SubBoard])
+    ensures { AllByRecursion IsProperSub subs.now }
+{
+    for sub in subs {
+        optional_text_is_proper(&sub.barcode);
     }
 }
 

@@ -6,7 +6,7 @@ ghost use Rattle.hermes_element.specs.Element.{Forest, trees_of};
 ghost use Rattle.hermes_horizontal.specs.Fields.{Gives, said_by, head_columns, decimal_column, head_parts, sizes_parts, clearances_parts, board_found, service_found, SaysText};
 ghost use Rattle.hermes_horizontal.specs.Opened.{ReadsParts};
 ghost use Rattle.hermes_horizontal.specs.Parts.{info_of, of_transfer};
-ghost use Rattle.hermes_horizontal.specs.Reading.{ReadsRow, ReadsBody, ReadsInfo, IsWhole};
+ghost use Rattle.hermes_horizontal.specs.Reading.{ReadsRow, ReadsBody, ReadsInfo, TellsBoard, IsWhole};
 ghost use Rattle.hermes_horizontal.specs.Rows.{board_columns, transfer_columns};
 ghost use Rattle.hermes_horizontal.specs.Spelling.{values_of, has_child, features_listed, features_in};
 ghost use Rattle.hermes_horizontal.specs.Values.{identified};
@@ -19,7 +19,8 @@ use crate::field::Field;
 use crate::find::{find_board, find_four, find_one, find_two};
 use crate::kind::{Kind, kind_named};
 use crate::message::{Features, Horizontal, Info, Service};
-use board_record::{BoardId, Record};
+use crate::subs::subs_in;
+use board_record::{BoardId, Record, SubBoards};
 use hermes_element::{LentAttributes, LentChildren, LentElement, LentValue};
 use line_base::{Decimal, Flip, Memory, Quality, Text, Transfer};
 use std::alloc::Global;
@@ -39,7 +40,7 @@ pub fn body_of(alloc: Global, child: LentElement<'_>) -> Result<Horizontal, Mess
         Kind::CheckAlive => check_alive(alloc, attributes),
         Kind::ServiceDescription => service_description(alloc, at, attributes, &children),
         Kind::Notification => notification(alloc, at, attributes),
-        Kind::BoardAvailable => board_available(alloc, at, attributes),
+        Kind::BoardAvailable => board_available(alloc, at, attributes, &children),
         Kind::RevokeBoardAvailable => Ok(Horizontal::RevokeBoardAvailable),
         Kind::MachineReady => machine_ready(at, attributes),
         Kind::RevokeMachineReady => Ok(Horizontal::RevokeMachineReady),
@@ -48,7 +49,7 @@ pub fn body_of(alloc: Global, child: LentElement<'_>) -> Result<Horizontal, Mess
         Kind::TransportFinished => transport_finished(at, attributes),
         Kind::BoardForecast => board_forecast(alloc, at, attributes),
         Kind::QueryBoardInfo => query_board_info(alloc, attributes),
-        Kind::SendBoardInfo => send_board_info(alloc, at, attributes),
+        Kind::SendBoardInfo => send_board_info(alloc, at, attributes, &children),
         Kind::Other => Ok(Horizontal::Other(name.own(alloc)?)),
     }
 }
@@ -246,11 +247,11 @@ fn board_available(
     alloc: Global,
     at: usize,
     attributes: LentAttributes<'_>,
+    children: &LentChildren<'_>,
 ) -> Result<Horizontal, MessageError>
-    ensures { (children : Forest)
-        → ReadsRow kinds.BoardAvailable at attributes.entry children result }
+    ensures { ReadsRow kinds.BoardAvailable at attributes.entry children.now result }
 {
-    let board = info(alloc, at, attributes, true)?;
+    let board = board_told(alloc, at, attributes, children, true)?;
     Ok(Horizontal::BoardAvailable(record_of(board)))
 }
 
@@ -269,22 +270,42 @@ fn send_board_info(
     alloc: Global,
     at: usize,
     attributes: LentAttributes<'_>,
+    children: &LentChildren<'_>,
 ) -> Result<Horizontal, MessageError>
-    ensures { (children : Forest)
-        → ReadsRow kinds.SendBoardInfo at attributes.entry children result }
+    ensures { ReadsRow kinds.SendBoardInfo at attributes.entry children.now result }
 {
-    Ok(Horizontal::SendBoardInfo(info(alloc, at, attributes, false)?))
+    let board = board_told(alloc, at, attributes, children, false)?;
+    Ok(Horizontal::SendBoardInfo(board))
 }
 
-/// What is told of a board. Its id, its maker, its quality and which side is up must be there
-/// where they are required.
+/// What is told of a board by its attributes, and behind these by its sub boards.
+#[inline(always)]
+#[tactic(auto, using(crate::proofs::SubsRead::attributes_refused, crate::proofs::SubsRead::subs_refused))]
+fn board_told(
+    alloc: Global,
+    at: usize,
+    attributes: LentAttributes<'_>,
+    children: &LentChildren<'_>,
+    required: bool,
+) -> Result<Info, MessageError>
+    ensures { TellsBoard (values_of at attributes.entry (board_columns required)) children.now
+        result }
+{
+    let mut board = info(alloc, at, attributes, required)?;
+    board.subs = subs_in(alloc, children)?;
+    Ok(board)
+}
+
+/// What is told of a board, its sub boards apart. Its id, its maker, its quality and which side is
+/// up must be there where they are required.
 fn info(
     alloc: Global,
     at: usize,
     attributes: LentAttributes<'_>,
     required: bool,
 ) -> Result<Info, MessageError>
-    ensures { ReadsInfo result (values_of at attributes.entry (board_columns required)) }
+    ensures told { ReadsInfo result (values_of at attributes.entry (board_columns required)) }
+    ensures no_subs { IfOk result (λ info. info.subs ≡ []) }
 {
     let fields = find_board(attributes);
     info_in(alloc, at, required, &fields)
@@ -298,8 +319,9 @@ fn info_in(
     required: bool,
     fields: &[Field<'_>; 16],
 ) -> Result<Info, MessageError>
-    ensures { (attributes : List Attribute) → fields.now ≡ board_found attributes
+    ensures told { (attributes : List Attribute) → fields.now ≡ board_found attributes
         → ReadsInfo result (values_of at attributes (board_columns required)) }
+    ensures no_subs { IfOk result (λ info. info.subs ≡ []) }
 {
     let [
         id,
@@ -341,6 +363,7 @@ fn info_in(
         weight: clearances.weight,
         order,
         batch,
+        subs: SubBoards::new(),
     })
 }
 
@@ -471,6 +494,7 @@ fn record_of(info: Info) -> Record
         weight,
         order,
         batch,
+        subs,
     } = info;
     match (id, created_by, quality, flip) {
         (Some(id), Some(created_by), Some(quality), Some(flip)) => Record {
@@ -490,6 +514,7 @@ fn record_of(info: Info) -> Record
             weight,
             order,
             batch,
+            subs,
         },
         _ => unreachable!(),
     }

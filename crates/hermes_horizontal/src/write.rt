@@ -15,8 +15,9 @@ const TYPICAL_BYTES: usize = 512;
 
 /// Appends the canonical spelling of a message, or leaves `to` as it was where memory is wanting.
 ///
-/// What is written is read as this message where the lane and the code are at most 999,999,999 and
-/// the name in `Other` is none of the thirteen. An `Other` of one of these names is written
+/// What is written is read as this message where the lane, the code and the places of sub boards are
+/// at most 999,999,999, a forecast has no sub boards, and the name in `Other` is none of the
+/// thirteen. A forecast is written without its sub boards. An `Other` of one of these names is written
 /// without its attributes, and what is read of that is another message or a refusal.
 pub fn write_horizontal(message: &Message, to: &mut Vec<u8>) -> Result<(), Memory>
     ensures written { OnOk result (to.new.items ≡ to.old.items ++ canonical message.now) }

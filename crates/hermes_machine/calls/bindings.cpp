@@ -27,7 +27,7 @@ int main() {
     hermes::machine m, other;
     hermes_view view{};
     hermes_board board{};
-    std::string order;
+    std::string order, text;
     char front[4096];
     if (!hermes::machine::fits()) return 1;
     std::printf("new %d", m.make(bad, "Loader"));
@@ -35,6 +35,10 @@ int main() {
     std::printf(" %d\n", m.make(good, "Loader"));
     std::printf("insert %d\n", m.step(HERMES_INSERT, 0, 1, "4711", noon));
     show_acts("insert", m);
+    std::printf("line %d", m.line("hold in", noon));
+    std::printf(" %d\n", m.line("hold up", noon));
+    std::printf("log %d", m.log(text));
+    std::printf(" %s", text.c_str());
     std::printf("board %d", m.board(HERMES_KEPT, 0, board));
     std::printf(" quality %u", board.quality);
     show_field(m, HERMES_FIELD_CREATED_BY), show_field(m, HERMES_FIELD_TOP_BARCODE), show_field(m, HERMES_FIELD_WIDTH);

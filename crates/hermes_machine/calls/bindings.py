@@ -29,6 +29,8 @@ m = hermes.Machine(library, 7, "Loader")
 print("new", answer_to(lambda: hermes.Machine(library, 7, "Loader", lane=0)), answer_to(lambda: hermes.Machine(library, 7, "")), 0)
 print("insert", m.step(hermes.INSERT, NOON, what=1, data=b"4711"))
 show_acts("insert", m)
+print("line", m.line("hold in", NOON), answer_to(lambda: m.line("hold up", NOON)))
+print("log 0", m.log(), end="")
 board, fields = m.boards()[0]
 print("board 0 quality", board.quality, fields["created_by"], fields["top_barcode"], fields.get("width", "none"))
 print("mark", m.step(hermes.MARK, NOON, what=1, id=bytes(board.id)))

@@ -1,5 +1,5 @@
 /* Each call of hermes_machine.h with each of its answers; what it prints is calls.out, written from the header. The three
- * calls of memory count here, and the one whose turn `fails_at` is has none. */
+ * calls of memory count here, and the one whose turn `fails_at` is has none; where `none_left` is set none has any. */
 #include "layout.h"
 #include <stdio.h>
 #include <stdlib.h>
@@ -11,6 +11,7 @@ typedef struct {
 } rattle_block;
 
 static size_t live, asked, fails_at;
+static int none_left;
 static uint64_t none[2];
 
 static rattle_block block_at(void *at) {
@@ -22,14 +23,14 @@ rattle_block rattle_realloc(void *at, size_t kept, size_t bytes, size_t align);
 void rattle_dealloc(void *at);
 
 rattle_block rattle_alloc(size_t bytes, size_t align) {
-    if (++asked == fails_at) return block_at(NULL);
+    if (++asked == fails_at || none_left) return block_at(NULL);
     live++;
     return block_at(malloc(bytes != 0 ? bytes : align));
 }
 
 rattle_block rattle_realloc(void *at, size_t kept, size_t bytes, size_t align) {
     (void)kept;
-    if (++asked == fails_at) return block_at(NULL);
+    if (++asked == fails_at || none_left) return block_at(NULL);
     return block_at(realloc(at, bytes != 0 ? bytes : align));
 }
 
@@ -153,11 +154,7 @@ static const hermes_input nothing = {sizeof(hermes_input), HERMES_NOTHING, 0, 0,
 static const int64_t noon = INT64_C(1790000000000);
 
 static int32_t told(hermes_machine *m, uint32_t kind, uint32_t side, uint32_t what, const char *bytes) {
-    hermes_input i = nothing;
-    i.kind = kind;
-    i.side = side;
-    i.what = what;
-    return hermes_machine_step(m, &i, (const uint8_t *)bytes, strlen(bytes), noon);
+    return hermes_machine_tell(m, kind, side, what, bytes, strlen(bytes), noon);
 }
 
 static int32_t at_moment(hermes_machine *m, int64_t now) {
@@ -437,6 +434,55 @@ static void orders(void) {
     hermes_machine_free(&m);
 }
 
+static int32_t lined(hermes_machine *m, const char *line) {
+    return hermes_machine_line(m, (const uint8_t *)line, strlen(line), noon);
+}
+
+static void show_log(const char *what, hermes_machine *m) {
+    char text[400];
+    int64_t n = hermes_machine_log(m, 0, (uint8_t *)text, sizeof text);
+    printf("%s: log %lld\n%.*s", what, (long long)n, n > 0 ? (int)n : 0, text);
+}
+
+/* lines of a panel: steps, each refusal, those that ask for none; and the lines of a log */
+static void lines(void) {
+    hermes_machine m = {0};
+    hermes_view v = {.size = sizeof v};
+    char long_line[4098], text[8] = "unread";
+    memset(long_line, ' ', sizeof long_line);
+    long_line[4097] = 0;
+    show_log("of none", &m);
+    printf("line of none: %d\n", lined(&m, "insert"));
+    new_of(&m, good, "Loader");
+    show_log("before a step", &m);
+    say("insert", lined(&m, "insert 4711"));
+    show_log("insert", &m);
+    say("sub", lined(&m, " sub\t00000007-0000-8000-8000-000000000001 3 C3"));
+    show_log("sub", &m);
+    show_acts("sub", &m);
+    printf("refused: %d %d %d %d %d %d %d %d\n", lined(&m, long_line), lined(&m, "\x7f"), lined(&m, "bridge on"), lined(&m, "insert a b"),
+           lined(&m, "ask place M x"), lined(&m, "hold up"), lined(&m, "remove 4711"),
+           lined(&m, "mark 00000007-0000-8000-8000-000000000001 fine"));
+    long_line[4096] = 0;
+    printf("nothing: %d %d %d\n", lined(&m, ""), lined(&m, "# a comment"), lined(&m, long_line));
+    printf("outside: %d %d %d\n", lined(&m, "connect"), lined(&m, "show"), lined(&m, "end"));
+    printf("reasons: %d %d %d\n", lined(&m, "tick"), lined(&m, "fault in"), lined(&m, "go out"));
+    printf("moments: %d %d\n", hermes_machine_line(&m, (const uint8_t *)"hold in", 7, INT64_C(-62135596800001)),
+           hermes_machine_line(&m, (const uint8_t *)"hold in", 7, INT64_C(-62135596800000)));
+    show_log("hold", &m);
+    printf("parts: %lld", (long long)hermes_machine_log(&m, 2, (uint8_t *)text, 6));
+    printf(" %.6s", text);
+    printf(" %lld", (long long)hermes_machine_log(&m, 11, (uint8_t *)text, 6));
+    printf(" %.1s %lld\n", text, (long long)hermes_machine_log(&m, SIZE_MAX, (uint8_t *)text, 6));
+    say("closed, of none", told(&m, HERMES_CLOSED, HERMES_ENTRY, 0, ""));
+    show_log("closed", &m);
+    say("sense", lined(&m, "sense in Taken"));
+    show_log("sense", &m);
+    hermes_machine_view(&m, &v);
+    printf("steps: %llu\n", (unsigned long long)v.steps);
+    hermes_machine_free(&m);
+}
+
 /* Memory is wanting for a text: nothing is copied, and the machine is as it was. Then it is wanting in a step, each time one
  * call later: the machine is spent, and has counted the id. */
 static void wants(void) {
@@ -451,7 +497,12 @@ static void wants(void) {
     printf("no text: %lld", (long long)hermes_machine_act_text(&m, 0, 0, (uint8_t *)text, sizeof text));
     fails_at = asked + 1;
     printf(" %lld", (long long)field_of(&m, 0, 0, HERMES_FIELD_CREATED_BY, text, sizeof text));
+    fails_at = asked + 1;
+    printf(" %lld", (long long)hermes_machine_log(&m, 0, (uint8_t *)text, sizeof text));
     fails_at = 0;
+    none_left = 1;
+    printf(" %d", lined(&m, "hold in"));
+    none_left = 0;
     hermes_machine_view(&m, &v);
     printf(" %s spent %u kept %llu\n", text, v.spent, (unsigned long long)v.kept);
     hermes_machine_free(&m);
@@ -482,6 +533,7 @@ int main(void) {
     nothing_to_read();
     read_of_boards();
     orders();
+    lines();
     wants();
     return 0;
 }

@@ -17,7 +17,7 @@ AT(hermes_profile, bridge, 16);
 AT(hermes_profile, zero, 20);
 AT(hermes_profile, used, 24);
 
-SIZE(hermes_view, 128);
+SIZE(hermes_view, 136);
 AT(hermes_view, size, 0);
 AT(hermes_view, spent, 4);
 AT(hermes_view, bridge, 8);
@@ -31,6 +31,7 @@ AT(hermes_view, kept, 72);
 AT(hermes_view, acts, 80);
 AT(hermes_view, unsent, 88);
 AT(hermes_view, ids_made, 120);
+AT(hermes_view, steps, 128);
 
 SIZE(hermes_input, 48);
 AT(hermes_input, size, 0);

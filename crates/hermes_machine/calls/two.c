@@ -5,17 +5,18 @@
 #include <errno.h>
 #include <stdio.h>
 #include <stdlib.h>
+#include <string.h>
 #include <sys/socket.h>
 #include <unistd.h>
 
 typedef struct {
     hermes_machine handle;
-    unsigned number, turn;
+    unsigned number;
     uint32_t way; /* the way to the other one */
     int fd;
 } machine;
 
-static machine loader = {{0, NULL}, 1, 0, HERMES_EXIT, -1}, printer = {{0, NULL}, 2, 0, HERMES_ENTRY, -1};
+static machine loader = {{0, NULL}, 1, HERMES_EXIT, -1}, printer = {{0, NULL}, 2, HERMES_ENTRY, -1};
 static int64_t now = INT64_C(1790000000000);
 
 static void fail(const char *what) {
@@ -23,22 +24,22 @@ static void fail(const char *what) {
     exit(1);
 }
 
-/* the lines of a step's acts */
-static void log_acts(machine *m) {
-    char text[6001];
-    int64_t n;
-    m->turn++;
-    for (uint32_t i = 0; (n = hermes_machine_act_text(&m->handle, i, 0, (uint8_t *)text, sizeof text)) != HERMES_NONE; i++) {
-        if (n < 0) fail("no text");
-        printf("%u %u %.*s\n", m->number, m->turn, (int)n, text);
+/* the lines of the last step, the machine's number in front of each */
+static void log_step(machine *m) {
+    static char text[65536];
+    int64_t n = hermes_machine_log(&m->handle, 0, (uint8_t *)text, sizeof text);
+    if (n < 0 || n == sizeof text) fail("no log");
+    for (char *line = text, *end; line < text + n; line = end + 1) {
+        end = memchr(line, '\n', (size_t)(text + n - line));
+        if (end == NULL) fail("a line without its end");
+        printf("%u %.*s\n", m->number, (int)(end - line), line);
     }
 }
 
 static int32_t tell(machine *m, uint32_t kind, uint32_t side, uint32_t what, const void *bytes, size_t len) {
-    hermes_input i = {sizeof i, kind, side, what, 0, 0, {0}, 0};
-    int32_t answer = hermes_machine_step(&m->handle, &i, bytes, len, now++);
+    int32_t answer = hermes_machine_tell(&m->handle, kind, side, what, bytes, len, now++);
     if (answer < 0) fail("a step");
-    if (answer == HERMES_DONE) log_acts(m);
+    if (answer == HERMES_DONE) log_step(m);
     return answer;
 }
 
@@ -93,9 +94,10 @@ static hermes_view view_of(machine *m) {
     return v;
 }
 
-/* a board is laid into the loader, and both drives run in the end */
-static void lay_in(const char *barcode, size_t len) {
-    must(&loader, HERMES_INSERT, 0, 1, barcode, len);
+/* a board is laid into the loader, as its panel says, and both drives run in the end */
+static void lay_in(const char *line) {
+    if (hermes_machine_line(&loader.handle, (const uint8_t *)line, strlen(line), now++)) fail("no board");
+    log_step(&loader);
     run();
     if (!view_of(&loader).drive[HERMES_EXIT] || !view_of(&printer).drive[HERMES_ENTRY]) fail("the drives don't run");
     must(&loader, HERMES_SENSED, HERMES_EXIT, HERMES_SAW_BEGUN, "", 0);
@@ -112,17 +114,17 @@ int main(void) {
     if (hermes_machine_new(&loader.handle, &one, (const uint8_t *)"Loader", 6)) fail("no loader");
     if (hermes_machine_new(&printer.handle, &two, (const uint8_t *)"Printer", 7)) fail("no printer");
     join();
-    lay_in("PCB-1", 5);
+    lay_in("insert PCB-1");
     must(&loader, HERMES_SENSED, HERMES_EXIT, HERMES_SAW_LEFT, "", 0);
     pull_in();
-    lay_in("PCB-2", 5);
+    lay_in("insert PCB-2");
     must(&loader, HERMES_SENSED, HERMES_EXIT, HERMES_SAW_LEFT, "", 0);
     hang_up(&printer); /* the connection breaks, and the loader finds it closed */
     run();
     pull_in(); /* the board is pushed in by hand */
     join();
     run();
-    lay_in("PCB-3", 5);
+    lay_in("insert PCB-3");
     must(&loader, HERMES_SENSED, HERMES_EXIT, HERMES_SAW_LEFT, "", 0);
     pull_in();
     if (view_of(&printer).kept != 3 || view_of(&loader).kept != 0 || view_of(&loader).ids_made != 3) fail("a board is missing");

@@ -2,10 +2,11 @@
  * (IPC-HERMES-9852, version 1.5) says, as a library for a control program.
  *
  * A control program owns sockets, time and sensors; the library owns sessions, handovers and records. What happens is told by
- * hermes_machine_step; what is to be done is read back by hermes_machine_view and hermes_machine_unsent. These are levels, no
- * edges: nothing is lost where several steps are made before they are read. The acts alone (hermes_machine_act, _act_text)
- * are those of the last step. SO FAR a machine has no way of its own to a supervisory system: your program has that
- * connection, and tells the machine that it is supervised, what it asks, and what is answered.
+ * hermes_machine_step, or by a line of a panel (hermes_machine_line); what is to be done is read back by hermes_machine_view
+ * and hermes_machine_unsent. These are levels, no edges: nothing is lost where several steps are made before they are read.
+ * The acts alone (hermes_machine_act, _act_text, _log) are those of the last step. SO FAR a machine has no way of its own to
+ * a supervisory system: your program has that connection, and tells the machine that it is supervised, what it asks, and
+ * what is answered.
  *
  * WHOSE IS WHAT. The library opens nothing, waits for nothing, starts no thread, calls nothing of yours but the three
  * calls of memory below, and keeps nothing outside the handle and what it takes by these.
@@ -47,7 +48,7 @@ extern "C" {
 #endif
 
 /* Raised by each change of a struct, a number or a call. Compare it with hermes_machine_abi() once. */
-#define HERMES_MACHINE_ABI 3u
+#define HERMES_MACHINE_ABI 5u
 
 /* A handle: a machine, or, all zero, none. Its fields are the library's. */
 typedef struct hermes_machine {
@@ -78,13 +79,24 @@ enum {
     HERMES_NO_QUERIES_FULL = 17,    /* 256 questions wait for an answer */
     HERMES_NO_UNKNOWN_QUERY = 18,
     HERMES_NO_ANSWERED = 19,
+    HERMES_NO_SUBS_FULL = 20,       /* the board's record has no room for a circuit more: of the line `sub` alone */
     /* errors */
     HERMES_EMPTY = -1,     /* the handle has no machine */
     HERMES_MEMORY = -2,    /* memory was wanting */
     HERMES_BAD_INPUT = -3, /* a size or a number that is none */
-    HERMES_BAD_TEXT = -4,  /* no text: not UTF-8, a character that XML forbids, or too few or too many bytes */
+    HERMES_BAD_TEXT = -4,  /* no text: not UTF-8, a character that XML forbids, or too few or too many bytes; or one of the lines
+                              `connect`, `show`, `end`, which your program does itself */
     HERMES_NOT_EMPTY = -5, /* hermes_machine_new: the handle has a machine already */
-    HERMES_NONE = -6       /* there is no such act, record, field or work order */
+    HERMES_NONE = -6,      /* there is no such act, record, field or work order; or the line is empty or a comment */
+    /* why a line of a panel is refused: the first of its reasons. The last four are those of the words from the left */
+    HERMES_REFUSED_LONG_LINE = -7,     /* more than 4,096 bytes */
+    HERMES_REFUSED_NOT_TEXT = -9,      /* a byte that is neither a tab nor printable ASCII */
+    HERMES_REFUSED_UNKNOWN_WORD = -10, /* the first word is no form's */
+    HERMES_REFUSED_WRONG_COUNT = -11,  /* too few or too many words */
+    HERMES_REFUSED_BAD_NUMBER = -12,
+    HERMES_REFUSED_BAD_SIDE = -13,
+    HERMES_REFUSED_BAD_ID = -14,
+    HERMES_REFUSED_BAD_WORD = -15
 };
 
 /* ---- sides and ways. A machine's two sides have the numbers of their ways ---- */
@@ -132,6 +144,7 @@ typedef struct hermes_view {
     uint64_t acts;       /* how many acts the last step had */
     uint64_t unsent[4];  /* bytes that wait to be sent, by the number of the way */
     uint64_t ids_made;   /* for `used` of the next profile: how many ids it made, with those before it was new */
+    uint64_t steps;      /* how many steps it made, as far as 64 bits count */
 } hermes_view;
 
 /* ---- what happens. Fields that a kind doesn't name are passed over. `bytes` are those of the call ---- */
@@ -211,7 +224,8 @@ enum {
     HERMES_ACT_TELLS = 21,    /* what = HERMES_MSG_BOARD_ARRIVED or _DEPARTED, id: a board came or went;
                                  HERMES_MSG_QUERY_WORK_ORDER_INFO, query: a work order is asked for */
     HERMES_ACT_ANSWERED = 22, /* query */
-    HERMES_ACT_SETS = 23      /* it was told otherwise, as its text says */
+    HERMES_ACT_SETS = 23,     /* it was told otherwise, as its text says */
+    HERMES_ACT_SUBS = 24      /* id, what = a place of its panel: its record has a circuit more. Of the line `sub` alone */
 };
 enum {
     HERMES_MSG_CHECK_ALIVE = 0,
@@ -248,7 +262,8 @@ enum {
     HERMES_OUTLET = 1, /* index 0: the record that the outlet holds */
     HERMES_INTAKE = 2  /* index 0: the record that the intake holds */
 };
-/* fields of a record, each as its text; lengths (mm), the speed (mm/s) and the weight (g) as decimals */
+/* fields of a record, each as its text; lengths (mm), the speed (mm/s) and the weight (g) as decimals. SO FAR the circuits of a
+ * panel are none of them: a record that came with circuits is handed on with them */
 enum {
     HERMES_FIELD_CREATED_BY = 0, /* the name of the machine that made the id. Each record has it */
     HERMES_FIELD_PRODUCT = 1,
@@ -303,6 +318,23 @@ int32_t hermes_machine_free(hermes_machine *m);
  * stays as it is. */
 int32_t hermes_machine_step(hermes_machine *m, const hermes_input *input, const uint8_t *bytes, size_t len, int64_t now_ms);
 
+/* The same of a kind that names no id, slot or question; `bytes` may be NULL where `len` is 0. It fills in an input and calls
+ * hermes_machine_step: not proved, only tested. */
+static inline int32_t hermes_machine_tell(hermes_machine *m, uint32_t kind, uint32_t side, uint32_t what, const void *bytes, size_t len,
+                                          int64_t now_ms) {
+    const hermes_input input = {sizeof(hermes_input), kind, side, what, 0, 0, {0}, 0};
+    return hermes_machine_step(m, &input, (const uint8_t *)(bytes != NULL ? bytes : ""), len, now_ms);
+}
+
+/* ONE STEP, BY A LINE of a panel, without its line end: docs/standard/node.md, 'Lines of a panel', has the forms.
+ * The first of these that holds is the answer: HERMES_EMPTY; HERMES_BAD_INPUT (the moment); HERMES_REFUSED_.., as a node's panel
+ * refuses it; HERMES_NONE (it is empty or a comment); HERMES_BAD_TEXT (`connect`, `show` or `end`); the reason why the machine can't take
+ * it now; HERMES_DONE. HERMES_MEMORY may stand in place of all but the first two: where it comes of the step itself the machine is
+ * spent.
+ * Proved: which answer; at HERMES_DONE, that the machine made the step that a node makes of this line, with all that is promised of
+ * hermes_machine_step; at the others what is promised there. */
+int32_t hermes_machine_line(hermes_machine *m, const uint8_t *line, size_t len, int64_t now_ms);
+
 /* Copies the front of what waits on a way into `to`, and answers how many bytes: the least of `room` and what waits.
  * HERMES_EMPTY, or else HERMES_BAD_INPUT (the number is no way's). Proved: which answer; the bytes; that the rest of `to` is as it
  * was; unchanged. */
@@ -329,6 +361,12 @@ int32_t hermes_machine_act(hermes_machine *m, uint32_t index, hermes_act *act);
  * number of bytes, and nothing is spent by it. Proved: which answer; the bytes; that the rest of `to` is as it was; unchanged.
  * No text has more than 6,000 bytes (measured). */
 int64_t hermes_machine_act_text(hermes_machine *m, uint32_t index, size_t from, uint8_t *to, size_t room);
+
+/* The lines of the last step's acts, from byte `from` on: as a node logs them that tells its drives, the number of the step (view.steps)
+ * in front of each; none before the first step, and none behind a CLOSED of which it made no step. As hermes_machine_act_text:
+ * HERMES_EMPTY; HERMES_MEMORY may stand in place of a number of bytes, and nothing is spent by it. Proved: which answer; the bytes;
+ * that what the machine owns is read off the lines of its steps, one behind the other; that the rest of `to` is as it was; unchanged. */
+int64_t hermes_machine_log(hermes_machine *m, size_t from, uint8_t *to, size_t room);
 
 /* A record. The first of these that holds is the answer: HERMES_EMPTY; HERMES_BAD_INPUT (board->size, place); HERMES_NONE
  * (there is none); else HERMES_DONE. Proved: which answer; at HERMES_DONE, each field; at the others, that `board` is as it

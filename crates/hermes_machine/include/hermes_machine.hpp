@@ -50,6 +50,11 @@ class machine {
         return step(input, bytes, now_ms);
     }
 
+    // a line of a panel, without its end
+    std::int32_t line(std::string_view text, std::int64_t now_ms) noexcept {
+        return hermes_machine_line(&handle, bytes_of(text), text.size(), now_ms);
+    }
+
     std::int32_t view(hermes_view &to) noexcept {
         to.size = sizeof to;
         return hermes_machine_view(&handle, &to);
@@ -72,12 +77,12 @@ class machine {
 
     // a whole text: HERMES_DONE, or the answer in its place, and then `to` is empty
     std::int32_t act_text(std::uint32_t index, std::string &to) {
-        char room[1024];
-        std::int64_t n;
-        to.clear();
-        while ((n = hermes_machine_act_text(&handle, index, to.size(), to_bytes(room), sizeof room)) > 0) to.append(room, static_cast<std::size_t>(n));
-        if (n < 0) to.clear();
-        return static_cast<std::int32_t>(n);
+        return whole(to, [&](char *room, std::size_t many) {
+            return hermes_machine_act_text(&handle, index, to.size(), to_bytes(room), many);
+        });
+    }
+    std::int32_t log(std::string &to) {
+        return whole(to, [&](char *room, std::size_t many) { return hermes_machine_log(&handle, to.size(), to_bytes(room), many); });
     }
     std::int32_t field(std::uint32_t place, std::uint32_t index, std::uint32_t field, std::string &to) {
         char room[1024];
@@ -96,6 +101,15 @@ class machine {
         return reinterpret_cast<const std::uint8_t *>(text.data() != nullptr ? text.data() : "");
     }
     static std::uint8_t *to_bytes(char *to) noexcept { return reinterpret_cast<std::uint8_t *>(to); }
+    // a text that is read in parts
+    template <typename Read> static std::int32_t whole(std::string &to, Read read) {
+        char room[1024];
+        std::int64_t n;
+        to.clear();
+        while ((n = read(room, sizeof room)) > 0) to.append(room, static_cast<std::size_t>(n));
+        if (n < 0) to.clear();
+        return static_cast<std::int32_t>(n);
+    }
     static std::int32_t taken(std::int64_t count, const char *from, std::string &to) {
         to.assign(from, count > 0 ? static_cast<std::size_t>(count) : 0);
         return count < 0 ? static_cast<std::int32_t>(count) : HERMES_DONE;

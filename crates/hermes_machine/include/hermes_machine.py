@@ -5,8 +5,10 @@ asks under 'WHAT YOU OWE' holds here too, but for pointers and sizes, which the 
 """
 import ctypes
 
-ABI = 3
+ABI = 5
 DONE, EMPTY, MEMORY, BAD_INPUT, BAD_TEXT, NOT_EMPTY, NONE = 0, -1, -2, -3, -4, -5, -6
+(REFUSED_LONG_LINE, REFUSED_NOT_TEXT, REFUSED_UNKNOWN_WORD, REFUSED_WRONG_COUNT, REFUSED_BAD_NUMBER, REFUSED_BAD_SIDE, REFUSED_BAD_ID,
+ REFUSED_BAD_WORD) = -7, -9, -10, -11, -12, -13, -14, -15
 ENTRY, EXIT, REFUSAL = 0, 1, 3
 (NOTHING, CONNECTED, SECOND, BYTES, CLOSED, TICK, SENSED, FAULT, WILL, LEVEL, INSERT, REMOVE, REPLACE, MARK, SHUTDOWN, FORECAST,
  QUERY, ASK, SUPERVISE, ANSWER) = range(20)
@@ -36,7 +38,8 @@ class Input(ctypes.Structure):
 class View(ctypes.Structure):
     _fields_ = (_words("size", "spent", "bridge", "supervised")
                 + [(name, ctypes.c_uint32 * many) for name, many in (("state", 2), ("held", 2), ("drive", 2), ("signal", 4), ("close", 4))]
-                + [("kept", ctypes.c_uint64), ("acts", ctypes.c_uint64), ("unsent", ctypes.c_uint64 * 4), ("ids_made", ctypes.c_uint64)])
+                + [("kept", ctypes.c_uint64), ("acts", ctypes.c_uint64), ("unsent", ctypes.c_uint64 * 4), ("ids_made", ctypes.c_uint64),
+                   ("steps", ctypes.c_uint64)])
 
 
 class Act(ctypes.Structure):
@@ -62,9 +65,11 @@ def load(path):
     taken = ctypes.c_char_p
     for name, answer, *words in (
             ("abi", u32), ("new", i32, handle, ctypes.POINTER(Profile), taken, size), ("free", i32, handle),
-            ("step", i32, handle, ctypes.POINTER(Input), taken, size, i64), ("view", i32, handle, ctypes.POINTER(View)),
+            ("step", i32, handle, ctypes.POINTER(Input), taken, size, i64), ("line", i32, handle, taken, size, i64),
+            ("view", i32, handle, ctypes.POINTER(View)),
             ("unsent", i64, handle, u32, taken, size), ("sent", i32, handle, u32, size),
             ("act", i32, handle, u32, ctypes.POINTER(Act)), ("act_text", i64, handle, u32, size, taken, size),
+            ("log", i64, handle, size, taken, size),
             ("board", i32, handle, u32, u32, ctypes.POINTER(Board)), ("field", i64, handle, u32, u32, u32, taken, size),
             ("order", i64, handle, u64, taken, size)):
         call = getattr(library, f"hermes_machine_{name}")
@@ -113,6 +118,11 @@ class Machine:
         told = Input(ctypes.sizeof(Input), kind, side, what, slot, 0, (ctypes.c_uint8 * 16)(*id), query)
         return self._call("step", ctypes.byref(told), data, len(data), now_ms)
 
+    def line(self, text, now_ms):
+        """The step that a line of a panel asks for. It answers 0, or the reason why the machine can't take it now; an error is raised."""
+        data = text.encode()
+        return self._call("line", data, len(data), now_ms)
+
     def view(self):
         """How it stands."""
         return self._seen("view", View())
@@ -129,13 +139,17 @@ class Machine:
         """The acts of the last step, each with its text."""
         found, index = [], 0
         while (act := self._seen("act", Act(), index)) is not None:
-            found.append((act, self._act_text(index)))
+            found.append((act, self._whole("act_text", index)))
             index += 1
         return found
 
-    def _act_text(self, index):
+    def log(self):
+        """The lines of the last step's acts."""
+        return self._whole("log")
+
+    def _whole(self, name, *words):
         text = b""
-        while more := self._text("act_text", index, len(text)):
+        while more := self._text(name, *words, len(text)):
             text += more
         return text.decode()
 

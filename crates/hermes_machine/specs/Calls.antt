@@ -1,14 +1,17 @@
 -- WHAT THE CALLS DO to the machine of a handle.
-use Rattle.std.specs.Prelude.{◌≡◌, ℕ, ℤ, pos, neg_ℤ, true, false, IfErr, IfSome, is_some, ◌==◌, ◌&&◌, ◌++◌, Bool, Option, None, Some, Result, Ok, Err, List, drop, length, min, nat_le, option_and_then, option_map, slice_get, take, if◌then◌else◌}
+use Rattle.std.specs.Prelude.{◌≡◌, ℕ, ℤ, pos, neg_ℤ, true, false, IfErr, IfOk, IfSome, is_some, ◌==◌, ◌&&◌, ◌++◌, Bool, Option, None, Some, Result, Ok, Err, List, drop, length, min, nat_le, option_and_then, option_map, slice_get, take, if◌then◌else◌}
 use Rattle.std.specs.Borrow.{Bor}
 use Rattle.line_base.specs.declared.states.Side.TheVariants.{Entry, Exit}
 use Rattle.node_core.specs.May.{may_do}
-use Rattle.machine_port.specs.Port.{PortState, sent, sent_refusal}
+use Rattle.machine_port.specs.Port.{PortState, made_after, may_take, sent, sent_refusal}
 use Rattle.supervisory_core.specs.Orders.{answer_to}
 use Rattle.machine_views.specs.Records.{field_text, record_at}
-use Rattle.machine_views.specs.Texts.{log_text}
-use Rattle.hermes_machine.specs.Meanings.{HasText, Happens, happening_of, made_by, may_happen, told_of, wants_text}
-use Rattle.hermes_machine.specs.Numbers.{number_of_no}
+use Rattle.machine_log.specs.Texts.{log_text}
+use Rattle.machine_text.specs.Lines.{DoesLine, asked_by}
+use Rattle.machine_text.specs.Logs.{log_of}
+use Rattle.panel_inputs.specs.Inputs.{input_of}
+use Rattle.hermes_machine.specs.Meanings.{HasText, Happens, happening_of, is_moment, made_by, may_happen, told_of, wants_text}
+use Rattle.hermes_machine.specs.Numbers.{number_of_no, number_of_unasked}
 use Rattle.hermes_machine.specs.declared.input.HermesInput.{HermesInput}
 use Rattle.hermes_machine.specs.declared.meaning.Meaning.{Meaning}
 
@@ -45,6 +48,36 @@ pub record AnswersStep (i : HermesInput) (bytes : Bor (List ℕ)) (now : ℤ) (s
       (λ meaning. s.spent ≡ false → t.spent ≡ true
       → t.made ≡ made_by (happening_of meaning bytes) s.made)
   pub still : s.spent ≡ true → t ≡ s
+
+-- THE ANSWER TO A LINE of a panel at a moment of the clock, the first of these: why it asks for no
+-- step; the reason why the machine can't take it now; done. Memory may be wanting in place of each.
+-- For the rest as at a step
+pub record AnswersAsked (bytes : List ℕ) (now : ℤ) (s t : PortState) (answer : ℤ) : Type 0 where
+  pub not_asked : IfErr (asked_by bytes)
+      (λ why. ¬ (answer ≡ neg_ℤ (pos 2)) → answer ≡ number_of_unasked why)
+  pub no : IfOk (asked_by bytes) (λ line. s.spent ≡ false → IfErr (may_take s (input_of line))
+      (λ why. ¬ (answer ≡ neg_ℤ (pos 2)) → answer ≡ number_of_no why))
+  pub memory : IfOk (asked_by bytes) (λ line. may_take s (input_of line) ≡ may_do
+      → ¬ (answer ≡ pos 0) → answer ≡ neg_ℤ (pos 2))
+  pub does : answer ≡ pos 0 → DoesLine bytes now s t
+  pub stays : ¬ (answer ≡ pos 0) → ¬ (answer ≡ neg_ℤ (pos 2)) → t ≡ s
+  pub lost : answer ≡ neg_ℤ (pos 2) → t.spent ≡ false → t ≡ s
+  pub again : s.spent ≡ true → ¬ (answer ≡ pos 0)
+  pub counted : IfOk (asked_by bytes) (λ line. s.spent ≡ false → t.spent ≡ true
+      → t.made ≡ made_after (input_of line) s.made)
+  pub still : s.spent ≡ true → t ≡ s
+
+-- and where the moment is none
+pub record IsNoMoment (s t : PortState) (answer : ℤ) : Type 0 where
+  pub bad_input : answer ≡ neg_ℤ (pos 3)
+  pub stays : t ≡ s
+
+abbrev pub AnswersAt : Bool → List ℕ → ℤ → PortState → PortState → ℤ → Type 0
+AnswersAt false bytes now s t answer = IsNoMoment s t answer
+AnswersAt true bytes now s t answer = AnswersAsked bytes now s t answer
+
+abbrev pub AnswersLine : List ℕ → ℤ → PortState → PortState → ℤ → Type 0
+AnswersLine bytes now s t answer = AnswersAt (is_moment now) bytes now s t answer
 
 -- the text that waits on a way, by its number
 abbrev pub unsent_on : ℕ → PortState → Option (List ℕ)
@@ -95,6 +128,11 @@ abbrev pub text_of_act : ℕ → ℕ → Option PortState → Result (List ℕ) 
 text_of_act index from None = Err (neg_ℤ (pos 1))
 text_of_act index from (Some s) =
     text_or_none (option_map (λ act. drop from (log_text s.number act)) (slice_get s.last index))
+
+-- that of the lines of the last step, from a byte on
+abbrev pub text_of_log : ℕ → Option PortState → Result (List ℕ) ℤ
+text_of_log from None = Err (neg_ℤ (pos 1))
+text_of_log from (Some s) = Ok (drop from (log_of s))
 
 -- that of a record's field
 abbrev pub field_in : ℕ → ℕ → ℕ → PortState → Result (List ℕ) ℤ

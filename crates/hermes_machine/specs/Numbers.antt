@@ -8,10 +8,16 @@ use Rattle.line_base.specs.declared.states.Side.{Side}
 use Rattle.line_base.specs.declared.states.Side.TheVariants.{Entry, Exit}
 use Rattle.smema_bridge.specs.declared.line.SegmentLine.{SegmentLine}
 use Rattle.smema_bridge.specs.declared.line.SegmentLine.TheVariants as signals
+use Rattle.line_script.specs.declared.line.LineWhy.{LineWhy}
+use Rattle.line_script.specs.declared.line.LineWhy.TheVariants as whys
 use Rattle.node_core.specs.declared.input.No.{No}
 use Rattle.node_core.specs.declared.input.No.TheVariants as no
 use Rattle.machine_port.specs.declared.error.NotDone.{NotDone}
 use Rattle.machine_port.specs.declared.error.NotDone.TheVariants as nots
+use Rattle.machine_text.specs.declared.line.LineNotDone.{LineNotDone}
+use Rattle.machine_text.specs.declared.line.LineNotDone.TheVariants as undone
+use Rattle.machine_text.specs.declared.line.NotAsked.{NotAsked}
+use Rattle.machine_text.specs.declared.line.NotAsked.TheVariants as unasked
 
 abbrev pub number_of_no : No → ℤ
 number_of_no no.IntakeOpen = pos 1
@@ -33,6 +39,7 @@ number_of_no no.NotSupervised = pos 16
 number_of_no no.QueriesFull = pos 17
 number_of_no no.UnknownQuery = pos 18
 number_of_no (no.Answered query) = pos 19
+number_of_no no.SubsFull = pos 20
 
 -- a side is the number of its way
 abbrev pub side_of : ℕ → Option Side
@@ -73,3 +80,28 @@ abbrev pub answer_of : Result (Unit {0}) NotDone → ℤ
 answer_of (Ok done) = pos 0
 answer_of (Err (nots.No why)) = number_of_no why
 answer_of (Err nots.Memory) = neg_ℤ (pos 2)
+
+-- why a panel refuses a line
+abbrev pub number_of_why : LineWhy → ℤ
+number_of_why whys.LongLine = neg_ℤ (pos 7)
+number_of_why whys.TooManyLines = neg_ℤ (pos 8)
+number_of_why whys.NotText = neg_ℤ (pos 9)
+number_of_why whys.UnknownWord = neg_ℤ (pos 10)
+number_of_why whys.WrongCount = neg_ℤ (pos 11)
+number_of_why whys.BadNumber = neg_ℤ (pos 12)
+number_of_why whys.BadSide = neg_ℤ (pos 13)
+number_of_why whys.BadId = neg_ℤ (pos 14)
+number_of_why whys.BadWord = neg_ℤ (pos 15)
+
+-- why a line asks for no step
+abbrev pub number_of_unasked : NotAsked → ℤ
+number_of_unasked (unasked.Refused why) = number_of_why why
+number_of_unasked unasked.Blank = neg_ℤ (pos 6)
+number_of_unasked unasked.Outside = neg_ℤ (pos 4)
+
+-- the answer to a line
+abbrev pub answer_of_line : Result (Unit {0}) LineNotDone → ℤ
+answer_of_line (Ok done) = pos 0
+answer_of_line (Err (undone.NotAsked why)) = number_of_unasked why
+answer_of_line (Err (undone.No why)) = number_of_no why
+answer_of_line (Err undone.Memory) = neg_ℤ (pos 2)

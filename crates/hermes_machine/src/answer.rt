@@ -1,8 +1,10 @@
 //! What the calls answer: 0, a reason above it, or an error below it.
 
 ghost use Rattle.std.specs.Prelude.{◌≡◌};
-ghost use Rattle.hermes_machine.specs.Numbers.{number_of_no};
+ghost use Rattle.hermes_machine.specs.Numbers.{number_of_no, number_of_unasked, number_of_why};
 
+use line_script::LineWhy;
+use machine_text::NotAsked;
 use node_core::No;
 
 /// It is done.
@@ -23,7 +25,7 @@ pub const BAD_TEXT: i32 = -4;
 /// The handle holds a machine already.
 pub const NOT_EMPTY: i32 = -5;
 
-/// There is no such act, record, field or order.
+/// There is no such act, record, field or order; or the line asks for nothing.
 pub const NONE: i32 = -6;
 
 /// The number of a reason why an input can't be taken now.
@@ -50,5 +52,34 @@ pub fn number_of_no(why: No) -> i32
         No::QueriesFull => 17,
         No::UnknownQuery => 18,
         No::Answered(_) => 19,
+        No::SubsFull => 20,
+    }
+}
+
+/// The number of a reason why a line asks for no step.
+pub fn number_of_unasked(why: NotAsked) -> i32
+    ensures { result ≡ number_of_unasked why }
+{
+    match why {
+        NotAsked::Refused(why) => number_of_why(why),
+        NotAsked::Blank => NONE,
+        NotAsked::Outside => BAD_TEXT,
+    }
+}
+
+/// The number of a reason why a panel refuses a line.
+fn number_of_why(why: LineWhy) -> i32
+    ensures { result ≡ number_of_why why }
+{
+    match why {
+        LineWhy::LongLine => -7,
+        LineWhy::TooManyLines => -8,
+        LineWhy::NotText => -9,
+        LineWhy::UnknownWord => -10,
+        LineWhy::WrongCount => -11,
+        LineWhy::BadNumber => -12,
+        LineWhy::BadSide => -13,
+        LineWhy::BadId => -14,
+        LineWhy::BadWord => -15,
     }
 }

@@ -7,16 +7,18 @@
 
 ghost use Rattle.std.specs.Prelude.{◌≡◌, ◌==◌, true, false, None, Some, IfSome, is_some, option_map, slice_get};
 ghost use Rattle.machine_port.specs.Port.{new_port};
+ghost use Rattle.machine_text.specs.Logs.{TellsOwn};
 ghost use Rattle.machine_views.specs.Acts.{act_seen};
 ghost use Rattle.machine_views.specs.Records.{board_seen, record_at};
 ghost use Rattle.machine_views.specs.Seen.{view_of};
-ghost use Rattle.hermes_machine.specs.Calls.{AnswersStep, IsCopied, IsRead, IsReadOrWanting, act_answer, board_answer, sent_on, text_of_act, text_of_field, text_of_order, unsent_on};
+ghost use Rattle.hermes_machine.specs.Calls.{AnswersLine, AnswersStep, IsCopied, IsRead, IsReadOrWanting, act_answer, board_answer, sent_on, text_of_act, text_of_field, text_of_log, text_of_order, unsent_on};
 ghost use Rattle.hermes_machine.specs.Made.{IsIdText, is_profile, profile_of};
 
 mod answer;
 mod handle;
 mod happening;
 mod input;
+mod line;
 mod meaning;
 mod profile;
 mod reading;
@@ -28,12 +30,13 @@ pub use answer::{BAD_INPUT, BAD_TEXT, DONE, EMPTY, MEMORY, NONE, NOT_EMPTY};
 pub use handle::HermesMachine;
 pub use happening::Happening;
 pub use input::HermesInput;
+use line::tell_line;
 use machine_port::Port;
 use machine_views::{HermesAct, HermesBoard, HermesView, VIEW_BYTES, view_of};
 pub use meaning::Meaning;
 pub use profile::HermesProfile;
 use profile::{NotMade, made};
-use reading::{read_act, read_act_text, read_board, read_field, read_order};
+use reading::{read_act, read_act_text, read_board, read_field, read_log, read_order};
 pub use slot::{Opaque, Slot};
 use std::alloc::Global;
 use step::tell;
@@ -42,9 +45,9 @@ use ways::{copy_unsent, take_sent};
 /// The number of this library's structs, numbers and calls. A change of any raises it.
 #[unsafe(no_mangle)]
 pub extern "C" fn hermes_machine_abi() -> u32
-    ensures { result ≡ 3 }
+    ensures { result ≡ 5 }
 {
-    3
+    5
 }
 
 /// Puts a new machine into an empty handle: it keeps nothing, has no connection, and is willing on
@@ -128,6 +131,58 @@ pub extern "C" fn hermes_machine_step(
         return EMPTY;
     };
     let answer = tell(alloc, &mut port, input, bytes, now_ms);
+    m.put(port);
+    answer
+}
+
+/// ONE STEP, BY A LINE of a panel, given without its line end.
+///
+/// The first of these that holds is the answer: `EMPTY`; `BAD_INPUT` where the moment is none; the
+/// number of the reason for which a panel refuses the line; `NONE` where it is empty or a comment;
+/// `BAD_TEXT` where it is `connect`, `show` or `end`; the number of the reason for which the machine
+/// can't take it now; else done. `MEMORY` may be the answer in place of all but the first two, and
+/// nothing else changes then, or the machine is spent. At any answer but done and `MEMORY` the machine
+/// is as it was.
+#[unsafe(no_mangle)]
+pub extern "C" fn hermes_machine_line(
+    alloc: Global,
+    m: &mut HermesMachine,
+    line: &[u8],
+    now_ms: i64,
+) -> i32
+    ensures empty { is_some m.old.slot.held ≡ false → result ≡ EMPTY }
+    ensures nothing { is_some m.old.slot.held ≡ false → m.new.slot.held ≡ None }
+    ensures answers { IfSome m.old.slot.held (λ s. IfSome m.new.slot.held
+        (λ t. AnswersLine line.now now_ms s t result)) }
+    ensures full { is_some m.new.slot.held ≡ is_some m.old.slot.held }
+{
+    let Some(mut port) = m.take(alloc) else {
+        return EMPTY;
+    };
+    let answer = tell_line(alloc, &mut port, line, now_ms);
+    m.put(port);
+    answer
+}
+
+/// Copies the lines of the last step's acts into `to`, from byte `from` on: as a node logs them that
+/// tells its drives, with the number of the step in front. It answers how many bytes. `EMPTY` where the
+/// handle has no machine; `MEMORY` where there is none for the text, and `to` is as it was then.
+#[unsafe(no_mangle)]
+pub extern "C" fn hermes_machine_log(
+    alloc: Global,
+    m: &mut HermesMachine,
+    from: usize,
+    to: &mut [u8],
+) -> i64
+    ensures read { IsReadOrWanting (text_of_log from m.old.slot.held) to.old to.new result }
+    // what is read off them is what the acts do to what the machine owned, whatever follows
+    ensures owns { IfSome m.old.slot.held (λ s. TellsOwn s) }
+    ensures stays { m.new.slot.held ≡ m.old.slot.held }
+{
+    let Some(port) = m.take(alloc) else {
+        return -1;
+    };
+    let answer = read_log(alloc, &port, from, to);
     m.put(port);
     answer
 }

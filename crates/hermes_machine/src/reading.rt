@@ -3,16 +3,19 @@
 ghost use Rattle.std.specs.Prelude.{◌≡◌, ◌≤◌, ◌&&◌, ◌==◌, drop, IfSome, is_some, nat_le, slice_get};
 ghost use Rattle.machine_views.specs.Acts.{act_seen};
 ghost use Rattle.machine_views.specs.Records.{board_seen, field_text, record_at};
-ghost use Rattle.machine_views.specs.Texts.{log_text};
-ghost use Rattle.hermes_machine.specs.Calls.{IsCopied, IsCopiedOrWanting, IsRead, IsReadOrWanting, board_answer, field_in, read_answer, text_of_act, text_of_field, text_of_order, text_or_none};
+ghost use Rattle.machine_log.specs.Texts.{log_text};
+ghost use Rattle.machine_text.specs.Logs.{TellsOwn};
+ghost use Rattle.hermes_machine.specs.Calls.{IsCopied, IsCopiedOrWanting, IsRead, IsReadOrWanting, board_answer, field_in, read_answer, text_of_act, text_of_field, text_of_log, text_of_order, text_or_none};
 
 use crate::answer::{BAD_INPUT, DONE, NONE};
 use board_record::Record;
 use line_base::Memory;
+use machine_log::write_log_text;
 use machine_port::Port;
+use machine_text::write_log;
 use machine_views::{
     ACT_BYTES, BOARD_BYTES, HermesAct, HermesBoard, act_seen, board_seen, copy_front, record_at,
-    write_field, write_log_text,
+    write_field,
 };
 use node_core::Act;
 use std::alloc::Global;
@@ -82,6 +85,18 @@ fn copy_act(alloc: Global, number: u32, act: &Act, from: usize, to: &mut [u8]) -
         Ok(()) => copy_front(text.as_slice(), from, to) as i64,
         Err(Memory) => -2,
     }
+}
+
+/// Copies the lines of the last step, from a byte on.
+pub fn read_log(alloc: Global, port: &Port, from: usize, to: &mut [u8]) -> i64
+    ensures read { IsReadOrWanting (text_of_log from (Some port.now)) to.old to.new result }
+    ensures owns { TellsOwn port.now }
+{
+    let mut text = Vec::new(alloc);
+    if let Err(Memory) = write_log(port, &mut text) {
+        return -2;
+    }
+    copy_front(text.as_slice(), from, to) as i64
 }
 
 /// Copies the text of a record's field.

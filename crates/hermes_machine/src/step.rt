@@ -19,7 +19,7 @@ const FIRST_MOMENT: i64 = -62_135_596_800_000;
 const LAST_MOMENT: i64 = 253_402_300_799_999;
 
 /// Whether it is a moment of the clock.
-fn is_moment(now_ms: i64) -> bool
+pub fn is_moment(now_ms: i64) -> bool
     ensures is { result ≡ is_moment now_ms }
     ensures within { result ≡ true → IsMomentMillis now_ms }
 {

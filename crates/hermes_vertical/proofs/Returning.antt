@@ -7,12 +7,13 @@ use Rattle.hermes_element.specs.declared.attribute.Attribute.{Attribute}
 use Rattle.hermes_horizontal.specs.declared.attr.Attr.{Attr}
 use Rattle.hermes_horizontal.specs.declared.attr.Attr.TheVariants as attrs
 use Rattle.hermes_horizontal.specs.Attrs.{attr_text}
+use Rattle.hermes_horizontal.specs.Parts.{of_features}
 use Rattle.hermes_horizontal.specs.Values.{Value}
 use Rattle.hermes_horizontal.specs.Canonical.{attributes_of, children_of}
 use Rattle.hermes_horizontal.specs.Said.{first_named, then_ok, mapped_ok, value_at, values_of}
 use Rattle.hermes_horizontal.proofs.Again.{unplaced_first, features_again}
 use Rattle.hermes_horizontal.proofs.Returning.{row_back, root_back}
-use Rattle.hermes_horizontal.proofs.Writable.{row_writable, row_proper}
+use Rattle.hermes_horizontal.proofs.Writable.{no_subs, row_writable, row_proper}
 use Rattle.hermes_vertical.specs.declared.kind.VerticalKind.TheVariants as kinds
 use Rattle.hermes_vertical.specs.declared.message.Question.{Question}
 use Rattle.hermes_vertical.specs.declared.message.Question.TheVariants as questions
@@ -26,7 +27,7 @@ use Rattle.hermes_vertical.specs.Spelling.{row_values, features_said, SaysBody, 
 use Rattle.hermes_vertical.specs.Canonical.{body_tree, tree_of, IsWritable, IsProperMessage}
 use Rattle.hermes_vertical.proofs.Fitting.{fit_parts, rows_apart, short_rows}
 
-features_back : (body : Vertical) (forest : Forest) → unplaced_forest forest ≡ unplaced_forest (children_of (features_of body)) → features_said (kind_of body) forest ≡ features_of body
+features_back : (body : Vertical) (forest : Forest) → unplaced_forest forest ≡ unplaced_forest (children_of (of_features (features_of body))) → features_said (kind_of body) forest ≡ features_of body
 features_back (bodies.SupervisoryServiceDescription system) forest e = ap Some (features_again system.features forest e)
 features_back (bodies.BoardArrived passage) forest e = refl
 features_back (bodies.BoardDeparted passage) forest e = refl
@@ -80,7 +81,7 @@ row_again (bodies.Other name) at attributes written e = e
 body_back : (message : VerticalMessage) → IsProperMessage message → IsWritable message → (child : Tree) → unplaced child ≡ unplaced (body_tree message.body) → SaysBody child message.body
 body_back message proper writable child e =
     let body = message.body in
-    let back = row_back child (name_of body) (columns_of (kind_of body)) (parts body) (features_of body) (rows_apart (kind_of body)) (fit_parts body writable.numbers proper.query) proper.values e in
+    let back = row_back child (name_of body) (columns_of (kind_of body)) (parts body) (of_features (features_of body)) (rows_apart (kind_of body)) (fit_parts body writable.numbers proper.query) proper.values e in
     record {
       kind = ap kind_named back.named ∙ writable.named;
       name = back.named;
@@ -95,9 +96,9 @@ message_back message tree proper writable e = root_back SaysBody message.stamp m
 
 pub tree_writable : (message : VerticalMessage) → form.IsWritable (tree_of message)
 tree_writable message =
-    row_writable message.stamp (name_of message.body) (columns_of (kind_of message.body)) (parts message.body) (features_of message.body) (short_rows (kind_of message.body)) (rows_apart (kind_of message.body))
+    row_writable message.stamp (name_of message.body) (columns_of (kind_of message.body)) (parts message.body) (of_features (features_of message.body)) (short_rows (kind_of message.body)) (rows_apart (kind_of message.body))
 
 pub tree_proper : (message : VerticalMessage) → IsProperMessage message → IsWritable message → form.IsProper (tree_of message)
 tree_proper message proper writable =
-    row_proper message.stamp (name_of message.body) (columns_of (kind_of message.body)) (parts message.body) (features_of message.body) proper.name
-    (fit_parts message.body writable.numbers proper.query) proper.values
+    row_proper message.stamp (name_of message.body) (columns_of (kind_of message.body)) (parts message.body) (of_features (features_of message.body)) proper.name
+    (fit_parts message.body writable.numbers proper.query) proper.values (no_subs (features_of message.body)).0 (no_subs (features_of message.body)).1

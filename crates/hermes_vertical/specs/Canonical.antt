@@ -4,6 +4,7 @@ use Rattle.std.specs.List.{AllByRecursion}
 use Rattle.line_base.specs.Name.{IsName}
 use Rattle.hermes_element.specs.Element.{Tree}
 use Rattle.hermes_element.specs.Canonical as form
+use Rattle.hermes_horizontal.specs.Parts.{of_features}
 use Rattle.hermes_horizontal.specs.Values.{timed}
 use Rattle.hermes_horizontal.specs.Canonical.{row_tree, stamped, rest_spelling, IsProperIf}
 use Rattle.hermes_vertical.specs.declared.message.Question.{Question}
@@ -17,7 +18,8 @@ use Rattle.hermes_vertical.specs.Parts.{parts, features_of, kind_of, name_of}
 -- a message as an element; its places are all 0
 abbrev pub body_tree : Vertical → Tree
 body_tree body =
-    row_tree (name_of body) (columns_of (kind_of body)) (parts body) (features_of body)
+    row_tree (name_of body) (columns_of (kind_of body)) (parts body)
+    (of_features (features_of body))
 
 abbrev pub tree_of : VerticalMessage → Tree
 tree_of message = stamped message.stamp (body_tree message.body)
@@ -29,7 +31,7 @@ canonical message = form.canonical (tree_of message)
 
 -- the end of a message's start tag, and what follows it
 abbrev pub children_spelling : Vertical → List ℕ
-children_spelling body = rest_spelling (name_of body) (features_of body)
+children_spelling body = rest_spelling (name_of body) (of_features (features_of body))
 
 abbrev pub body_spelling : Vertical → List ℕ
 body_spelling body = form.canonical (body_tree body)

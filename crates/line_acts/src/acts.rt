@@ -6,6 +6,7 @@ ghost use Rattle.line_world.specs.FloorPlan.{IsMachine};
 ghost use Rattle.node_core.specs.declared.act.Act.TheVariants as acts;
 ghost use Rattle.line_report.specs.declared.happening.Happening.TheVariants as happenings;
 ghost use Rattle.line_step.specs.Acts.{act_did, acts_did, answers, counted, cut_told, is_answer, is_exit, sent_by};
+ghost use Rattle.line_acts.specs.Broken.{AreBrokenOff, IsBrokenOff, IsTold};
 ghost use Rattle.line_acts.specs.Doing.{is_drive, maybe_cut, told_with};
 
 use crate::links::link_of;
@@ -23,8 +24,9 @@ pub struct Teller {
     pub second: bool,
 }
 
-/// Does the acts of a step, in their order, and tells them. `Memory` where there is no room: some
-/// of them were done then, and what was told before is still told.
+/// Does the acts of a step, in their order, and tells them. `Memory` where there is no room in one
+/// of them: those before it are done and told then, none behind it is, and of that one either
+/// nothing is, or it is done and not all that it tells is told.
 pub fn do_acts(
     teller: &Teller,
     acts: Outputs,
@@ -38,6 +40,8 @@ pub fn do_acts(
         (told.new ≡ told.old
         ++ (acts_did teller.now.second teller.now.machine acts world.old).told) }
     ensures machines { OnOk result (length world.new.floor.machines ≡ length world.old.floor.machines) }
+    ensures broken { OnErr result
+        (AreBrokenOff teller.now.second teller.now.machine acts world.old world.new told.old told.new) }
 {
     for act in acts.into_list() {
         do_act(teller, act, world, told)?;
@@ -53,6 +57,8 @@ fn do_act(teller: &Teller, act: Act, world: &mut World, told: &mut Happened) -> 
         (told.new ≡ told.old
         ++ (act_did teller.now.second teller.now.machine act world.old).told) }
     ensures machines { OnOk result (length world.new.floor.machines ≡ length world.old.floor.machines) }
+    ensures broken { OnErr result
+        (IsBrokenOff teller.now.second teller.now.machine act world.old world.new told.old told.new) }
 {
     let cut = change(teller, &act, world)?;
     tell_act(teller.machine, act, cut, told)
@@ -70,6 +76,7 @@ fn change(teller: &Teller, act: &Act, world: &mut World) -> Result<Option<u32>, 
         (λ cut. (act_did teller.now.second teller.now.machine act.now world.old).told
         ≡ told_with (is_drive act.now) teller.now.machine act.now cut) }
     ensures machines { IfOk result (λ _. length world.new.floor.machines ≡ length world.old.floor.machines) }
+    ensures unchanged { OnErr result (world.new ≡ world.old) }
 {
     let machine = teller.machine;
     match act {
@@ -110,6 +117,7 @@ fn change(teller: &Teller, act: &Act, world: &mut World) -> Result<Option<u32>, 
 fn count(deed: Deed, world: &mut World) -> Result<(), Memory>
     ensures world { OnOk result (world.new ≡ counted deed world.old) }
     ensures machines { OnOk result (length world.new.floor.machines ≡ length world.old.floor.machines) }
+    ensures unchanged { OnErr result (world.new ≡ world.old) }
 {
     match deed {
         Deed::Opens(_) => world.count_opened(),
@@ -136,6 +144,7 @@ fn send(
         world.old).told
         ≡ happenings.Done teller.now.machine (acts.Sends side message.now) ∷ maybe_cut cut) }
     ensures machines { IfOk result (λ _. length world.new.floor.machines ≡ length world.old.floor.machines) }
+    ensures unchanged { OnErr result (world.new ≡ world.old) }
 {
     let machine = teller.machine;
     if answers(teller.second, side, message) {
@@ -182,8 +191,10 @@ fn cut_of(link: u32, sent: Sent) -> Option<u32>
 
 /// Tells an act, unless it is a drive, and just behind it the link that it cut.
 fn tell_act(machine: u32, act: Act, cut: Option<u32>, told: &mut Happened) -> Result<(), Memory>
-    ensures { OnOk result
+    ensures told { OnOk result
         (told.new ≡ told.old ++ told_with (is_drive act) machine act cut) }
+    ensures part { OnErr result
+        (IsTold told.old (told_with (is_drive act) machine act cut) told.new) }
 {
     if is_drive(&act) {
         return Ok(());

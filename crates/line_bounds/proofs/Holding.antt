@@ -1,6 +1,7 @@
 -- A machine's step keeps what is beside its records within the limits.
-use Rattle.std.proofs.Common.{◌≡◌, ◌∙◌, ◌≤◌, ◌-◌, ◌+◌, ◌++◌, ℕ, zero, suc, Bool, true, false, cond, List, [], ◌∷◌, Option, Some, Ok, Err, Result, length, refl, sym, ap, subst, arith}
+use Rattle.std.proofs.Common.{◌≡◌, ◌∙◌, ◌≤◌, ◌-◌, ◌+◌, ◌++◌, ℕ, zero, suc, Bool, true, false, cond, List, [], ◌∷◌, Option, Some, Ok, Err, Result, length, refl, sym, subst, arith}
 use Rattle.std.proofs.lemmas.List.{length-drop}
+use Rattle.line_step.proofs.Once.{closed-stays}
 use Rattle.line_base.specs.declared.states.Side.{Side}
 use Rattle.line_base.specs.declared.states.Side.TheVariants.{Entry, Exit}
 use Rattle.hermes_stream.specs.Frames.{Answer, Frame, NeedMore, TooLong, Frames, most_bytes, answer_of, left_of, joined, frames_within, frames_of}
@@ -27,7 +28,7 @@ use Rattle.node_core.specs.Sides.{is_open}
 use Rattle.node_core.specs.Step.{Brings}
 use Rattle.node_core.specs.Supervising.{orders_after}
 use Rattle.node_core.specs.Words.{AreAll, AreWords, all_more, all_none}
-use Rattle.line_step.specs.Opened.{closed_at, open_act, open_after, opened_by}
+use Rattle.line_step.specs.Opened.{open_after, opened_by}
 
 -- ---- forecasts
 
@@ -103,24 +104,9 @@ words_short old piece new still words are is = frames_short (old ++ piece) new (
 
 -- ---- a side that is open was opened
 
-shut : (side at : Side) → closed_at side at false ≡ false
-shut Entry Entry = refl
-shut Entry Exit = refl
-shut Exit Entry = refl
-shut Exit Exit = refl
-
-act_shut : (side : Side) (act : Act) → open_act side false act ≡ false
-act_shut side (acts.Closes at) = shut side at
-act_shut side (acts.Notices at) = shut side at
-act_shut side _ = refl
-
-never_opens : (side : Side) (told : List Act) → open_after side false told ≡ false
-never_opens side [] = refl
-never_opens side (act ∷ told) = ap (λ (b : Bool). open_after side b told) (act_shut side act) ∙ never_opens side told
-
 pub was_open : (side : Side) (opened : Bool) (told : List Act) → open_after side opened told ≡ true → opened ≡ true
 was_open side true told is = refl
-was_open side false told is = let none = never_opens side told in cc
+was_open side false told is = let none = closed-stays side told in cc
 
 abbrev IsShort : List ℕ → Type 0
 IsShort bytes = length bytes ≤ most_bytes
@@ -139,6 +125,5 @@ pub exit_short : (input : Input) (old new : Lane) (words : List Word) → Brings
     → (is_open Exit old.body ≡ true → length old.exit_bytes ≤ most_bytes)
     → is_open Exit new.body ≡ true → length new.exit_bytes ≤ most_bytes
 exit_short (inputs.Bytes Exit piece) old new words brings opened was now = words_short old.exit_bytes piece.now new.exit_bytes (is_open Exit new.body) words brings.0 now
-exit_short (inputs.Bytes Entry piece) old new words brings opened was now = subst IsShort (sym brings.1) (was (opened now))
 exit_short inputs.Accepted old new words brings opened was now = subst IsShort (sym brings.1) (omega arith)
 exit_short _ old new words brings opened was now = subst IsShort (sym brings.1) (was (opened now))

@@ -112,13 +112,7 @@ closed_within machine side world all = let link = link_of machine side in links_
 
 counted_within : (deed : Deed) (world : WorldParts) → AllWithin world → AllWithin (counted deed world)
 counted_within (deeds.Opens id) world all = all
-counted_within (deeds.Settles id) world all = all
-counted_within (deeds.Refuses id) world all = all
-counted_within (deeds.Leaves id) world all = all
-counted_within (deeds.Returns id) world all = all
-counted_within (deeds.Loses id) world all = all
-counted_within (deeds.Starts id) world all = all
-counted_within (deeds.Drops id) world all = all
+counted_within _ world all = all
 
 act_within : (second : Bool) (machine : ℕ) (act : Act) (world : WorldParts) → AllWithin world → AllWithin (act_did second machine act world).world
 act_within second machine (acts.Sends side message) world all = sent_within (second && (is_exit side && is_answer message.body)) machine side message world all

@@ -37,26 +37,12 @@ impl fmt::Display for CheckWhy {
 }
 
 /// What a checker answers in place of going on.
-#[derive(Clone, Copy, Debug, PartialEq, Eq, Error)]
+#[derive(Clone, Copy, Debug, PartialEq, Eq)]
 pub enum CheckError {
     /// The first reason against the log, at this line, counted from 1.
     No { line: u64, why: CheckWhy },
     /// Memory was wanting.
     Memory,
-}
-
-impl fmt::Display for CheckError {
-    ghost use Rattle.std.specs.Prelude.{Some};
-    ghost use Rattle.line_check.specs.Texts.{error_text};
-
-    ghost output = { λ error. Some (error_text error) };
-
-    fn fmt<W: fmt::Write>(&self, f: &mut fmt::Formatter<W>) -> fmt::Result {
-        match self {
-            CheckError::No { line, why } => write!(f, "no {line} {why}"),
-            CheckError::Memory => f.write_str("out of memory"),
-        }
-    }
 }
 
 /// What a log has that nothing is against.

@@ -6,7 +6,7 @@ mod given;
 
 use crate::given::Given;
 use case_text::{spell_time, times_of};
-use line_check::Checker;
+use line_check::{CheckError, Checker};
 use std::alloc::{AllocError, Global};
 use std::io;
 
@@ -61,6 +61,7 @@ fn end_of(alloc: Global, checker: Checker) -> Result<String, AllocError> {
             let boards = counts.boards;
             format!(in alloc; "yes lines={lines} boards={boards}")
         }
-        Err(error) => format!(in alloc; "{error}"),
+        Err(CheckError::No { line, why }) => format!(in alloc; "no {line} {why}"),
+        Err(CheckError::Memory) => String::from_str(alloc, "out of memory"),
     }
 }

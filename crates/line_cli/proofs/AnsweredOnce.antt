@@ -36,7 +36,7 @@ run_answers : (script : List ℕ) (left old new : Option (List ℕ)) (reads read
     → Told (IsScriptAnswer script) reads reads' writes writes' status
 run_answers script left old new reads reads' writes writes' statuses.Done does causes = answered (record { points = does.0.points; run = does.0.run; ends = does.0.ends })
 run_answers script left old new reads reads' writes writes' statuses.Unvouched does causes = answered (record { points = does.0.points; run = does.0.run; ends = does.0.ends })
-run_answers script left old new reads reads' writes writes' (statuses.ScriptRefused line why) does causes = answered (record { points = does.points; run = does.run; ends = does.ends })
+run_answers script left old new reads reads' writes writes' (statuses.ScriptRefused line why) does causes = answered (record { points = does.0.points; run = does.0.run; ends = does.0.ends })
 run_answers script left old new reads reads' writes writes' statuses.ReadFault does causes = source_fault causes
 run_answers script left old new reads reads' writes writes' statuses.WriteFault does causes = sink_fault causes
 run_answers script left old new reads reads' writes writes' statuses.Memory does causes = memory_wanted refl

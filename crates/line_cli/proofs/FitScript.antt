@@ -1,7 +1,7 @@
 -- Each script that is read fits the laws: its texts are texts, and it has at most 1,000,000 lines.
 use Rattle.std.proofs.Common.{Bool, List, [], arith, false, length, refl, true, ℕ, ◌+◌, ◌∷◌, ◌≡◌, ◌≤◌, sym}
 use Rattle.std.proofs.lemmas.Bool.Decides.{nat_tests}
-use Rattle.std.specs.Prelude.{Err, Ok, Result, if◌then◌else◌, nat_eq, nat_lt}
+use Rattle.std.specs.Prelude.{Err, None, Ok, Result, Some, if◌then◌else◌, nat_eq, nat_lt}
 use Rattle.std.specs.List.{AllByRecursion, list_all}
 use Rattle.std.specs.Str.{bytes_eq}
 use Rattle.std.specs.Str.Lines.{lines as lines_in}
@@ -9,7 +9,7 @@ use Rattle.line_base.specs.declared.states.SensorEvent.{SensorEvent}
 use Rattle.line_base.specs.declared.states.Side.{Side}
 use Rattle.line_base.specs.Text.{IsText}
 use Rattle.hermes_vertical.specs.declared.message.Question.TheVariants as questions
-use Rattle.line_script.specs.Grammar.{Form, Kind, Value, arguments_as, asked_by, board, forms, graded, is_comment, is_seen_at, lie_of, line_among, line_as, line_of_words, numeral, read_of, seen, sided, signalled, spelled, switched, then_ok}
+use Rattle.line_script.specs.Grammar.{Form, Kind, Value, arguments_as, asked_by, board, coded, forms, graded, is_comment, is_seen_at, lie_of, line_among, line_as, line_of_words, numeral, read_of, seen, sided, signalled, spelled, switched, then_ok}
 use Rattle.line_script.specs.Grammar as grammar
 use Rattle.line_script.specs.Words.{is_text_byte, question_of, words_of}
 use Rattle.line_script.specs.declared.line.LineWhy.{LineWhy}
@@ -160,6 +160,14 @@ made_query : (count : ℕ) (values : List Value) → SayAll (grammar.query_form.
     → Fit (grammar.made_query values)
 made_query count (numeral machine ∷ spelled barcode ∷ []) say = say.1.0
 made_query count _ say = tt
+
+-- so is that of a circuit, where there is one, and its place has at most nine digits
+made_sub : (count : ℕ) (values : List Value) → SayAll (grammar.sub_form.arguments count) values
+    → Fit (grammar.made_sub values)
+made_sub count (numeral machine ∷ board id ∷ numeral place ∷ coded None ∷ []) say = (say.1.1.0, tt)
+made_sub count (numeral machine ∷ board id ∷ numeral place ∷ coded (Some barcode) ∷ []) say =
+    (say.1.1.0, say.1.1.1.0)
+made_sub count _ say = tt
 
 -- a question by a text, one by a place, and an answer
 text_asked : (machine : ℕ) (by : AskedBy) (text : List ℕ) → IsText text → IsFitLine (lines.Ask machine (question_of by text))
@@ -318,7 +326,10 @@ all_fit = (
         by_said grammar.query_form made_query,
         (
           by_said grammar.ask_form made_ask,
-          (by_said grammar.answer_form made_answer, board_fit),
+          (
+            by_said grammar.answer_form made_answer,
+            (by_said grammar.sub_form made_sub, board_fit),
+          ),
         ),
       ),
     ),

@@ -17,6 +17,7 @@ use Rattle.line_step.proofs.Counted.{steps-lines}
 use Rattle.line_step.proofs.Running.{RunsOn, runs-on, runs-told}
 use Rattle.made_script.specs.Fold.{fold_byte, fold_from, fold_of}
 use Rattle.made_script.specs.Script.{made_script}
+use Rattle.report_ledger.specs.Proper.{AreProper}
 use Rattle.line_cli.specs.Report.{report_text}
 use Rattle.line_cli.specs.Reader.{DoesAsked, Sums, entries}
 use Rattle.line_cli.specs.Making.{IsFolding, IsLastLine, IsMakeText}
@@ -110,14 +111,15 @@ summed (Err (errors.Refused number why)) state before now fine empty sums = absu
 summed (Err errors.Memory) state before now fine empty sums = cc
 
 -- what a line that was read does, unless memory was wanting
-pub did-asked : (result : Result (Unit {0}) Memory) (asked : ScriptLine) (inner old new : LineState) (number : ℕ) (told listed : List Happening) (before now : List ℕ) → inner ≡ old → number ≡ inner.lines + 1 → listed ≡ told → LineSteps number asked inner new told → OnOk result (now ≡ before ++ entries number listed) → OnOk result (DoesAsked asked old new before now)
-did-asked (Err memory) asked inner old new number told listed before now is counted lists steps text = tt
-did-asked (Ok done) asked inner old new number told listed before now is counted lists steps text =
+pub did-asked : (result : Result (Unit {0}) Memory) (asked : ScriptLine) (inner old new : LineState) (number : ℕ) (told listed : List Happening) (before now : List ℕ) → inner ≡ old → number ≡ inner.lines + 1 → listed ≡ told → AreProper listed → LineSteps number asked inner new told → OnOk result (now ≡ before ++ entries number listed) → OnOk result (DoesAsked asked old new before now)
+did-asked (Err memory) asked inner old new number told listed before now is counted lists proper steps text = tt
+did-asked (Ok done) asked inner old new number told listed before now is counted lists proper steps text =
     let next : number ≡ old.lines + 1 = counted ∙ ap (λ (s : LineState). s.lines + 1) is in
     let S : LineState → Type 0 = λ s. LineSteps number asked s new told in
     let N : ℕ → Type 0 = λ n. LineSteps n asked old new told in
     record {
       told = told;
+      proper = subst (λ (l : List Happening). AreProper l) lists proper;
       steps = subst N next (subst S is steps);
       text = text ∙ ap (λ l. before ++ entries number l) lists ∙ ap (λ n. before ++ entries n told) next;
     }

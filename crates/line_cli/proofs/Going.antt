@@ -1,5 +1,5 @@
 -- How a run goes on, and how it ends.
-use Rattle.std.proofs.Common.{◌≡◌, ◌≤◌, ◌+◌, ℕ, Bool, List, [], ◌++◌, Option, None, Some, Ok, Err, is_some, option_map, refl, sym, ap, subst, ◌∙◌, append_assoc, append-nil, arith}
+use Rattle.std.proofs.Common.{◌≡◌, ◌≤◌, ◌+◌, ℕ, Bool, List, [], ◌++◌, Option, None, Some, Ok, Err, is_some, length, option_map, refl, sym, ap, subst, ◌∙◌, append_assoc, append-nil, arith}
 use Rattle.line_outside.specs.Faults.{Rose}
 use Rattle.line_outside.specs.Sink.{Grows, GrowsInPart, PushesAll}
 use Rattle.line_outside.specs.declared.pushing.Pushed.{Pushed}
@@ -17,7 +17,10 @@ use Rattle.line_step.proofs.Running.{RunsOn, run-append, runs-on, runs-told, beh
 use Rattle.line_cli.specs.Texts.{refused_text}
 use Rattle.line_cli.specs.Script.{Script, Refusal, script_of, behind_lines}
 use Rattle.line_cli.specs.Report.{ending, report_text}
-use Rattle.line_cli.specs.Reader.{Place, Advances, Takes, RefusesIn, SumsUp, Finishes, script_behind}
+use Rattle.line_cli.specs.LineEnds.{HasNoEnd}
+use Rattle.line_cli.specs.Reader.{Place, Advances, Takes, Refuses, RefusesIn, SumsUp, Finishes, script_behind}
+use Rattle.line_cli.specs.Stops.{AreAccepted, StopsIn, at_its_end, in_a_piece}
+use Rattle.report_ledger.specs.Proper.{AreProperPoints}
 use Rattle.line_cli.specs.Command.{Runs, RunsScript, WritesReport, WritesFront, HasCauses, status_of}
 use Rattle.line_cli.specs.Ending.{IsGoing, GoesOn, HasPushed, EndsWhole, EndsRefused}
 use Rattle.line_cli.specs.declared.script_run.RunError.{RunError}
@@ -25,7 +28,7 @@ use Rattle.line_cli.specs.declared.script_run.RunError.TheVariants as errors
 use Rattle.line_cli.specs.declared.status.Status.{Status}
 use Rattle.line_cli.specs.declared.status.Status.TheVariants as statuses
 use Rattle.line_cli.proofs.Fronts.{first_begins}
-use Rattle.line_cli.proofs.Steps.{behind-behind}
+use Rattle.line_cli.proofs.Steps.{behind-behind, proper-append}
 
 abbrev pub start : Place
 start = record { state = no_line; pending = [] }
@@ -33,7 +36,7 @@ start = record { state = no_line; pending = [] }
 -- at first nothing was pushed and nothing waits
 pub goes-first : (left old : Option (List ℕ)) → GoesOn left left old old start []
 goes-first None old = tt
-goes-first (Some script) old = record { asked = []; points = []; run = tt; after = refl; shown = []; grows = grows_none old; told = refl; all = refl }
+goes-first (Some script) old = record { asked = []; points = []; run = tt; proper = tt; after = refl; shown = []; grows = grows_none old; told = refl; taken = []; parts = refl; ever = λ other. refl }
 
 -- a piece is taken
 pub goes-piece : (first left left' old now : Option (List ℕ)) (place place' : Place) (piece text text' : List ℕ) → GoesOn first left old now place text → left ≡ option_map (λ rest. piece ++ rest) left' → Advances place place' piece text text' → GoesOn first left' old now place' text'
@@ -49,12 +52,19 @@ goes-piece (Some script) (Some rest) (Some rest') old now place place' piece tex
       asked = going.asked ++ takes.asked;
       points = going.points ++ takes.points;
       run = on.run;
+      proper = proper-append going.points takes.points going.proper takes.proper;
       after = on.after;
       shown = going.shown;
       grows = going.grows;
       told = ap (λ t. going.shown ++ t) takes.text ∙ sym (append_assoc going.shown text more) ∙ ap (λ t. t ++ more) going.told ∙ sym (runs-told no_line place.state going.asked going.points takes.points head);
-      all = going.all ∙ ap (λ r. behind_lines going.asked (script_behind place r)) same ∙ ap (behind_lines going.asked) (takes.script rest') ∙ behind-behind going.asked takes.asked (script_behind place' rest');
+      taken = going.taken ++ piece;
+      parts = append_assoc going.taken piece rest' ∙ ap (λ r. going.taken ++ r) (sym same) ∙ going.parts;
+      ever = λ other. ap script_of (append_assoc going.taken piece other) ∙ going.ever (piece ++ other) ∙ ap (behind_lines going.asked) (takes.script other) ∙ behind-behind going.asked takes.asked (script_behind place' other);
     }
+
+-- so the script is what was done, and what follows here
+pub going-all : {script rest : List ℕ} {old now : Option (List ℕ)} {place : Place} {text : List ℕ} (going : IsGoing script rest old now place text) → script_of script ≡ behind_lines going.asked (script_behind place rest)
+going-all {rest = rest} going = ap script_of (sym going.parts) ∙ going.ever rest
 
 -- some of what waits is pushed
 pub goes-pushed : (first left old now now' : Option (List ℕ)) (place : Place) (text text' : List ℕ) → GoesOn first left old now place text → HasPushed now now' text text' → GoesOn first left old now' place text'
@@ -64,11 +74,14 @@ goes-pushed (Some script) (Some rest) old now now' place text text' going pushed
   asked = going.asked;
   points = going.points;
   run = going.run;
+  proper = going.proper;
   after = going.after;
   shown = going.shown ++ pushed.pushed;
   grows = grows_more old now now' going.shown pushed.pushed going.grows pushed.grows;
   told = append_assoc going.shown pushed.pushed text' ∙ ap (λ t. going.shown ++ t) pushed.parts ∙ going.told;
-  all = going.all;
+  taken = going.taken;
+  parts = going.parts;
+  ever = going.ever;
 }
 
 -- all is a front, and nothing is one
@@ -87,7 +100,7 @@ going-front script rest old now now' place text going part = record {
   begins = first_begins script (going.shown ++ part.front) (record {
     lines = going.asked;
     others = (script_behind place rest).lines;
-    all = ap (λ (s : Script). s.lines) going.all;
+    all = ap (λ (s : Script). s.lines) (going-all going);
     points = going.points;
     run = going.run;
     rest = part.back;
@@ -119,6 +132,7 @@ runs-read_fault pushes.Failed (Some script) (Some rest) left' old now now' befor
 record Reports (script text : List ℕ) (refusal : Option Refusal) (end : LineState) : Type 0 where
   points : List Point
   run : IsRun no_line (script_of script).lines points
+  proper : AreProperPoints points
   ends : (script_of script).refusal ≡ refusal
   after : state_behind no_line points ≡ end
   written : text ≡ told_text 1 points ++ ending end refusal
@@ -133,6 +147,7 @@ whole-report script text refusal end old new status reports grows is =
     record {
       points = reports.points;
       run = reports.run;
+      proper = reports.proper;
       ends = rw (reports.ends, lied) is;
       grows = subst P (reports-text script text refusal end reports) grows;
     }
@@ -154,7 +169,7 @@ front-report script text shown refusal end old now now' reports grows part =
 refused-reports : (script rest : List ℕ) (old now : Option (List ℕ)) (place : Place) (text text' : List ℕ) (number : ℕ) (why : LineWhy) (going : IsGoing script rest old now place text) (refuses : RefusesIn place.state (script_behind place rest) text text' number why) → Reports script (going.shown ++ text') (Some (record { line = number; why = why })) (state_behind place.state refuses.points)
 refused-reports script rest old now place text text' number why going refuses =
     let head : RunsOn no_line going.asked going.points place.state = record { run = going.run; after = going.after } in
-    let whole = going.all ∙ ap (behind_lines going.asked) refuses.script_is in
+    let whole = going-all going ∙ ap (behind_lines going.asked) refuses.script_is in
     let P : LineState → Type 0 = λ s. IsRun s refuses.asked refuses.points in
     let Q : List ScriptLine → Type 0 = λ asked. IsRun no_line asked (going.points ++ refuses.points) in
     let more = told_text (place.state.lines + 1) refuses.points in
@@ -162,6 +177,7 @@ refused-reports script rest old now place text text' number why going refuses =
     record {
       points = going.points ++ refuses.points;
       run = subst Q (sym (ap (λ (s : Script). s.lines) whole)) (run-append no_line going.asked refuses.asked going.points refuses.points going.run (subst P (sym going.after) refuses.run));
+      proper = proper-append going.points refuses.points going.proper refuses.proper;
       ends = ap (λ (s : Script). s.refusal) whole;
       after = behind-append no_line going.points refuses.points ∙ ap (λ (s : LineState). state_behind s refuses.points) going.after;
       written =
@@ -172,17 +188,17 @@ refused-reports script rest old now place text text' number why going refuses =
           ∙ ap (λ t. t ++ last) (sym (runs-told no_line place.state going.asked going.points refuses.points head));
     }
 
-ended : (number : ℕ) (why : LineWhy) (script : List ℕ) (left old now now' : Option (List ℕ)) (before after : ℕ) (shown text : List ℕ) (end : LineState) (status : Status) → Reports script (shown ++ text) (Some (record { line = number; why = why })) end → Grows old now shown → EndsRefused (errors.Refused number why) now now' before after text status → RunsScript script left old now' status
-ended number why script left old now now' before after shown text end statuses.Done reports grows ends = absurd ends
-ended number why script left old now now' before after shown text end statuses.Usage reports grows ends = absurd ends
-ended number why script left old now now' before after shown text end (statuses.Refuted refuted because) reports grows ends = absurd ends
-ended number why script left old now now' before after shown text end (statuses.ScriptRefused line reason) reports grows ends =
-    whole-report script (shown ++ text) (Some (record { line = number; why = why })) end old now' (statuses.ScriptRefused line reason) reports (grows_more old now now' shown text grows ends.3) (rw (ends.0, ends.1) refl)
-ended number why script left old now now' before after shown text end statuses.ReadFault reports grows ends = absurd ends
-ended number why script left old now now' before after shown text end statuses.WriteFault reports grows ends =
+ended : (number : ℕ) (why : LineWhy) (script : List ℕ) (left old now now' : Option (List ℕ)) (before after : ℕ) (shown text : List ℕ) (end : LineState) (status : Status) → StopsIn script left → Reports script (shown ++ text) (Some (record { line = number; why = why })) end → Grows old now shown → EndsRefused (errors.Refused number why) now now' before after text status → RunsScript script left old now' status
+ended number why script left old now now' before after shown text end statuses.Done stops reports grows ends = absurd ends
+ended number why script left old now now' before after shown text end statuses.Usage stops reports grows ends = absurd ends
+ended number why script left old now now' before after shown text end (statuses.Refuted refuted because) stops reports grows ends = absurd ends
+ended number why script left old now now' before after shown text end (statuses.ScriptRefused line reason) stops reports grows ends =
+    (whole-report script (shown ++ text) (Some (record { line = number; why = why })) end old now' (statuses.ScriptRefused line reason) reports (grows_more old now now' shown text grows ends.3) (rw (ends.0, ends.1) refl), stops)
+ended number why script left old now now' before after shown text end statuses.ReadFault stops reports grows ends = absurd ends
+ended number why script left old now now' before after shown text end statuses.WriteFault stops reports grows ends =
     front-report script text shown (Some (record { line = number; why = why })) end old now now' reports grows ends.2
-ended number why script left old now now' before after shown text end statuses.Memory reports grows ends = absurd ends
-ended number why script left old now now' before after shown text end statuses.Unvouched reports grows ends = absurd ends
+ended number why script left old now now' before after shown text end statuses.Memory stops reports grows ends = absurd ends
+ended number why script left old now now' before after shown text end statuses.Unvouched stops reports grows ends = absurd ends
 
 ended-memory : (script rest : List ℕ) (left old now now' : Option (List ℕ)) (before after : ℕ) (place : Place) (text other : List ℕ) (status : Status) → IsGoing script rest old now place text → EndsRefused errors.Memory now now' before after other status → RunsScript script left old now' status
 ended-memory script rest left old now now' before after place text other statuses.Done going ends = absurd ends
@@ -200,27 +216,43 @@ going-over script rest rest' old now place text same going =
     let P : List ℕ → Type 0 = λ r. IsGoing script r old now place text in
     subst P same going
 
+-- no line that ended was refused
+going-accepted : (script rest : List ℕ) (old now : Option (List ℕ)) (place : Place) (text : List ℕ) → HasNoEnd place.pending → (going : IsGoing script rest old now place text) → AreAccepted going.taken
+going-accepted script rest old now place text waits going = record { accepted = going.asked; done = place.state.lines; pending = place.pending; none = waits; script = going.ever }
+
+-- a line of the piece is refused, whatever follows
+stops-in_piece : (script rest : List ℕ) (old now : Option (List ℕ)) (place : Place) (piece text text' : List ℕ) (number : ℕ) (why : LineWhy) → HasNoEnd place.pending → length piece ≤ 65536 → IsGoing script (piece ++ rest) old now place text → Refuses place piece text text' number why → StopsIn script (Some rest)
+stops-in_piece script rest old now place piece text text' number why waits short going refuses =
+    let taken = going.taken in
+    let refusal : (other : List ℕ) → (script_of ((taken ++ piece) ++ other)).refusal ≡ Some (record { line = number; why = why }) =
+    λ other. ap (λ (b : List ℕ). (script_of b).refusal) (append_assoc taken piece other)
+    ∙ ap (λ (s : Script). s.refusal) (going.ever (piece ++ other) ∙ ap (behind_lines going.asked) (refuses.refuses other).script_is) in
+    let parts : script ≡ (taken ++ piece) ++ rest = sym going.parts ∙ sym (append_assoc taken piece rest) in
+    in_a_piece taken piece rest parts refl short (going-accepted script (piece ++ rest) old now place text waits going)
+    (λ other. refusal other ∙ sym (ap (λ (b : List ℕ). (script_of b).refusal) parts ∙ refusal rest))
+
 -- a line of a piece is refused, or memory was wanting in it
-pub runs-refused : (error : RunError) (first left left' old now now' : Option (List ℕ)) (before after : ℕ) (place place' : Place) (piece text text' : List ℕ) (status : Status) → GoesOn first left old now place text → left ≡ option_map (λ rest. piece ++ rest) left' → Takes (Err error) place place' piece text text' → EndsRefused error now now' before after text' status → Runs first left' old now' status
-runs-refused error None left left' old now now' before after place place' piece text text' status going gives takes ends = tt
-runs-refused error (Some script) None left' old now now' before after place place' piece text text' status going gives takes ends = absurd going
-runs-refused error (Some script) (Some rest) None old now now' before after place place' piece text text' status going gives takes ends = cc
-runs-refused (errors.Refused number why) (Some script) (Some rest) (Some rest') old now now' before after place place' piece text text' status going gives takes ends =
+pub runs-refused : (error : RunError) (first left left' old now now' : Option (List ℕ)) (before after : ℕ) (place place' : Place) (piece text text' : List ℕ) (status : Status) → HasNoEnd place.pending → length piece ≤ 65536 → GoesOn first left old now place text → left ≡ option_map (λ rest. piece ++ rest) left' → Takes (Err error) place place' piece text text' → EndsRefused error now now' before after text' status → Runs first left' old now' status
+runs-refused error None left left' old now now' before after place place' piece text text' status waits short going gives takes ends = tt
+runs-refused error (Some script) None left' old now now' before after place place' piece text text' status waits short going gives takes ends = absurd going
+runs-refused error (Some script) (Some rest) None old now now' before after place place' piece text text' status waits short going gives takes ends = cc
+runs-refused (errors.Refused number why) (Some script) (Some rest) (Some rest') old now now' before after place place' piece text text' status waits short going gives takes ends =
     let same : rest ≡ piece ++ rest' = cc in
     let on = going-over script rest (piece ++ rest') old now place text same going in
     let refuses = takes.refuses rest' in
-    ended number why script (Some rest') old now now' before after on.shown text' (state_behind place.state refuses.points) status (refused-reports script (piece ++ rest') old now place text text' number why on refuses) on.grows ends
-runs-refused errors.Memory (Some script) (Some rest) (Some rest') old now now' before after place place' piece text text' status going gives takes ends = ended-memory script rest (Some rest') old now now' before after place text text' status going ends
+    ended number why script (Some rest') old now now' before after on.shown text' (state_behind place.state refuses.points) status (stops-in_piece script rest' old now place piece text text' number why waits short on takes) (refused-reports script (piece ++ rest') old now place text text' number why on refuses) on.grows ends
+runs-refused errors.Memory (Some script) (Some rest) (Some rest') old now now' before after place place' piece text text' status waits short going gives takes ends = ended-memory script rest (Some rest') old now now' before after place text text' status going ends
 
 -- the last line is refused, or memory was wanting in it
-pub runs-end_refused : (error : RunError) (first left left' old now now' : Option (List ℕ)) (before after : ℕ) (place place' : Place) (text text' : List ℕ) (status : Status) → GoesOn first left old now place text → left ≡ option_map (λ _. []) left → Finishes (Err error) place place' text text' → EndsRefused error now now' before after text' status → Runs first left' old now' status
-runs-end_refused error None left left' old now now' before after place place' text text' status going gives finishes ends = tt
-runs-end_refused error (Some script) None left' old now now' before after place place' text text' status going gives finishes ends = absurd going
-runs-end_refused (errors.Refused number why) (Some script) (Some rest) left' old now now' before after place place' text text' status going gives finishes ends =
+pub runs-end_refused : (error : RunError) (first left left' old now now' : Option (List ℕ)) (before after : ℕ) (place place' : Place) (text text' : List ℕ) (status : Status) → HasNoEnd place.pending → GoesOn first left old now place text → left' ≡ left → left ≡ option_map (λ _. []) left → Finishes (Err error) place place' text text' → EndsRefused error now now' before after text' status → Runs first left' old now' status
+runs-end_refused error None left left' old now now' before after place place' text text' status waits going stays gives finishes ends = tt
+runs-end_refused error (Some script) None left' old now now' before after place place' text text' status waits going stays gives finishes ends = absurd going
+runs-end_refused (errors.Refused number why) (Some script) (Some rest) left' old now now' before after place place' text text' status waits going stays gives finishes ends =
     let same : rest ≡ [] = cc in
     let on = going-over script rest [] old now place text same going in
-    ended number why script left' old now now' before after on.shown text' (state_behind place.state finishes.points) status (refused-reports script [] old now place text text' number why on finishes) on.grows ends
-runs-end_refused errors.Memory (Some script) (Some rest) left' old now now' before after place place' text text' status going gives finishes ends = ended-memory script rest left' old now now' before after place text text' status going ends
+    let all : AreAccepted script = subst (λ (b : List ℕ). AreAccepted b) (sym (append-nil on.taken) ∙ on.parts) (going-accepted script [] old now place text waits on) in
+    ended number why script left' old now now' before after on.shown text' (state_behind place.state finishes.points) status (at_its_end (stays ∙ ap Some same) all) (refused-reports script [] old now place text text' number why on finishes) on.grows ends
+runs-end_refused errors.Memory (Some script) (Some rest) left' old now now' before after place place' text text' status waits going stays gives finishes ends = ended-memory script rest left' old now now' before after place text text' status going ends
 
 -- THE RUN ENDS BEHIND ITS SCRIPT
 
@@ -228,13 +260,14 @@ whole-reports : (script rest : List ℕ) (old now : Option (List ℕ)) (place pl
 whole-reports script rest old now place place' text text' over going sums =
     let head : RunsOn no_line going.asked going.points place.state = record { run = going.run; after = going.after } in
     let on = runs-on no_line place.state place'.state going.asked sums.asked going.points sums.points head (record { run = sums.run; after = sums.after }) in
-    let whole = going.all ∙ ap (λ r. behind_lines going.asked (script_behind place r)) over ∙ ap (behind_lines going.asked) sums.script_is in
+    let whole = going-all going ∙ ap (λ r. behind_lines going.asked (script_behind place r)) over ∙ ap (behind_lines going.asked) sums.script_is in
     let Q : List ScriptLine → Type 0 = λ asked. IsRun no_line asked (going.points ++ sums.points) in
     let more = told_text (place.state.lines + 1) sums.points in
     let last = summary_text (summary_of place'.state) in
     record {
       points = going.points ++ sums.points;
       run = subst Q (sym (ap (λ (s : Script). s.lines) whole)) on.run;
+      proper = proper-append going.points sums.points going.proper sums.proper;
       ends = ap (λ (s : Script). s.refusal) whole;
       after = on.after;
       written =

@@ -11,5 +11,6 @@ pub mod ReportOnce
 pub mod MadeOnce
 pub mod Checked
 pub mod FitScript
+pub mod LedgerTold
 pub mod Copied
 pub mod AnsweredOnce

@@ -2,7 +2,7 @@
 use Rattle.std.proofs.Common.{◌≡◌, ◌==◌, ◌<◌, ℕ, Bool, false, List, [], ◌∷◌, ◌++◌, length, refl, ap, ◌∙◌, arith, if◌then◌else◌, length-append}
 use Rattle.std.specs.List.{slice_split, onto_first, AllByRecursion}
 use Rattle.std.proofs.lemmas.Bool.Decides.{nat_tests}
-use Rattle.std.proofs.lemmas.List.Elements.{recursion_from_All, All-append}
+use Rattle.std.proofs.lemmas.List.Elements.{recursion_from_All, All-append, All-from_recursion}
 use Rattle.std.proofs.lemmas.List.Splits.{slice_split_at, slice_split_none, slice_split-cons_no}
 use Rattle.std.specs.Str.Lines.{lines, lines_of_parts, strip_carriage_return}
 use Rattle.log_verdict.proofs.LinesLemmas.{cond_parts, length-strip}
@@ -56,6 +56,9 @@ lines-long front more none long =
     let parts = parts_of more in
     let split = split-front front more parts.first parts.others (recursion_from_All (λ b. is_end b ≡ false) front none.none) parts.split in
     rw split (long_parts (front ++ parts.first) parts.others (omega (arith, length-append front parts.first)))
+
+pub HasNoEnd-nil : HasNoEnd []
+HasNoEnd-nil = record { none = All-from_recursion (λ b. is_end b ≡ false) [] tt }
 
 pub HasNoEnd-append : (front back : List ℕ) → HasNoEnd front → HasNoEnd back → HasNoEnd (front ++ back)
 HasNoEnd-append front back one two = record { none = All-append (λ b. is_end b ≡ false) front back one.none two.none }

@@ -11,6 +11,7 @@ use Rattle.line_step.specs.Runs.{Point, IsRun, told_text}
 use Rattle.line_step.specs.Views.{summary_of}
 use Rattle.line_step.proofs.Counted.{steps-lines}
 use Rattle.line_step.proofs.Running.{RunsOn, run-append, runs-on, runs-told}
+use Rattle.report_ledger.specs.Proper.{AreProperPoints}
 use Rattle.line_cli.specs.LineEnds.{HasNoEnd}
 use Rattle.line_cli.specs.Texts.{refused_text}
 use Rattle.line_cli.specs.Script.{Script, meaning_at, script_from, behind_lines}
@@ -66,6 +67,7 @@ takes-line (Ok done) old state part before now none does =
       asked = does.asked ∷ [];
       points = point_of old.state state line before now does ∷ [];
       run = (does.steps, tt);
+      proper = (does.proper, tt);
       after = refl;
       text = does.text ∙ ap (λ t. before ++ t) (sym (append-nil (entries (old.state.lines + 1) does.told)));
       script = λ rest. ap (script_from old.state.lines) (lines-pending old.pending part rest none) ∙ script-done old.state state line before now (lines rest) does;
@@ -81,6 +83,7 @@ takes-line (Err (errors.Refused number why)) old state part before now none does
         asked = [];
         points = [];
         run = tt;
+        proper = tt;
         text = does.text;
         script_is = ap (script_from old.state.lines) (lines-pending old.pending part rest none) ∙ script-refused old.state line before now number why (lines rest) does;
       };
@@ -109,11 +112,17 @@ takes-long (Err (errors.Refused number why)) old new part tail before now none l
         asked = [];
         points = [];
         run = tt;
+        proper = tt;
         text = (refused rest).text;
         script_is = ap (script_from old.state.lines) (starts rest).starts ∙ script-refused old.state (starts rest).line before now number why (starts rest).others (refused rest);
       };
     }
 takes-long (Err errors.Memory) old new part tail before now none long refuses = tt
+
+-- what was told is proper of one list of points and of another
+pub proper-append : (one two : List Point) → AreProperPoints one → AreProperPoints two → AreProperPoints (one ++ two)
+proper-append [] two first second = second
+proper-append (point ∷ one) two first second = (first.0, proper-append one two first.1 second)
 
 -- what was told of some lines, and behind it what was told of others
 pub texts-join : (before one two rest : List ℕ) → (before ++ one) ++ (two ++ rest) ≡ before ++ ((one ++ two) ++ rest)
@@ -129,6 +138,7 @@ takes-more (Ok done) a b c first second before between now one two =
       asked = one.asked ++ two.asked;
       points = one.points ++ two.points;
       run = on.run;
+      proper = proper-append one.points two.points one.proper two.proper;
       after = on.after;
       text =
           two.text
@@ -149,6 +159,7 @@ takes-more (Err (errors.Refused number why)) a b c first second before between n
             asked = one.asked ++ later.asked;
             points = one.points ++ later.points;
             run = run-append a.state one.asked later.asked one.points later.points one.run (subst P (sym one.after) later.run);
+            proper = proper-append one.points later.points one.proper later.proper;
             text =
                 later.text
                 ∙ ap (λ t. t ++ (told_text (b.state.lines + 1) later.points ++ refused_text number why)) one.text
@@ -169,6 +180,7 @@ takes-front (errors.Refused number why) old new other front back before now refu
             asked = inner.asked;
             points = inner.points;
             run = inner.run;
+            proper = inner.proper;
             text = inner.text;
             script_is = ap (script_behind old) (append_assoc front back rest) ∙ inner.script_is;
           });
@@ -177,7 +189,7 @@ takes-front errors.Memory old new other front back before now refuses = tt
 
 -- nothing taken yet
 pub takes-nothing : (place : Place) (before : List ℕ) → Advances place place [] before before
-takes-nothing place before = record { asked = []; points = []; run = tt; after = refl; text = sym (append-nil before); script = λ rest. refl; progress = omega arith }
+takes-nothing place before = record { asked = []; points = []; run = tt; proper = tt; after = refl; text = sym (append-nil before); script = λ rest. refl; progress = omega arith }
 
 -- a front of a line that has not ended waits
 pub takes-pending : (old : Place) (part before : List ℕ) → Advances old (record { state = old.state; pending = old.pending ++ part }) part before before
@@ -185,6 +197,7 @@ takes-pending old part before = record {
   asked = [];
   points = [];
   run = tt;
+  proper = tt;
   after = refl;
   text = sym (append-nil before);
   script = λ rest. ap (λ t. script_from old.state.lines (lines t)) (sym (append_assoc old.pending part rest));
@@ -195,7 +208,7 @@ takes-pending old part before = record {
 
 -- a script that ends without a pending line
 pub finishes-empty : (result : Result (Unit {0}) RunError) (place : Place) (before now : List ℕ) → place.pending ≡ [] → Sums result place.state before now → Finishes result place place before now
-finishes-empty (Ok done) place before now empty sums = record { asked = []; points = []; run = tt; after = refl; text = sums.text; script_is = rw empty refl }
+finishes-empty (Ok done) place before now empty sums = record { asked = []; points = []; run = tt; proper = tt; after = refl; text = sums.text; script_is = rw empty refl }
 finishes-empty (Err (errors.Refused number why)) place before now empty sums = absurd sums
 finishes-empty (Err errors.Memory) place before now empty sums = tt
 
@@ -211,6 +224,7 @@ finishes-line (Ok done) place new before between now none there does sums =
       asked = does.asked ∷ [];
       points = point_of place.state new.state place.pending before between does ∷ [];
       run = (does.steps, tt);
+      proper = (does.proper, tt);
       after = refl;
       text = sums.text ∙ ap (λ t. t ++ last) does.text ∙ append_assoc before told last ∙ ap (λ t. before ++ (t ++ last)) (sym (append-nil told));
       script_is = ap (script_from place.state.lines) (lines-only place.pending none there) ∙ script-done place.state new.state place.pending before between [] does;
@@ -223,6 +237,7 @@ finishes-refused (errors.Refused number why) place new state before now none the
   asked = [];
   points = [];
   run = tt;
+  proper = tt;
   text = refused.text;
   script_is = ap (script_from place.state.lines) (lines-only place.pending none there) ∙ script-refused place.state place.pending before now number why [] refused;
 }

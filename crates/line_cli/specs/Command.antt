@@ -5,6 +5,8 @@ use Rattle.line_outside.specs.Sink.{Grows, PushesAll}
 use Rattle.line_outside.specs.declared.pushing.Pushed.{Pushed}
 use Rattle.line_cli.specs.Script.{Refusal, script_of}
 use Rattle.line_cli.specs.Report.{BeginsReport, report_text}
+use Rattle.line_cli.specs.Stops.{StopsIn}
+use Rattle.report_ledger.specs.Proper.{AreProperPoints}
 use Rattle.line_step.specs.State.{no_line}
 use Rattle.line_step.specs.Runs.{Point, IsRun}
 use Rattle.line_step.specs.Lies.{has_lie}
@@ -51,11 +53,13 @@ status_of None true = statuses.Unvouched
 status_of (Some refusal) lied = statuses.ScriptRefused refusal.line (inputs.Line refusal.why)
 
 -- the whole report was written, and it is that of a script which ends so: refused at its first
--- refusal, and else unvouched where one of its lines told what was not so
+-- refusal, and else unvouched where one of its lines told what was not so. Its ids and names are
+-- what their types allow
 pub record WritesReport (script : List ℕ) (old new : Option (List ℕ))
     (status : Status) : Type 0 where
   pub points : List Point
   pub run : IsRun no_line (script_of script).lines points
+  pub proper : AreProperPoints points
   pub ends : status ≡ status_of (script_of script).refusal (has_lie points)
   pub grows : Grows old new (report_text points (script_of script).refusal)
 
@@ -74,7 +78,7 @@ RunsScript script left old new statuses.Unvouched =
     WritesReport script old new statuses.Unvouched × (left ≡ Some [])
 RunsScript script left old new statuses.Usage = ⊥
 RunsScript script left old new (statuses.ScriptRefused line why) =
-    WritesReport script old new (statuses.ScriptRefused line why)
+    WritesReport script old new (statuses.ScriptRefused line why) × StopsIn script left
 RunsScript script left old new statuses.ReadFault = WritesFront script old new
 RunsScript script left old new statuses.WriteFault = WritesFront script old new
 RunsScript script left old new statuses.Memory = WritesFront script old new

@@ -6,6 +6,7 @@ use Rattle.line_outside.specs.declared.pushing.Pushed.TheVariants as pushes
 use Rattle.line_script.specs.declared.line.ScriptLine.{ScriptLine}
 use Rattle.line_step.specs.State.{no_line}
 use Rattle.line_step.specs.Runs.{Point, IsRun, state_behind, told_text}
+use Rattle.report_ledger.specs.Proper.{AreProperPoints}
 use Rattle.line_cli.specs.Script.{script_of, behind_lines}
 use Rattle.line_cli.specs.Reader.{Place, script_behind}
 use Rattle.line_cli.specs.declared.script_run.RunError.{RunError}
@@ -21,11 +22,15 @@ pub record IsGoing (script rest : List ℕ) (old now : Option (List ℕ)) (place
   pub asked : List ScriptLine
   pub points : List Point
   pub run : IsRun no_line asked points
+  pub proper : AreProperPoints points
   pub after : state_behind no_line points ≡ place.state
   pub shown : List ℕ
   pub grows : Grows old now shown
   pub told : shown ++ text ≡ told_text 1 points
-  pub all : script_of script ≡ behind_lines asked (script_behind place rest)
+  pub taken : List ℕ
+  pub parts : taken ++ rest ≡ script
+  pub ever : (other : List ℕ)
+      → script_of (taken ++ other) ≡ behind_lines asked (script_behind place other)
 
 -- the same, where the source tells its bytes; it tells them now exactly where it told them first
 abbrev pub GoesOn : Option (List ℕ) → Option (List ℕ) → Option (List ℕ) → Option (List ℕ) → Place

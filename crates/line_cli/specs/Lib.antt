@@ -2,6 +2,7 @@ pub mod Texts
 pub mod Script
 pub mod Report
 pub mod LineEnds
+pub mod Stops
 pub mod Reader
 pub mod Making
 pub mod Command
@@ -11,4 +12,5 @@ pub mod ReadText
 pub mod Stream
 pub mod StreamReader
 pub mod Premises
+pub mod Deeds
 pub mod Answered

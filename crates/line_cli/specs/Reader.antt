@@ -9,6 +9,7 @@ use Rattle.line_step.specs.State.{LineState}
 use Rattle.line_step.specs.Lines.{LineSteps}
 use Rattle.line_step.specs.Runs.{Point, IsRun, state_behind, told_text}
 use Rattle.line_step.specs.Views.{summary_of}
+use Rattle.report_ledger.specs.Proper.{AreProper, AreProperPoints}
 use Rattle.line_cli.specs.Texts.{refused_text}
 use Rattle.line_cli.specs.Script.{Script, meaning_at, script_from, behind_lines}
 use Rattle.line_cli.specs.declared.script_run.RunError.{RunError}
@@ -39,6 +40,7 @@ entries number told = flat_map (λ happening. entry number happening) told
 pub record DoesAsked (asked : ScriptLine) (old new : LineState)
     (before now : List ℕ) : Type 0 where
   pub told : List Happening
+  pub proper : AreProper told
   pub steps : LineSteps (old.lines + 1) asked old new told
   pub text : now ≡ before ++ entries (old.lines + 1) told
 
@@ -46,6 +48,7 @@ pub record IsDone (old new : LineState) (line before now : List ℕ) : Type 0 wh
   pub asked : ScriptLine
   pub meaning : meaning_at (old.lines + 1) line ≡ Ok asked
   pub told : List Happening
+  pub proper : AreProper told
   pub steps : LineSteps (old.lines + 1) asked old new told
   pub text : now ≡ before ++ entries (old.lines + 1) told
 
@@ -89,6 +92,7 @@ pub record Advances (old new : Place) (bytes before now : List ℕ) : Type 0 whe
   pub asked : List ScriptLine
   pub points : List Point
   pub run : IsRun old.state asked points
+  pub proper : AreProperPoints points
   pub after : state_behind old.state points ≡ new.state
   pub text : now ≡ before ++ told_text (old.state.lines + 1) points
   pub script : (rest : List ℕ)
@@ -101,6 +105,7 @@ pub record RefusesIn (state : LineState) (script : Script) (before now : List �
   pub asked : List ScriptLine
   pub points : List Point
   pub run : IsRun state asked points
+  pub proper : AreProperPoints points
   pub text : now ≡ before ++ (told_text (state.lines + 1) points ++ refused_text number why)
   pub script_is : script ≡ record {
     lines = asked;
@@ -130,6 +135,7 @@ pub record SumsUp (old new : Place) (before now : List ℕ) : Type 0 where
   pub asked : List ScriptLine
   pub points : List Point
   pub run : IsRun old.state asked points
+  pub proper : AreProperPoints points
   pub after : state_behind old.state points ≡ new.state
   pub text : now ≡ before
       ++ (told_text (old.state.lines + 1) points ++ summary_text (summary_of new.state))

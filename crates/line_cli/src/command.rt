@@ -10,16 +10,18 @@ ghost use Rattle.line_history.specs.Settled.{BoardsSettleWhenSaid};
 ghost use Rattle.line_history.specs.Started.{WhatIsHeldStarted};
 ghost use Rattle.line_openings.specs.Announced.{OpensWhenAnnounced};
 ghost use Rattle.one_standing.specs.Blame.{NoFalseBlame};
-ghost use Rattle.one_standing.specs.Contents.{ContentsAreKept};
+ghost use Rattle.contents_kept.specs.Records.{ContentsAreKept};
 ghost use Rattle.one_standing.specs.Facts.{CustodyFacts};
 ghost use Rattle.one_standing.specs.Replay.{LedgerFollows};
 ghost use Rattle.one_standing.specs.Standing.{OneStanding};
 ghost use Rattle.supervisor_replay.specs.Replay.{ReplayAgrees};
+ghost use Rattle.twelve_steps.specs.Example.{IsReachedAnnounced};
 ghost use Rattle.twelve_steps.specs.Twelve.{EndsWithinTwelveSteps};
 ghost use Rattle.whoever_goes_on.specs.Play.{EndsForWhoeverGoesOn};
 ghost use Rattle.work_orders.specs.Answers.{OneAnswer};
 ghost use Rattle.line_cli.specs.Answered.{EachInputHasOneAnswer, IsAnswered};
 ghost use Rattle.line_cli.specs.Command.{DoesAs, FitsWords, HasCauses, is_word, is_run, is_read, is_check, usage_text};
+ghost use Rattle.line_cli.specs.Deeds.{EachReportTellsItsLedger, EachReportTellsItsStandings, EachReportTellsItsStarts};
 ghost use Rattle.line_cli.specs.Making.{EachNumberHasOneMakeText, made_number};
 ghost use Rattle.line_cli.specs.Premises.{ScriptsAreFit};
 ghost use Rattle.line_cli.specs.ReadText.{EachStreamHasOneReadText};
@@ -88,6 +90,12 @@ pub fn line_main<S: Source, K: Sink>(
     ensures custody { CustodyFacts }
     // what the report tells of records is what becomes of them
     ensures ledger { LedgerFollows }
+    // and so its bytes, read by someone who has them alone, give the ledger of where each record is
+    ensures tells { EachReportTellsItsLedger }
+    // the one that gives each id the standing that they told of it last
+    ensures told { EachReportTellsItsStandings }
+    // and each opening that they tell answers the last start at its gap
+    ensures starts { EachReportTellsItsStarts }
     // each machine lets its boards go in the order in which they came to it
     ensures order { FirstInFirstOut }
     // a record that is kept changes only where its board is marked
@@ -108,6 +116,8 @@ pub fn line_main<S: Source, K: Sink>(
     ensures asked { WhatOpensStarted }
     // an undisturbed handover ends within twelve link steps
     ensures steps { EndsWithinTwelveSteps }
+    // and a script of six lines leads to a state from which it is to
+    ensures announced { IsReachedAnnounced }
     // whoever does link steps that can be done, until none is left, has ended it after at most
     // twelve
     ensures goes_on { EndsForWhoeverGoesOn }
@@ -129,8 +139,11 @@ pub fn line_main<S: Source, K: Sink>(
     one_standing::laws::one_standing_after_each_line();
     one_standing::laws::the_custody_facts_hold_after_each_line();
     one_standing::laws::the_ledger_follows_the_report();
+    report_ledger::laws::a_report_tells_its_ledger();
+    report_ledger::laws::a_report_tells_its_standings();
+    report_ledger::laws::a_report_tells_its_starts();
     first_in_first_out::laws::boards_go_in_the_order_in_which_they_came();
-    one_standing::laws::contents_are_kept_over_each_line();
+    contents_kept::laws::contents_are_kept_over_each_line();
     contents_kept::laws::contents_stay_whole();
     contents_kept::laws::standings_name_what_is_there();
     one_standing::laws::a_breach_is_told_only_behind_a_spoiled_text();
@@ -140,6 +153,7 @@ pub fn line_main<S: Source, K: Sink>(
     line_history::laws::what_an_intake_holds_was_started_last();
     line_history::laws::what_opens_was_started_last();
     twelve_steps::laws::an_undisturbed_handover_ends_within_twelve_link_steps();
+    twelve_steps::laws::an_announced_state_is_reached();
     whoever_goes_on::laws::whoever_goes_on_ends_it();
     line_openings::laws::a_machine_opens_exactly_when_announced();
     work_orders::laws::each_query_has_one_answer();

@@ -42,6 +42,7 @@ fn run_pieces<S: Source, K: Sink>(
 ) -> Status
     requires new { reader.old ≡ record { state = no_line; pending = [] } }
     requires room { 0 < length room.old }
+    requires small { length room.old ≤ 65536 }
     requires none { text.old.items ≡ [] }
     ensures runs { Runs (S.left script.old) (S.left script.new) (K.contents report.old)
         (K.contents report.new) result }

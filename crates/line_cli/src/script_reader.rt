@@ -46,6 +46,7 @@ impl ScriptReader {
         ensures unspent { OnOk result (self.new.state.spent ≡ false) }
         ensures numbered { IfErr result IsNumbered }
         ensures bounded { OnOk result (progress_of self.new ≤ 4099004097) }
+        ensures waits { OnOk result (HasNoEnd self.new.pending) }
     {
         let mut rest = piece;
         while let Some((line, others)) = cut_line(rest) {
@@ -114,6 +115,7 @@ impl ScriptReader {
         ensures unspent { OnOk result (self.new.state.spent ≡ false) }
         ensures numbered { IfErr result IsNumbered }
         ensures bounded { OnOk result (progress_of self.new ≤ 4099004097) }
+        ensures waits { OnOk result (HasNoEnd self.new.pending) }
     {
         if part.len() > MOST_PENDING - self.pending.len() {
             return self.run.refuse_long(to);

@@ -6,6 +6,7 @@ ghost use Rattle.line_cli.specs.Reader.{DoesAsked, DoesLine, IsNumbered, Refuses
 use line_base::Memory;
 use line_engine::{Happening, Line, write_happening, write_summary};
 use line_script::{LineError, LineWhy, MOST_LINE_BYTES, ScriptLine, read_line};
+use report_ledger::happenings_are_proper;
 use std::alloc::Global;
 use std::io::Write;
 use std::marker::Model;
@@ -96,7 +97,9 @@ impl ScriptRun {
         let number = self.done + 1;
         let told = self.line.step(number, asked)?;
         self.done = number;
-        write_told(number, told.list(), to)
+        let listed = told.list();
+        happenings_are_proper(listed);
+        write_told(number, listed, to)
     }
 
     /// Refuses the next line as too long.

@@ -12,7 +12,7 @@ use Rattle.line_step.specs.Runs.{IsRun, Point, state_behind, all_told}
 use Rattle.line_step.specs.State.{LineState, no_line}
 use Rattle.line_step.proofs.Vouching.{lies_remembered}
 use Rattle.one_standing.specs.Blame.{AreBlamesTrue, IsBlameTrue, NoFalseBlame}
-use Rattle.one_standing.specs.Contents.{AreContentsKept, ContentsAreKept, IsMarked, KeepsContents}
+use Rattle.contents_kept.specs.Records.{AreContentsKept, ContentsAreKept, IsChanged, KeepsContents}
 use Rattle.one_standing.specs.Reached.{IsReached}
 use Rattle.one_standing.specs.Standing.{IsFitLine}
 use Rattle.one_standing.proofs.Reaching.{behind_more, run_more, fit_more, length_more}
@@ -49,18 +49,18 @@ all_points points = take_all (length points) points (omega arith)
 
 -- ---- contents
 
-contents_last : (s : LineState) (points : List Point) (point : Point) → AreContentsKept s (points ++ point ∷ []) → KeepsContents (IsMarked point.told) (state_behind s points) point.after
+contents_last : (s : LineState) (points : List Point) (point : Point) → AreContentsKept s (points ++ point ∷ []) → KeepsContents (IsChanged point.told) (state_behind s points) point.after
 contents_last s [] point all = all.0
 contents_last s (first ∷ points) point all = contents_last first.after points point all.1
 
 pub contents_line : ContentsAreKept → (line : ScriptLine) (before after : LineState) (told : List Happening) → IsReached before → IsFitLine line → before.lines + 1 ≤ 1000000 → LineSteps (before.lines + 1) line before after told → after.unvouched ≡ None
-    → KeepsContents (IsMarked told) before after
+    → KeepsContents (IsChanged told) before after
 contents_line law line before after told was one few steps none =
     let point : Point = record { told = told; after = after } in
     let l : Longer line after told was.asked was.points = longer line before after told was.asked was.points one few steps none was.fit was.run was.behind in
     let points : List Point = was.points ++ point ∷ [] in
     let all : AreContentsKept no_line points = subst (λ (ps : List Point). AreContentsKept no_line ps) (all_points points) (law (was.asked ++ line ∷ []) points (length points) l.fit l.few l.run (subst (λ (ps : List Point). has_lie ps ≡ false) (sym (all_points points)) l.honest)) in
-    subst (λ (s : LineState). KeepsContents (IsMarked told) s after) was.behind (contents_last no_line was.points point all)
+    subst (λ (s : LineState). KeepsContents (IsChanged told) s after) was.behind (contents_last no_line was.points point all)
 
 -- ---- blame
 
@@ -79,12 +79,12 @@ blames_line law line before after told one few steps none = record {
 -- ---- as it is seen, with what says whether it is spent
 
 pub step_contents : {number : ℕ} {line : ScriptLine} {was : Entries} {before : LineState} {entries : Entries} {after : LineState} {told : List Happening} → Step number line was before entries after told → ContentsAreKept → (spent : Bool) → spent ≡ false → after.unvouched ≡ None
-    → KeepsContents (IsMarked told) (record before { spent = spent }) (record after { spent = false })
+    → KeepsContents (IsChanged told) (record before { spent = spent }) (record after { spent = false })
 step_contents {number} {line} {before = before} {after = after} {told = told} s law spent seen none =
     let few : before.lines + 1 ≤ 1000000 = subst (λ (n : ℕ). n ≤ 1000000) s.numbered s.few in
     let steps : LineSteps (before.lines + 1) line before after told = subst (λ (n : ℕ). LineSteps n line before after told) s.numbered s.steps in
-    subst (λ (v : LineState). KeepsContents (IsMarked told) (record before { spent = spent }) v) (as_seen after false s.unspent refl)
-    (subst (λ (v : LineState). KeepsContents (IsMarked told) v after) (as_seen before spent s.kept.unspent seen) (contents_line law line before after told s.kept.reached s.fit few steps none))
+    subst (λ (v : LineState). KeepsContents (IsChanged told) (record before { spent = spent }) v) (as_seen after false s.unspent refl)
+    (subst (λ (v : LineState). KeepsContents (IsChanged told) v after) (as_seen before spent s.kept.unspent seen) (contents_line law line before after told s.kept.reached s.fit few steps none))
 
 pub step_blames : {number : ℕ} {line : ScriptLine} {was : Entries} {before : LineState} {entries : Entries} {after : LineState} {told : List Happening} → Step number line was before entries after told → NoFalseBlame → (spent : Bool) → spent ≡ false → after.unvouched ≡ None
     → BlamesNext (record before { spent = spent }) told

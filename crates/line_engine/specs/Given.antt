@@ -17,6 +17,7 @@ IsGiven machine input s = IsSomeAnd (machine_in machine s) (λ node. may_of node
 abbrev pub is_given : ScriptLine → Bool
 is_given (lines.Insert machine barcode) = true
 is_given (lines.Mark machine id quality) = true
+is_given (lines.Sub machine id place barcode) = true
 is_given (lines.Hold machine side) = true
 is_given (lines.Go machine side) = true
 is_given (lines.Signal machine line on) = true

@@ -20,6 +20,7 @@ last_stepped (lines.Insert machine barcode) = machine
 last_stepped (lines.Remove machine id) = machine
 last_stepped (lines.Replace machine id) = machine
 last_stepped (lines.Mark machine id quality) = machine
+last_stepped (lines.Sub machine id place barcode) = machine
 last_stepped (lines.Hold machine side) = machine
 last_stepped (lines.Go machine side) = machine
 last_stepped (lines.Signal machine line on) = machine

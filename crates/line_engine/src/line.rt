@@ -8,7 +8,8 @@ ghost use Rattle.line_script.specs.declared.line.ScriptLine.TheVariants as lines
 ghost use Rattle.line_step.specs.Lines.{LineSteps};
 ghost use Rattle.line_step.specs.State.{marks_in, no_line};
 ghost use Rattle.line_step.specs.Views.{standing_in, summary_of};
-ghost use Rattle.one_standing.specs.Contents.{IsMarked, KeepsContents};
+ghost use Rattle.one_report.specs.Steps.{EachLineHasAStep};
+ghost use Rattle.contents_kept.specs.Records.{IsChanged, KeepsContents};
 ghost use Rattle.one_standing.specs.Facts.{HasCustodyFacts};
 ghost use Rattle.one_standing.specs.Reached.{FollowsLine, HasUniqueIds, IsReached};
 ghost use Rattle.one_standing.specs.Standing.{HasOneStanding, IsFitLine};
@@ -82,6 +83,8 @@ impl Line {
         ensures counted { IfOk result (λ told. self.new.lines ≡ number) }
         // what it did is the line step
         ensures step { IfOk result (LineSteps number line.now self.old self.new) }
+        // and there is one, for each line from each state, at Memory too
+        ensures has_step { EachLineHasAStep }
         // a run of a script has led to where it is then
         ensures reached { IfOk result (λ _. IsReached self.new) }
         // what each machine holds, and what is on its way on each link, stays within the limits;
@@ -99,9 +102,10 @@ impl Line {
         // what it told of records leads from the marks before it to the marks after it
         ensures ledger { IfOk result (λ told. self.new.unvouched ≡ None
             → FollowsLine self.old self.new told) }
-        // a record that a machine keeps changes only where the line marks its board
+        // a record that a machine keeps changes only where the line marks its board, or gives it a
+        // circuit more
         ensures contents { IfOk result (λ told.
-            self.new.unvouched ≡ None → KeepsContents (IsMarked told) self.old self.new) }
+            self.new.unvouched ≡ None → KeepsContents (IsChanged told) self.old self.new) }
         // a breach is told only of a side to which a spoiled text flowed in a line before
         ensures blame { IfOk result (λ told. self.new.unvouched ≡ None → BlamesNext self.old told) }
         // a handover opens exactly when board and place are announced, behind a lie too
@@ -112,6 +116,7 @@ impl Line {
         // a line supervisor who folds what it is told knows where each board is
         ensures replay { IfOk result (λ told. self.new.unvouched ≡ None → AgreesNext self.old self.new told) }
     {
+        one_report::laws::each_line_has_a_step();
         if self.spent {
             return Err(Memory);
         }
@@ -121,7 +126,7 @@ impl Line {
         first_in_first_out::laws::each_line_keeps_the_order();
         is_fit(line);
         one_standing::laws::what_a_run_leads_to();
-        one_standing::laws::contents_are_kept_over_each_line();
+        contents_kept::laws::contents_are_kept_over_each_line();
         one_standing::laws::a_breach_is_told_only_behind_a_spoiled_text();
         line_openings::laws::a_machine_opens_exactly_when_announced();
         work_orders::laws::each_line_answers_once();
@@ -174,13 +179,16 @@ impl Line {
     }
 }
 
-/// The barcode of a line is a text, as its type says.
+/// The barcode of a line is a text, as its type says, and the place of a circuit has at most nine
+/// digits.
 fn is_fit(line: &ScriptLine)
+    requires { IsWithin line.now }
     ensures { IsFitLine line.now }
 {
     match line {
         ScriptLine::Insert { barcode, .. } => is_text(barcode),
         ScriptLine::Query { barcode, .. } => is_asked(barcode),
+        ScriptLine::Sub { pos, barcode, .. } => is_circuit(*pos, barcode),
         _ => {}
     }
 }
@@ -189,6 +197,15 @@ fn is_asked(barcode: &Text)
     ensures { (machine : ℕ) → IsFitLine (lines.Query machine barcode.now) }
 {
     let _bytes = barcode.bytes();
+}
+
+fn is_circuit(pos: u32, barcode: &Option<Text>)
+    requires { pos ≤ 999999999 }
+    ensures { (machine id : ℕ) → IsFitLine (lines.Sub machine id pos barcode.now) }
+{
+    if let Some(text) = barcode {
+        let _bytes = text.bytes();
+    }
 }
 
 fn is_text(barcode: &Option<Text>)

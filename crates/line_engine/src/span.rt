@@ -44,6 +44,7 @@ pub fn stepped(line: &ScriptLine) -> Span
         ScriptLine::Remove { machine, .. } => Span::one(*machine),
         ScriptLine::Replace { machine, .. } => Span::one(*machine),
         ScriptLine::Mark { machine, .. } => Span::one(*machine),
+        ScriptLine::Sub { machine, .. } => Span::one(*machine),
         ScriptLine::Hold { machine, .. } => Span::one(*machine),
         ScriptLine::Go { machine, .. } => Span::one(*machine),
         ScriptLine::Signal { machine, .. } => Span::one(*machine),

@@ -77,6 +77,12 @@ impl State {
                 id,
                 quality,
             } => self.give(number, *machine, Input::Mark(*id, *quality)),
+            ScriptLine::Sub {
+                machine,
+                id,
+                pos,
+                barcode,
+            } => self.sub(number, *machine, *id, *pos, barcode),
             ScriptLine::Hold { machine, side } => self.will(number, *machine, *side, false),
             ScriptLine::Go { machine, side } => self.will(number, *machine, *side, true),
             ScriptLine::Signal { machine, line, on } => self.signal(number, *machine, *line, *on),
@@ -192,6 +198,26 @@ impl State {
     {
         let barcode = copy_of(self.alloc, barcode)?;
         self.give(number, machine, Input::Insert(barcode))
+    }
+
+    /// A board, a panel, has a circuit more.
+    fn sub(
+        &mut self,
+        number: u64,
+        machine: u32,
+        id: BoardId,
+        pos: u32,
+        barcode: &Option<Text>,
+    ) -> Result<Happened, Memory>
+        requires few { number ≤ 1000000 }
+        requires together { IsLineTogether self.old }
+        ensures { IfOk result
+            (λ told. Unless
+            (may_give machine (inputs.Sub id pos barcode.now) self.old) self.old self.new told
+            (MachineSteps number machine (inputs.Sub id pos barcode.now) self.old self.new told)) }
+    {
+        let barcode = copy_of(self.alloc, barcode)?;
+        self.give(number, machine, Input::Sub { id, pos, barcode })
     }
 
     fn remove(&mut self, number: u64, machine: u32, id: BoardId) -> Result<Happened, Memory>

@@ -1,9 +1,8 @@
 -- A LINE, as each machine sees it, with its form: the machine is as it was and tells nothing, or it made one step, and only a line
 -- of a hand at this machine has it changed by hand.
-use Rattle.std.proofs.Common.{Bool, Err, List, Ok, Option, Result, Some, [], ap, append-nil, false, inl, inr, length, refl, subst, sym, true, ℕ, ◌++◌, ◌+◌, ◌-◌, ◌∙◌, ◌≡◌, ◌≢◌, ◌≤◌, ◌⊎◌}
+use Rattle.std.proofs.Common.{Bool, Err, List, Ok, Option, Result, Some, [], ap, append-nil, false, inl, inr, length, refl, subst, sym, ℕ, ◌++◌, ◌+◌, ◌-◌, ◌∙◌, ◌≡◌, ◌≢◌, ◌≤◌, ◌⊎◌}
 use Rattle.one_standing.proofs.RestLine.{node_there}
-use Rattle.one_standing.proofs.HandSteps.{not_touched}
-use Rattle.line_base.specs.declared.states.Quality.{Quality}
+use Rattle.one_standing.proofs.HandSteps.{changed_untouched, marks_one, subs_one, ChangesOne}
 use Rattle.line_base.specs.declared.states.Side.{Side}
 use Rattle.board_record.specs.declared.sensed.Sensed.{Sensed}
 use Rattle.board_record.specs.Maker.{Maker, next_id}
@@ -12,7 +11,6 @@ use Rattle.line_link.specs.Link.{connected_of}
 use Rattle.line_link.specs.declared.link.Connected.{Connected}
 use Rattle.line_link.specs.declared.link.Connected.TheVariants as connections
 use Rattle.line_script.specs.declared.line.ScriptLine.{ScriptLine}
-use Rattle.handover_out.specs.State.{is_id}
 use Rattle.node_core.specs.Desk.{Desk}
 use Rattle.node_core.specs.Done.{Done}
 use Rattle.node_core.specs.Event.{Event, event_of, with_new}
@@ -23,7 +21,6 @@ use Rattle.node_core.specs.Step.{plain_step}
 use Rattle.node_core.specs.declared.act.Act.{Act}
 use Rattle.node_core.specs.declared.input.Input.{Input}
 use Rattle.node_core.specs.declared.input.Input.TheVariants as inputs
-use Rattle.node_core.specs.declared.input.No.{No}
 use Rattle.node_core.specs.declared.word.Word.{Word}
 use Rattle.line_report.specs.declared.happening.Happening.{Happening}
 use Rattle.line_step.specs.Lines.{Becomes, Connects, Flows, LineSteps, arrived, connecting, met}
@@ -52,6 +49,7 @@ IsHandAt m (requests.gives machine (inputs.Insert barcode)) = m ≡ machine
 IsHandAt m (requests.gives machine (inputs.Remove id)) = m ≡ machine
 IsHandAt m (requests.gives machine (inputs.Replace id)) = m ≡ machine
 IsHandAt m (requests.gives machine (inputs.Mark id quality)) = m ≡ machine
+IsHandAt m (requests.gives machine (inputs.Sub id place barcode)) = m ≡ machine
 IsHandAt m (requests.gives machine (inputs.Level line on)) = m ≡ machine
 IsHandAt m _ = ⊥
 
@@ -110,6 +108,7 @@ IsNoHandInput (inputs.Insert barcode) = ⊥
 IsNoHandInput (inputs.Remove id) = ⊥
 IsNoHandInput (inputs.Replace id) = ⊥
 IsNoHandInput (inputs.Mark id quality) = ⊥
+IsNoHandInput (inputs.Sub id place barcode) = ⊥
 IsNoHandInput (inputs.Level line on) = ⊥
 IsNoHandInput _ = Unit {0}
 
@@ -118,35 +117,17 @@ no_hand maker (inputs.Insert barcode) words plain = absurd plain
 no_hand maker (inputs.Remove id) words plain = absurd plain
 no_hand maker (inputs.Replace id) words plain = absurd plain
 no_hand maker (inputs.Mark id quality) words plain = absurd plain
-no_hand maker inputs.Nothing words plain = tt
-no_hand maker inputs.Connect words plain = tt
-no_hand maker inputs.Accepted words plain = tt
-no_hand maker inputs.Second words plain = tt
-no_hand maker (inputs.Bytes side piece) words plain = tt
-no_hand maker (inputs.Notice side) words plain = tt
-no_hand maker inputs.Tick words plain = tt
-no_hand maker inputs.Shutdown words plain = tt
-no_hand maker (inputs.Fault side) words plain = tt
-no_hand maker (inputs.Will side on) words plain = tt
+no_hand maker (inputs.Sub id place barcode) words plain = absurd plain
 no_hand maker (inputs.Level line on) words plain = absurd plain
-no_hand maker inputs.Forecast words plain = tt
-no_hand maker (inputs.Query barcode) words plain = tt
-no_hand maker (inputs.Supervise on) words plain = tt
-no_hand maker (inputs.Ask question) words plain = tt
-no_hand maker (inputs.Answer query order) words plain = tt
+no_hand maker _ words plain = tt
 
 new_markable : (touched : Option ℕ) (found : Result ℕ IdsUsedUp) (event : ℕ → Event) → ((id : ℕ) → IsMarkable (event id) touched) → IsMarkable (with_new found event) touched
 new_markable touched (Ok id) event all = all id
 new_markable touched (Err why) event all = tt
 
-passes_second : (one two : Bool) (why other : No) → own.no_if one why (own.no_if two other own.may_do) ≡ own.may_do → two ≡ false
-passes_second false false why other is = refl
-passes_second false true why other is = cc
-passes_second true two why other is = cc
-
-mark_free : (machine id : ℕ) (quality : Quality) (s : LineState) (node : NodeState) → machine_in machine s ≡ Some node → may_get machine (inputs.Mark id quality) s ≡ may_do → node.lane.body.outlet.touched ≡ Some id → ⊥
-mark_free machine id quality s node there may =
-    not_touched node.lane.body.outlet.touched id (passes_second _ (is_id node.lane.body.outlet.touched id) _ _ (get_may machine (inputs.Mark id quality) s node there may))
+-- a record that is changed isn't known downstream
+changed_free : {id : ℕ} {input : Input} (machine : ℕ) (s : LineState) (node : NodeState) → ChangesOne id input → machine_in machine s ≡ Some node → may_get machine input s ≡ may_do → node.lane.body.outlet.touched ≡ Some id → ⊥
+changed_free {input = input} machine s node c there may = changed_untouched node c (get_may machine input s node there may)
 
 -- ---- each turn
 
@@ -251,7 +232,10 @@ given_course line number j machine (inputs.Replace id) before after told asks ma
     (λ node words there. new_markable node.lane.body.outlet.touched (next_id node.maker) (events.Replace id) (λ new. tt)) did
 given_course line number j machine (inputs.Mark id quality) before after told asks may did =
     hand_course line number j machine (inputs.Mark id quality) before after told (same_or_not (j + 1) machine) (λ here. subst (λ (r : Request). IsHandAt (j + 1) r) (sym asks) here)
-    (λ node words there. mark_free machine id quality before node there may) did
+    (λ node words there. changed_free machine before node (marks_one {quality = quality}) there may) did
+given_course line number j machine (inputs.Sub id place barcode) before after told asks may did =
+    hand_course line number j machine (inputs.Sub id place barcode) before after told (same_or_not (j + 1) machine) (λ here. subst (λ (r : Request). IsHandAt (j + 1) r) (sym asks) here)
+    (λ node words there. changed_free machine before node (subs_one {place = place} {barcode = barcode}) there may) did
 given_course line number j machine (inputs.Level signal on) before after told asks may did =
     hand_course line number j machine (inputs.Level signal on) before after told (same_or_not (j + 1) machine) (λ here. subst (λ (r : Request). IsHandAt (j + 1) r) (sym asks) here) (λ node words there. tt) did
 given_course line number j machine input before after told asks may did = plain_course line number j machine input before after told (same_or_not (j + 1) machine) tt did

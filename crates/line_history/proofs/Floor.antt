@@ -51,13 +51,7 @@ boards_lies plan machine boards gap = ap (λ (g : AtGap). g.lies) (gaps_stay pla
 
 deed_floor : (deed : Deed) (world : WorldParts) → (counted deed world).floor ≡ world.floor
 deed_floor (deeds.Opens id) world = refl
-deed_floor (deeds.Refuses id) world = refl
-deed_floor (deeds.Leaves id) world = refl
-deed_floor (deeds.Returns id) world = refl
-deed_floor (deeds.Loses id) world = refl
-deed_floor (deeds.Starts id) world = refl
-deed_floor (deeds.Settles id) world = refl
-deed_floor (deeds.Drops id) world = refl
+deed_floor _ world = refl
 
 act_lies : (second : Bool) (machine : ℕ) (act : Act) (world : WorldParts) (gap : ℕ) → (gap_at (act_did second machine act world).world.floor gap).lies ≡ (gap_at world.floor gap).lies
 act_lies second machine (acts.Sends side message) world gap = sent_lies (answers second side message) machine side message world gap
@@ -70,15 +64,7 @@ act_lies second machine (acts.Inserts id) world gap = boards_lies world.floor ma
 act_lies second machine (acts.Removes id) world gap = boards_lies world.floor machine _ gap
 act_lies second machine (acts.Replaces old new) world gap = boards_lies world.floor machine _ gap
 act_lies second machine (acts.Deed deed) world gap = ap (λ (f : FloorPlan). (gap_at f gap).lies) (deed_floor deed world)
-act_lies second machine (acts.Reads side event) world gap = refl
-act_lies second machine (acts.Hears side message) world gap = refl
-act_lies second machine (acts.Breaches side text) world gap = refl
-act_lies second machine acts.Connects world gap = refl
-act_lies second machine (acts.Marks id quality) world gap = refl
-act_lies second machine (acts.Signals signal on) world gap = refl
-act_lies second machine (acts.Tells message) world gap = refl
-act_lies second machine (acts.Answered query order) world gap = refl
-act_lies second machine (acts.Sets setting) world gap = refl
+act_lies second machine _ world gap = refl
 
 pub acts_lies : (second : Bool) (machine : ℕ) (told : List Act) (world : WorldParts) (gap : ℕ) → (gap_at (acts_did second machine told world).world.floor gap).lies ≡ (gap_at world.floor gap).lies
 acts_lies second machine [] world gap = refl
@@ -116,15 +102,7 @@ act_unread second machine (acts.Inserts id) world other = boards_unread world.fl
 act_unread second machine (acts.Removes id) world other = boards_unread world.floor machine _ other
 act_unread second machine (acts.Replaces old new) world other = boards_unread world.floor machine _ other
 act_unread second machine (acts.Deed deed) world other = ap (λ (f : FloorPlan). (machine_at f other).unread) (deed_floor deed world)
-act_unread second machine (acts.Reads side event) world other = refl
-act_unread second machine (acts.Hears side message) world other = refl
-act_unread second machine (acts.Breaches side text) world other = refl
-act_unread second machine acts.Connects world other = refl
-act_unread second machine (acts.Marks id quality) world other = refl
-act_unread second machine (acts.Signals signal on) world other = refl
-act_unread second machine (acts.Tells message) world other = refl
-act_unread second machine (acts.Answered query order) world other = refl
-act_unread second machine (acts.Sets setting) world other = refl
+act_unread second machine _ world other = refl
 
 acts_unread : (second : Bool) (machine : ℕ) (told : List Act) (world : WorldParts) (other : ℕ) → (machine_at (acts_did second machine told world).world.floor other).unread ≡ (machine_at world.floor other).unread
 acts_unread second machine [] world other = refl
@@ -200,15 +178,7 @@ act_lists x second machine (acts.Inserts id) world other new lies = boards_lists
 act_lists x second machine (acts.Removes id) world other new lies = boards_lists x world.floor machine _ other (λ l. lies_without x id (machine_at world.floor machine).boards l) lies
 act_lists x second machine (acts.Replaces old now) world other new lies = boards_lists x world.floor machine _ other (λ l. lies_renamed x old now (machine_at world.floor machine).boards (not-true (now == x) new) l) lies
 act_lists x second machine (acts.Deed deed) world other new lies = subst (λ (f : FloorPlan). Lies x (machine_at f other).boards) (deed_floor deed world) lies
-act_lists x second machine (acts.Reads side event) world other new lies = lies
-act_lists x second machine (acts.Hears side message) world other new lies = lies
-act_lists x second machine (acts.Breaches side text) world other new lies = lies
-act_lists x second machine acts.Connects world other new lies = lies
-act_lists x second machine (acts.Marks id quality) world other new lies = lies
-act_lists x second machine (acts.Signals signal on) world other new lies = lies
-act_lists x second machine (acts.Tells message) world other new lies = lies
-act_lists x second machine (acts.Answered query order) world other new lies = lies
-act_lists x second machine (acts.Sets setting) world other new lies = lies
+act_lists x second machine _ world other new lies = lies
 
 pub acts_lists : (x : ℕ) (second : Bool) (machine : ℕ) (told : List Act) (world : WorldParts) (other : ℕ) → make_not x told ≡ true → Lies x (machine_at (acts_did second machine told world).world.floor other).boards → Lies x (machine_at world.floor other).boards
 acts_lists x second machine [] world other new lies = lies

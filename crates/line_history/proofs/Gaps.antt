@@ -86,13 +86,11 @@ last_by : (g : Gap) (deed : Deed) (told : List Deed) (id : ℕ) (dropped : Bool)
 last_by g deed told id dropped (inl s) = inl (split_on deed told s)
 last_by g (deeds.Starts other) told id dropped (inr all) =
     inl (record { before = []; since = told; told_is = ap (λ (x : ℕ). deeds.Starts x ∷ told) (some_id other id all.0); last = all.1.0; drops = all.1.1 })
-last_by g (deeds.Opens other) told id dropped (inr all) = none_some id all.0
-last_by g (deeds.Refuses other) told id dropped (inr all) = none_some id all.0
-last_by g (deeds.Settles other) told id dropped (inr all) = none_some id all.0
 last_by g (deeds.Drops other) told id dropped (inr all) = inr (all.0, (all.1.0, sym (drop_named g other id (list_any (is_drop id) told) all.0) ∙ all.1.1))
 last_by g (deeds.Leaves other) told id dropped (inr all) = inr all
 last_by g (deeds.Returns other) told id dropped (inr all) = inr all
 last_by g (deeds.Loses other) told id dropped (inr all) = inr all
+last_by g _ told id dropped (inr all) = none_some id all.0
 
 last_of : (g : Gap) (told : List Deed) (id : ℕ) → (gaps_after g told).last ≡ Some id → Last g told id (gaps_after g told).dropped
 last_of g [] id is = inr (is, (refl, or-false g.dropped))
@@ -216,11 +214,6 @@ plain_above : (act : Act) → is_plain act ≡ true → above_of act ≡ []
 plain_above (acts.Deed (deeds.Opens id)) plain = absurd (false≢true plain)
 plain_above (acts.Deed (deeds.Refuses id)) plain = absurd (false≢true plain)
 plain_above (acts.Deed (deeds.Starts id)) plain = absurd (false≢true plain)
-plain_above (acts.Deed (deeds.Leaves id)) plain = refl
-plain_above (acts.Deed (deeds.Returns id)) plain = refl
-plain_above (acts.Deed (deeds.Loses id)) plain = refl
-plain_above (acts.Deed (deeds.Settles id)) plain = refl
-plain_above (acts.Deed (deeds.Drops id)) plain = refl
 plain_above _ plain = refl
 
 pending_rest : (m : Horizontal) (rest : List Horizontal) (last : Option ℕ) → Pending (starts_of (m ∷ rest)) last → Pending (starts_of rest) last
@@ -355,14 +348,7 @@ pub record Starts (o : Option ℕ) (g : Gap) (told : List Act) : Type 0 where
   pub gap_is : gaps_after g (below_deeds told) ≡ record { last = Some id; dropped = false }
 
 plain_start : (act : Act) → is_plain act ≡ true → is_start act ≡ false
-plain_start (acts.Deed (deeds.Opens id)) plain = refl
-plain_start (acts.Deed (deeds.Refuses id)) plain = refl
 plain_start (acts.Deed (deeds.Starts id)) plain = absurd (false≢true plain)
-plain_start (acts.Deed (deeds.Leaves id)) plain = refl
-plain_start (acts.Deed (deeds.Returns id)) plain = refl
-plain_start (acts.Deed (deeds.Loses id)) plain = refl
-plain_start (acts.Deed (deeds.Settles id)) plain = refl
-plain_start (acts.Deed (deeds.Drops id)) plain = refl
 plain_start _ plain = refl
 
 pub ends_started : {words : List Word} {told : List Act} → Orders true words told → list_any is_start told ≡ true → (o : Option ℕ) (g : Gap) → Starts o g told
@@ -403,7 +389,6 @@ owned_both b (owned_drops more) later = owned_drops (owned_both b more later)
 
 silent_drops : (act : Act) → is_silent act ≡ true → is_dropping act ≡ false
 silent_drops (acts.Deed (deeds.Opens id)) is = absurd (false≢true is)
-silent_drops (acts.Deed (deeds.Refuses id)) is = refl
 silent_drops (acts.Deed (deeds.Leaves id)) is = absurd (false≢true is)
 silent_drops (acts.Deed (deeds.Returns id)) is = absurd (false≢true is)
 silent_drops (acts.Deed (deeds.Loses id)) is = absurd (false≢true is)
@@ -457,11 +442,6 @@ stays_act : (z : ℕ) (act : Act) (o : Option ℕ) (g : Gap) → is_start act �
 stays_act z (acts.Deed (deeds.Starts id)) o g start settle drops s = absurd (false≢true (sym start))
 stays_act z (acts.Deed (deeds.Settles id)) o g start settle drops s = absurd (false≢true (sym settle))
 stays_act z (acts.Deed (deeds.Drops id)) o g start settle drops s = absurd (false≢true (sym drops))
-stays_act z (acts.Deed (deeds.Opens id)) o g start settle drops s = s
-stays_act z (acts.Deed (deeds.Refuses id)) o g start settle drops s = s
-stays_act z (acts.Deed (deeds.Leaves id)) o g start settle drops s = s
-stays_act z (acts.Deed (deeds.Returns id)) o g start settle drops s = s
-stays_act z (acts.Deed (deeds.Loses id)) o g start settle drops s = s
 stays_act z _ o g start settle drops s = s
 
 stays_drop : (z id : ℕ) (g : Gap) → Stays z (Some id) g → Stays z None (gap_after g (deeds.Drops id))

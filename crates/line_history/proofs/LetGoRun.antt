@@ -68,13 +68,6 @@ leaving_one gap machine (acts.Deed (deeds.Loses id)) true is = refl
 leaving_one gap machine (acts.Deed (deeds.Starts id)) true is = refl
 leaving_one gap machine (acts.Deed (deeds.Settles id)) true is = refl
 leaving_one gap machine (acts.Deed (deeds.Drops id)) true is = refl
-leaving_one gap machine (acts.Deed (deeds.Opens id)) false is = refl
-leaving_one gap machine (acts.Deed (deeds.Refuses id)) false is = refl
-leaving_one gap machine (acts.Deed (deeds.Returns id)) false is = refl
-leaving_one gap machine (acts.Deed (deeds.Loses id)) false is = refl
-leaving_one gap machine (acts.Deed (deeds.Starts id)) false is = refl
-leaving_one gap machine (acts.Deed (deeds.Settles id)) false is = refl
-leaving_one gap machine (acts.Deed (deeds.Drops id)) false is = refl
 leaving_one gap machine _ true is = refl
 leaving_one gap machine _ false is = refl
 

@@ -17,8 +17,6 @@ use Rattle.line_link.proofs.Coming.{coming_of_text}
 use Rattle.node_core.specs.Words.{AreFirst, AreWords, first_more, first_none}
 use Rattle.node_core.specs.declared.act.Act.{Act}
 use Rattle.node_core.specs.declared.act.Act.TheVariants as acts
-use Rattle.node_core.specs.declared.act.Deed.{Deed}
-use Rattle.node_core.specs.declared.act.Deed.TheVariants as deeds
 use Rattle.node_core.specs.declared.word.Word.{Word}
 use Rattle.node_core.specs.declared.word.Word.TheVariants.{Says}
 use Rattle.custody.specs.Bytes.{Flows, Spoiled, texts_of}
@@ -29,13 +27,13 @@ use Rattle.machine_custody.specs.Flight.{AreOldest}
 use Rattle.link_messages.specs.Fit.{AreFit, AreFitActs, IsFit, IsFitAct, more_fit, more_said, none_fit, none_said}
 use Rattle.link_messages.specs.Heard.{AreSayable, Heard, HeardSpoiled, bodies as bodies_of, more_sayable, none_sayable}
 use Rattle.link_messages.proofs.Fitting.{both_fit}
-use Rattle.line_step.specs.Acts.{act_did, acts_did, answers, counted, sent_by}
-use Rattle.line_step.specs.World.{WorldParts, end_of, link_at, link_of, with_link}
-use Rattle.line_step.proofs.Numbers.{Written, link_set, link_set_other, nowhere, same_or_not, written}
+use Rattle.line_step.specs.Acts.{acts_did, answers}
+use Rattle.line_step.specs.World.{WorldParts, end_of, link_at, with_link}
+use Rattle.line_step.proofs.LinkRule.{ActKeeps, ActsKeep, SentKeeps, acts_keep, link_keeps}
 use Rattle.one_standing.specs.Links.{IsWholeLink}
 use Rattle.one_standing.proofs.Carrying.{SaysAlone}
 use Rattle.one_standing.proofs.FactsBlame.{Front, front_of}
-use Rattle.one_standing.proofs.WholeLinks.{whole_act}
+use Rattle.one_standing.proofs.WholeLinks.{whole_at}
 use Rattle.line_history.proofs.Orders.{is_asking}
 
 -- ---- the messages of whole bytes
@@ -192,15 +190,7 @@ on_cut link = up_over refl refl
 -- ---- one link of a world
 
 pub at_set : {Any : Type 0} {ids : List ℕ} {waiting : List ℕ} (k link : ℕ) (parts : LinkParts) (world : WorldParts) → (k ≡ link → UpOn Any ids waiting parts) → UpOn Any ids waiting (link_at k world) → UpOn Any ids waiting (link_at k (with_link link parts world))
-at_set {Any} {ids} {waiting} k link parts world here was = by (same_or_not k link)
-  where
-    own : k ≡ link → Written link parts world → UpOn Any ids waiting (link_at link (with_link link parts world))
-    own is (written now) = subst (λ (l : LinkParts). UpOn Any ids waiting l) (sym now) (here is)
-    own is (nowhere now then) = subst (λ (l : LinkParts). UpOn Any ids waiting l) (sym now) (up_over refl refl)
-
-    by : (k ≡ link) ⊎ (k ≢ link) → UpOn Any ids waiting (link_at k (with_link link parts world))
-    by (inl is) = subst (λ (n : ℕ). UpOn Any ids waiting (link_at n (with_link link parts world))) (sym is) (own is (link_set link parts world))
-    by (inr apart) = subst (λ (l : LinkParts). UpOn Any ids waiting l) (sym (link_set_other link k parts world apart)) was
+at_set {Any} {ids} {waiting} k link parts world here was = link_keeps (λ (l : LinkParts). UpOn Any ids waiting l) (up_over refl refl) k link parts world here (λ apart. was)
 
 -- ---- acts
 
@@ -217,39 +207,16 @@ silent_entry : {Any : Type 0} (message : Message) → Any ⊎ (is_silent (acts.S
 silent_entry message (inl any) = inl any
 silent_entry message (inr silent) = inr (not-true (is_asking message.body) silent)
 
-sent_up : {Any : Type 0} {ids : List ℕ} {waiting : List ℕ} → SaysAlone → (k : ℕ) (test : Bool) (machine : ℕ) (side : Side) (message : Message) (world : WorldParts) → IsFit message → (k ≡ machine - 1 → Any ⊎ (is_silent (acts.Sends side message) ≡ true))
-    → ((link : ℕ) → IsWholeLink (link_at link world)) → UpOn Any ids waiting (link_at k world) → UpOn Any ids waiting (link_at k (sent_by test machine side message world).world)
-sent_up {Any} {ids} {waiting} alone k true machine side message world fit silent whole was =
-    at_set k machine (after_answer (canonical message) (link_at machine world)) world (λ is. on_answer (canonical message) (link_at machine world) (subst (λ (n : ℕ). UpOn Any ids waiting (link_at n world)) is was)) was
-sent_up {Any} {ids} {waiting} alone k false machine Exit message world fit silent whole was =
-    at_set k machine (after_send Upstream (canonical message) (link_at machine world)) world (λ is. on_send_down (canonical message) (link_at machine world) (subst (λ (n : ℕ). UpOn Any ids waiting (link_at n world)) is was)) was
-sent_up {Any} {ids} {waiting} alone k false machine Entry message world fit silent whole was =
-    at_set k (machine - 1) (after_send Downstream (canonical message) (link_at (machine - 1) world)) world
-    (λ is. on_send_up alone message (link_at (machine - 1) world) fit (silent_entry message (silent is)) (whole (machine - 1)) (subst (λ (n : ℕ). UpOn Any ids waiting (link_at n world)) is was)) was
-
-closed_up : {Any : Type 0} {ids : List ℕ} {waiting : List ℕ} (k machine : ℕ) (side : Side) (world : WorldParts) → UpOn Any ids waiting (link_at k world)
-    → UpOn Any ids waiting (link_at k (with_link (link_of machine side) (after_close (end_of side) (link_at (link_of machine side) world)) world))
-closed_up {Any} {ids} {waiting} k machine side world was =
-    at_set k (link_of machine side) (after_close (end_of side) (link_at (link_of machine side) world)) world
-    (λ is. on_close side (link_at (link_of machine side) world) (subst (λ (n : ℕ). UpOn Any ids waiting (link_at n world)) is was)) was
-
-counted_up : {Any : Type 0} {ids : List ℕ} {waiting : List ℕ} (k : ℕ) (deed : Deed) (world : WorldParts) → UpOn Any ids waiting (link_at k world) → UpOn Any ids waiting (link_at k (counted deed world))
-counted_up k (deeds.Opens id) world was = was
-counted_up k (deeds.Settles id) world was = was
-counted_up k (deeds.Refuses id) world was = was
-counted_up k (deeds.Leaves id) world was = was
-counted_up k (deeds.Returns id) world was = was
-counted_up k (deeds.Loses id) world was = was
-counted_up k (deeds.Starts id) world was = was
-counted_up k (deeds.Drops id) world was = was
-
-act_up : {Any : Type 0} {ids : List ℕ} {waiting : List ℕ} → SaysAlone → (k : ℕ) (second : Bool) (machine : ℕ) (act : Act) (world : WorldParts) → IsFitAct act → (k ≡ machine - 1 → Any ⊎ (is_silent act ≡ true))
-    → ((link : ℕ) → IsWholeLink (link_at link world)) → UpOn Any ids waiting (link_at k world) → UpOn Any ids waiting (link_at k (act_did second machine act world).world)
-act_up alone k second machine (acts.Sends side message) world fit silent whole was = sent_up alone k (answers second side message) machine side message world fit silent whole was
-act_up alone k second machine (acts.Closes side) world fit silent whole was = closed_up k machine side world was
-act_up alone k second machine (acts.Notices side) world fit silent whole was = closed_up k machine side world was
-act_up alone k second machine (acts.Deed deed) world fit silent whole was = counted_up k deed world was
-act_up alone k second machine act world fit silent whole was = was
+up_rule : (Any : Type 0) (ids waiting : List ℕ) → SaysAlone → (k : ℕ) (second : Bool) (machine : ℕ) (act : Act) → IsFitAct act → (k ≡ machine - 1 → Any ⊎ (is_silent act ≡ true)) → ActKeeps IsWholeLink (λ (l : LinkParts). UpOn Any ids waiting l) k second machine act
+up_rule Any ids waiting alone k second machine (acts.Sends side message) fit silent = by side (answers second side message) silent
+  where
+    by : (side : Side) (test : Bool) → (k ≡ machine - 1 → Any ⊎ (is_silent (acts.Sends side message) ≡ true)) → SentKeeps IsWholeLink (λ (l : LinkParts). UpOn Any ids waiting l) k test machine side message
+    by side true silent = λ is link whole up. on_answer (canonical message) link up
+    by Exit false silent = λ is link whole up. on_send_down (canonical message) link up
+    by Entry false silent = λ is link whole up. on_send_up alone message link fit (silent_entry message (silent is)) whole up
+up_rule Any ids waiting alone k second machine (acts.Closes side) fit silent = λ is link up. on_close side link up
+up_rule Any ids waiting alone k second machine (acts.Notices side) fit silent = λ is link up. on_close side link up
+up_rule Any ids waiting alone k second machine _ fit silent = tt
 
 silent_first : {Any : Type 0} (act : Act) (told : List Act) → Any ⊎ (are_silent (act ∷ told) ≡ true) → Any ⊎ (is_silent act ≡ true)
 silent_first act told (inl any) = inl any
@@ -259,9 +226,12 @@ silent_later : {Any : Type 0} (act : Act) (told : List Act) → Any ⊎ (are_sil
 silent_later act told (inl any) = inl any
 silent_later act told (inr silent) = inr (and_parts (is_silent act) (are_silent told) silent).1
 
+up_rules : (Any : Type 0) (ids waiting : List ℕ) → SaysAlone → (k : ℕ) (second : Bool) (machine : ℕ) (told : List Act) → AreFitActs told → (k ≡ machine - 1 → Any ⊎ (are_silent told ≡ true)) → ActsKeep IsWholeLink (λ (l : LinkParts). UpOn Any ids waiting l) k second machine told
+up_rules Any ids waiting alone k second machine [] none_said silent = tt
+up_rules Any ids waiting alone k second machine (act ∷ told) (more_said fit more) silent =
+    (up_rule Any ids waiting alone k second machine act fit (λ is. silent_first act told (silent is)), up_rules Any ids waiting alone k second machine told more (λ is. silent_later act told (silent is)))
+
 pub acts_up : {Any : Type 0} {ids : List ℕ} {waiting : List ℕ} → SaysAlone → (k : ℕ) (second : Bool) (machine : ℕ) (told : List Act) (world : WorldParts) → AreFitActs told → (k ≡ machine - 1 → Any ⊎ (are_silent told ≡ true))
     → ((link : ℕ) → IsWholeLink (link_at link world)) → UpOn Any ids waiting (link_at k world) → UpOn Any ids waiting (link_at k (acts_did second machine told world).world)
-acts_up alone k second machine [] world none_said silent whole was = was
-acts_up alone k second machine (act ∷ told) world (more_said fit more) silent whole was =
-    acts_up alone k second machine told (act_did second machine act world).world more (λ is. silent_later act told (silent is)) (whole_act second machine act world whole)
-    (act_up alone k second machine act world fit (λ is. silent_first act told (silent is)) whole was)
+acts_up {Any} {ids} {waiting} alone k second machine told world fit silent whole was =
+    acts_keep IsWholeLink (λ (l : LinkParts). UpOn Any ids waiting l) (up_over refl refl) k second machine (λ act w one. whole_at k second machine act w one) told world (up_rules Any ids waiting alone k second machine told fit silent) (whole k) was

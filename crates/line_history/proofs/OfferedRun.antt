@@ -11,7 +11,7 @@ use Rattle.handover_out.specs.State.{board_of_phase as held_out}
 use Rattle.handover_out.specs.declared.phase.Phase.{Phase as Out}
 use Rattle.handover_in.specs.State.{board_of_phase as held_in}
 use Rattle.node_core.specs.Done.{Done}
-use Rattle.node_core.specs.Event.{Event, Mark}
+use Rattle.node_core.specs.Event.{Event, Mark, Sub}
 use Rattle.node_core.specs.Step.{plain_step}
 use Rattle.node_core.specs.declared.act.Act.{Act}
 use Rattle.node_core.specs.declared.act.Act.TheVariants as acts
@@ -45,15 +45,13 @@ use Rattle.line_history.proofs.Courses.{Acted, Befalls, Course, IsByHand, by_han
 use Rattle.line_history.proofs.LetGoRun.{what_settles_left}
 use Rattle.line_history.proofs.Offering.{AsOffered, are_hand, hand_append, offers_acts, offers_append, says_ended, says_idle, says_moving, says_offered, says_stuck, settles_act, settles_acts, settles_append}
 use Rattle.line_history.proofs.OfferingStep.{IsNoHand}
-use Rattle.line_history.proofs.OfferingWhole.{HasAct, IsAmong, IsMarkable, StepSettles, TakesOut, among_first, among_later, offers_lost, offers_so, step_hands, step_offers, step_settles, takes_instead, takes_out, told_first, told_later}
+use Rattle.line_history.proofs.OfferingWhole.{HasAct, IsAmong, IsMarkable, StepSettles, TakesOut, among_first, among_later, offers_lost, offers_so, step_hands, step_offers, step_settles, takes_instead, takes_out, told_first, told_later, IsAsOf}
 use Rattle.line_history.proofs.View.{done_act, done_append, done_by, told_of_act, undriven}
 
 -- ---- what is told of a machine is read off its acts
 
 undriven_act : (act : Act) (o : Offering) → offers_acts (told_of_act act) o ≡ offers_act act o
 undriven_act (acts.Drive side on) o = refl
-undriven_act (acts.Signals signal on) o = refl
-undriven_act (acts.Tells message) o = refl
 undriven_act act o = refl
 
 offers_happening_is : (m : ℕ) (h : Happening) (o : Offering) → offers_happening m h o ≡ offers_acts (done_act m h) o
@@ -107,13 +105,6 @@ undriven_settles (act ∷ told) ids =
 -- a board that was told to settle is among those that did
 still_act : {id : ℕ} (act : Act) (ids : List ℕ) → IsAmong id ids → IsAmong id (settles_act act ids)
 still_act (acts.Deed (deeds.Settles other)) ids is = among_later is
-still_act (acts.Deed (deeds.Opens other)) ids is = is
-still_act (acts.Deed (deeds.Refuses other)) ids is = is
-still_act (acts.Deed (deeds.Leaves other)) ids is = is
-still_act (acts.Deed (deeds.Returns other)) ids is = is
-still_act (acts.Deed (deeds.Loses other)) ids is = is
-still_act (acts.Deed (deeds.Starts other)) ids is = is
-still_act (acts.Deed (deeds.Drops other)) ids is = is
 still_act _ ids is = is
 
 pub still_among : {id : ℕ} (told : List Act) (ids : List ℕ) → IsAmong id ids → IsAmong id (settles_acts told ids)
@@ -196,9 +187,6 @@ lost_not t t2 before after told j x st st2 goes was is now =
 
 -- ---- a line
 
-abbrev IsAsOf : Body → Offering → Type 0
-IsAsOf body o = AsOffered body.outlet.phase body.outlet.offered body.outlet.touched body.kept o
-
 -- the outlet of each machine
 abbrev AllOffered : LineState → (ℕ → Offering) → Type 0
 AllOffered s o = (m : ℕ) → IsAsOf (node_at s m).lane.body (o m)
@@ -212,6 +200,7 @@ offered_kept x says_ended same = absurd (let no : ◌≡◌ {A = Option ℕ} Non
 
 plain_markable : (event : Event) (touched : Option ℕ) → IsNoHand event → IsMarkable event touched
 plain_markable (Mark id quality) touched plain = absurd plain
+plain_markable (Sub id sub) touched plain = absurd plain
 plain_markable _ touched plain = tt
 
 markable : {m : ℕ} {line : ScriptLine} {touched : Option ℕ} {event : Event} → Befalls m line touched event → IsMarkable event touched

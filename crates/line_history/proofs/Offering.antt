@@ -150,7 +150,7 @@ walks_session Exit s body d k = record { each = λ first ids o h. k.each first i
 -- ---- the outlet table
 
 -- what the outlet tells but of an offer and an opening
-abbrev says_offer : Option OutSend → Bool
+abbrev pub says_offer : Option OutSend → Bool
 says_offer (Some out_send.BoardAvailable) = true
 says_offer _ = false
 

@@ -23,7 +23,7 @@ use Rattle.node_core.specs.Sides.{session_at}
 use Rattle.node_core.specs.Halves.{behind_opening, opening_board, outlet_did}
 use Rattle.node_core.specs.Reads.{all_read}
 use Rattle.node_core.specs.Bridge.{tells_level}
-use Rattle.node_core.specs.Event.{Event, Level, Insert, Remove, Replace, Mark, event_did}
+use Rattle.node_core.specs.Event.{Event, Level, Insert, Remove, Replace, Mark, Sub, event_did}
 use Rattle.node_core.proofs.HalfRows.{IsNoStart, IsPlain}
 use Rattle.line_history.proofs.Offering.{
   Holds,
@@ -55,9 +55,7 @@ use Rattle.step_rules.specs.Causes.{
   Tells,
   ToIntake,
   ToOutlet,
-  hand_fails,
   hand_inserts,
-  hand_marks,
   hand_removes,
   hand_replaces,
   in_start,
@@ -65,6 +63,10 @@ use Rattle.step_rules.specs.Causes.{
   tells_alive,
   tells_notice,
   tells_service,
+  hand_changes,
+  changes_quality,
+  changes_circuits,
+  changes_front,
 }
 use Rattle.step_rules.specs.Made.{
   Made,
@@ -98,6 +100,7 @@ IsNoHand (Insert id barcode) = ⊥
 IsNoHand (Remove id) = ⊥
 IsNoHand (Replace old new) = ⊥
 IsNoHand (Mark id quality) = ⊥
+IsNoHand (Sub id sub) = ⊥
 IsNoHand _ = Unit {0}
 
 -- a level of a bridge's segment is set
@@ -145,8 +148,9 @@ no_hand : {desk : Desk} {event : Event} {body : Body} {kept : List Record} {act 
 no_hand hand_inserts calm = calm
 no_hand (hand_removes is) calm = calm
 no_hand (hand_replaces is) calm = calm
-no_hand (hand_marks is) calm = calm
-no_hand (hand_fails front is) calm = calm
+no_hand (hand_changes (changes_quality is)) calm = calm
+no_hand (hand_changes (changes_circuits is)) calm = calm
+no_hand (hand_changes (changes_front front is)) calm = calm
 
 -- a start that is heard
 start_holds : (desk : Desk) (body : Body) (named : ℕ) (opening : Bool) (row : OutRow)

@@ -6,7 +6,6 @@ use Rattle.node_core.proofs.Sound.{room_by_test}
 use Rattle.line_base.specs.declared.states.Side.{Side}
 use Rattle.line_base.specs.declared.states.Side.TheVariants.{Entry, Exit}
 use Rattle.line_base.specs.declared.states.SensorEvent.{SensorEvent}
-use Rattle.line_base.specs.declared.states.Quality.{Quality}
 use Rattle.line_base.specs.declared.states.Quality.TheVariants as qualities
 use Rattle.board_record.specs.declared.record.Record.{Record}
 use Rattle.board_record.specs.declared.sensed.Sensed.{Sensed as Seen}
@@ -26,11 +25,11 @@ use Rattle.handover_in.specs.Table.{IsIntakeRow, gets_ready, gets_unready, start
 use Rattle.handover_in.proofs.Rows.{row_is as in_row_is}
 use Rattle.smema_bridge.specs.declared.line.SegmentLine.{SegmentLine}
 use Rattle.node_core.specs.Announces.{announces, is_front, offer, offer_by, offers_now, ready, ready_by, readies_now, revoke, revoke_by, revokes_now, start, start_by, starts_now, unready, unready_by, unreadies_now}
-use Rattle.node_core.specs.Boards.{if_kept, is_kept, with_instead, with_kept, with_mark, without}
+use Rattle.node_core.specs.Boards.{if_kept, is_kept, with_instead, with_kept, with_mark, without, with_sub, takes_sub, with_changed}
 use Rattle.node_core.specs.Bridge.{failed_front, fails, sets_level, tells_level}
 use Rattle.node_core.specs.Desk.{Desk}
 use Rattle.node_core.specs.Done.{Done, and_then, stays}
-use Rattle.node_core.specs.Event.{Event, Level, Insert, Remove, Replace, Mark, event_did}
+use Rattle.node_core.specs.Event.{Event, Level, Insert, Remove, Replace, Mark, Sub, event_did}
 use Rattle.node_core.specs.Halves.{given_back, intake_row_did, outlet_row_did}
 use Rattle.node_core.specs.Reads.{all_read, reads, saw}
 use Rattle.node_core.specs.Step.{plain_step}
@@ -46,7 +45,7 @@ use Rattle.line_history.specs.Offered.{IsLast, Offering, is_hand}
 use Rattle.line_history.proofs.Offering.{AsOffered, Behind, Holds, Settling, Walks, are_hand, behind_all, behind_front, hand_append, is_settled, no_hands, not_yet, offers_acts, offers_append, says_ended, says_idle, says_moving, says_offered, says_stuck, settled_offers, settles_acts, settles_append, walks_both, walks_still}
 use Rattle.line_history.proofs.OfferingStep.{IsNoHand, all_read_walks, event_walks, level_walks}
 
-abbrev IsAsOf : Body → Offering → Type 0
+abbrev pub IsAsOf : Body → Offering → Type 0
 IsAsOf body o = AsOffered body.outlet.phase body.outlet.offered body.outlet.touched body.kept o
 
 -- ---- the announcements: they leave the kept records as they are
@@ -225,13 +224,14 @@ instead_offers {o = o} id new (says_offered {board = board} {boards = boards} is
   by true same = inr (refl, ap (λ (n : ℕ). Some n) (eqb-true board.id id same))
   by false other = inl (says_offered is)
 
-marked_offers : {phase : Out} {offered touched : Option ℕ} {kept : List Record} {o : Offering} (id : ℕ) (quality : Quality) → (touched ≡ Some id → ⊥) → AsOffered phase offered touched kept o → AsOffered phase offered touched (with_mark id quality kept) o
-marked_offers id quality plain says_idle = says_idle
-marked_offers id quality plain (says_moving is) = says_moving is
-marked_offers id quality plain (says_stuck is) = says_stuck is
-marked_offers id quality plain says_ended = says_ended
-marked_offers {o = o} id quality plain (says_offered {board = board} {boards = boards} is) = by (board.id == id) refl where
-  by : (test : Bool) → (board.id == id) ≡ test → AsOffered out.Idle (Some board.id) (Some board.id) (if test then record board { quality = quality } ∷ boards else board ∷ with_mark id quality boards) o
+-- a record that isn't offered is changed
+changed_offers : {phase : Out} {offered touched : Option ℕ} {kept : List Record} {o : Offering} (id : ℕ) (change : Record → Record) → (touched ≡ Some id → ⊥) → AsOffered phase offered touched kept o → AsOffered phase offered touched (with_changed id change kept) o
+changed_offers id change plain says_idle = says_idle
+changed_offers id change plain (says_moving is) = says_moving is
+changed_offers id change plain (says_stuck is) = says_stuck is
+changed_offers id change plain says_ended = says_ended
+changed_offers {o = o} id change plain (says_offered {board = board} {boards = boards} is) = by (board.id == id) refl where
+  by : (test : Bool) → (board.id == id) ≡ test → AsOffered out.Idle (Some board.id) (Some board.id) (if test then change board ∷ boards else board ∷ with_changed id change boards) o
   by true same = absurd (plain (ap (λ (n : ℕ). Some n) (eqb-true board.id id same)))
   by false other = says_offered is
 
@@ -243,13 +243,14 @@ replaces_hand : (body : Body) (old new : ℕ) (with : Record) (o : Offering) (te
 replaces_hand body old new with o false h = stays_so h
 replaces_hand body old new with o true h = elim (instead_offers old with h) [ inl so ↦ stays_so so | inr lost ↦ is_lost old lost.0 lost.1 lost.1 (told_first takes_instead) ]
 
-marks_hand : (body : Body) (id : ℕ) (quality : Quality) (o : Offering) (test : Bool) → (body.outlet.touched ≡ Some id → ⊥) → IsAsOf body o → ByHand o body (if_kept test (with_kept (with_mark id quality body.kept) body) (acts.Marks id quality) body)
-marks_hand body id quality o false plain h = stays_so h
-marks_hand body id quality o true plain h = stays_so (marked_offers id quality plain h)
+changes_hand : (body : Body) (id : ℕ) (change : Record → Record) (act : Act) (o : Offering) (test : Bool) → offers_acts (act ∷ []) o ≡ o → (body.outlet.touched ≡ Some id → ⊥) → IsAsOf body o → ByHand o body (if_kept test (with_kept (with_changed id change body.kept) body) act body)
+changes_hand body id change act o false silent plain h = stays_so h
+changes_hand body id change act o true silent plain h = stays_so (subst (λ (now : Offering). AsOffered body.outlet.phase body.outlet.offered body.outlet.touched (with_changed id change body.kept) now) (sym silent) (changed_offers id change plain h))
 
--- a board that is offered isn't marked
+-- a board that is offered isn't marked, and gets no circuit
 abbrev pub IsMarkable : Event → Option ℕ → Type 0
 IsMarkable (Mark id quality) touched = touched ≡ Some id → ⊥
+IsMarkable (Sub id sub) touched = touched ≡ Some id → ⊥
 IsMarkable _ touched = Unit {0}
 
 by_walk : (body : Body) (o : Offering) (d : Done) → Walks body d → IsAsOf body o → ByHand o body d
@@ -259,7 +260,7 @@ by_walk body o d w h = stays_so (w.each (held_in body.intake.phase) [] o (record
 marked_so : (body : Body) (id : ℕ) (o : Offering) (test : Bool) → (body.outlet.touched ≡ Some id → ⊥) → IsAsOf body o
     → IsAsOf (if_kept test (with_kept (with_mark id qualities.Failed body.kept) body) (acts.Marks id qualities.Failed) body).body (offers_acts (if_kept test (with_kept (with_mark id qualities.Failed body.kept) body) (acts.Marks id qualities.Failed) body).acts o)
 marked_so body id o false plain h = h
-marked_so body id o true plain h = marked_offers id qualities.Failed plain h
+marked_so body id o true plain h = changed_offers id (λ r. record r { quality = qualities.Failed }) plain h
 
 fails_so : (front : Option ℕ) (body : Body) (o : Offering) → ((id : ℕ) → front ≡ Some id → body.outlet.touched ≡ Some id → ⊥) → IsAsOf body o → IsAsOf (fails front body).body (offers_acts (fails front body).acts o)
 fails_so None body o free h = h
@@ -277,7 +278,8 @@ event_hand : (desk : Desk) (event : Event) (body : Body) (o : Offering) → IsMa
 event_hand desk (Insert id barcode) body o plain h = stays_so (settled_offers (Some (plain_record id desk.name barcode)) h)
 event_hand desk (Remove id) body o plain h = removes_hand body id o (is_kept id body.kept) h
 event_hand desk (Replace old new) body o plain h = replaces_hand body old new (plain_record new desk.name None) o (is_kept old body.kept) h
-event_hand desk (Mark id quality) body o plain h = marks_hand body id quality o (is_kept id body.kept) plain h
+event_hand desk (Mark id quality) body o plain h = changes_hand body id (λ r. record r { quality = quality }) (acts.Marks id quality) o (is_kept id body.kept) refl plain h
+event_hand desk (Sub id sub) body o plain h = changes_hand body id (λ r. record r { subs = r.subs ++ sub ∷ [] }) (acts.Subs id sub.pos) o (takes_sub id sub body.kept) refl plain h
 event_hand desk (Level line on) body o plain h = sets_hand desk line on body o h
 event_hand desk event body o plain h = by_walk body o _ (event_walks desk event body tt) h
 
@@ -305,6 +307,7 @@ read_offered desk (s ∷ ss) body = read_offered desk ss (reads desk s body).bod
 
 markable_read : (desk : Desk) (unread : List Seen) (event : Event) (body : Body) (c : Scene) → IsMarkable event body.outlet.touched → IsMarkable event (all_read desk unread body).body.outlet.touched
 markable_read desk unread (Mark id quality) body c plain = read_untouched desk unread body c id plain
+markable_read desk unread (Sub id sub) body c plain = read_untouched desk unread body c id plain
 markable_read desk unread _ body c plain = tt
 
 -- ---- THE STEP: what is offered
@@ -356,6 +359,7 @@ quiet_event desk (Insert id barcode) body none = absurd (let no : true ≡ false
 quiet_event desk (Remove id) body none = hand_rests (is_kept id body.kept) (with_kept (without id body.kept) body) body (acts.Removes id) refl none
 quiet_event desk (Replace old new) body none = hand_rests (is_kept old body.kept) (with_kept (with_instead old (plain_record new desk.name None) body.kept) body) body (acts.Replaces old new) refl none
 quiet_event desk (Mark id quality) body none = hand_rests (is_kept id body.kept) (with_kept (with_mark id quality body.kept) body) body (acts.Marks id quality) refl none
+quiet_event desk (Sub id sub) body none = hand_rests (takes_sub id sub body.kept) (with_kept (with_sub id sub body.kept) body) body (acts.Subs id sub.pos) refl none
 quiet_event desk (Level line on) body none = sets_rest desk line on body none
 quiet_event desk event body none = event_walks desk event body tt
 

@@ -23,6 +23,7 @@ use Rattle.std.proofs.Common.{
 }
 use Rattle.std.specs.Prelude.{is_some, not, slice_get}
 use Rattle.std.proofs.lemmas.Bool.{and_parts, false≢true, and_from}
+use Rattle.node_core.proofs.HalfRows.{IsNoStart as IsNoBid}
 use Rattle.node_core.proofs.Opened.{breach_closes}
 use Rattle.line_base.specs.declared.states.Side.TheVariants.{Entry, Exit}
 use Rattle.board_record.specs.declared.record.Record.{Record}
@@ -121,6 +122,8 @@ use Rattle.step_rules.specs.Causes.{
   tells_hearing,
   tells_notice,
   tells_service,
+  hand_changes,
+  changes_quality,
 }
 use Rattle.step_rules.specs.Made.{
   Made,
@@ -204,10 +207,6 @@ orders_both b (orders_refuses is more) later = orders_refuses is (orders_both b 
 
 -- ---- the halves, but for a start that is heard and one that is said
 
-abbrev IsNoBid : InInput → Type 0
-IsNoBid in_input.Start = ⊥
-IsNoBid _ = Unit {0}
-
 out_plain : (desk : Desk) {s : OutState} {input : OutInput} {row : OutRow} (kept : List Record) → IsOutletRow s input row → IsNoStart input → are_plain (out_told desk kept row.act) ≡ true
 out_plain desk kept (row_opens _) own = absurd own
 out_plain desk kept (row_refuses _) own = absurd own
@@ -255,6 +254,7 @@ act_plain _ own = refl
 hand_plain : {desk : Desk} {event : Event} {body : Body} {kept : List Record} {act : Act}
     → ByHand desk event body kept act → is_plain act ≡ true
 hand_plain hand_inserts = refl
+hand_plain (hand_changes (changes_quality is)) = refl
 hand_plain _ = refl
 
 plain : {desk : Desk} {cause : Cause} {body : Body} {d : Done} → Made desk cause body d

@@ -79,11 +79,8 @@ split h (act ∷ told) = by (split (heard_act h act) told) where
 same_named : (h : Hearing) (act : Act) → is_start act ≡ false → (heard_act h act).named ≡ h.named
 same_named h (acts.Deed (deeds.Starts id)) is = absurd (let no_way : true ≡ false = is in cc)
 same_named h (acts.Hears Entry message) is = refl
-same_named h (acts.Hears Exit message) is = refl
 same_named h (acts.Closes Entry) is = refl
-same_named h (acts.Closes Exit) is = refl
 same_named h (acts.Notices Entry) is = refl
-same_named h (acts.Notices Exit) is = refl
 same_named h _ is = refl
 
 named_still : (h : Hearing) (told : List Act) → list_any is_start told ≡ false → (heard_all h told).named ≡ h.named
@@ -132,17 +129,14 @@ message_now id h _ message named says since = inl since
 act_now : (id : ℕ) (h : Hearing) (act : Act) → h.named ≡ Some id → is_start act ≡ false → Now id h act
 act_now id h (acts.Deed (deeds.Starts other)) named not = absurd (let no_way : true ≡ false = not in cc)
 act_now id h (acts.Hears Entry message) named not = λ since. message_now id h message.body message named refl since
-act_now id h (acts.Hears Exit message) named not = λ since. inl since
 act_now id h (acts.Closes Entry) named not = λ since. inl (still since) where
   still : IsSaidSince (record h.since { closed = true }) → IsSaidSince h.since
   still (by_end is) = by_end is
   still (by_description is) = by_description is
-act_now id h (acts.Closes Exit) named not = λ since. inl since
 act_now id h (acts.Notices Entry) named not = λ since. inl (still since) where
   still : IsSaidSince (record h.since { closed = true }) → IsSaidSince h.since
   still (by_end is) = by_end is
   still (by_description is) = by_description is
-act_now id h (acts.Notices Exit) named not = λ since. inl since
 act_now id h _ named not = λ since. inl since
 
 -- what was said of later acts is said of these
@@ -160,31 +154,9 @@ message_closed named _ s = refl
 act_later : (id : ℕ) (h : Hearing) (act : Act) → is_start act ≡ false → Later id h act
 act_later id h (acts.Deed (deeds.Starts other)) not = absurd (let no_way : true ≡ false = not in cc)
 act_later id h (acts.Hears Entry message) not = λ told is. later_said h.since.closed id (acts.Hears Entry message) told refl (ap (λ (c : Bool). said_from c id told) (sym (message_closed h.named message.body h.since)) ∙ is)
-act_later id h (acts.Hears Exit message) not = λ told is. later_said h.since.closed id (acts.Hears Exit message) told refl is
 act_later id h (acts.Closes Entry) not = λ told is. ended_said h.since.closed id (acts.Closes Entry) told refl is
-act_later id h (acts.Closes Exit) not = λ told is. later_said h.since.closed id (acts.Closes Exit) told refl is
 act_later id h (acts.Notices Entry) not = λ told is. ended_said h.since.closed id (acts.Notices Entry) told refl is
-act_later id h (acts.Notices Exit) not = λ told is. later_said h.since.closed id (acts.Notices Exit) told refl is
-act_later id h (acts.Reads side event) not = λ told is. later_said h.since.closed id (acts.Reads side event) told refl is
-act_later id h (acts.Breaches side text) not = λ told is. later_said h.since.closed id (acts.Breaches side text) told refl is
-act_later id h (acts.Sends side message) not = λ told is. later_said h.since.closed id (acts.Sends side message) told refl is
-act_later id h acts.Connects not = λ told is. later_said h.since.closed id acts.Connects told refl is
-act_later id h (acts.Drive side on) not = λ told is. later_said h.since.closed id (acts.Drive side on) told refl is
-act_later id h (acts.Marks other quality) not = λ told is. later_said h.since.closed id (acts.Marks other quality) told refl is
-act_later id h (acts.Inserts other) not = λ told is. later_said h.since.closed id (acts.Inserts other) told refl is
-act_later id h (acts.Removes other) not = λ told is. later_said h.since.closed id (acts.Removes other) told refl is
-act_later id h (acts.Replaces was now) not = λ told is. later_said h.since.closed id (acts.Replaces was now) told refl is
-act_later id h (acts.Signals signal on) not = λ told is. later_said h.since.closed id (acts.Signals signal on) told refl is
-act_later id h (acts.Tells message) not = λ told is. later_said h.since.closed id (acts.Tells message) told refl is
-act_later id h (acts.Answered query order) not = λ told is. later_said h.since.closed id (acts.Answered query order) told refl is
-act_later id h (acts.Sets setting) not = λ told is. later_said h.since.closed id (acts.Sets setting) told refl is
-act_later id h (acts.Deed (deeds.Opens other)) not = λ told is. later_said h.since.closed id (acts.Deed (deeds.Opens other)) told refl is
-act_later id h (acts.Deed (deeds.Refuses other)) not = λ told is. later_said h.since.closed id (acts.Deed (deeds.Refuses other)) told refl is
-act_later id h (acts.Deed (deeds.Leaves other)) not = λ told is. later_said h.since.closed id (acts.Deed (deeds.Leaves other)) told refl is
-act_later id h (acts.Deed (deeds.Returns other)) not = λ told is. later_said h.since.closed id (acts.Deed (deeds.Returns other)) told refl is
-act_later id h (acts.Deed (deeds.Loses other)) not = λ told is. later_said h.since.closed id (acts.Deed (deeds.Loses other)) told refl is
-act_later id h (acts.Deed (deeds.Settles other)) not = λ told is. later_said h.since.closed id (acts.Deed (deeds.Settles other)) told refl is
-act_later id h (acts.Deed (deeds.Drops other)) not = λ told is. later_said h.since.closed id (acts.Deed (deeds.Drops other)) told refl is
+act_later id h act not = λ told is. later_said h.since.closed id act told refl is
 
 since_said : (id : ℕ) (told : List Act) (h : Hearing) → h.named ≡ Some id → list_any is_start told ≡ false → IsSaidSince (heard_all h told).since → IsSaidSince h.since ⊎ (said_from h.since.closed id told ≡ true)
 since_said id [] h named none since = inl since

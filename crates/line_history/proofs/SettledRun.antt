@@ -46,8 +46,6 @@ entry_append (act ∷ a) b = ap (λ (x : List Act). cond (is_at_entry act) (act 
 -- drives and a bridge's signals are not at the entry's handover
 entry_undriven_one : (act : Act) → entry_of (told_of_act act) ≡ entry_of (act ∷ [])
 entry_undriven_one (acts.Drive side on) = refl
-entry_undriven_one (acts.Signals signal on) = refl
-entry_undriven_one (acts.Tells message) = refl
 entry_undriven_one _ = refl
 
 entry_one : (act : Act) (same : Bool) → cond (same && is_at_entry act) (act ∷ []) [] ≡ entry_of (cond same (told_of_act act) [])

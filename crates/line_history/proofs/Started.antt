@@ -6,7 +6,7 @@ use Rattle.std.proofs.lemmas.Bool.{and_parts}
 use Rattle.line_history.proofs.Said.{some_id}
 use Rattle.line_script.specs.declared.line.ScriptLine.{ScriptLine}
 use Rattle.node_core.specs.Done.{Done}
-use Rattle.node_core.specs.Event.{Accepted, Connect, Event, Fault, Forecast, Insert, Level, Mark, Nothing, Notice, Query, Remove, Replace, Second, Shutdown, Supervised, Tick, Will, Words}
+use Rattle.node_core.specs.Event.{Accepted, Connect, Event, Fault, Forecast, Insert, Level, Mark, Sub, Nothing, Notice, Query, Remove, Replace, Second, Shutdown, Supervised, Tick, Will, Words}
 use Rattle.node_core.specs.Own.{Own, id_of, own_of}
 use Rattle.node_core.specs.Step.{plain_step}
 use Rattle.node_core.specs.declared.act.Act.{Act}
@@ -50,7 +50,6 @@ not_so is = cc
 
 pub silent_open : (o : Option ℕ) (act : Act) → is_silent act ≡ true → open_act o act ≡ o
 silent_open o (acts.Deed (deeds.Opens id)) is = not_so is
-silent_open o (acts.Deed (deeds.Refuses id)) is = refl
 silent_open o (acts.Deed (deeds.Leaves id)) is = not_so is
 silent_open o (acts.Deed (deeds.Returns id)) is = not_so is
 silent_open o (acts.Deed (deeds.Loses id)) is = not_so is
@@ -96,23 +95,7 @@ Any id = Unit {0}
 
 pub any_new : (event : Event) → IsNewFor Any event
 any_new Nothing = tt
-any_new Connect = tt
-any_new Accepted = tt
-any_new Second = tt
-any_new (Words side words) = tt
-any_new (Notice side) = tt
-any_new Tick = tt
-any_new Shutdown = tt
-any_new (Fault side) = tt
-any_new (Will side on) = tt
-any_new (Level line on) = tt
-any_new (Insert id barcode) = tt
-any_new (Remove id) = tt
-any_new (Replace old new) = tt
-any_new (Mark id quality) = tt
-any_new Forecast = tt
-any_new (Query barcode) = tt
-any_new (Supervised what) = tt
+any_new _ = tt
 
 -- ---- of the entry's acts alone
 
@@ -120,11 +103,6 @@ entry_open_act : (o : Option ℕ) (act : Act) → is_at_entry act ≡ false → 
 entry_open_act o (acts.Deed (deeds.Starts id)) off = absurd (let no_way : true ≡ false = off in cc)
 entry_open_act o (acts.Deed (deeds.Settles id)) off = absurd (let no_way : true ≡ false = off in cc)
 entry_open_act o (acts.Deed (deeds.Drops id)) off = absurd (let no_way : true ≡ false = off in cc)
-entry_open_act o (acts.Deed (deeds.Opens id)) off = refl
-entry_open_act o (acts.Deed (deeds.Refuses id)) off = refl
-entry_open_act o (acts.Deed (deeds.Leaves id)) off = refl
-entry_open_act o (acts.Deed (deeds.Returns id)) off = refl
-entry_open_act o (acts.Deed (deeds.Loses id)) off = refl
 entry_open_act o _ off = refl
 
 pub entry_open : (o : Option ℕ) (told : List Act) → open_all o (entry_of told) ≡ open_all o told
@@ -167,27 +145,7 @@ open_by o (acts.Deed (deeds.Starts other)) told id (inr both) =
     inl (record { before = []; since = told; told_is = ap (λ (x : ℕ). starts x ∷ told) (some_id other id both.0); last = both.1.0; open_still = both.1.1 })
 open_by o (acts.Deed (deeds.Settles other)) told id (inr both) = none_some id both.0
 open_by o (acts.Deed (deeds.Drops other)) told id (inr both) = none_some id both.0
-open_by o (acts.Deed (deeds.Opens other)) told id (inr both) = inr both
-open_by o (acts.Deed (deeds.Refuses other)) told id (inr both) = inr both
-open_by o (acts.Deed (deeds.Leaves other)) told id (inr both) = inr both
-open_by o (acts.Deed (deeds.Returns other)) told id (inr both) = inr both
-open_by o (acts.Deed (deeds.Loses other)) told id (inr both) = inr both
-open_by o (acts.Reads side event) told id (inr both) = inr both
-open_by o (acts.Hears side message) told id (inr both) = inr both
-open_by o (acts.Breaches side text) told id (inr both) = inr both
-open_by o (acts.Sends side message) told id (inr both) = inr both
-open_by o (acts.Closes side) told id (inr both) = inr both
-open_by o (acts.Notices side) told id (inr both) = inr both
-open_by o acts.Connects told id (inr both) = inr both
-open_by o (acts.Drive side on) told id (inr both) = inr both
-open_by o (acts.Marks other quality) told id (inr both) = inr both
-open_by o (acts.Inserts other) told id (inr both) = inr both
-open_by o (acts.Removes other) told id (inr both) = inr both
-open_by o (acts.Replaces was now) told id (inr both) = inr both
-open_by o (acts.Signals signal on) told id (inr both) = inr both
-open_by o (acts.Tells message) told id (inr both) = inr both
-open_by o (acts.Answered query order) told id (inr both) = inr both
-open_by o (acts.Sets setting) told id (inr both) = inr both
+open_by o _ told id (inr both) = inr both
 
 open_last : (o : Option ℕ) (told : List Act) (id : ℕ) → open_all o told ≡ Some id → Open o told id
 open_last o [] id is = inr (is, (refl, refl))

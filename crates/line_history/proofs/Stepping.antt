@@ -23,13 +23,13 @@ use Rattle.handover_in.specs.State.{InState, board_of_phase as held_in}
 use Rattle.handover_in.specs.Table.{IsIntakeRow, starts_transport}
 use Rattle.handover_in.proofs.Rows.{row_is as in_row_is}
 use Rattle.node_core.specs.Announces.{announces, offer, offer_by, offers_now, readies_now, ready, ready_by, revoke, revoke_by, revokes_now, start, start_by, starts_now, unreadies_now, unready, unready_by}
-use Rattle.node_core.specs.Boards.{if_kept, is_kept, wills, with_kept}
+use Rattle.node_core.specs.Boards.{if_kept, is_kept, wills, with_kept, takes_sub}
 use Rattle.node_core.specs.Bridge.{failed_front, fails, sets_level, tells_level}
 use Rattle.node_core.specs.Connect.{opens, shuts_down, ticks}
 use Rattle.node_core.specs.Desk.{Desk}
 use Rattle.node_core.specs.Done.{Done, and_then, done}
 use Rattle.node_core.specs.Supervising.{Supervision, Supervise, Ask, Answer, supervises}
-use Rattle.node_core.specs.Event.{Accepted, Connect, Event, Fault, Forecast, Insert, Level, Mark, Nothing, Notice, Query, Remove, Replace, Second, Shutdown, Supervised, Tick, Will, Words, event_did}
+use Rattle.node_core.specs.Event.{Accepted, Connect, Event, Fault, Forecast, Insert, Level, Mark, Sub, Nothing, Notice, Query, Remove, Replace, Second, Shutdown, Supervised, Tick, Will, Words, event_did}
 use Rattle.node_core.specs.Halves.{OffersFront, intake_row_did}
 use Rattle.node_core.specs.Information.{asks_for, forecasts}
 use Rattle.node_core.specs.Reads.{all_read}
@@ -64,13 +64,6 @@ tells_leaving told = list_any is_leaving told
 
 one_inner : (act : Act) → is_inner act ≡ true → is_leaving act ≡ false
 one_inner (acts.Deed (deeds.Leaves id)) is = sym is
-one_inner (acts.Deed (deeds.Opens id)) is = refl
-one_inner (acts.Deed (deeds.Refuses id)) is = refl
-one_inner (acts.Deed (deeds.Returns id)) is = refl
-one_inner (acts.Deed (deeds.Loses id)) is = refl
-one_inner (acts.Deed (deeds.Starts id)) is = refl
-one_inner (acts.Deed (deeds.Settles id)) is = refl
-one_inner (acts.Deed (deeds.Drops id)) is = refl
 one_inner _ is = refl
 
 pub inner_stays : (told : List Act) → are_inner told ≡ true → tells_leaving told ≡ false
@@ -152,6 +145,7 @@ event_meets desk (Insert id barcode) body c theirs offers g k makes = record { t
 event_meets desk (Remove id) body c theirs offers g k makes = hand_meets (is_kept id body.kept) body _ (acts.Removes id) (tells_aside body _ k refl refl) refl k
 event_meets desk (Replace old new) body c theirs offers g k makes = hand_meets (is_kept old body.kept) body _ (acts.Replaces old new) (tells_aside body _ k refl refl) refl k
 event_meets desk (Mark id quality) body c theirs offers g k makes = hand_meets (is_kept id body.kept) body _ (acts.Marks id quality) (tells_aside body _ k refl refl) refl k
+event_meets desk (Sub id sub) body c theirs offers g k makes = hand_meets (takes_sub id sub body.kept) body _ (acts.Subs id sub.pos) (tells_aside body _ k refl refl) refl k
 event_meets desk Forecast body c theirs offers g k makes = met_work (forecasts_work desk (slice_get body.kept 0) body k)
 event_meets desk (Query barcode) body c theirs offers g k makes = met_work (works_aside body (asks_for desk barcode body) k refl refl refl)
 event_meets desk (Supervised what) body c theirs offers g k makes = met_work (supervised_work desk what body k)

@@ -158,13 +158,6 @@ unsaid_act h _ still u = u
 
 not_settle : (act : Act) → settles_not act ≡ true → is_settle act ≡ false
 not_settle (acts.Deed (deeds.Settles id)) is = absurd (false≢true is)
-not_settle (acts.Deed (deeds.Opens id)) is = refl
-not_settle (acts.Deed (deeds.Refuses id)) is = refl
-not_settle (acts.Deed (deeds.Leaves id)) is = refl
-not_settle (acts.Deed (deeds.Returns id)) is = refl
-not_settle (acts.Deed (deeds.Loses id)) is = refl
-not_settle (acts.Deed (deeds.Starts id)) is = refl
-not_settle (acts.Deed (deeds.Drops id)) is = refl
 not_settle _ is = refl
 
 never_said : {X : Type 0} (h : Hearing) → IsUnsaid h → IsSaid h.since → X

@@ -198,15 +198,10 @@ met_list (acts.Inserts id) c is = absurd (let no_way : false ≡ true = is in cc
 met_list (acts.Removes id) c is = absurd (let no_way : false ≡ true = is in cc)
 met_list (acts.Replaces old new) c is = absurd (let no_way : false ≡ true = is in cc)
 met_list (acts.Hears Entry message) c is = refl
-met_list (acts.Hears Exit message) c is = refl
 met_list (acts.Sends Entry message) c is = refl
-met_list (acts.Sends Exit message) c is = refl
 met_list (acts.Closes Entry) c is = refl
-met_list (acts.Closes Exit) c is = refl
 met_list (acts.Notices Entry) c is = refl
-met_list (acts.Notices Exit) c is = refl
 met_list (acts.Drive Entry on) c is = refl
-met_list (acts.Drive Exit on) c is = refl
 met_list _ c is = refl
 
 met_lists : (told : List Act) (c : Scene) → are_inner told ≡ true → (all_met told c).boards ≡ c.boards

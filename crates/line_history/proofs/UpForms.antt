@@ -159,11 +159,11 @@ pub other_done : (k number m : ℕ) (input : Input) (start after : LineState) (t
 other_done k number m input start after told steps apart = ap (done_by k) steps.told_is ∙ other_acts (is_second input) k m steps.acts (read_by m start.world) apart
 
 -- what it did but for what the supervisor is told
-abbrev plain_did : {number m : ℕ} {input : Input} {start after : LineState} {told : List Happening} → MachineSteps number m input start after told → Done
+abbrev pub plain_did : {number m : ℕ} {input : Input} {start after : LineState} {told : List Happening} → MachineSteps number m input start after told → Done
 plain_did {number = number} {m = m} {input = input} {start = start} steps =
     plain_step (desk_of steps.node (moment_of number)) (unread_by m start.world) (event_of steps.node.maker input steps.steps.lane.words) steps.node.lane.body
 
-own_plain : (number m : ℕ) (input : Input) (start after : LineState) (told : List Happening) → (steps : MachineSteps number m input start after told) → done_by m told ≡ undriven (plain_did steps).acts
+pub own_plain : (number m : ℕ) (input : Input) (start after : LineState) (told : List Happening) → (steps : MachineSteps number m input start after told) → done_by m told ≡ undriven (plain_did steps).acts
 own_plain number m input start after told steps =
     own_done number m input start after told steps ∙ ap undriven steps.steps.lane.told
     ∙ undriven_step (desk_of steps.node (moment_of number)) (unread_by m start.world) (event_of steps.node.maker input steps.steps.lane.words) steps.node.lane.body
@@ -187,7 +187,6 @@ is_bytes_up _ = false
 
 no_exit_words : (maker : Maker) (input : Input) (words : List Word) → is_bytes_up input ≡ false → exit_words (event_of maker input words) ≡ []
 no_exit_words maker (inputs.Bytes Exit piece) words none = absurd (false≢true (sym none))
-no_exit_words maker (inputs.Bytes Entry piece) words none = refl
 no_exit_words maker (inputs.Insert barcode) words none = new_none (next_id maker) (λ id. events.Insert id barcode) (λ id. refl)
 no_exit_words maker (inputs.Replace old) words none = new_none (next_id maker) (events.Replace old) (λ id. refl)
 no_exit_words maker _ words none = refl

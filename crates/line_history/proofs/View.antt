@@ -5,6 +5,8 @@ use Rattle.std.specs.Prelude.{if◌then◌else◌, slice_index_or, take}
 use Rattle.std.specs.List.{AllByRecursion}
 use Rattle.std.proofs.lemmas.Bool.{ltb-true, and_from}
 use Rattle.std.proofs.lemmas.Bool.Decides.{eqb_tells}
+use Rattle.line_step.proofs.LineOnce.{met-dry}
+use Rattle.line_step.proofs.Once.{IsDry}
 use Rattle.one_standing.proofs.RestLine.{node_there}
 use Rattle.line_step.proofs.OnFloor.{made-join}
 use Rattle.one_standing.proofs.HandSteps.{all_first, all_second}
@@ -20,7 +22,6 @@ use Rattle.hermes_horizontal.specs.declared.message.Horizontal.{Horizontal}
 use Rattle.hermes_horizontal.specs.declared.message.Message.{Message}
 use Rattle.line_link.specs.Flow.{Stream, coming, flowing, with_arrival}
 use Rattle.line_link.specs.Link.{after_connect, after_flow, answer_sent, connected_of, sent_of}
-use Rattle.line_link.specs.declared.link.Connected.{Connected}
 use Rattle.line_link.specs.declared.link.Connected.TheVariants as connections
 use Rattle.smema_bridge.specs.Levels.{BridgeLevels}
 use Rattle.line_script.specs.declared.line.ScriptLine.{ScriptLine}
@@ -208,36 +209,15 @@ flow_oldest alone t number j Exit count before after told can st flows =
     let waits : Carries (link_at (j + 1) before.world).stands steps.node.lane.exit_bytes s (t.up (j + 1)) = subst (λ (m : NodeState). Carries (link_at (j + 1) before.world).stands m.lane.exit_bytes s (t.up (j + 1))) node_is (st.carried (j + 1) there).up in
     oldest_of alone steps.steps.lane.words steps.node.lane.exit_bytes flows.piece.now steps.next.lane.exit_bytes (is_open Exit steps.next.lane.body) (with_arrival n s) (arrival n s flows.piece.now flows.bytes) can.comes steps.steps.lane.brings.0 waits
 
--- an input that is no bytes brings no words
-abbrev pub IsNoBytes : Input → Type 0
-IsNoBytes (inputs.Bytes side piece) = ⊥
-IsNoBytes _ = Unit {0}
-
 new_theirs : (c : Scene) (found : Result ℕ IdsUsedUp) (event : ℕ → Event) → ((id : ℕ) → AreTheirs (event id) c) → AreTheirs (with_new found event) c
 new_theirs c (Ok id) event all = all id
 new_theirs c (Err why) event all = tt
 
-plain_theirs : (c : Scene) (maker : Maker) (input : Input) (words : List Word) → IsNoBytes input → AreTheirs (event_of maker input words) c
+plain_theirs : (c : Scene) (maker : Maker) (input : Input) (words : List Word) → IsDry input → AreTheirs (event_of maker input words) c
 plain_theirs c maker (inputs.Bytes side piece) words none = absurd none
 plain_theirs c maker (inputs.Insert barcode) words none = new_theirs c (next_id maker) (λ id. events.Insert id barcode) (λ id. tt)
 plain_theirs c maker (inputs.Replace old) words none = new_theirs c (next_id maker) (events.Replace old) (λ id. tt)
-plain_theirs c maker inputs.Nothing words none = tt
-plain_theirs c maker inputs.Connect words none = tt
-plain_theirs c maker inputs.Accepted words none = tt
-plain_theirs c maker inputs.Second words none = tt
-plain_theirs c maker (inputs.Notice side) words none = tt
-plain_theirs c maker inputs.Tick words none = tt
-plain_theirs c maker inputs.Shutdown words none = tt
-plain_theirs c maker (inputs.Fault side) words none = tt
-plain_theirs c maker (inputs.Will side on) words none = tt
-plain_theirs c maker (inputs.Level line on) words none = tt
-plain_theirs c maker (inputs.Remove id) words none = tt
-plain_theirs c maker (inputs.Mark id quality) words none = tt
-plain_theirs c maker inputs.Forecast words none = tt
-plain_theirs c maker (inputs.Query barcode) words none = tt
-plain_theirs c maker (inputs.Supervise on) words none = tt
-plain_theirs c maker (inputs.Ask question) words none = tt
-plain_theirs c maker (inputs.Answer query order) words none = tt
+plain_theirs c maker _ words none = tt
 
 -- ---- the turn of a machine
 
@@ -289,7 +269,7 @@ other_still t number j machine input before start after told steps apart same =
     (ap (done_by (j + 1)) steps.told_is ∙ other_acts (is_second input) (j + 1) machine steps.acts (read_by machine start.world) apart)
 
 -- one step, of an input that is no bytes
-plain_turn : (t : Trace) (number j machine : ℕ) (input : Input) (before after : LineState) (told : List Happening) → (j + 1 ≡ machine) ⊎ (j + 1 ≢ machine) → IsNoBytes input → MachineSteps number machine input before after told → Turn j t before after told
+plain_turn : (t : Trace) (number j machine : ℕ) (input : Input) (before after : LineState) (told : List Happening) → (j + 1 ≡ machine) ⊎ (j + 1 ≢ machine) → IsDry input → MachineSteps number machine input before after told → Turn j t before after told
 plain_turn t number j machine input before after told (inl is) none steps =
     let own : MachineSteps number (j + 1) input before after told = subst (λ (m : ℕ). MachineSteps number m input before after told) (sym is) steps in
     has_stepped (own_turn t number j input before before after told own refl (plain_theirs (scene_at t before j) own.node.maker input own.steps.lane.words none))
@@ -362,10 +342,6 @@ before_own t j before after a b none s = record {
 pub connecting_stand : (k machine : ℕ) (s : LineState) → stand_at (connecting machine s) k ≡ stand_at s k
 connecting_stand k machine s = (link_changes (machine - 1) (after_connect (link_at (machine - 1) s.world)) s).machines k
 
-no_bytes : (on : Connected) → IsNoBytes (met on)
-no_bytes connections.Accepted = tt
-no_bytes connections.Second = tt
-
 pub apart_of : (j machine : ℕ) → 1 ≤ machine → j + 1 ≡ machine → j + 1 ≢ machine - 1
 apart_of j machine counted is same = absurd (omega (arith, counted, is, same))
 
@@ -388,7 +364,7 @@ connects_by t number j machine before after told (inr apart) (inl is) steps =
     let same : stand_at steps.between (j + 1) ≡ stand_at before (j + 1) = (step_changes number machine inputs.Connect start steps.between steps.earlier steps.first).machines (j + 1) apart ∙ connecting_stand (j + 1) machine before in
     has_stepped (before_own t j before after steps.earlier steps.later
     (ap (done_by (j + 1)) steps.first.told_is ∙ other_acts false (j + 1) machine steps.first.acts (read_by machine start.world) apart)
-    (own_turn t number j (met on) before steps.between after steps.later own same (plain_theirs (scene_at t before j) own.node.maker (met on) own.steps.lane.words (no_bytes on))))
+    (own_turn t number j (met on) before steps.between after steps.later own same (plain_theirs (scene_at t before j) own.node.maker (met on) own.steps.lane.words (met-dry on))))
 connects_by t number j machine before after told (inr apart) (inr other) steps =
     let start : LineState = connecting machine before in
     let on = connected_of (link_at (machine - 1) before.world).upstream in

@@ -17,6 +17,7 @@ use Rattle.custody.specs.Pair.{Body}
 use Rattle.custody.specs.Place.{Across, Fresh, Home, InGap, Inside, Lost, Place, Stolen, beyond_across, beyond_inside, is_upstream}
 use Rattle.custody.specs.Words.{events_at}
 use Rattle.machine_custody.specs.Good.{Lies, lies_first}
+use Rattle.machine_custody.proofs.Holding.{kept_upstream}
 use Rattle.machine_custody.proofs.Keeping.{kept_lies}
 use Rattle.line_step.specs.FloorIds.{boards_of}
 use Rattle.line_step.specs.Numbered.{node_at}
@@ -108,10 +109,10 @@ or_kept {r = r} none (inr is) = alone_gone (none r.id is)
 alone_by : (t : Trace) (s : LineState) (gap : ℕ) (r : Record) (p : Place) → Stands t s → (t.ghost gap).place ≡ p → taken_below s gap ≡ Some r → held_above s gap ≡ None → WhereAlone s gap r
 alone_by t s gap r Fresh st at taken none =
     let n : Neighbours (stand_of s gap) (between_of t s gap) (stand_of s (gap + 1)) = st.keeps.neighbours.at gap in
-    or_kept (λ x is. gone_count t s gap x (record { apart = st.keeps.apart; olds = st.olds }) is) (n.holds.upstream r taken none (rw at refl))
+    or_kept (λ x is. gone_count t s gap x (record { apart = st.keeps.apart; olds = st.olds }) is) (kept_upstream n.holds r taken none (rw at refl))
 alone_by t s gap r Home st at taken none =
     let n : Neighbours (stand_of s gap) (between_of t s gap) (stand_of s (gap + 1)) = st.keeps.neighbours.at gap in
-    or_kept (λ x is. gone_count t s gap x (record { apart = st.keeps.apart; olds = st.olds }) is) (n.holds.upstream r taken none (rw at refl))
+    or_kept (λ x is. gone_count t s gap x (record { apart = st.keeps.apart; olds = st.olds }) is) (kept_upstream n.holds r taken none (rw at refl))
 alone_by t s gap r InGap st at taken none =
     let n : Neighbours (stand_of s gap) (between_of t s gap) (stand_of s (gap + 1)) = st.keeps.neighbours.at gap in
     exit_in_gap (rw at at n.pair.out) none
@@ -135,7 +136,7 @@ pub where_started : (t : Trace) (s : LineState) (gap : ℕ) (r : Record) → Sta
 where_started t s gap r st taken none started unread =
     let n : Neighbours (stand_of s gap) (between_of t s gap) (stand_of s (gap + 1)) = st.keeps.neighbours.at gap in
     let up : is_upstream (t.ghost gap).place ≡ true = starts_upstream (rw unread at n.pair.in) started in
-    elim (n.holds.upstream r taken none up) [ inl kept ↦ inl kept | inr gone ↦ inr (gone_count t s gap r.id (record { apart = st.keeps.apart; olds = st.olds }) gone) ]
+    elim (kept_upstream n.holds r taken none up) [ inl kept ↦ inl kept | inr gone ↦ inr (gone_count t s gap r.id (record { apart = st.keeps.apart; olds = st.olds }) gone) ]
 
 -- ---- a board that the outlet holds, and that lies beyond, has left by what is unread
 

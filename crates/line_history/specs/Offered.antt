@@ -63,12 +63,14 @@ offered_gone gap last o told =
 
 -- ---- what is done by hand
 
--- a board is put in, taken out, replaced or marked; a level of a bridge's segment marks one too
+-- a board is put in, taken out, replaced, marked or given a circuit more; a level of a bridge's
+-- segment marks one too
 abbrev pub is_hand : Act → Bool
 is_hand (acts.Inserts id) = true
 is_hand (acts.Removes id) = true
 is_hand (acts.Replaces was now) = true
 is_hand (acts.Marks id quality) = true
+is_hand (acts.Subs id place) = true
 is_hand _ = false
 
 abbrev pub is_hand_at : ℕ → Happening → Bool

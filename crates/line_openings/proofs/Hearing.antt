@@ -164,8 +164,8 @@ no_start : (message : Message) (what : Horizontal) (body : Body) → message.bod
 no_start message what body is none text = absurd (false≢true (sym (rw is none) ∙ text))
 
 -- what a row tells behind the hearing
-row_told : (body : Body) (kept : List Record) (row : OutRow) (told : List Act) → RowTells body.outlet row told → Tells body (done (record body { outlet = row.after; kept = kept }) told)
-row_told body kept row told t = record { orderly = plain_orderly body.outlet.offered body.outlet.ready told t.plain; offered = t.offered; ready = t.ready }
+row_told : (body : Body) (kept : List Record) (last : Option ℕ) (row : OutRow) (told : List Act) → RowTells body.outlet row told → Tells body (done (record body { outlet = row.after; kept = kept; last_offer = last }) told)
+row_told body kept last row told t = record { orderly = plain_orderly body.outlet.offered body.outlet.ready told t.plain; offered = t.offered; ready = t.ready }
 
 ready_row : (desk : Desk) {s : OutState} {row : OutRow} (kept : List Record) (message : Message) (quality : Quality) → message.body ≡ bodies.MachineReady quality → IsOutletRow s out_input.MachineReady row → RowTells s row (acts.Hears Exit message ∷ out_told desk kept row.act)
 ready_row desk kept message quality is gets_ready = record { plain = rw is refl; offered = refl; ready = rw is refl }
@@ -175,11 +175,11 @@ unready_row desk kept message is gets_unready = record { plain = rw is refl; off
 
 ready_took : (desk : Desk) (message : Message) (quality : Quality) (body : Body) (found : Option OutRow) → message.body ≡ bodies.MachineReady quality → outlet_row body.outlet out_input.MachineReady ≡ found → TellsAny body Exit message (outlet_took desk body found)
 ready_took desk message quality body None says is = tells_none (no_start message (bodies.MachineReady quality) body says refl)
-ready_took desk message quality body (Some row) says is = tells_some (row_told body _ row _ (ready_row desk body.kept message quality says (row_is body.outlet out_input.MachineReady row is)))
+ready_took desk message quality body (Some row) says is = tells_some (row_told body _ _ row _ (ready_row desk body.kept message quality says (row_is body.outlet out_input.MachineReady row is)))
 
 unready_took : (desk : Desk) (message : Message) (body : Body) (found : Option OutRow) → message.body ≡ bodies.RevokeMachineReady → outlet_row body.outlet out_input.RevokeMachineReady ≡ found → TellsAny body Exit message (outlet_took desk body found)
 unready_took desk message body None says is = tells_none (no_start message bodies.RevokeMachineReady body says refl)
-unready_took desk message body (Some row) says is = tells_some (row_told body _ row _ (unready_row desk body.kept message says (row_is body.outlet out_input.RevokeMachineReady row is)))
+unready_took desk message body (Some row) says is = tells_some (row_told body _ _ row _ (unready_row desk body.kept message says (row_is body.outlet out_input.RevokeMachineReady row is)))
 
 stop_took : (desk : Desk) (message : Message) (state : Transfer) (id : ℕ) (body : Body) (found : Option OutRow) → message.body ≡ bodies.StopTransport state id → outlet_row body.outlet (out_input.Stop state id) ≡ found → TellsAny body Exit message (outlet_took desk body found)
 stop_took desk message state id body None says is = tells_none (no_start message (bodies.StopTransport state id) body says refl)

@@ -42,6 +42,7 @@ is_same_way ways.Panel ways.Panel = true
 is_same_way ways.Upstream ways.Upstream = true
 is_same_way ways.Downstream ways.Downstream = true
 is_same_way ways.Supervisory ways.Supervisory = true
+is_same_way ways.Configuration ways.Configuration = true
 is_same_way _ _ = false
 
 -- the bytes that one call took on a way

@@ -131,6 +131,7 @@ pub record Store : Type 0 where
   pub upstream : List GotBytes
   pub downstream : List GotBytes
   pub supervisory : List GotBytes
+  pub configuration : List GotBytes
   pub account : Account
   pub failing : List ℕ
   pub calls : ℕ
@@ -142,6 +143,7 @@ answers_at ways.Panel store = store.panel
 answers_at ways.Upstream store = store.upstream
 answers_at ways.Downstream store = store.downstream
 answers_at ways.Supervisory store = store.supervisory
+answers_at ways.Configuration store = store.configuration
 
 -- the store with other answers of a way
 abbrev pub with_answers : Way → List GotBytes → Store → Store
@@ -149,6 +151,7 @@ with_answers ways.Panel answers store = record store { panel = answers }
 with_answers ways.Upstream answers store = record store { upstream = answers }
 with_answers ways.Downstream answers store = record store { downstream = answers }
 with_answers ways.Supervisory answers store = record store { supervisory = answers }
+with_answers ways.Configuration answers store = record store { configuration = answers }
 
 -- a store of these answers that tells so much, of which the listed calls fail
 abbrev pub new_store : List PortAnswer → ℕ → ℕ → List ℕ → Store
@@ -157,6 +160,7 @@ new_store answers calls bytes failing = record {
   upstream = answers_of ways.Upstream answers;
   downstream = answers_of ways.Downstream answers;
   supervisory = answers_of ways.Supervisory answers;
+  configuration = answers_of ways.Configuration answers;
   account = record { given = Some []; calls = calls; bytes = bytes };
   failing = failing;
   calls = 0;

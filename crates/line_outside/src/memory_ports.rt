@@ -25,6 +25,7 @@ pub struct MemoryPorts {
     upstream: PollList,
     downstream: PollList,
     supervisory: PollList,
+    configuration: PollList,
     told: Told,
     failing: Vec<u64>,
     calls: u64,
@@ -39,6 +40,7 @@ impl Model for MemoryPorts {
       upstream = p.upstream;
       downstream = p.downstream;
       supervisory = p.supervisory;
+      configuration = p.configuration;
       account = p.told;
       failing = p.failing.items;
       calls =
@@ -77,6 +79,7 @@ impl MemoryPorts {
         let upstream = PollList::of(alloc, answers, Way::Upstream)?;
         let downstream = PollList::of(alloc, answers, Way::Downstream)?;
         let supervisory = PollList::of(alloc, answers, Way::Supervisory)?;
+        let configuration = PollList::of(alloc, answers, Way::Configuration)?;
         let told = Told::new(alloc, calls, bytes)?;
         let failing = match Vec::from_slice(alloc, numbers) {
             Ok(failing) => failing,
@@ -87,6 +90,7 @@ impl MemoryPorts {
             upstream,
             downstream,
             supervisory,
+            configuration,
             told,
             failing,
             calls: 0,
@@ -155,6 +159,7 @@ impl MemoryPorts {
             Way::Upstream => self.upstream.next(room),
             Way::Downstream => self.downstream.next(room),
             Way::Supervisory => self.supervisory.next(room),
+            Way::Configuration => self.configuration.next(room),
         }
     }
 }

@@ -130,6 +130,7 @@ fn is_same_way(one: Way, other: Way) -> bool
         Way::Upstream => matches!(other, Way::Upstream),
         Way::Downstream => matches!(other, Way::Downstream),
         Way::Supervisory => matches!(other, Way::Supervisory),
+        Way::Configuration => matches!(other, Way::Configuration),
     }
 }
 

@@ -27,7 +27,7 @@ const QUIET_TURNS: u32 = 64;
 #[derive(Drop)]
 pub struct SocketPorts<R: Net + Clock> {
     host: R,
-    sockets: [Socket; 4],
+    sockets: [Socket; 5],
     /// How many turns in a row found nothing, this one counted.
     quiet_turns: u32,
     faults: u64,
@@ -40,7 +40,13 @@ impl<R: Net + Clock> SocketPorts<R> {
     {
         SocketPorts {
             host,
-            sockets: [Socket::new(), Socket::new(), Socket::new(), Socket::new()],
+            sockets: [
+                Socket::new(),
+                Socket::new(),
+                Socket::new(),
+                Socket::new(),
+                Socket::new(),
+            ],
             quiet_turns: 0,
             faults: 0,
         }
@@ -80,13 +86,14 @@ impl<R: Net + Clock> SocketPorts<R> {
 
 /// Where the socket of a way lies.
 fn place_of(way: Way) -> usize
-    ensures { result < 4 }
+    ensures { result < 5 }
 {
     match way {
         Way::Panel => 0,
         Way::Upstream => 1,
         Way::Downstream => 2,
         Way::Supervisory => 3,
+        Way::Configuration => 4,
     }
 }
 

@@ -12,6 +12,8 @@ pub enum Way {
     Downstream,
     /// The supervisory system, which connects to the machine.
     Supervisory,
+    /// Who reads and changes where the machine's neighbours are, and connects to it for that.
+    Configuration,
 }
 
 /// Where a neighbour or the machine itself listens: an address of version 4 of the internet

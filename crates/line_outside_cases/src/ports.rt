@@ -85,6 +85,9 @@ fn way_of(word: &str) -> Way {
     if word == "super" {
         return Way::Supervisory;
     }
+    if word == "config" {
+        return Way::Configuration;
+    }
     Way::Panel
 }
 

@@ -72,6 +72,7 @@ no_text nos.NotSupervised = codes "not supervised"
 no_text nos.QueriesFull = codes "queries full"
 no_text nos.UnknownQuery = codes "unknown query"
 no_text (nos.Answered query) = codes "answered"
+no_text nos.SubsFull = codes "subs full"
 
 abbrev pub reason_text : Reason → List ℕ
 reason_text (reasons.Node why) = no_text why
@@ -229,6 +230,7 @@ act_text machine (acts.Signals signal on) =
     switched (codes "signals") machine (signal_word signal) on
 act_text machine (acts.Marks id quality) =
     of_board (codes "mark") machine id ++ codes " " ++ quality_text quality
+act_text machine (acts.Subs id place) = numbered (of_board (codes "sub") machine id) place
 act_text machine (acts.Inserts id) = of_board (codes "insert") machine id
 act_text machine (acts.Removes id) = of_board (codes "remove") machine id
 act_text machine (acts.Replaces old new) =

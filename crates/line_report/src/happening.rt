@@ -130,5 +130,6 @@ pub(crate) fn no_text(no: No) -> &'static str
         No::QueriesFull => "queries full",
         No::UnknownQuery => "unknown query",
         No::Answered(_) => "answered",
+        No::SubsFull => "subs full",
     }
 }

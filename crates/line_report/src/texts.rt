@@ -249,6 +249,10 @@ fn append_act(machine: u32, act: &Act, to: &mut Vec<u8>) -> Result<(), Memory>
             write_board("mark", machine, *id, to)?;
             append_word(quality_word(*quality), to)
         }
+        Act::Subs { id, pos } => {
+            write_board("sub", machine, *id, to)?;
+            append_number(u64::from(*pos), to)
+        }
         Act::Inserts(id) => write_board("insert", machine, *id, to),
         Act::Removes(id) => write_board("remove", machine, *id, to),
         Act::Replaces(old, new) => {

@@ -79,6 +79,10 @@ fn by_hand_of(what: &str, first: &str, second: &str) -> Act {
     let id = id_of(first);
     match what {
         "Marks" => Act::Marks(id, quality_of(second)),
+        "Subs" => Act::Subs {
+            id,
+            pos: second.parse().unwrap_or(0),
+        },
         "Inserts" => Act::Inserts(id),
         "Removes" => Act::Removes(id),
         "Replaces" => Act::Replaces(id, id_of(second)),

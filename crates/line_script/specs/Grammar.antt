@@ -1,4 +1,4 @@
-use Rattle.std.specs.Prelude.{◌==◌, ℕ, Bool, true, false, List, [], ◌∷◌, Some, None, Result, Ok, Err, codes, length, nat_lt, nat_eq, if◌then◌else◌}
+use Rattle.std.specs.Prelude.{◌==◌, ℕ, Bool, true, false, List, [], ◌∷◌, Option, Some, None, Result, Ok, Err, codes, length, nat_lt, nat_eq, if◌then◌else◌}
 use Rattle.std.specs.List.{list_all, list_any}
 use Rattle.std.specs.Str.{bytes_eq}
 use Rattle.line_base.specs.declared.states.Quality.{Quality}
@@ -8,7 +8,7 @@ use Rattle.line_base.specs.declared.states.Side.{Side}
 use Rattle.line_base.specs.declared.states.Side.TheVariants as sides
 use Rattle.hermes_vertical.specs.declared.message.Question.TheVariants as questions
 use Rattle.smema_bridge.specs.declared.line.SegmentLine.{SegmentLine}
-use Rattle.line_script.specs.Words.{words_of, is_text_byte, number_in, literal_of, identity_of, token_of, side_of, quality_of, event_of, segment_line_of, switch_of, asked_by_of, question_of}
+use Rattle.line_script.specs.Words.{words_of, is_text_byte, number_in, literal_of, identity_of, token_of, side_of, quality_of, event_of, segment_line_of, switch_of, asked_by_of, question_of, barcode_of}
 use Rattle.line_script.specs.declared.words.AskedBy.{AskedBy}
 use Rattle.line_script.specs.declared.line.LineWhy.{LineWhy}
 use Rattle.line_script.specs.declared.line.LineWhy.TheVariants as whys
@@ -17,7 +17,7 @@ use Rattle.line_script.specs.declared.line.ScriptLine.TheVariants as lines
 
 -- the kinds of arguments: a number between two bounds, a board's id, one fixed word, a text word,
 -- a side of a machine, a quality, a sensor event, a signal of a segment, on or off, what a work
--- order is asked for by
+-- order is asked for by, a barcode or none
 pub data Kind : Type 0 where
   number : ℕ → ℕ → Kind
   identity : Kind
@@ -29,6 +29,7 @@ pub data Kind : Type 0 where
   segment_word : Kind
   switch_word : Kind
   asked_by_word : Kind
+  barcode_word : Kind
 
 -- what an argument says
 pub data Value : Type 0 where
@@ -41,6 +42,7 @@ pub data Value : Type 0 where
   signalled : SegmentLine → Value
   switched : Bool → Value
   asked_by : AskedBy → Value
+  coded : Option (List ℕ) → Value
 
 -- a form of line: its first word, how many arguments it may have, their kinds where there are so
 -- many, and the line that their values make, or why they make none
@@ -86,6 +88,11 @@ made_replace _ = Err whys.WrongCount
 abbrev pub made_mark : List Value → Result ScriptLine LineWhy
 made_mark (numeral machine ∷ board id ∷ graded quality ∷ []) = Ok (lines.Mark machine id quality)
 made_mark _ = Err whys.WrongCount
+
+abbrev pub made_sub : List Value → Result ScriptLine LineWhy
+made_sub (numeral machine ∷ board id ∷ numeral place ∷ coded barcode ∷ []) =
+    Ok (lines.Sub machine id place barcode)
+made_sub _ = Err whys.WrongCount
 
 abbrev pub made_hold : List Value → Result ScriptLine LineWhy
 made_hold (numeral machine ∷ sided side ∷ []) = Ok (lines.Hold machine side)
@@ -221,7 +228,8 @@ abbrev pub room_words : List Kind
 room_words = number 1 1024 ∷ literal (codes "used") ∷ number 0 281474976710655 ∷ []
 
 -- THE TABLE: `machine c [used u]`, `bridge c [used u]`, `insert m [barcode]`, `query m barcode`,
--- `remove m id`, `replace m id`, `mark m id unknown|good|failed`, `hold m side`, `go m side`,
+-- `remove m id`, `replace m id`, `mark m id unknown|good|failed`, `sub m id pos barcode`, `hold m
+-- side`, `go m side`,
 -- `signal m ready|available|failed on|off`, `connect m`, `flow m side [n]`, `notice m side`, `cut
 -- k`, `spoil m side`, `forecast m`, `shutdown m`, `tick m`, `fault m side`, `lie m side event`,
 -- `unseen side m`, `sense m`, `begin k`, `left k`, `in k`, `back k`, `hand-in k`, `take k`,
@@ -285,6 +293,15 @@ answer_form = record {
   counts = 3 ∷ [];
   arguments = λ _. machine_number ∷ number 0 999999999999999 ∷ token ∷ [];
   made = made_answer;
+}
+
+-- a place on a panel is spelled by at most nine digits
+abbrev pub sub_form : Form
+sub_form = record {
+  word = codes "sub";
+  counts = 4 ∷ [];
+  arguments = λ _. machine_number ∷ identity ∷ number 0 999999999 ∷ barcode_word ∷ [];
+  made = made_sub;
 }
 
 abbrev pub remove_form : Form
@@ -548,7 +565,7 @@ board_forms =
 
 abbrev pub forms : List Form
 forms = machine_form ∷ bridge_form ∷ insert_form ∷ query_form ∷ ask_form ∷ answer_form ∷
-    board_forms
+    sub_form ∷ board_forms
 
 abbrev pub mapped_ok : {A B : Type 0} → (A → B) → Result A LineWhy → Result B LineWhy
 mapped_ok f (Ok value) = Ok (f value)
@@ -570,6 +587,7 @@ value_as event_word word = mapped_ok seen (event_of word)
 value_as segment_word word = mapped_ok signalled (segment_line_of word)
 value_as switch_word word = mapped_ok switched (switch_of word)
 value_as asked_by_word word = mapped_ok asked_by (asked_by_of word)
+value_as barcode_word word = mapped_ok coded (barcode_of word)
 
 -- what the words say, tested from the left
 abbrev pub values_as : List Kind → List (List ℕ) → Result (List Value) LineWhy

@@ -31,6 +31,7 @@ IsWithin (lines.Insert machine barcode) = IsBetween 1 64 machine
 IsWithin (lines.Remove machine id) = IsBetween 1 64 machine
 IsWithin (lines.Replace machine id) = IsBetween 1 64 machine
 IsWithin (lines.Mark machine id quality) = IsBetween 1 64 machine
+IsWithin (lines.Sub machine id pos barcode) = IsBetween 1 64 machine × IsBetween 0 999999999 pos
 IsWithin (lines.Hold machine side) = IsBetween 1 64 machine
 IsWithin (lines.Go machine side) = IsBetween 1 64 machine
 IsWithin (lines.Signal machine line on) = IsBetween 1 64 machine

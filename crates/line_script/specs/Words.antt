@@ -1,4 +1,4 @@
-use Rattle.std.specs.Prelude.{◌≡◌, ◌==◌, ◌||◌, ◌&&◌, ℕ, Bool, true, false, List, Result, Ok, Err, codes, filter, length, nat_le, nat_lt, if◌then◌else◌}
+use Rattle.std.specs.Prelude.{◌≡◌, ◌==◌, ◌||◌, ◌&&◌, ℕ, Bool, true, false, List, Option, Some, None, Result, Ok, Err, codes, filter, length, nat_le, nat_lt, if◌then◌else◌}
 use Rattle.std.specs.List.{list_all, slice_split}
 use Rattle.std.specs.Str.{bytes_eq}
 use Rattle.line_base.specs.Number.{is_digits, value_of}
@@ -58,6 +58,17 @@ identity_of word = identity_from (read_id word)
 abbrev pub token_of : List ℕ → Result (List ℕ) LineWhy
 token_of word =
     if nat_le (length word) 64 && list_all is_text_byte word then Ok word else Err whys.BadWord
+
+-- a barcode is a text word, and a hyphen alone says that there is none
+abbrev pub barcode_in : List ℕ → Option (List ℕ)
+barcode_in word = if bytes_eq word (codes "-") then None else Some word
+
+abbrev pub barcode_from : Result (List ℕ) LineWhy → Result (Option (List ℕ)) LineWhy
+barcode_from (Ok word) = Ok (barcode_in word)
+barcode_from (Err why) = Err why
+
+abbrev pub barcode_of : List ℕ → Result (Option (List ℕ)) LineWhy
+barcode_of word = barcode_from (token_of word)
 
 -- the side that a word names
 abbrev pub side_of : List ℕ → Result Side LineWhy

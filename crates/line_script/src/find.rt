@@ -8,7 +8,7 @@ ghost use Rattle.line_script.specs.Grammar.{line_among, forms, board_forms, link
 use crate::forms::{
     answer, ask, back, begin, bridge, connect, cut, enter, fault, flow, forecast, go, hand_in,
     hold, insert, left, lie, machine, mark, notice, query, refused, remove, replace, sense, show,
-    shutdown, signal, spoil, supervise, take, tick, unseen,
+    shutdown, signal, spoil, sub, supervise, take, tick, unseen,
 };
 use crate::line::{LineError, LineWhy, ScriptLine};
 use crate::words::is_word;
@@ -36,6 +36,9 @@ pub fn line_of(alloc: Global, first: &[u8], words: &[&[u8]]) -> Result<ScriptLin
     }
     if is_word(first, b"answer") {
         return answer(alloc, words);
+    }
+    if is_word(first, b"sub") {
+        return sub(alloc, words);
     }
     refused(board_line(first, words))
 }

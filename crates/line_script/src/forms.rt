@@ -3,13 +3,13 @@
 ghost use Rattle.std.specs.Prelude.{◌≡◌, ◌≤◌, ℕ, IfOk, [], ◌∷◌, map};
 ghost use Rattle.line_script.specs.Ranges.{IsBetween, IsWithin};
 ghost use Rattle.line_script.specs.Words.{Reads};
-ghost use Rattle.line_script.specs.Grammar.{number, numeral, board, identity, sided, side_word, machine_number, room_words, made_room, is_seen_at, lie_of, mapped_ok, then_ok, values_as, arguments_as, line_as, machine_form, bridge_form, insert_form, query_form, ask_form, answer_form, remove_form, replace_form, mark_form, hold_form, go_form, signal_form, connect_form, flow_form, notice_form, cut_form, spoil_form, forecast_form, supervise_form, shutdown_form, tick_form, fault_form, lie_form, unseen_form, sense_form, begin_form, left_form, enter_form, back_form, hand_in_form, take_form, show_form};
+ghost use Rattle.line_script.specs.Grammar.{number, numeral, board, identity, sided, side_word, machine_number, room_words, made_room, is_seen_at, lie_of, mapped_ok, then_ok, values_as, arguments_as, line_as, machine_form, bridge_form, insert_form, query_form, ask_form, answer_form, sub_form, remove_form, replace_form, mark_form, hold_form, go_form, signal_form, connect_form, flow_form, notice_form, cut_form, spoil_form, forecast_form, supervise_form, shutdown_form, tick_form, fault_form, lie_form, unseen_form, sense_form, begin_form, left_form, enter_form, back_form, hand_in_form, take_form, show_form};
 ghost use Rattle.line_script.specs.declared.line.ScriptLine.{ScriptLine as Line};
 
 use crate::line::{LineError, LineWhy, ScriptLine};
 use crate::words::{
-    asked_by, event, identity, literal, number, quality, question, segment_line, side, switch,
-    token,
+    asked_by, barcode, event, identity, literal, number, quality, question, segment_line, side,
+    switch, token,
 };
 use board_record::{BoardId, Sensed};
 use hermes_vertical::Question;
@@ -30,6 +30,9 @@ const MOST_FLOW: u64 = 65_536;
 
 /// The last slot of a magazine, of nine digits.
 const MOST_SLOT: u64 = 999_999_999;
+
+/// The last place of a circuit on a panel, of nine digits.
+const MOST_POS: u64 = 999_999_999;
 
 /// The last number that 15 digits spell.
 const MOST_QUERY: u64 = 999_999_999_999_999;
@@ -279,6 +282,49 @@ fn answer_with(
             machine,
             query,
             order,
+        }),
+        Err(error) => Err(error),
+    }
+}
+
+pub fn sub(alloc: Global, words: &[&[u8]]) -> Result<ScriptLine, LineError>
+    ensures answer { Reads (line_as sub_form (map (λ word. word.now) words.now)) result }
+    ensures within { IfOk result IsWithin }
+{
+    match words {
+        [machine, id, pos, barcode] => sub_board(alloc, machine, id, pos, barcode),
+        _ => Err(LineError::Refused(LineWhy::WrongCount)),
+    }
+}
+
+fn sub_board(
+    alloc: Global,
+    machine: &[u8],
+    id: &[u8],
+    pos: &[u8],
+    spelled_barcode: &[u8],
+) -> Result<ScriptLine, LineError>
+    ensures answer { Reads (line_as sub_form (machine.now ∷ id.now ∷ pos.now ∷ spelled_barcode.now ∷ [])) result }
+    ensures within { IfOk result IsWithin }
+{
+    let machine = match number(machine, 1, MOST_MACHINES) {
+        Ok(machine) => machine as u32,
+        Err(why) => return Err(LineError::Refused(why)),
+    };
+    let id = match identity(id) {
+        Ok(id) => id,
+        Err(why) => return Err(LineError::Refused(why)),
+    };
+    let pos = match number(pos, 0, MOST_POS) {
+        Ok(pos) => pos as u32,
+        Err(why) => return Err(LineError::Refused(why)),
+    };
+    match barcode(alloc, spelled_barcode) {
+        Ok(barcode) => Ok(ScriptLine::Sub {
+            machine,
+            id,
+            pos,
+            barcode,
         }),
         Err(error) => Err(error),
     }

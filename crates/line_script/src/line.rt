@@ -44,6 +44,13 @@ pub enum ScriptLine {
         id: BoardId,
         quality: Quality,
     },
+    /// A circuit more of a board that is a panel: its place on it, and maybe its barcode.
+    Sub {
+        machine: u32,
+        id: BoardId,
+        pos: u32,
+        barcode: Option<Text>,
+    },
     /// A machine is willing to hand boards over at this side no more.
     Hold {
         machine: u32,

@@ -4,7 +4,7 @@ ghost use Rattle.std.specs.Prelude.{◌≡◌, IfOk, map};
 ghost use Rattle.std.specs.List.{list_all};
 ghost use Rattle.std.specs.Str.{bytes_eq};
 ghost use Rattle.line_script.specs.Ranges.{IsBetween};
-ghost use Rattle.line_script.specs.Words.{is_blank, is_text_byte, number_in, words_of, ReadsToken, identity_of, literal_of, side_of, quality_of, event_of, segment_line_of, switch_of, asked_by_of, question_of};
+ghost use Rattle.line_script.specs.Words.{is_blank, is_text_byte, number_in, words_of, ReadsToken, identity_of, literal_of, side_of, quality_of, event_of, segment_line_of, switch_of, asked_by_of, question_of, Reads, barcode_in, barcode_of};
 
 use crate::line::{LineError, LineWhy};
 use board_record::BoardId;
@@ -223,4 +223,24 @@ pub fn token(alloc: Global, word: &[u8]) -> Result<Text, LineError>
         Err(TextError::TooLong) => unreachable!(),
         Err(TextError::BadChar) => unreachable!(),
     }
+}
+
+/// A barcode, where a hyphen alone says that there is none. `BadWord` where the word is longer than
+/// 64 bytes.
+pub fn barcode(alloc: Global, word: &[u8]) -> Result<Option<Text>, LineError>
+    ensures { Reads (barcode_of word.now) result }
+{
+    match token(alloc, word) {
+        Ok(text) => Ok(barcode_in(text)),
+        Err(error) => Err(error),
+    }
+}
+
+fn barcode_in(text: Text) -> Option<Text>
+    ensures { result ≡ barcode_in text }
+{
+    if is_word(text.bytes(), b"-") {
+        return None;
+    }
+    Some(text)
 }

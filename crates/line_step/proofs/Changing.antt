@@ -175,12 +175,7 @@ but_gap machine side now world = record {
 but_counted : (machine : ℕ) (deed : Deed) (world : WorldParts) → SameBut machine world (counted deed world)
 but_counted machine (deeds.Opens id) world = record { links = λ k a b. refl; gaps = λ k a b. refl; places = λ k a. refl }
 but_counted machine (deeds.Settles id) world = record { links = λ k a b. refl; gaps = λ k a b. refl; places = λ k a. refl }
-but_counted machine (deeds.Refuses id) world = but_nothing machine world
-but_counted machine (deeds.Leaves id) world = but_nothing machine world
-but_counted machine (deeds.Returns id) world = but_nothing machine world
-but_counted machine (deeds.Loses id) world = but_nothing machine world
-but_counted machine (deeds.Starts id) world = but_nothing machine world
-but_counted machine (deeds.Drops id) world = but_nothing machine world
+but_counted machine _ world = but_nothing machine world
 
 but_sent : (second : Bool) (machine : ℕ) (side : Side) (message : Message) (world : WorldParts) → SameBut machine world (sent_by second machine side message world).world
 but_sent true machine side message world = but_link machine Exit (after_answer (canonical message) (link_at machine world)) world
@@ -211,7 +206,7 @@ stand_same s t k x y = cc
 between_same : (s t : LineState) (k : ℕ) → link_at k t.world ≡ link_at k s.world → gap_at t.world.floor k ≡ gap_at s.world.floor k → between_at t k ≡ between_at s k
 between_same s t k x y = cc
 
-node_other : (machine : ℕ) (next : NodeState) (s : LineState) (k : ℕ) → 1 ≤ machine → k ≢ machine → node_at (with_machine machine next s) k ≡ node_at s k
+pub node_other : (machine : ℕ) (next : NodeState) (s : LineState) (k : ℕ) → 1 ≤ machine → k ≢ machine → node_at (with_machine machine next s) k ≡ node_at s k
 node_other machine next s zero counted apart = refl
 node_other machine next s (suc place) counted apart =
     let places : place ≢ machine - 1 = omega arith in

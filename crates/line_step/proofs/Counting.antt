@@ -62,12 +62,7 @@ gap_same_world gap now world = record { links = refl; floor = as_many_at_gap wor
 counted_same : (deed : Deed) (world : WorldParts) → SameWorld world (counted deed world)
 counted_same (deeds.Opens id) world = record { links = refl; floor = refl; gaps = refl }
 counted_same (deeds.Settles id) world = record { links = refl; floor = refl; gaps = refl }
-counted_same (deeds.Refuses id) world = same_world world
-counted_same (deeds.Leaves id) world = same_world world
-counted_same (deeds.Returns id) world = same_world world
-counted_same (deeds.Loses id) world = same_world world
-counted_same (deeds.Starts id) world = same_world world
-counted_same (deeds.Drops id) world = same_world world
+counted_same _ world = same_world world
 
 sent_same : (second : Bool) (machine : ℕ) (side : Side) (message : Message) (world : WorldParts) → SameWorld world (sent_by second machine side message world).world
 sent_same true machine side message world = link_same_world machine (after_answer (canonical message) (link_at machine world)) world

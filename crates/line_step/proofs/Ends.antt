@@ -141,13 +141,7 @@ other_closed machine Exit world other Exit apart = ap (λ (l : LinkParts). is_so
 
 counted_links : (deed : Deed) (world : WorldParts) (machine : ℕ) (side : Side) → is_linked machine side (counted deed world) ≡ is_linked machine side world
 counted_links (deeds.Opens id) world machine side = refl
-counted_links (deeds.Settles id) world machine side = refl
-counted_links (deeds.Refuses id) world machine side = refl
-counted_links (deeds.Leaves id) world machine side = refl
-counted_links (deeds.Returns id) world machine side = refl
-counted_links (deeds.Loses id) world machine side = refl
-counted_links (deeds.Starts id) world machine side = refl
-counted_links (deeds.Drops id) world machine side = refl
+counted_links _ world machine side = refl
 
 sent_links : (second : Bool) (machine : ℕ) (side : Side) (message : Message) (world : WorldParts) (other : ℕ) (at : Side) → is_linked other at (sent_by second machine side message world).world ≡ is_linked other at world
 sent_links true machine side message world other at = same_ends machine (after_answer (canonical message) (link_at machine world)) world (same_answer (canonical message) (link_at machine world)) other at

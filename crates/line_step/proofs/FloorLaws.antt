@@ -279,26 +279,9 @@ grown_by true maker test = rw test (record { machine = refl; used = omega arith 
 grown_by false maker test = rw test (record { machine = refl; used = omega arith })
 
 maker-grown : (input : Input) (maker : Maker) → IsGrown maker (maker_after input maker)
-maker-grown inputs.Nothing maker = record { machine = refl; used = omega arith }
-maker-grown inputs.Connect maker = record { machine = refl; used = omega arith }
-maker-grown inputs.Accepted maker = record { machine = refl; used = omega arith }
-maker-grown inputs.Second maker = record { machine = refl; used = omega arith }
-maker-grown (inputs.Bytes side piece) maker = record { machine = refl; used = omega arith }
-maker-grown (inputs.Notice side) maker = record { machine = refl; used = omega arith }
-maker-grown inputs.Tick maker = record { machine = refl; used = omega arith }
-maker-grown inputs.Shutdown maker = record { machine = refl; used = omega arith }
-maker-grown (inputs.Fault side) maker = record { machine = refl; used = omega arith }
-maker-grown (inputs.Will side on) maker = record { machine = refl; used = omega arith }
-maker-grown (inputs.Level line on) maker = record { machine = refl; used = omega arith }
 maker-grown (inputs.Insert barcode) maker = grown_by (nat_le 281474976710655 maker.used) maker refl
-maker-grown (inputs.Remove id) maker = record { machine = refl; used = omega arith }
 maker-grown (inputs.Replace id) maker = grown_by (nat_le 281474976710655 maker.used) maker refl
-maker-grown (inputs.Mark id quality) maker = record { machine = refl; used = omega arith }
-maker-grown inputs.Forecast maker = record { machine = refl; used = omega arith }
-maker-grown (inputs.Query barcode) maker = record { machine = refl; used = omega arith }
-maker-grown (inputs.Supervise on) maker = record { machine = refl; used = omega arith }
-maker-grown (inputs.Ask question) maker = record { machine = refl; used = omega arith }
-maker-grown (inputs.Answer query order) maker = record { machine = refl; used = omega arith }
+maker-grown _ maker = record { machine = refl; used = omega arith }
 
 step-follows : (s : LineState) (machine : ℕ) (node next : NodeState) (at : IsAt s machine node) → AreNumbered 1 s.machines → IsGrown node.maker next.maker → Follows s.machines (slice_set s.machines (machine - 1) next)
 step-follows s machine node next at own grown =
@@ -326,7 +309,7 @@ hand_of number machine input before after told steps =
 
 -- those of a step without what the supervisor is told and without a bridge's own signals: those of
 -- the events that are read, those of the input, and those of the announcements
-abbrev plain_of : (number machine : ℕ) (input : Input) (before after : LineState)
+abbrev pub plain_of : (number machine : ℕ) (input : Input) (before after : LineState)
     (told : List Happening) → MachineSteps number machine input before after told → List Act
 plain_of number machine input before after told steps =
     (plain_step (desk_of steps.node (moment_of number)) (unread_by machine before.world)
@@ -483,13 +466,13 @@ quiet-goes number machine input before after told steps h quiet =
     (still-goes before end (acts_did second machine steps.acts world).told h (step-follows before machine steps.node steps.next at h.own grown) (reaches.many ∙ sym (length-set before.machines (machine - 1) steps.next)) reaches.whole reaches.boards (acts-still second machine steps.acts world quiet))
 
 -- an input that is not of the hands that put boards in, take them out or change them
-abbrev IsHandless : Input → Type 0
+abbrev pub IsHandless : Input → Type 0
 IsHandless (inputs.Insert barcode) = ⊥
 IsHandless (inputs.Remove id) = ⊥
 IsHandless (inputs.Replace id) = ⊥
 IsHandless _ = Unit {0}
 
-handless-event : (desk : Desk) (maker : Maker) (input : Input) (words : List Word)
+pub handless-event : (desk : Desk) (maker : Maker) (input : Input) (words : List Word)
     → IsHandless input → OfEvent IsQuiet desk (event_of maker input words)
 handless-event desk maker (inputs.Insert barcode) words handless = absurd handless
 handless-event desk maker (inputs.Remove id) words handless = absurd handless
@@ -497,7 +480,7 @@ handless-event desk maker (inputs.Replace id) words handless = absurd handless
 handless-event desk maker (inputs.Level line on) words handless = (tt, λ id. tt)
 handless-event desk maker _ words handless = tt
 
-event-quiet : (desk : Desk) (maker : Maker) (input : Input) (words : List Word) (body : Body)
+pub event-quiet : (desk : Desk) (maker : Maker) (input : Input) (words : List Word) (body : Body)
     → IsHandless input → AreQuiet (event_did desk (event_of maker input words) body).acts
 event-quiet desk maker input words body handless =
     met-quiet desk (event_of maker input words) body
@@ -563,15 +546,15 @@ hand-goes number machine input act before after told steps h parts plain does =
 
 -- ---- a new id
 
-record IsNew (maker : Maker) (id : ℕ) : Type 0 where
-  is : id ≡ made_id maker.machine (maker.used + 1)
-  small : maker.used + 1 < 281474976710656
-  now : (after_next maker).used ≡ maker.used + 1
+pub record IsNew (maker : Maker) (id : ℕ) : Type 0 where
+  pub is : id ≡ made_id maker.machine (maker.used + 1)
+  pub small : maker.used + 1 < 281474976710656
+  pub now : (after_next maker).used ≡ maker.used + 1
 
-ok-same : (id other : ℕ) (answer : Result ℕ IdsUsedUp) → answer ≡ Ok id → answer ≡ Ok other → id ≡ other
+pub ok-same : (id other : ℕ) (answer : Result ℕ IdsUsedUp) → answer ≡ Ok id → answer ≡ Ok other → id ≡ other
 ok-same id other answer one two = cc
 
-new_by : (full : Bool) (maker : Maker) (id : ℕ) → nat_le 281474976710655 maker.used ≡ full → next_id maker ≡ Ok id → IsNew maker id
+pub new_by : (full : Bool) (maker : Maker) (id : ℕ) → nat_le 281474976710655 maker.used ≡ full → next_id maker ≡ Ok id → IsNew maker id
 new_by true maker id test is = let none : next_id maker ≡ Err (record {}) = rw test refl in cc
 new_by false maker id test is =
     let some : next_id maker ≡ Ok (made_id maker.machine (maker.used + 1)) = rw test refl in
@@ -784,7 +767,7 @@ given-goes number machine (inputs.Replace was) s after told h may did =
     replace-goes (next_id did.node.maker) (is_kept was (body_read number machine (inputs.Replace was) s after told did).kept) number machine was s after told did refl refl (replaces_here machine was s did.node did.there may) h
 given-goes number machine input s after told h may did = handless-goes number machine input s after told tt h did
 
-met-handless : (on : Connected) → IsHandless (met on)
+pub met-handless : (on : Connected) → IsHandless (met on)
 met-handless connections.Accepted = tt
 met-handless connections.Second = tt
 

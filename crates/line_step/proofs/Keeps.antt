@@ -225,7 +225,7 @@ more_joined is_bridge capacity used s together (suc place) side node is =
     ]
 
 -- each machine but the first comes with a gap before it
-more_gaps : (machines : List AtMachine) (gaps : List AtGap) → length gaps ≡ length machines - 1 → length (gaps_before machines gaps) ≡ length (machines ++ empty_machine ∷ []) - 1
+pub more_gaps : (machines : List AtMachine) (gaps : List AtGap) → length gaps ≡ length machines - 1 → length (gaps_before machines gaps) ≡ length (machines ++ empty_machine ∷ []) - 1
 more_gaps [] gaps whole = whole
 more_gaps (m ∷ machines) gaps whole = omega (arith, whole, length-append gaps (free_gap ∷ []), length-append (m ∷ machines) (empty_machine ∷ []))
 

@@ -16,6 +16,7 @@ pub mod Counting
 pub mod Joining
 pub mod Connecting
 pub mod Keeps
+pub mod LinkRule
 pub mod Ascending
 pub mod Unnamed
 pub mod ChangedStandings

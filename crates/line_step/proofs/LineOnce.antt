@@ -5,6 +5,7 @@ use Rattle.std.specs.List.{flat_map}
 use Rattle.line_base.specs.declared.states.Side.{Side}
 use Rattle.line_base.specs.declared.states.Side.TheVariants.{Entry, Exit}
 use Rattle.board_record.specs.Maker.{Maker}
+use Rattle.board_record.specs.SubBoards.{unknown_sub}
 use Rattle.line_script.specs.declared.line.ScriptLine.{ScriptLine}
 use Rattle.line_link.specs.Link.{connected_of}
 use Rattle.line_link.specs.declared.link.Connected.{Connected}
@@ -160,8 +161,6 @@ may-alike inputs.Accepted a b alike = ap node.may_accept alike.body
 may-alike inputs.Second a b alike = ap (node.may_reach Exit) alike.body
 may-alike (inputs.Bytes side piece) a b alike = ap (node.may_reach side) alike.body
 may-alike (inputs.Notice side) a b alike = ap (node.may_reach side) alike.body
-may-alike inputs.Tick a b alike = ap node.may_reach_any alike.body
-may-alike inputs.Shutdown a b alike = ap node.may_reach_any alike.body
 may-alike (inputs.Fault side) a b alike = ap (node.may_fault side) alike.body
 may-alike (inputs.Will side on) a b alike =
     let f : Option BridgeLevels → Body → Result (Unit {0}) No = λ bridge body. node.no_if (is_some bridge) no.Bridge (node.no_if (node.same_bool (end_at side body).willing on) no.Same node.may_do) in
@@ -171,6 +170,7 @@ may-alike (inputs.Insert barcode) a b alike = may-insert a b alike
 may-alike (inputs.Remove id) a b alike = ap (node.may_remove id) alike.body
 may-alike (inputs.Replace id) a b alike = may-replace id a b alike
 may-alike (inputs.Mark id quality) a b alike = ap (node.may_mark id) alike.body
+may-alike (inputs.Sub id place barcode) a b alike = ap (node.may_sub id (unknown_sub place barcode)) alike.body
 may-alike inputs.Forecast a b alike = ap node.may_forecast alike.body
 may-alike (inputs.Query barcode) a b alike = ap node.may_query alike.body
 may-alike (inputs.Supervise on) a b alike =
@@ -187,6 +187,7 @@ may-alike (inputs.Answer query order) a b alike =
     node.no_if (not supervised) no.NotSupervised (node.no_answer (answer_of orders query)) in
     ap (λ (supervised : Bool). f supervised b.orders) alike.supervised
     ∙ ap (f a.supervised) alike.orders
+may-alike _ a b alike = ap node.may_reach_any alike.body
 
 there-alike : (x y : Option NodeState) (f g : NodeState → May) → FoundAlike x y → ((a b : NodeState) → AreAlike a b → g b ≡ f a) → if_there y g ≡ if_there x f
 there-alike None None f g found same = refl
@@ -330,7 +331,7 @@ flows-once law number machine side count s after nodes after' told other all one
     stepped-once number machine (inputs.Bytes side one.piece) (inputs.Bytes side two.piece) (arrived machine side count s) after nodes after' told other all refl one.steps two.steps
     (λ alike. steps-bytes law side one.steps.node two.steps.node one.steps.next two.steps.next (unread_by machine (arrived machine side count s).world) one.piece two.piece (moment_of number) one.steps.acts two.steps.acts alike (two.bytes ∙ sym one.bytes) one.steps.steps two.steps.steps one.steps.unspent two.steps.unspent)
 
-met-dry : (on : Connected) → IsDry (met on)
+pub met-dry : (on : Connected) → IsDry (met on)
 met-dry connections.Accepted = tt
 met-dry connections.Second = tt
 

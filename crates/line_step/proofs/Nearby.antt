@@ -108,13 +108,7 @@ place_near machine now world counted within =
 
 counted_near : (machine : ℕ) (deed : Deed) (world : WorldParts) → near_at machine (counted deed world) ≡ near_at machine world
 counted_near machine (deeds.Opens id) world = refl
-counted_near machine (deeds.Settles id) world = refl
-counted_near machine (deeds.Refuses id) world = refl
-counted_near machine (deeds.Leaves id) world = refl
-counted_near machine (deeds.Returns id) world = refl
-counted_near machine (deeds.Loses id) world = refl
-counted_near machine (deeds.Starts id) world = refl
-counted_near machine (deeds.Drops id) world = refl
+counted_near machine _ world = refl
 
 sent_near : (second : Bool) (machine : ℕ) (side : Side) (message : Message) (world : WorldParts) → 1 ≤ machine → near_at machine (sent_by second machine side message world).world ≡ near_sent second side (canonical message) (near_at machine world)
 sent_near true machine side message world counted = link_near machine Exit (after_answer (canonical message) (link_at machine world)) world counted (none_answers (canonical message) (link_at machine world))

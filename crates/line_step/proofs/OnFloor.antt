@@ -51,13 +51,7 @@ sent-floor false machine side message world = floor_stays (link_of machine side)
 
 counted-floor : (deed : Deed) (world : WorldParts) → (after_deed deed world).floor ≡ world.floor
 counted-floor (deeds.Opens id) world = refl
-counted-floor (deeds.Refuses id) world = refl
-counted-floor (deeds.Leaves id) world = refl
-counted-floor (deeds.Returns id) world = refl
-counted-floor (deeds.Loses id) world = refl
-counted-floor (deeds.Starts id) world = refl
-counted-floor (deeds.Settles id) world = refl
-counted-floor (deeds.Drops id) world = refl
+counted-floor _ world = refl
 
 gap-machines_by : (there : Bool) (gaps : List AtGap) (plan : FloorPlan) → (if there then record plan { gaps = gaps } else plan).machines ≡ plan.machines
 gap-machines_by true gaps plan = refl
@@ -79,24 +73,17 @@ drives-same machine side on plan =
 
 -- a quiet act changes no board
 quiet-act : (second : Bool) (machine : ℕ) (act : Act) (world : WorldParts) → IsQuiet act → SameBoards world.floor (act_did second machine act world).world.floor
-quiet-act second machine (acts.Reads side event) world quiet = same-still world.floor world.floor refl
-quiet-act second machine (acts.Hears side message) world quiet = same-still world.floor world.floor refl
-quiet-act second machine (acts.Breaches side text) world quiet = same-still world.floor world.floor refl
 quiet-act second machine (acts.Sends side message) world quiet = same-still world.floor _ (sent-floor (answers second side message) machine side message world)
 quiet-act second machine (acts.Closes side) world quiet = same-still world.floor _ (floor_stays (link_of machine side) _ world)
 quiet-act second machine (acts.Notices side) world quiet = same-still world.floor _ (floor_stays (link_of machine side) _ world)
-quiet-act second machine acts.Connects world quiet = same-still world.floor world.floor refl
 quiet-act second machine (acts.Deed deed) world quiet = same-still world.floor _ (counted-floor deed world)
 quiet-act second machine (acts.Drive side on) world quiet = drives-same machine side on world.floor
-quiet-act second machine (acts.Marks id quality) world quiet = same-still world.floor world.floor refl
 quiet-act second machine (acts.Inserts id) world quiet = absurd quiet
 quiet-act second machine (acts.Removes id) world quiet = absurd quiet
 quiet-act second machine (acts.Replaces was now) world quiet = absurd quiet
-quiet-act second machine (acts.Sets setting) world quiet = same-still world.floor world.floor refl
-quiet-act second machine (acts.Tells message) world quiet = same-still world.floor world.floor refl
 quiet-act second machine (acts.Answered query order) world quiet =
     same-still world.floor world.floor refl
-quiet-act second machine (acts.Signals signal on) world quiet = same-still world.floor world.floor refl
+quiet-act second machine _ world quiet = same-still world.floor world.floor refl
 
 pub quiet-acts : (second : Bool) (machine : ℕ) (told : List Act) (world : WorldParts) → AreQuiet told → SameBoards world.floor (acts_did second machine told world).world.floor
 quiet-acts second machine [] world quiet = same-still world.floor world.floor refl
@@ -145,22 +132,11 @@ act-still : (machine : ℕ) (act : Act) → IsQuiet act → IsStill (happenings.
 act-still machine (acts.Inserts id) quiet = absurd quiet
 act-still machine (acts.Removes id) quiet = absurd quiet
 act-still machine (acts.Replaces was now) quiet = absurd quiet
-act-still machine (acts.Reads side event) quiet = record { change = λ boards. (boards, refl, refl); made = refl; handled = refl }
-act-still machine (acts.Hears side message) quiet = record { change = λ boards. (boards, refl, refl); made = refl; handled = refl }
-act-still machine (acts.Breaches side text) quiet = record { change = λ boards. (boards, refl, refl); made = refl; handled = refl }
-act-still machine (acts.Sends side message) quiet = record { change = λ boards. (boards, refl, refl); made = refl; handled = refl }
-act-still machine (acts.Closes side) quiet = record { change = λ boards. (boards, refl, refl); made = refl; handled = refl }
-act-still machine (acts.Notices side) quiet = record { change = λ boards. (boards, refl, refl); made = refl; handled = refl }
-act-still machine acts.Connects quiet = record { change = λ boards. (boards, refl, refl); made = refl; handled = refl }
-act-still machine (acts.Deed deed) quiet = record { change = λ boards. (boards, refl, refl); made = refl; handled = refl }
-act-still machine (acts.Drive side on) quiet = record { change = λ boards. (boards, refl, refl); made = refl; handled = refl }
-act-still machine (acts.Marks id quality) quiet = record { change = λ boards. (boards, refl, refl); made = refl; handled = refl }
-act-still machine (acts.Sets setting) quiet = record { change = λ boards. (boards, refl, refl); made = refl; handled = refl }
 act-still machine (acts.Tells message) quiet =
     record { change = λ boards. (boards, refl, refl); made = refl; handled = refl }
 act-still machine (acts.Answered query order) quiet =
     record { change = λ boards. (boards, refl, refl); made = refl; handled = refl }
-act-still machine (acts.Signals signal on) quiet = record { change = λ boards. (boards, refl, refl); made = refl; handled = refl }
+act-still machine _ quiet = record { change = λ boards. (boards, refl, refl); made = refl; handled = refl }
 
 sent-still : (answers : Bool) (machine : ℕ) (side : Side) (message : Message) (world : WorldParts) → IsStill (sent_by answers machine side message world).told
 sent-still true machine side message world =
@@ -176,20 +152,11 @@ told-still second machine (acts.Drive side on) world quiet = still-none
 told-still second machine (acts.Inserts id) world quiet = absurd quiet
 told-still second machine (acts.Removes id) world quiet = absurd quiet
 told-still second machine (acts.Replaces was now) world quiet = absurd quiet
-told-still second machine (acts.Reads side event) world quiet = act-still machine (acts.Reads side event) tt
-told-still second machine (acts.Hears side message) world quiet = act-still machine (acts.Hears side message) tt
-told-still second machine (acts.Breaches side text) world quiet = act-still machine (acts.Breaches side text) tt
-told-still second machine (acts.Closes side) world quiet = act-still machine (acts.Closes side) tt
-told-still second machine (acts.Notices side) world quiet = act-still machine (acts.Notices side) tt
-told-still second machine acts.Connects world quiet = act-still machine acts.Connects tt
-told-still second machine (acts.Deed deed) world quiet = act-still machine (acts.Deed deed) tt
-told-still second machine (acts.Marks id quality) world quiet = act-still machine (acts.Marks id quality) tt
-told-still second machine (acts.Sets setting) world quiet = act-still machine (acts.Sets setting) tt
 told-still second machine (acts.Tells message) world quiet =
     act-still machine (acts.Tells message) tt
 told-still second machine (acts.Answered query order) world quiet =
     act-still machine (acts.Answered query order) tt
-told-still second machine (acts.Signals signal on) world quiet = act-still machine (acts.Signals signal on) tt
+told-still second machine act world quiet = act-still machine act tt
 
 pub acts-still : (second : Bool) (machine : ℕ) (told : List Act) (world : WorldParts) → AreQuiet told → IsStill (acts_did second machine told world).told
 acts-still second machine [] world quiet = still-none

@@ -132,30 +132,16 @@ pub record AreAlike (a b : NodeState) : Type 0 where
   pub exit : is_open Exit a.lane.body ≡ true → b.lane.exit_bytes ≡ a.lane.exit_bytes
 
 -- a side that is closed stays closed
-closed-at : (side at : Side) → closed_at side at false ≡ false
+pub closed-at : (side at : Side) → closed_at side at false ≡ false
 closed-at Entry Entry = refl
 closed-at Entry Exit = refl
 closed-at Exit Entry = refl
 closed-at Exit Exit = refl
 
-closed-act : (side : Side) (act : Act) → open_act side false act ≡ false
+pub closed-act : (side : Side) (act : Act) → open_act side false act ≡ false
 closed-act side (acts.Closes at) = closed-at side at
 closed-act side (acts.Notices at) = closed-at side at
-closed-act side (acts.Reads at event) = refl
-closed-act side (acts.Hears at message) = refl
-closed-act side (acts.Breaches at text) = refl
-closed-act side (acts.Sends at message) = refl
-closed-act side acts.Connects = refl
-closed-act side (acts.Deed deed) = refl
-closed-act side (acts.Drive at on) = refl
-closed-act side (acts.Marks id quality) = refl
-closed-act side (acts.Inserts id) = refl
-closed-act side (acts.Removes id) = refl
-closed-act side (acts.Replaces was now) = refl
-closed-act side (acts.Sets setting) = refl
-closed-act side (acts.Tells message) = refl
-closed-act side (acts.Answered query order) = refl
-closed-act side (acts.Signals signal on) = refl
+closed-act side _ = refl
 
 pub closed-stays : (side : Side) (told : List Act) → open_after side false told ≡ false
 closed-stays side [] = refl
@@ -185,92 +171,20 @@ IsDry (inputs.Bytes side piece) = ⊥
 IsDry _ = Unit {0}
 
 event-dry : (maker : Maker) (input : Input) (one other : List Word) → IsDry input → event_of maker input other ≡ event_of maker input one
-event-dry maker inputs.Nothing one other dry = refl
-event-dry maker inputs.Connect one other dry = refl
-event-dry maker inputs.Accepted one other dry = refl
-event-dry maker inputs.Second one other dry = refl
 event-dry maker (inputs.Bytes side piece) one other dry = absurd dry
-event-dry maker (inputs.Notice side) one other dry = refl
-event-dry maker inputs.Tick one other dry = refl
-event-dry maker inputs.Shutdown one other dry = refl
-event-dry maker (inputs.Fault side) one other dry = refl
-event-dry maker (inputs.Will side on) one other dry = refl
-event-dry maker (inputs.Level line on) one other dry = refl
-event-dry maker (inputs.Insert barcode) one other dry = refl
-event-dry maker (inputs.Remove id) one other dry = refl
-event-dry maker (inputs.Replace id) one other dry = refl
-event-dry maker (inputs.Mark id quality) one other dry = refl
-event-dry maker inputs.Forecast one other dry = refl
-event-dry maker (inputs.Query barcode) one other dry = refl
-event-dry maker (inputs.Supervise on) one other dry = refl
-event-dry maker (inputs.Ask question) one other dry = refl
-event-dry maker (inputs.Answer query order) one other dry = refl
+event-dry maker _ one other dry = refl
 
 brings-dry : (input : Input) (old new : Lane) (words : List Word) → IsDry input → Brings input old new words → (new.entry_bytes ≡ entry_after input old.entry_bytes) × (new.exit_bytes ≡ exit_after input old.exit_bytes)
-brings-dry inputs.Nothing old new words dry brings = brings
-brings-dry inputs.Connect old new words dry brings = brings
-brings-dry inputs.Accepted old new words dry brings = brings
-brings-dry inputs.Second old new words dry brings = brings
 brings-dry (inputs.Bytes side piece) old new words dry brings = absurd dry
-brings-dry (inputs.Notice side) old new words dry brings = brings
-brings-dry inputs.Tick old new words dry brings = brings
-brings-dry inputs.Shutdown old new words dry brings = brings
-brings-dry (inputs.Fault side) old new words dry brings = brings
-brings-dry (inputs.Will side on) old new words dry brings = brings
-brings-dry (inputs.Level line on) old new words dry brings = brings
-brings-dry (inputs.Insert barcode) old new words dry brings = brings
-brings-dry (inputs.Remove id) old new words dry brings = brings
-brings-dry (inputs.Replace id) old new words dry brings = brings
-brings-dry (inputs.Mark id quality) old new words dry brings = brings
-brings-dry inputs.Forecast old new words dry brings = brings
-brings-dry (inputs.Query barcode) old new words dry brings = brings
-brings-dry (inputs.Supervise on) old new words dry brings = brings
-brings-dry (inputs.Ask question) old new words dry brings = brings
-brings-dry (inputs.Answer query order) old new words dry brings = brings
+brings-dry _ old new words dry brings = brings
 
 entry-same : (input : Input) (was : Bool) (x y : List ℕ) → (opened_by input Entry was ≡ was → y ≡ x) → entry_after input y ≡ entry_after input x
-entry-same inputs.Nothing was x y kept = kept refl
 entry-same inputs.Connect was x y kept = refl
-entry-same inputs.Accepted was x y kept = kept refl
-entry-same inputs.Second was x y kept = kept refl
-entry-same (inputs.Bytes side piece) was x y kept = kept refl
-entry-same (inputs.Notice side) was x y kept = kept refl
-entry-same inputs.Tick was x y kept = kept refl
-entry-same inputs.Shutdown was x y kept = kept refl
-entry-same (inputs.Fault side) was x y kept = kept refl
-entry-same (inputs.Will side on) was x y kept = kept refl
-entry-same (inputs.Level line on) was x y kept = kept refl
-entry-same (inputs.Insert barcode) was x y kept = kept refl
-entry-same (inputs.Remove id) was x y kept = kept refl
-entry-same (inputs.Replace id) was x y kept = kept refl
-entry-same (inputs.Mark id quality) was x y kept = kept refl
-entry-same inputs.Forecast was x y kept = kept refl
-entry-same (inputs.Query barcode) was x y kept = kept refl
-entry-same (inputs.Supervise on) was x y kept = kept refl
-entry-same (inputs.Ask question) was x y kept = kept refl
-entry-same (inputs.Answer query order) was x y kept = kept refl
+entry-same _ was x y kept = kept refl
 
 exit-same : (input : Input) (was : Bool) (x y : List ℕ) → (opened_by input Exit was ≡ was → y ≡ x) → exit_after input y ≡ exit_after input x
-exit-same inputs.Nothing was x y kept = kept refl
-exit-same inputs.Connect was x y kept = kept refl
 exit-same inputs.Accepted was x y kept = refl
-exit-same inputs.Second was x y kept = kept refl
-exit-same (inputs.Bytes side piece) was x y kept = kept refl
-exit-same (inputs.Notice side) was x y kept = kept refl
-exit-same inputs.Tick was x y kept = kept refl
-exit-same inputs.Shutdown was x y kept = kept refl
-exit-same (inputs.Fault side) was x y kept = kept refl
-exit-same (inputs.Will side on) was x y kept = kept refl
-exit-same (inputs.Level line on) was x y kept = kept refl
-exit-same (inputs.Insert barcode) was x y kept = kept refl
-exit-same (inputs.Remove id) was x y kept = kept refl
-exit-same (inputs.Replace id) was x y kept = kept refl
-exit-same (inputs.Mark id quality) was x y kept = kept refl
-exit-same inputs.Forecast was x y kept = kept refl
-exit-same (inputs.Query barcode) was x y kept = kept refl
-exit-same (inputs.Supervise on) was x y kept = kept refl
-exit-same (inputs.Ask question) was x y kept = kept refl
-exit-same (inputs.Answer query order) was x y kept = kept refl
+exit-same _ was x y kept = kept refl
 
 -- what a step leaves behind its lane, where the lanes end alike
 record EndsOnce (a' b' : NodeState) (told other : List Act) : Type 0 where

@@ -39,6 +39,7 @@ request_of (lines.Insert machine barcode) = gives machine (inputs.Insert barcode
 request_of (lines.Remove machine id) = gives machine (inputs.Remove id)
 request_of (lines.Replace machine id) = gives machine (inputs.Replace id)
 request_of (lines.Mark machine id quality) = gives machine (inputs.Mark id quality)
+request_of (lines.Sub machine id place barcode) = gives machine (inputs.Sub id place barcode)
 request_of (lines.Hold machine side) = gives machine (inputs.Will side false)
 request_of (lines.Go machine side) = gives machine (inputs.Will side true)
 request_of (lines.Signal machine line on) = gives machine (inputs.Level line on)

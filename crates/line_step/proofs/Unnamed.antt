@@ -9,7 +9,6 @@ use Rattle.standings.proofs.Ids.{has_id-append}
 use Rattle.line_base.specs.declared.states.Side.{Side}
 use Rattle.line_base.specs.declared.states.Side.TheVariants.{Entry, Exit}
 use Rattle.line_base.specs.declared.states.Severity.TheVariants.{Fatal}
-use Rattle.line_base.specs.declared.states.Quality.{Quality}
 use Rattle.line_base.specs.declared.states.Quality.TheVariants as qualities
 use Rattle.board_record.specs.declared.record.Record.{Record}
 use Rattle.board_record.specs.declared.sensed.Sensed.{Sensed as Seen}
@@ -33,7 +32,7 @@ use Rattle.node_core.specs.Told.{out_told, in_told, sends, notification}
 use Rattle.node_core.specs.Sides.{session_at, with_session}
 use Rattle.node_core.specs.Halves.{given_back, settled, opening_board, behind_opening}
 use Rattle.node_core.specs.Reads.{all_read}
-use Rattle.node_core.specs.Boards.{with_kept, without, with_instead, with_mark}
+use Rattle.node_core.specs.Boards.{with_kept, without, with_instead, with_changed}
 use Rattle.node_core.specs.Announces.{announces}
 use Rattle.node_core.specs.Event.{Event, event_did}
 use Rattle.node_core.specs.Step.{machine_step, plain_step}
@@ -49,13 +48,14 @@ use Rattle.node_core.specs.Supervising.{
 }
 use Rattle.node_core.proofs.Telling.{tells_pass}
 use Rattle.node_core.specs.Own.{Own, own_by, own_of, ids_of, id_of}
-use Rattle.smema_bridge.specs.declared.line.SegmentLine.TheVariants.{Failed}
+use Rattle.node_core.proofs.KeptIds.{ids_changed}
 use Rattle.standings.specs.Marks.{has_id, is_held}
 use Rattle.line_step.specs.Named.{ids_of_act}
-use Rattle.step_rules.specs.Causes.{ByHand, Cause, hand_fails, hand_inserts, hand_marks, hand_removes, hand_replaces}
+use Rattle.step_rules.specs.Causes.{ByHand, Cause, hand_inserts, hand_removes, hand_replaces, hand_changes}
 use Rattle.step_rules.specs.Made.{Made, made_act, made_both, made_breach, made_by_hand, made_close, made_intake, made_none, made_notice, made_outlet, made_passed, made_row, made_start, made_will, made_word}
 use Rattle.step_rules.proofs.Inputs.{IsNoStart, no_start}
 use Rattle.step_rules.proofs.Steps.{step_made}
+use Rattle.step_rules.proofs.Changing.{changes_leave}
 
 -- ---- what the supervisor is told, what it is asked and what it says name no board
 
@@ -241,15 +241,6 @@ has-instead : (id old : ℕ) (new : Record) (kept : List Record) → (old == id)
 has-instead id old new [] is differs = refl
 has-instead id old new (board ∷ boards) is differs = instead_has (board.id == old) id old new board boards refl is differs (has-instead id old new boards is differs)
 
-marked_has : (test : Bool) (id other : ℕ) (quality : Quality) (board : Record) (boards : List Record) → (board.id == other) ≡ test → has_id id (ids_of (with_mark other quality boards)) ≡ has_id id (ids_of boards)
-    → has_id id (ids_of (with_mark other quality (board ∷ boards))) ≡ has_id id (ids_of (board ∷ boards))
-marked_has true id other quality board boards test same = rw test refl
-marked_has false id other quality board boards test same = rw test (ap (λ (b : Bool). (board.id == id) || b) same)
-
-has-mark : (id other : ℕ) (quality : Quality) (kept : List Record) → has_id id (ids_of (with_mark other quality kept)) ≡ has_id id (ids_of kept)
-has-mark id other quality [] = refl
-has-mark id other quality (board ∷ boards) = marked_has (board.id == other) id other quality board boards refl (has-mark id other quality boards)
-
 by_hand : (id : ℕ) (body : Body) (kept : List Record) (act : Act) → (IsUnnamed id (act ∷ []) → has_id id (ids_of kept) ≡ has_id id (ids_of body.kept)) → Spares id body (done (record body { kept = kept }) (act ∷ []))
 by_hand id body kept act same = record { same = λ none. record { kept = same none; held = refl; taking = refl } }
 
@@ -269,12 +260,9 @@ hand_spares {desk = desk} id (hand_replaces {old = old} {new = new} {body = body
     by_hand id body (with_instead old board body.kept) (acts.Replaces old new) (λ none.
     let two = or_parts (old == id) (has_id id (new ∷ [])) none in
     has-instead id old board body.kept two.0 (another new id [] two.1))
-hand_spares id (hand_marks {id = other} {quality = quality} {body = body} is) =
-    by_hand id body (with_mark other quality body.kept) (acts.Marks other quality) (λ _.
-    has-mark id other quality body.kept)
-hand_spares id (hand_fails {id = other} {body = body} front is) =
-    by_hand id body (with_mark other qualities.Failed body.kept)
-    (acts.Marks other qualities.Failed) (λ _. has-mark id other qualities.Failed body.kept)
+hand_spares id (hand_changes {body = body} {id = other} {change = change} {act = act} deed) =
+    by_hand id body (with_changed other change body.kept) act (λ _.
+    ap (has_id id) (sym (ids_changed other change body.kept (changes_leave deed))))
 
 -- ---- the pieces of a step
 

@@ -161,6 +161,9 @@ LineDoes number (lines.Replace machine id) before after told =
 LineDoes number (lines.Mark machine id quality) before after told =
     Unless (may_give machine (inputs.Mark id quality) before) before after told
     (MachineSteps number machine (inputs.Mark id quality) before after told)
+LineDoes number (lines.Sub machine id place barcode) before after told =
+    Unless (may_give machine (inputs.Sub id place barcode) before) before after told
+    (MachineSteps number machine (inputs.Sub id place barcode) before after told)
 LineDoes number (lines.Hold machine side) before after told =
     Unless (may_give machine (inputs.Will side false) before) before after told
     (MachineSteps number machine (inputs.Will side false) before after told)

@@ -36,12 +36,10 @@ pub enum MoveNo {
 }
 
 /// Why a move was not done.
-#[derive(Clone, Copy, Debug, PartialEq, Eq, Error)]
+#[derive(Clone, Copy, Debug, PartialEq, Eq)]
 pub enum MoveError {
     /// The first reason against it that holds.
-    #[error("{0}")]
     No(MoveNo),
-    #[error("out of memory")]
     Memory,
 }
 

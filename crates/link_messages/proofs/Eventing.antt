@@ -1,9 +1,11 @@
 -- The event that a fit input is, is fit; and a new machine is.
-use Rattle.std.proofs.Common.{Bool, Err, List, Ok, Option, Result, arith, false, refl, true, ℕ, ◌+◌, ◌-◌, ◌<◌, ◌^◌, ◌≡◌, ◌≤◌}
-use Rattle.std.specs.Prelude.{nat_le}
+use Rattle.std.proofs.Common.{Bool, Err, List, None, Ok, Option, Result, Some, arith, false, refl, true, ℕ, ◌+◌, ◌-◌, ◌<◌, ◌^◌, ◌≡◌, ◌≤◌}
+use Rattle.std.specs.Prelude.{nat_le, option_map}
 use Rattle.std.proofs.lemmas.Bool.Decides.{nat_tests}
 use Rattle.board_record.specs.Maker.{Maker, after_next, made_id, next_id}
 use Rattle.board_record.specs.declared.maker.IdsUsedUp.{IdsUsedUp}
+use Rattle.hermes_horizontal.specs.Canonical.{IsProperIf}
+use Rattle.hermes_horizontal.specs.Values.{worded}
 use Rattle.node_core.specs.Event.{Insert, Replace, event_of, maker_after, with_new}
 use Rattle.node_core.specs.Node.{first_body, new_body}
 use Rattle.node_core.specs.declared.input.Input.{Input}
@@ -40,11 +42,16 @@ replace_fits (Err why) old new = tt
 
 -- ---- events
 
+proper_barcode : (barcode : Option (List ℕ)) → IsTextIf barcode → IsProperIf (option_map worded barcode)
+proper_barcode None text = tt
+proper_barcode (Some barcode) text = text
+
 pub event_of_fits : (maker : Maker) (input : Input) (words : List Word) → IsFitMaker maker → IsFitInput input → AreFitWords words → IsFitEvent (event_of maker input words)
 event_of_fits maker (inputs.Bytes side piece) words m i heard = heard
 event_of_fits maker (inputs.Insert barcode) words m i heard = insert_fits (next_id maker) barcode (new_fits maker m) i
 event_of_fits maker (inputs.Replace id) words m i heard = replace_fits (next_id maker) id (new_fits maker m)
 event_of_fits maker (inputs.Query barcode) words m i heard = i
+event_of_fits maker (inputs.Sub id place barcode) words m i heard = record { place = i.0; barcode = proper_barcode barcode i.1 }
 event_of_fits maker _ words m i heard = tt
 
 after_at : (test : Bool) (maker : Maker) → nat_le (2 ^ 48 - 1) maker.used ≡ test → IsFitMaker maker → IsFitMaker (after_next maker)

@@ -9,8 +9,8 @@ use Rattle.line_base.proofs.Printable.{plain_is_text}
 use Rattle.hermes_stream.specs.Frames.{Answer, Frame, Frames, NeedMore, TooLong, answer_of, frames_of}
 use Rattle.hermes_stream.proofs.Runs.{gives_frame}
 use Rattle.hermes_stream.proofs.Streams.{frames_of-frame, frames_of-need_more, frames_of-too_long}
-use Rattle.hermes_horizontal.specs.Canonical.{IsProperIf, canonical}
-use Rattle.hermes_horizontal.specs.Parts.{parts}
+use Rattle.hermes_horizontal.specs.Canonical.{HasProperSubs, HasWritableSubs, IsProperIf, canonical}
+use Rattle.hermes_horizontal.specs.Parts.{inner_of, parts}
 use Rattle.hermes_horizontal.specs.Values.{worded}
 use Rattle.hermes_horizontal.specs.Spelling.{IsRefused, IsRefusedBy}
 use Rattle.hermes_horizontal.specs.declared.fault.Fault.{Fault}
@@ -32,8 +32,8 @@ use Rattle.custody.proofs.Spoils.{nul_arrives}
 use Rattle.custody.specs.Bytes.{Flows, HasNul, Spoiled, texts_of}
 use Rattle.link_messages.specs.Fit.{AreFit, AreFitActs, AreFitWords, IsFit, IsFitAct, IsFitHeard, IsTextIf, more_fit, more_heard, more_said, none_fit, none_heard, none_said, sent_on, wrong_heard}
 use Rattle.link_messages.specs.Heard.{AreSayable, more_sayable, none_sayable}
-use Rattle.link_messages.proofs.Fronts.{IsFront, front_of}
-use Rattle.link_messages.proofs.Hearing.{OneMeaning, means_it, no_rest}
+use Rattle.link_messages.proofs.Fronts.{IsFront, front_of, no_end}
+use Rattle.link_messages.proofs.Hearing.{OneMeaning, means_it}
 use Rattle.link_messages.proofs.Spoiling.{NulSpellsNone, first_has_nul, none_is}
 
 -- ---- a fit message is heard as one
@@ -42,14 +42,14 @@ text_if : (id : Option (List ℕ)) → IsProperIf (option_map worded id) → IsT
 text_if None given = tt
 text_if (Some text) given = given
 
-fit_body : (what : Horizontal) → AllByRecursion IsProperIf (parts what) → IsFitHeard what
-fit_body (bodies.BoardAvailable board) values = record { values = values }
-fit_body (bodies.StartTransport id) values = values.0
-fit_body (bodies.CheckAlive ping id) values = text_if id values.1.0
-fit_body _ values = tt
+fit_body : (what : Horizontal) → AllByRecursion IsProperIf (parts what) → HasWritableSubs (inner_of what) → HasProperSubs (inner_of what) → IsFitHeard what
+fit_body (bodies.BoardAvailable board) values subs barcodes = record { values = values; subs = subs; barcodes = barcodes }
+fit_body (bodies.StartTransport id) values subs barcodes = values.0
+fit_body (bodies.CheckAlive ping id) values subs barcodes = text_if id values.1.0
+fit_body _ values subs barcodes = tt
 
 pub fit_is_heard : (message : Message) → IsFit message → IsFitHeard message.body
-fit_is_heard message fit = fit_body message.body fit.proper.values
+fit_is_heard message fit = fit_body message.body fit.proper.values fit.writable.subs fit.proper.subs
 
 -- ---- lists of fit messages
 
@@ -95,7 +95,7 @@ sent_tells side desk watch made =
 pub words_are_fit : OneMeaning → (frames : List (List ℕ)) (rest : Option (List ℕ)) (words : List Word) (messages : List Message) (later : List (List ℕ)) (left : List ℕ)
     → AreFirst frames rest words → texts_of messages ≡ frames ++ later → rest ≡ Some left → AreSayable messages → AreFit messages → AreFitWords words
 words_are_fit one _ rest _ messages later left first_none are is sayable fit = none_heard
-words_are_fit one _ _ _ messages later left first_too_long are is sayable fit = absurd (no_rest is)
+words_are_fit one _ _ _ messages later left first_too_long are is sayable fit = absurd (no_end is)
 words_are_fit one (frame ∷ frames) rest (word ∷ words) [] later left (first_more means more) are is none_sayable fit = absurd (no_first (sym are))
 words_are_fit one (frame ∷ frames) rest (word ∷ words) (message ∷ messages) later left (first_more means more) are is (more_sayable it others) (more_fit good fit) =
     let e : frame ∷ (frames ++ later) ≡ canonical message ∷ texts_of messages = sym are in

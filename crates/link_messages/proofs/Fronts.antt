@@ -12,7 +12,7 @@ pub record IsFront (texts : List (List ℕ)) (x y : List ℕ) : Type 0 where
   pub rest : (frames_of x).rest ≡ Some left
   pub flows : frames_of (left ++ y) ≡ record { messages = later; rest = Some [] }
 
-no_end : {left : List ℕ} → None ≡ Some left → ⊥
+pub no_end : {left : List ℕ} → None ≡ Some left → ⊥
 no_end e = cc
 
 front_more : (t f : List ℕ) (ts : List (List ℕ)) (x y : List ℕ) → answer_of x ≡ Frame f → f ≡ t → IsFront ts (left_of x) y → IsFront (t ∷ ts) x y

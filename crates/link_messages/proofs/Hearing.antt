@@ -1,5 +1,5 @@
 -- The words of a piece are the oldest of the messages that flow.
-use Rattle.std.proofs.Common.{Bool, List, None, Option, Some, [], ap, drop, length, append_assoc, suc, subst, sym, zero, ℕ, ◌++◌, ◌∙◌, ◌∷◌, ◌≡◌}
+use Rattle.std.proofs.Common.{Bool, List, Option, Some, [], ap, drop, length, append_assoc, suc, subst, sym, zero, ℕ, ◌++◌, ◌∙◌, ◌∷◌, ◌≡◌}
 use Rattle.custody.proofs.Texts.{first_text, texts_behind, no_first}
 use Rattle.hermes_stream.specs.Frames.{frames_of}
 use Rattle.hermes_horizontal.specs.Canonical.{canonical}
@@ -10,14 +10,11 @@ use Rattle.node_core.specs.declared.word.Word.TheVariants.{Says}
 use Rattle.custody.specs.Bytes.{Flows, texts_of}
 use Rattle.machine_custody.specs.Flight.{AreOldest, oldest_none, oldest_says}
 use Rattle.link_messages.specs.Heard.{AreSayable, Heard, IsSayable, bodies, more_sayable, none_sayable}
-use Rattle.link_messages.proofs.Fronts.{IsFront, front_of}
+use Rattle.link_messages.proofs.Fronts.{IsFront, front_of, no_end}
 
 -- a frame means one thing at most
 abbrev pub OneMeaning : Type 0
 OneMeaning = (frame : List ℕ) (a b : Word) → Means frame a → Means frame b → a ≡ b
-
-pub no_rest : {left : List ℕ} → None ≡ Some left → ⊥
-no_rest e = cc
 
 -- a frame that is the text of a message means that message
 pub means_it : OneMeaning → (frame : List ℕ) (word : Word) (message : Message) → frame ≡ canonical message → IsSayable message → Means frame word → Says message ≡ word
@@ -26,7 +23,7 @@ means_it one frame word message is sayable means = one (canonical message) (Says
 pub first_are_oldest : OneMeaning → (frames : List (List ℕ)) (rest : Option (List ℕ)) (words : List Word) (messages : List Message) (later : List (List ℕ)) (left : List ℕ)
     → AreFirst frames rest words → texts_of messages ≡ frames ++ later → rest ≡ Some left → AreSayable messages → AreOldest words (bodies messages)
 first_are_oldest one _ rest _ messages later left first_none are is sayable = oldest_none
-first_are_oldest one _ _ _ messages later left first_too_long are is sayable = absurd (no_rest is)
+first_are_oldest one _ _ _ messages later left first_too_long are is sayable = absurd (no_end is)
 first_are_oldest one (frame ∷ frames) rest (word ∷ words) [] later left (first_more means more) are is none_sayable = absurd (no_first (sym are))
 first_are_oldest one (frame ∷ frames) rest (word ∷ words) (message ∷ messages) later left (first_more means more) are is (more_sayable it others) =
     let e : frame ∷ (frames ++ later) ≡ canonical message ∷ texts_of messages = sym are in

@@ -1,5 +1,7 @@
 -- A machine whose records are fit says what is fit in each step, and its records stay so.
-use Rattle.std.proofs.Common.{Bool, List, None, Option, Some, [], false, refl, true, ℕ, ◌++◌, ◌==◌, ◌∷◌, ◌≡◌}
+use Rattle.std.proofs.Common.{Bool, List, None, Option, Some, [], arith, false, length, length-append, nat_le, nat_lt, not, refl, sym, true, if◌then◌else◌, ℕ, ◌++◌, ◌==◌, ◌||◌, ◌∷◌, ◌≡◌, ◌≤◌}
+use Rattle.std.specs.List.{AllByRecursion}
+use Rattle.std.proofs.lemmas.Bool.{leb-false, ltb-false}
 use Rattle.std.specs.Prelude.{slice_get}
 use Rattle.line_base.specs.Text.{IsText}
 use Rattle.line_base.specs.declared.states.Quality.{Quality}
@@ -8,8 +10,11 @@ use Rattle.line_base.specs.declared.states.SensorEvent.{SensorEvent}
 use Rattle.line_base.specs.declared.states.Side.{Side}
 use Rattle.line_base.specs.declared.states.Side.TheVariants.{Entry, Exit}
 use Rattle.board_record.specs.Record.{plain_record}
+use Rattle.board_record.specs.SubBoards.{AreSubBoards, is_full, size_of}
 use Rattle.board_record.specs.declared.record.Record.{Record}
 use Rattle.board_record.specs.declared.sensed.Sensed.{Sensed}
+use Rattle.board_record.specs.declared.sub_board.SubBoard.{SubBoard}
+use Rattle.hermes_horizontal.specs.Canonical.{IsProperSub}
 use Rattle.hermes_horizontal.specs.declared.message.Horizontal.TheVariants as bodies
 use Rattle.smema_bridge.specs.Levels.{BridgeLevels}
 use Rattle.smema_bridge.specs.Signals.{bridge_edges, signals_of}
@@ -21,12 +26,12 @@ use Rattle.session_core.specs.Row.{session_row}
 use Rattle.handover_out.specs.declared.input.OutInput.TheVariants as out_input
 use Rattle.handover_in.specs.declared.input.InInput.TheVariants as in_input
 use Rattle.node_core.specs.Announces.{announces, offer, offer_by, offers_now, readies_now, ready, ready_by, revoke, revoke_by, revokes_now, start, start_by, starts_now, unreadies_now, unready, unready_by}
-use Rattle.node_core.specs.Boards.{faults, if_kept, inserts, is_kept, marks, removes, replaces, wills, with_instead, with_kept, with_mark, without}
+use Rattle.node_core.specs.Boards.{faults, if_kept, inserts, is_kept, marks, removes, replaces, wills, with_instead, with_kept, without, takes_sub, adds_sub, first_passes, with_changed}
 use Rattle.node_core.specs.Bridge.{failed_front, fails, sets_level, tells_level}
 use Rattle.node_core.specs.Connect.{both_shut_down, both_tick, meets_second, notices, opens, shuts_down, ticks}
 use Rattle.node_core.specs.Desk.{Desk}
 use Rattle.node_core.specs.Done.{and_then, behind, done}
-use Rattle.node_core.specs.Event.{Accepted, Connect, Event, Fault, Forecast, Insert, Level, Mark, Nothing, Notice, Query, Remove, Replace, Second, Shutdown, Supervised, Tick, Will, Words, event_did}
+use Rattle.node_core.specs.Event.{Accepted, Connect, Event, Fault, Forecast, Insert, Level, Mark, Sub, Nothing, Notice, Query, Remove, Replace, Second, Shutdown, Supervised, Tick, Will, Words, event_did}
 use Rattle.node_core.specs.Halves.{ended}
 use Rattle.node_core.specs.Reads.{all_read, reads, saw}
 use Rattle.node_core.specs.Sides.{is_open, session_at}
@@ -38,10 +43,10 @@ use Rattle.node_core.specs.declared.act.Act.TheVariants as acts
 use Rattle.node_core.specs.declared.act.Signal.{Signal}
 use Rattle.node_core.specs.declared.act.Signal.TheVariants as signals
 use Rattle.node_core.specs.declared.lane.Body.{Body}
-use Rattle.link_messages.specs.Fit.{AreFitActs, AreFitRecords, Fits, IsFitAct, IsFitBody, IsFitDesk, IsFitEvent, IsFitId, IsFitRecord, IsTextIf, more_kept, more_said, none_kept, none_said}
+use Rattle.link_messages.specs.Fit.{AreFitActs, AreFitRecords, Fits, IsFitAct, IsFitBody, IsFitDesk, IsFitEvent, IsFitId, IsFitRecord, IsFitSub, IsTextIf, more_kept, more_said, none_kept, none_said}
 use Rattle.link_messages.proofs.SayingHalves.{at_intake_fits, at_outlet_fits, behind_fits, ended_fits, fits_behind, fits_both, fits_still, fits_told}
 use Rattle.link_messages.proofs.SayingSessions.{session_fits}
-use Rattle.link_messages.proofs.SayingWhat.{both_said, forecasts_fit, front_fits, question_fits, sent, with_tells_fit}
+use Rattle.link_messages.proofs.SayingWhat.{both_said, forecasts_fit, front_fits, no_subs, question_fits, sent, with_tells_fit}
 use Rattle.link_messages.proofs.SayingWords.{if_fits, words_fit}
 
 -- ---- sensor events
@@ -90,8 +95,8 @@ both_shut_fits desk body d b =
 -- ---- by hand
 
 plain_fits : (id : ℕ) (name : List ℕ) (barcode : Option (List ℕ)) → IsFitId id → IsText name → IsTextIf barcode → IsFitRecord (plain_record id name barcode)
-plain_fits id name None small is top = record { values = (small, (is, (tt, (tt, (tt, (tt, (tt, (tt, (tt, (tt, (tt, (tt, (tt, (tt, (tt, (tt, tt)))))))))))))))) }
-plain_fits id name (Some barcode) small is top = record { values = (small, (is, (tt, (tt, (tt, (top, (tt, (tt, (tt, (tt, (tt, (tt, (tt, (tt, (tt, (tt, tt)))))))))))))))) }
+plain_fits id name None small is top = record { values = (small, (is, (tt, (tt, (tt, (tt, (tt, (tt, (tt, (tt, (tt, (tt, (tt, (tt, (tt, (tt, tt)))))))))))))))); subs = no_subs; barcodes = tt }
+plain_fits id name (Some barcode) small is top = record { values = (small, (is, (tt, (tt, (tt, (top, (tt, (tt, (tt, (tt, (tt, (tt, (tt, (tt, (tt, (tt, tt)))))))))))))))); subs = no_subs; barcodes = tt }
 
 without_at : (test : Bool) (id : ℕ) (board : Record) (boards : List Record) → board.id == id ≡ test → IsFitRecord board → AreFitRecords boards → AreFitRecords (without id boards) → AreFitRecords (without id (board ∷ boards))
 without_at true id board boards is one others same = rw is others
@@ -111,15 +116,38 @@ instead_fits id other (board ∷ boards) new (more_kept one others) = instead_at
 
 -- its values are as they were, but for the quality
 marked : (quality : Quality) (board : Record) → IsFitRecord board → IsFitRecord (record board { quality = quality })
-marked quality board one = record { values = one.values }
+marked quality board one = record { values = one.values; subs = one.subs; barcodes = one.barcodes }
 
-mark_at : (test : Bool) (id : ℕ) (quality : Quality) (board : Record) (boards : List Record) → board.id == id ≡ test → IsFitRecord board → AreFitRecords boards → AreFitRecords (with_mark id quality boards) → AreFitRecords (with_mark id quality (board ∷ boards))
-mark_at true id quality board boards is one others same = rw is (more_kept (marked quality board one) others)
-mark_at false id quality board boards is one others same = rw is (more_kept one same)
+-- a record that passes the test is changed, and stays fit
+changed_fits : (id : ℕ) (test : Record → Bool) (change : Record → Record) (kept : List Record) → ((board : Record) → test board ≡ true → IsFitRecord board → IsFitRecord (change board)) → AreFitRecords kept → first_passes id test kept ≡ true → AreFitRecords (with_changed id change kept)
+changed_fits id test change [] each k passes = none_kept
+changed_fits id test change (board ∷ boards) each (more_kept one others) passes = by (board.id == id) (changed_fits id test change boards each others) passes where
+  by : (same : Bool) → (first_passes id test boards ≡ true → AreFitRecords (with_changed id change boards)) → (if same then test board else first_passes id test boards) ≡ true → AreFitRecords (if same then change board ∷ boards else board ∷ with_changed id change boards)
+  by true later passes = more_kept (each board passes one) others
+  by false later passes = more_kept one (later passes)
 
-mark_fits : (id : ℕ) (quality : Quality) (kept : List Record) → AreFitRecords kept → AreFitRecords (with_mark id quality kept)
-mark_fits id quality [] k = none_kept
-mark_fits id quality (board ∷ boards) (more_kept one others) = mark_at (board.id == id) id quality board boards refl one others (mark_fits id quality boards others)
+-- a circuit more, where there is room for it
+all_behind : (P : SubBoard → Type 0) (subs : List SubBoard) (sub : SubBoard) → AllByRecursion P subs → P sub → AllByRecursion P (subs ++ sub ∷ [])
+all_behind P [] sub all one = (one, tt)
+all_behind P (s ∷ subs) sub all one = (all.0, all_behind P subs sub all.1 one)
+
+room_left : (subs : List SubBoard) (sub : SubBoard) (many large : Bool) → many ≡ nat_le 256 (length subs) → large ≡ nat_lt 24576 (size_of (subs ++ sub ∷ [])) → not (many || large) ≡ true → AreSubBoards (subs ++ sub ∷ [])
+room_left subs sub true large is also room = cc
+room_left subs sub false true is also room = cc
+room_left subs sub false false is also room = record {
+  few = omega (arith, length-append subs (sub ∷ []), leb-false 256 (length subs) (sym is));
+  small = ltb-false 24576 (size_of (subs ++ sub ∷ [])) (sym also);
+}
+
+subbed : (board : Record) (sub : SubBoard) → IsFitRecord board → IsFitSub sub → not (is_full board.subs sub) ≡ true → IsFitRecord (record board { subs = board.subs ++ sub ∷ [] })
+subbed board sub one fit room = record {
+  values = one.values;
+  subs = record {
+    places = all_behind (λ (s : SubBoard). s.pos ≤ 999_999_999) board.subs sub one.subs.places fit.place;
+    list = room_left board.subs sub (nat_le 256 (length board.subs)) (nat_lt 24576 (size_of (board.subs ++ sub ∷ []))) refl refl room;
+  };
+  barcodes = all_behind IsProperSub board.subs sub one.barcodes fit.barcode;
+}
 
 by_hand : (body : Body) (kept : List Record) (act : Act) → IsFitAct act → IsFitBody body → AreFitRecords kept → Fits (done (with_kept kept body) (act ∷ []))
 by_hand body kept act silent b k = fits_told (with_kept kept body) (act ∷ []) (record { kept = k; outlet = b.outlet; intake = b.intake; offer = b.offer }) (more_said silent none_said)
@@ -140,9 +168,16 @@ replaces_fit desk old new body small d b =
     where_kept (is_kept old body.kept) (with_kept (with_instead old other body.kept) body) body (acts.Replaces old new) b
     (by_hand body (with_instead old other body.kept) (acts.Replaces old new) tt b (instead_fits old other body.kept (plain_fits new desk.name None small d.name tt) b.kept))
 
+changes_fit : (id : ℕ) (test : Record → Bool) (change : Record → Record) (act : Act) (body : Body) (passes : Bool) → first_passes id test body.kept ≡ passes → IsFitAct act → ((board : Record) → test board ≡ true → IsFitRecord board → IsFitRecord (change board)) → IsFitBody body
+    → Fits (if_kept passes (with_kept (with_changed id change body.kept) body) act body)
+changes_fit id test change act body true is silent each b = by_hand body (with_changed id change body.kept) act silent b (changed_fits id test change body.kept each b.kept is)
+changes_fit id test change act body false is silent each b = fits_still body b
+
 marks_fit : (id : ℕ) (quality : Quality) (body : Body) → IsFitBody body → Fits (marks id quality body)
-marks_fit id quality body b = where_kept (is_kept id body.kept) (with_kept (with_mark id quality body.kept) body) body (acts.Marks id quality) b
-    (by_hand body (with_mark id quality body.kept) (acts.Marks id quality) tt b (mark_fits id quality body.kept b.kept))
+marks_fit id quality body b = changes_fit id (λ _. true) (λ r. record r { quality = quality }) (acts.Marks id quality) body (is_kept id body.kept) refl tt (λ board _ one. marked quality board one) b
+
+subs_fit : (id : ℕ) (sub : SubBoard) (body : Body) → IsFitSub sub → IsFitBody body → Fits (adds_sub id sub body)
+subs_fit id sub body fit b = changes_fit id (λ r. not (is_full r.subs sub)) (λ r. record r { subs = r.subs ++ sub ∷ [] }) (acts.Subs id sub.pos) body (takes_sub id sub body.kept) refl tt (λ board room one. subbed board sub one fit room) b
 
 faults_fit : (desk : Desk) (side : Side) (body : Body) → IsFitDesk desk → IsFitBody body → Fits (faults desk side body)
 faults_fit desk Entry body d b = at_intake_fits desk in_input.Fault body tt d b
@@ -192,6 +227,7 @@ event_fits desk (Insert id barcode) body given d b = inserts_fit desk id barcode
 event_fits desk (Remove id) body given d b = removes_fit id body b
 event_fits desk (Replace old new) body given d b = replaces_fit desk old new body given d b
 event_fits desk (Mark id quality) body given d b = marks_fit id quality body b
+event_fits desk (Sub id sub) body given d b = subs_fit id sub body given b
 event_fits desk (Level line on) body given d b = sets_level_fits desk line on body b
 event_fits desk Forecast body given d b = fits_told body _ b (forecasts_fit desk (slice_get body.kept 0) d (front_fits body.kept b.kept))
 event_fits desk (Query barcode) body given d b = fits_told body _ b (sent desk Entry (bodies.QueryBoardInfo (Some barcode) None) d (question_fits barcode given))

@@ -9,8 +9,8 @@ use Rattle.line_base.specs.declared.states.Side.{Side}
 use Rattle.line_base.specs.declared.states.Side.TheVariants.{Entry, Exit}
 use Rattle.line_base.proofs.Printable.{number_is_text, plain_is_text}
 use Rattle.board_record.specs.declared.record.Record.{Record}
-use Rattle.hermes_horizontal.specs.Canonical.{HasShortNumbers, IsProperIf}
-use Rattle.hermes_horizontal.specs.Parts.{kind_of, name_of, no_info, parts}
+use Rattle.hermes_horizontal.specs.Canonical.{AreWritableSubs, HasProperSubs, HasShortNumbers, HasWritableSubs, IsProperIf}
+use Rattle.hermes_horizontal.specs.Parts.{inner_of, kind_of, name_of, no_info, parts}
 use Rattle.hermes_horizontal.specs.Rows.{kind_named}
 use Rattle.hermes_horizontal.specs.declared.kind.Kind.{Kind}
 use Rattle.hermes_horizontal.specs.declared.kind.Kind.TheVariants as kinds
@@ -50,43 +50,49 @@ pub record IsFitSaid (what : Horizontal) : Type 0 where
   pub numbers : HasShortNumbers what
   pub named : kind_named (name_of what) ≡ kind_of what
   pub short : HasShortName what
+  pub subs : HasWritableSubs (inner_of what)
+  pub barcodes : HasProperSubs (inner_of what)
 
 pub sent : (desk : Desk) (side : Side) (what : Horizontal) → IsFitDesk desk → IsFitSaid what → AreFitActs (sends desk side what)
 sent desk side what d fit = more_said (record {
-  proper = record { stamp = d.moment; name = fit.name; values = fit.values };
-  writable = record { numbers = fit.numbers; named = fit.named };
+  proper = record { stamp = d.moment; name = fit.name; values = fit.values; subs = fit.barcodes };
+  writable = record { numbers = fit.numbers; subs = fit.subs; named = fit.named };
   short = fit.short;
 }) none_said
 
 pub service_fits : (desk : Desk) → IsFitDesk desk → IsFitSaid (service_of desk)
-service_fits desk d = record { name = refl; values = (d.name, (tt, (tt, (plain_is_text (codes "1.5") refl, tt)))); numbers = d.lane; named = refl; short = tt }
+service_fits desk d = record { name = refl; values = (d.name, (tt, (tt, (plain_is_text (codes "1.5") refl, tt)))); numbers = d.lane; named = refl; short = tt; subs = tt; barcodes = tt }
 
 pub notification_fits : (number : ℕ) (severity : Severity) (text : List ℕ) → number ≤ 999_999_999 → IsText text → IsFitSaid (notification number severity text)
-notification_fits number severity text short is = record { name = refl; values = (tt, (tt, (is, tt))); numbers = short; named = refl; short = tt }
+notification_fits number severity text short is = record { name = refl; values = (tt, (tt, (is, tt))); numbers = short; named = refl; short = tt; subs = tt; barcodes = tt }
 
 pub tells_fit : (what : Tell) → IsFitSaid (tells what)
-tells_fit AlreadyConnected = record { name = refl; values = (tt, (tt, (plain_is_text (codes "already connected") refl, tt))); numbers = omega arith; named = refl; short = tt }
-tells_fit Unsettled = record { name = refl; values = (tt, (tt, (plain_is_text (codes "handover unsettled") refl, tt))); numbers = omega arith; named = refl; short = tt }
-tells_fit Shutdown = record { name = refl; values = (tt, (tt, (plain_is_text (codes "shutdown") refl, tt))); numbers = omega arith; named = refl; short = tt }
+tells_fit AlreadyConnected = record { name = refl; values = (tt, (tt, (plain_is_text (codes "already connected") refl, tt))); numbers = omega arith; named = refl; short = tt; subs = tt; barcodes = tt }
+tells_fit Unsettled = record { name = refl; values = (tt, (tt, (plain_is_text (codes "handover unsettled") refl, tt))); numbers = omega arith; named = refl; short = tt; subs = tt; barcodes = tt }
+tells_fit Shutdown = record { name = refl; values = (tt, (tt, (plain_is_text (codes "shutdown") refl, tt))); numbers = omega arith; named = refl; short = tt; subs = tt; barcodes = tt }
 
 proper_text : (id : Option (List ℕ)) → IsTextIf id → AllByRecursion IsProperIf (parts (bodies.CheckAlive (Some pings.Answer) id))
 proper_text None is = (tt, (tt, tt))
 proper_text (Some text) is = (tt, (is, tt))
 
 pub pong_fits : (id : Option (List ℕ)) → IsTextIf id → IsFitSaid (bodies.CheckAlive (Some pings.Answer) id)
-pong_fits id is = record { name = refl; values = proper_text id is; numbers = tt; named = refl; short = tt }
+pong_fits id is = record { name = refl; values = proper_text id is; numbers = tt; named = refl; short = tt; subs = tt; barcodes = tt }
 
 pub ping_fits : (number : ℕ) → number < 2 ^ 64 → IsFitSaid (bodies.CheckAlive (Some pings.Ask) (Some (decimal number)))
-ping_fits number small = record { name = refl; values = (tt, (number_is_text number small, tt)); numbers = tt; named = refl; short = tt }
+ping_fits number small = record { name = refl; values = (tt, (number_is_text number small, tt)); numbers = tt; named = refl; short = tt; subs = tt; barcodes = tt }
 
 pub available_fits : (board : Record) → IsFitRecord board → IsFitSaid (bodies.BoardAvailable board)
-available_fits board fit = record { name = refl; values = fit.values; numbers = tt; named = refl; short = tt }
+available_fits board fit = record { name = refl; values = fit.values; numbers = tt; named = refl; short = tt; subs = fit.subs; barcodes = fit.barcodes }
+
+-- no circuits are few ones
+pub no_subs : AreWritableSubs []
+no_subs = record { places = tt; list = record { few = omega arith; small = omega arith } }
 
 pub no_info_fits : IsFitSaid (bodies.SendBoardInfo no_info)
-no_info_fits = record { name = refl; values = (tt, (tt, (tt, (tt, (tt, (tt, (tt, (tt, (tt, (tt, (tt, (tt, (tt, (tt, (tt, (tt, tt)))))))))))))))); numbers = tt; named = refl; short = tt }
+no_info_fits = record { name = refl; values = (tt, (tt, (tt, (tt, (tt, (tt, (tt, (tt, (tt, (tt, (tt, (tt, (tt, (tt, (tt, (tt, tt)))))))))))))))); numbers = tt; named = refl; short = tt; subs = no_subs; barcodes = tt }
 
 pub told_of_fits : (board : Record) → IsFitRecord board → IsFitSaid (bodies.SendBoardInfo (info_of board))
-told_of_fits board fit = record { name = refl; values = fit.values; numbers = tt; named = refl; short = tt }
+told_of_fits board fit = record { name = refl; values = fit.values; numbers = tt; named = refl; short = tt; subs = fit.subs; barcodes = fit.barcodes }
 
 pub forecast_fits : (board : Record) → IsFitRecord board → IsFitSaid (bodies.BoardForecast (forecast_of board))
 forecast_fits board fit =
@@ -97,10 +103,12 @@ forecast_fits board fit =
       numbers = tt;
       named = refl;
       short = tt;
+      subs = refl;
+      barcodes = tt;
     }
 
 pub question_fits : (barcode : List ℕ) → IsText barcode → IsFitSaid (bodies.QueryBoardInfo (Some barcode) None)
-question_fits barcode is = record { name = refl; values = (is, (tt, tt)); numbers = tt; named = refl; short = tt }
+question_fits barcode is = record { name = refl; values = (is, (tt, tt)); numbers = tt; named = refl; short = tt; subs = tt; barcodes = tt }
 
 info_if_fits : (front : Option Record) → IsFitIf front → IsFitSaid (bodies.SendBoardInfo (info_if front))
 info_if_fits None fit = no_info_fits
@@ -181,15 +189,15 @@ offers_fit desk (Some board) d fit = sent desk Exit (bodies.BoardAvailable board
 out_said_fits : (desk : Desk) (kept : List Record) (send : Option OutSend) → IsFitDesk desk → AreFitRecords kept → IsFitOutSend send → AreFitActs (out_sends desk kept send)
 out_said_fits desk kept None d k fit = none_said
 out_said_fits desk kept (Some out_send.BoardAvailable) d k fit = offers_fit desk (slice_get kept 0) d (front_fits kept k)
-out_said_fits desk kept (Some out_send.RevokeBoardAvailable) d k fit = sent desk Exit bodies.RevokeBoardAvailable d (record { name = refl; values = tt; numbers = tt; named = refl; short = tt })
-out_said_fits desk kept (Some (out_send.Finished state id)) d k fit = sent desk Exit (bodies.TransportFinished state id) d (record { name = refl; values = (tt, (fit, tt)); numbers = tt; named = refl; short = tt })
+out_said_fits desk kept (Some out_send.RevokeBoardAvailable) d k fit = sent desk Exit bodies.RevokeBoardAvailable d (record { name = refl; values = tt; numbers = tt; named = refl; short = tt; subs = tt; barcodes = tt })
+out_said_fits desk kept (Some (out_send.Finished state id)) d k fit = sent desk Exit (bodies.TransportFinished state id) d (record { name = refl; values = (tt, (fit, tt)); numbers = tt; named = refl; short = tt; subs = tt; barcodes = tt })
 
 in_said_fits : (desk : Desk) (send : Option InSend) → IsFitDesk desk → IsFitInSend send → AreFitActs (in_sends desk send)
 in_said_fits desk None d fit = none_said
-in_said_fits desk (Some in_send.MachineReady) d fit = sent desk Entry (in_says in_send.MachineReady) d (record { name = refl; values = (tt, tt); numbers = tt; named = refl; short = tt })
-in_said_fits desk (Some in_send.RevokeMachineReady) d fit = sent desk Entry (in_says in_send.RevokeMachineReady) d (record { name = refl; values = tt; numbers = tt; named = refl; short = tt })
-in_said_fits desk (Some (in_send.Start id)) d fit = sent desk Entry (bodies.StartTransport id) d (record { name = refl; values = (fit, tt); numbers = tt; named = refl; short = tt })
-in_said_fits desk (Some (in_send.Stop state id)) d fit = sent desk Entry (bodies.StopTransport state id) d (record { name = refl; values = (tt, (fit, tt)); numbers = tt; named = refl; short = tt })
+in_said_fits desk (Some in_send.MachineReady) d fit = sent desk Entry (in_says in_send.MachineReady) d (record { name = refl; values = (tt, tt); numbers = tt; named = refl; short = tt; subs = tt; barcodes = tt })
+in_said_fits desk (Some in_send.RevokeMachineReady) d fit = sent desk Entry (in_says in_send.RevokeMachineReady) d (record { name = refl; values = tt; numbers = tt; named = refl; short = tt; subs = tt; barcodes = tt })
+in_said_fits desk (Some (in_send.Start id)) d fit = sent desk Entry (bodies.StartTransport id) d (record { name = refl; values = (fit, tt); numbers = tt; named = refl; short = tt; subs = tt; barcodes = tt })
+in_said_fits desk (Some (in_send.Stop state id)) d fit = sent desk Entry (bodies.StopTransport state id) d (record { name = refl; values = (tt, (fit, tt)); numbers = tt; named = refl; short = tt; subs = tt; barcodes = tt })
 
 pub out_told_fits : (desk : Desk) (kept : List Record) (act : OutAct) → IsFitDesk desk → AreFitRecords kept → IsFitOutSend act.send → AreFitActs (out_told desk kept act)
 out_told_fits desk kept act d k fit = both_said (out_deed_fits act.deed) (both_said (out_said_fits desk kept act.send d k fit) (drives_fit Exit act.drive))

@@ -1,6 +1,6 @@
 -- The next frame behind a NUL is refused: so the words of a piece begin with a wrong one, or there is none yet.
 use Rattle.std.proofs.Common.{Bool, List, Option, Some, [], ap, length, refl, subst, sym, ℕ, ◌++◌, ◌∙◌, ◌∷◌, ◌≡◌}
-use Rattle.link_messages.proofs.Hearing.{no_rest}
+use Rattle.link_messages.proofs.Fronts.{no_end}
 use Rattle.custody.proofs.Texts.{first_text}
 use Rattle.hermes_stream.specs.Frames.{Answer, Frame, Frames, NeedMore, TooLong, answer_of, frames_of}
 use Rattle.hermes_stream.proofs.Streams.{frames_of-frame, frames_of-need_more, frames_of-too_long}
@@ -52,7 +52,7 @@ stays_at : (x coming new : List ℕ) (answer : Answer) → answer_of x ≡ answe
 stays_at x coming new (Frame f) is none rest s = absurd (none_is (sym none ∙ ap (λ (z : Frames). z.messages) (frames_of-frame x f is)))
 stays_at x coming new NeedMore is none rest s =
     subst (λ (w : List ℕ). Spoiled w coming) (left_is (sym (ap (λ (z : Frames). z.rest) (frames_of-need_more x is)) ∙ rest)) (nul_waits x coming (wants_more x is) s)
-stays_at x coming new TooLong is none rest s = absurd (no_rest (sym (ap (λ (z : Frames). z.rest) (frames_of-too_long x is)) ∙ rest))
+stays_at x coming new TooLong is none rest s = absurd (no_end (sym (ap (λ (z : Frames). z.rest) (frames_of-too_long x is)) ∙ rest))
 
 no_frames : {frames : List (List ℕ)} {rest : Option (List ℕ)} {words : List Word} {new : List ℕ} → AreAll frames rest words new → words ≡ [] → (frames ≡ []) × (rest ≡ Some new)
 no_frames all_none is = (refl, refl)

@@ -7,7 +7,8 @@ use Rattle.line_base.specs.declared.states.Side.{Side}
 use Rattle.line_base.specs.declared.states.Side.TheVariants.{Entry, Exit}
 use Rattle.board_record.specs.Maker.{Maker}
 use Rattle.board_record.specs.declared.record.Record.{Record}
-use Rattle.hermes_horizontal.specs.Canonical.{IsProperIf, IsProperMessage, IsWritable}
+use Rattle.board_record.specs.declared.sub_board.SubBoard.{SubBoard}
+use Rattle.hermes_horizontal.specs.Canonical.{AreWritableSubs, IsProperIf, IsProperMessage, IsProperSub, IsWritable}
 use Rattle.hermes_horizontal.specs.Parts.{info_of, info_parts}
 use Rattle.hermes_horizontal.specs.declared.message.Horizontal.{Horizontal}
 use Rattle.hermes_horizontal.specs.declared.message.Horizontal.TheVariants as bodies
@@ -68,9 +69,17 @@ abbrev pub IsTextIf : Option (List ℕ) → Type 0
 IsTextIf None = Unit {0}
 IsTextIf (Some text) = IsText text
 
--- a record's id has 128 bits, and its texts and measures are such
+-- the place of a circuit has at most nine digits, and its barcode is a text
+pub record IsFitSub (sub : SubBoard) : Type 0 where
+  pub place : sub.pos ≤ 999_999_999
+  pub barcode : IsProperSub sub
+
+-- a record's id has 128 bits, its texts and measures are such, and so are its circuits, of which
+-- there are not too many
 pub record IsFitRecord (board : Record) : Type 0 where
   pub values : AllByRecursion IsProperIf (info_parts (info_of board))
+  pub subs : AreWritableSubs board.subs
+  pub barcodes : AllByRecursion IsProperSub board.subs
 
 abbrev pub IsFitIf : Option Record → Type 0
 IsFitIf None = Unit {0}
@@ -115,19 +124,22 @@ pub data AreFitWords : List Word → Type 0 where
   wrong_heard : {text : List ℕ} {others : List Word} → IsText text
       → AreFitWords (words.Wrong text ∷ others)
 
--- an event: its words, the ids that it makes, the barcode of a new board and the one that is asked
--- for
+-- an event: its words, the ids that it makes, the barcode of a new board, the one that is asked
+-- for, and a circuit
 abbrev pub IsFitEvent : Event → Type 0
 IsFitEvent (events.Words side heard) = AreFitWords heard
 IsFitEvent (events.Insert id barcode) = IsFitId id × IsTextIf barcode
 IsFitEvent (events.Replace old new) = IsFitId new
 IsFitEvent (events.Query barcode) = IsText barcode
+IsFitEvent (events.Sub id sub) = IsFitSub sub
 IsFitEvent _ = Unit {0}
 
--- an input: the barcode of a board that is put in, and the one that is asked for
+-- an input: the barcode of a board that is put in, the one that is asked for, and what is said of a
+-- circuit
 abbrev pub IsFitInput : Input → Type 0
 IsFitInput (inputs.Insert barcode) = IsTextIf barcode
 IsFitInput (inputs.Query barcode) = IsText barcode
+IsFitInput (inputs.Sub id place barcode) = (place ≤ 999_999_999) × IsTextIf barcode
 IsFitInput _ = Unit {0}
 
 -- the number of a machine has 32 bits

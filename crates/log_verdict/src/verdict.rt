@@ -18,7 +18,8 @@ use std::alloc::Global;
 /// trusted.
 ///
 /// The log of running machines is never refuted, where each read all that its sensors saw before
-/// it took an input, and where it is merged in the order of their steps.
+/// it took an input, or heard a message once it had read all that they had seen before it was said
+/// and each board was let go behind the reading, and where it is merged in the order of their steps.
 pub fn check_log<S: Source, K: Sink>(alloc: Global, log: &mut S, verdict: &mut K) -> Checked
     ensures checks { Checks (S.left log.old) (S.left log.new) (K.contents verdict.old)
         (K.contents verdict.new) result }
@@ -27,6 +28,7 @@ pub fn check_log<S: Source, K: Sink>(alloc: Global, log: &mut S, verdict: &mut K
     ensures right { SparesRight (S.left log.old) result }
 {
     running_logs::laws::the_merged_log_of_a_run_that_reads_first_is_right();
+    running_logs::laws::the_merged_log_of_a_run_behind_the_reading_is_right();
     judge(alloc, log, verdict)
 }
 

@@ -47,12 +47,12 @@ use Rattle.custody.proofs.Connect.{accept}
 use Rattle.custody.proofs.Contents.{none_open}
 use Rattle.custody.proofs.Sessions.{shaking_offerless}
 use Rattle.machine_custody.specs.Scene.{Scene, all_met, link_below}
-use Rattle.machine_custody.specs.Good.{Afar, Goes, Good, ListsAbove, ListsBelow}
+use Rattle.machine_custody.specs.Good.{Afar, Goes, Good}
 use Rattle.machine_custody.specs.ByHand.{body_read, scene_read}
 use Rattle.machine_custody.specs.Joined.{with_link}
 use Rattle.machine_custody.proofs.Announcing.{announces_go}
 use Rattle.machine_custody.proofs.Far.{all_entry_below, all_intake, all_outlet}
-use Rattle.machine_custody.proofs.Goes.{met_append, step_met}
+use Rattle.machine_custody.proofs.Goes.{goes_since, met_append, step_met}
 use Rattle.machine_custody.proofs.Quiet.{quiet_all, read_keeps, read_quiet}
 use Rattle.machine_custody.proofs.Reading.{all_read_good}
 
@@ -86,7 +86,7 @@ saw_exit desk Exit event body = out_exit desk body (outlet_row body.outlet (out_
 pub read_exit : (desk : Desk) (unread : List Sensed) (body : Machine) → (body_read desk unread body).exit ≡ body.exit
 read_exit desk unread body = read_keeps (λ b. b.exit ≡ body.exit) desk (λ at event b is. saw_exit desk at event b ∙ is) unread body refl
 
-pub read_apart_below : {afar : Afar} {above : List Record} {ga gb : Ghost} (desk : Desk) (unread : List Sensed) (body : Machine) (c d : Scene) (stands : Bool) (up down : List Horizontal) → Good afar above unread ga gb body d
+pub read_apart_below : {afar : Afar} {above : List Record} {us : List Sensed} {ga gb : Ghost} (desk : Desk) (unread : List Sensed) (body : Machine) (c d : Scene) (stands : Bool) (up down : List Horizontal) → Good afar above us ga gb body d
     → body.exit.session.state ≡ NotConnected → scene_read desk unread body (with_link Exit stands up down c) ≡ with_link Exit stands up down (scene_read desk unread body c)
 read_apart_below desk unread body c d stands up down g away = quiet_all Exit stands up down (all_read desk unread body).acts c (read_quiet desk Exit unread body (exit_unlinked away g))
 
@@ -130,17 +130,7 @@ accepts_good {afar = afar} {gb = gb} body c service g x y u d = record {
   exit_role = refl;
   away = g.away;
   here = g.here;
-}
-
--- the lists of another scene with the same halves beyond
-pub goes_since : {afar : Afar} {above : List Record} {us : List Sensed} {ga gb : Ghost} {c d e : Scene} {after : Machine} → d.above.outlet ≡ c.above.outlet → d.below.intake ≡ c.below.intake
-    → Goes afar above us ga gb d after e → Goes afar above us ga gb c after e
-goes_since {ga = ga} {gb = gb} {e = e} outlet intake t = record {
-  a = t.a;
-  b = t.b;
-  good = t.good;
-  lists_above = subst (λ (o : OutState). ListsAbove o.phase ga e.above.outlet.phase t.a) outlet t.lists_above;
-  lists_below = subst (λ (i : InState). ListsBelow i.phase gb e.below.intake.phase t.b) intake t.lists_below;
+  recent = g.recent;
 }
 
 -- the step, what the supervisor is told aside

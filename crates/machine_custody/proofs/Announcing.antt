@@ -1,6 +1,7 @@
 -- The five announcements, by a machine that has read all events, or has some still to read.
-use Rattle.std.proofs.Common.{Bool, List, None, Option, Some, [], false, is_none, is_some, refl, slice_get, subst, sym, true, ℕ, ◌∷◌, ◌≡◌}
+use Rattle.std.proofs.Common.{Bool, List, None, Option, Some, [], ap, false, is_none, is_some, refl, slice_get, subst, sym, true, ℕ, ◌∙◌, ◌∷◌, ◌≡◌}
 use Rattle.std.proofs.lemmas.Bool.{and_parts, not-true}
+use Rattle.line_base.specs.declared.states.SensorEvent.TheVariants as event
 use Rattle.line_base.specs.declared.states.Side.TheVariants.{Entry}
 use Rattle.board_record.specs.declared.record.Record.{Record}
 use Rattle.board_record.specs.declared.sensed.Sensed.{Sensed}
@@ -9,7 +10,7 @@ use Rattle.session_core.specs.declared.state.SessionState.{SessionState}
 use Rattle.session_core.specs.declared.state.SessionState.TheVariants.{Handshake, NotConnected, Standing}
 use Rattle.handover_out.specs.Act.{sends as out_sends}
 use Rattle.handover_out.specs.Row.{OutRow, outlet_row}
-use Rattle.handover_out.specs.State.{OutState, is_idle_phase}
+use Rattle.handover_out.specs.State.{OutState, board_of_phase as held_out, is_idle_phase}
 use Rattle.handover_out.specs.declared.act.OutSend.TheVariants.{BoardAvailable, RevokeBoardAvailable}
 use Rattle.handover_out.specs.declared.input.OutInput.TheVariants as out_input
 use Rattle.handover_out.specs.declared.phase.Phase.{Phase as Out}
@@ -22,7 +23,9 @@ use Rattle.node_core.specs.Desk.{Desk}
 use Rattle.node_core.specs.Done.{Done, and_then}
 use Rattle.node_core.specs.Halves.{intake_did, intake_row_did, outlet_row_did, settled}
 use Rattle.node_core.specs.declared.lane.Body.{Body as Machine}
+use Rattle.custody.specs.Contents.{IsRecent}
 use Rattle.custody.specs.Events.{IsContent, StartSaid, gone_by}
+use Rattle.custody.specs.Facts.{Has}
 use Rattle.custody.specs.Pair.{Body, Ghost, LinkState}
 use Rattle.custody.specs.Words.{events_at}
 use Rattle.custody.proofs.Ahead.{none_later, steps_ahead, still_later}
@@ -31,10 +34,10 @@ use Rattle.custody.proofs.ExitEvents.{offers_front_board, revokes_offer}
 use Rattle.custody.proofs.HandsContents.{contents_settled}
 use Rattle.custody.proofs.Sessions.{ready_stands}
 use Rattle.machine_custody.specs.Scene.{Scene, all_met, link_above, link_below}
-use Rattle.machine_custody.specs.Ahead.{IsFreeRead}
+use Rattle.machine_custody.specs.Ahead.{GoesAhead, IsFreeRead}
 use Rattle.machine_custody.specs.Good.{Afar, Goes, GoesBy, Good, Holds}
-use Rattle.machine_custody.proofs.Goes.{goes_not, goes_then}
-use Rattle.machine_custody.proofs.Holding.{holds_said, holds_settled}
+use Rattle.machine_custody.proofs.Goes.{goes_both, goes_not, met_append}
+use Rattle.machine_custody.proofs.Holding.{holds_offered, holds_said, holds_settled}
 use Rattle.machine_custody.proofs.Rows.{at_entry_goes}
 use Rattle.machine_custody.proofs.Told.{in_messages, in_met, in_scene, in_words, keep_is}
 
@@ -66,6 +69,9 @@ is_free_phase body (inn.Waiting r o h) e free = let no_way : false ≡ true = rw
 revoke_is : (s : OutState) (z : ℕ) → s.phase ≡ out.Idle → s.offered ≡ Some z → outlet_row s out_input.Revoke ≡ Some (record { after = record s { offered = None }; act = out_sends RevokeBoardAvailable })
 revoke_is s z e f = rw (e, f) refl
 
+recent_revoked : {last : Option ℕ} {s : OutState} → IsRecent last s → IsRecent last (record s { offered = None })
+recent_revoked r = record { offered = λ id e. cc; held = r.held }
+
 revoked : {afar : Afar} {above : List Record} {us : List Sensed} {ga gb : Ghost} {body : Machine} {c : Scene} (desk : Desk) (offered : Option ℕ) → body.outlet.offered ≡ offered
     → body.outlet.phase ≡ out.Idle → is_some offered ≡ true → Good afar above us ga gb body c → GoesBy afar above us ga gb c (revoke_by desk true body)
 revoked desk None f e test g = cc
@@ -86,9 +92,12 @@ revoked {afar = afar} {above = above} {us = us} {ga = ga} {gb = gb} {body = body
         exit_role = g.exit_role;
         away = g.away;
         here = g.here;
+        recent = recent_revoked g.recent;
       };
       lists_above = λ kept i q boards h. h;
       lists_below = λ o p kept boards h. h;
+      still_first = λ n. n;
+      still_over = λ n. n;
     })
 
 revoke_when : {afar : Afar} {above : List Record} {us : List Sensed} {ga gb : Ghost} {body : Machine} {c : Scene} (desk : Desk) (test : Bool) → revokes_now body ≡ test
@@ -110,7 +119,7 @@ revoke_goes desk g = revoke_ahead desk g
 -- ---- UNREADY and READY
 
 -- an entry that announces, or would, has read its events
-quiet_read : {us : List Sensed} {body : Machine} → events_at Entry us ≡ [] → IsFreeRead us body
+pub quiet_read : {us : List Sensed} {body : Machine} → events_at Entry us ≡ [] → IsFreeRead us body
 quiet_read none = record { read = λ stands free. none }
 
 pub all_free_read : {body : Machine} → IsFreeRead [] body
@@ -185,6 +194,9 @@ ready_goes desk g = ready_ahead desk g all_free_read
 offer_is : (s : OutState) (id : ℕ) → s.phase ≡ out.Idle → s.offered ≡ None → outlet_row s (out_input.Offer id) ≡ Some (record { after = record s { offered = Some id; touched = Some id }; act = out_sends BoardAvailable })
 offer_is s id e f = rw (e, f) refl
 
+recent_offered : (s : OutState) (id : ℕ) → s.phase ≡ out.Idle → IsRecent (Some id) (record s { offered = Some id; touched = Some id })
+recent_offered s id idle = record { offered = λ x e. e; held = λ q e. let no_way : None ≡ Some q = sym (ap held_out idle) ∙ e in cc }
+
 offered : {afar : Afar} {above : List Record} {us : List Sensed} {ga gb : Ghost} (body : Machine) {c : Scene} (desk : Desk) (kept : List Record)
     → body.exit.session.state ≡ Standing → body.outlet.phase ≡ out.Idle → body.outlet.offered ≡ None
     → Good afar above us ga gb (record body { kept = kept }) c → GoesBy afar above us ga gb c (offer_by desk true (slice_get kept 0) (record body { kept = kept }))
@@ -202,14 +214,17 @@ offered {afar = afar} {above = above} {us = us} {ga = ga} {gb = gb} body {c = c}
         above_contents = g.above_contents;
         below_contents = t.1;
         above_holds = g.above_holds;
-        below_holds = g.below_holds;
+        below_holds = holds_offered g.below_holds;
         entry_role = g.entry_role;
         exit_role = g.exit_role;
         away = g.away;
         here = g.here;
+        recent = recent_offered body.outlet q.id idle;
       };
       lists_above = λ kept i q boards h. h;
       lists_below = λ o p kept boards h. h;
+      still_first = λ n. n;
+      still_over = λ n. n;
     })
 
 offers_not : {afar : Afar} {above : List Record} {us : List Sensed} {ga gb : Ghost} {body : Machine} {c : Scene} (desk : Desk) (front : Option Record)
@@ -238,6 +253,9 @@ offer_goes desk g = offer_ahead desk g
 
 -- ---- START
 
+none_begun : Has event.Begun [] → ⊥
+none_begun has = elim has [ ]
+
 start_did : {afar : Afar} {above : List Record} {us : List Sensed} {ga gb : Ghost} {body : Machine} {c : Scene} → events_at Entry us ≡ []
     → Good afar above us ga gb body c → (step : StartSaid (gone_by afar.gone_above) above ga (link_above [] body c))
     → Goes afar above us ga gb c (record body { intake = step.row.after; kept = settled step.row.act.keep body.kept }) (in_scene step.row.act.send step.row.act.drive c)
@@ -255,14 +273,17 @@ start_did {afar = afar} {us = us} {gb = gb} {body = body} {c = c} none g step =
         above_contents = step.contents ms e g.above_contents;
         below_contents = subst (λ kept. IsContent (gone_by afar.gone_below) (link_below us body c) kept) keep (contents_settled step.row.act.keep g.below_contents);
         above_holds = holds_said body.intake step.row step.is (step.pair ms e).in g.above_contents.offer;
-        below_holds = subst (λ kept. Holds afar.gone_below kept gb.place body.outlet.phase c.below.intake.phase) keep (holds_settled step.row.act.keep g.below_holds);
+        below_holds = subst (λ kept. Holds afar.gone_below kept body.last_offer gb.place body.outlet.phase c.below.intake.phase) keep (holds_settled step.row.act.keep g.below_holds);
         entry_role = g.entry_role;
         exit_role = g.exit_role;
         away = g.away;
         here = g.here;
+        recent = g.recent;
       };
       lists_above = step.above_body;
       lists_below = λ o p kept boards h. h;
+      still_first = λ n has. absurd (none_begun (subst (λ es. Has event.Begun es) none has));
+      still_over = λ n. n;
     }
 
 started : {afar : Afar} {above : List Record} {us : List Sensed} {ga gb : Ghost} {body : Machine} {c : Scene} (desk : Desk) (said : Option Record) → body.intake.offer ≡ said
@@ -319,18 +340,21 @@ offer_free desk true None body r = r
 offer_free desk false None body r = r
 offer_free desk false (Some front) body r = r
 
--- the relation goes on, and a free intake has read all still
-pub record GoesAhead (afar : Afar) (above : List Record) (us : List Sensed) (ga gb : Ghost) (c : Scene) (d : Done) : Type 0 where
-  pub goes : GoesBy afar above us ga gb c d
-  pub read : IsFreeRead us d.body
+-- one after the other, for the ghosts that the first leaves
+pub ahead_then_as : {afar : Afar} {above : List Record} {us : List Sensed} {ga gb : Ghost} {c : Scene} (d : Done) (next : Machine → Done) → (first : GoesAhead afar above us ga gb c d)
+    → (Good afar above us first.goes.a first.goes.b d.body (all_met d.acts c) → IsFreeRead us d.body → GoesAhead afar above us first.goes.a first.goes.b (all_met d.acts c) (next d.body))
+    → GoesAhead afar above us ga gb c (and_then d next)
+ahead_then_as {afar = afar} {above = above} {us = us} {ga = ga} {gb = gb} {c = c} d next first later =
+    let t = later first.goes.good first.read in
+    record {
+      goes = subst (λ s. Goes afar above us ga gb c (next d.body).body s) (sym (met_append d.acts (next d.body).acts c)) (goes_both first.goes t.goes);
+      read = t.read;
+    }
 
 pub ahead_then : {afar : Afar} {above : List Record} {us : List Sensed} {ga gb : Ghost} {c : Scene} (d : Done) (next : Machine → Done) → GoesAhead afar above us ga gb c d
     → ((a b : Ghost) → Good afar above us a b d.body (all_met d.acts c) → IsFreeRead us d.body → GoesAhead afar above us a b (all_met d.acts c) (next d.body))
     → GoesAhead afar above us ga gb c (and_then d next)
-ahead_then d next g later = record {
-  goes = goes_then d next g.goes (λ a b good. (later a b good g.read).goes);
-  read = (later g.goes.a g.goes.b g.goes.good g.read).read;
-}
+ahead_then d next first later = ahead_then_as d next first (λ good read. later first.goes.a first.goes.b good read)
 
 ready_and_start : {afar : Afar} {above : List Record} {us : List Sensed} {ga gb : Ghost} {body : Machine} {c : Scene} (desk : Desk) → Good afar above us ga gb body c → IsFreeRead us body
     → GoesAhead afar above us ga gb c (and_then (ready desk body) (start desk))

@@ -44,15 +44,16 @@ use Rattle.custody.specs.Words.{down_words}
 use Rattle.custody.proofs.Lists.{down_words-append}
 use Rattle.machine_custody.specs.Scene.{Scene, all_met, met}
 use Rattle.machine_custody.specs.Good.{Afar, Goes, GoesBy, Good}
+use Rattle.machine_custody.specs.Ahead.{GoesTo, IsFreeRead}
 use Rattle.machine_custody.specs.ByHand.{body_read, scene_read}
 use Rattle.machine_custody.specs.Joined.{GoesLeft, GoesSecond, all_met_left, all_met_second, answered, is_answer, met_left, met_second, unanswered}
-use Rattle.machine_custody.proofs.Accepting.{goes_since}
-use Rattle.machine_custody.proofs.Announcing.{announces_go}
+use Rattle.machine_custody.proofs.Announcing.{announces_ahead}
 use Rattle.machine_custody.proofs.Clock.{exit_says}
 use Rattle.machine_custody.proofs.Far.{all_intake, all_outlet}
-use Rattle.machine_custody.proofs.Goes.{goes_not, goes_on}
+use Rattle.machine_custody.proofs.Goes.{goes_both, goes_not, goes_since}
 use Rattle.machine_custody.proofs.Quiet.{AllActs, IsPlain, acts_more, acts_none, all_append, intake_all, intake_says, outlet_all, outlet_says, read_all}
 use Rattle.machine_custody.proofs.Reading.{all_read_good}
+use Rattle.machine_custody.proofs.FrontRead.{Reads, reads_all}
 use Rattle.machine_custody.proofs.Step.{step_by}
 
 -- ---- nothing else in the step is an answer
@@ -151,8 +152,8 @@ second_did desk body on role = ap (λ (row : Option SessionRow). session_did des
 aside_words : (ds ms : List Horizontal) → down_words ms ≡ [] → down_words (ds ++ ms) ≡ down_words ds
 aside_words ds ms quiet = down_words-append ds ms ∙ ap (λ ws. down_words ds ++ ws) quiet ∙ append-nil (down_words ds)
 
-answer_goes : {afar : Afar} {above : List Record} {ga gb : Ghost} (body : Machine) (c : Scene) (what : Horizontal) → down_words (what ∷ []) ≡ []
-    → Good afar above [] ga gb body c → Goes afar above [] ga gb c body (answered true what c)
+answer_goes : {afar : Afar} {above : List Record} {us : List Sensed} {ga gb : Ghost} (body : Machine) (c : Scene) (what : Horizontal) → down_words (what ∷ []) ≡ []
+    → Good afar above us ga gb body c → Goes afar above us ga gb c body (answered true what c)
 answer_goes {ga = ga} {gb = gb} body c what quiet g = record {
   a = ga;
   b = gb;
@@ -168,17 +169,20 @@ answer_goes {ga = ga} {gb = gb} body c what quiet g = record {
     exit_role = g.exit_role;
     away = g.away;
     here = g.here;
+    recent = g.recent;
   };
   lists_above = λ kept i q boards h. h;
   lists_below = λ o p kept boards h. h;
+  still_first = λ n. n;
+  still_over = λ n. n;
 }
 
-answers_row : {afar : Afar} {above : List Record} {ga gb : Ghost} (body : Machine) (c : Scene) (desk : Desk) (s : SessionEnd) (row : SessionRow) → IsSessionRow s second row
-    → Good afar above [] ga gb (with_session Exit s body) c → GoesSecond afar above [] ga gb c (actions_did desk Exit row.actions (with_session Exit row.after body))
+answers_row : {afar : Afar} {above : List Record} {us : List Sensed} {ga gb : Ghost} (body : Machine) (c : Scene) (desk : Desk) (s : SessionEnd) (row : SessionRow) → IsSessionRow s second row
+    → Good afar above us ga gb (with_session Exit s body) c → GoesSecond afar above us ga gb c (actions_did desk Exit row.actions (with_session Exit row.after body))
 answers_row body c desk _ _ (refuses_second is) g = answer_goes _ c (tells AlreadyConnected) refl g
 
-second_goes : {afar : Afar} {above : List Record} {ga gb : Ghost} (body : Machine) (c : Scene) (desk : Desk) (row : Option SessionRow) → session_row body.exit.session second ≡ row
-    → Good afar above [] ga gb body c → GoesSecond afar above [] ga gb c (session_did desk Exit row body)
+second_goes : {afar : Afar} {above : List Record} {us : List Sensed} {ga gb : Ghost} (body : Machine) (c : Scene) (desk : Desk) (row : Option SessionRow) → session_row body.exit.session second ≡ row
+    → Good afar above us ga gb body c → GoesSecond afar above us ga gb c (session_did desk Exit row body)
 second_goes body c desk None is g = goes_not g
 second_goes body c desk (Some row) is g = answers_row body c desk body.exit.session row (session_row_is body.exit.session second row is) g
 
@@ -203,16 +207,32 @@ seconds_are desk unread body c =
     ∙ second_append read.acts (did.acts ++ last) c ∙ ap (all_met_second (did.acts ++ last)) (plain_met read.acts c (read_plain desk unread body))
     ∙ second_append did.acts last (scene_read desk unread body c) ∙ plain_met last (all_met_second did.acts (scene_read desk unread body c)) (announces_plain desk did.body)
 
+-- what the refusal leaves of the machine
+second_free : {us : List Sensed} (body : Machine) (desk : Desk) (s : SessionEnd) (row : SessionRow) → IsSessionRow s second row → IsFreeRead us body → IsFreeRead us (actions_did desk Exit row.actions (with_session Exit row.after body)).body
+second_free body desk _ _ (refuses_second is) r = record { read = r.read }
+
+refused_free : {us : List Sensed} (body : Machine) (desk : Desk) (row : Option SessionRow) → session_row body.exit.session second ≡ row → IsFreeRead us body → IsFreeRead us (session_did desk Exit row body).body
+refused_free body desk None is r = r
+refused_free body desk (Some row) is r = second_free body desk body.exit.session row (session_row_is body.exit.session second row is) r
+
 -- THE STEP OF THE MACHINE ABOVE at a second connection, to which the answer flows though the link doesn't stand
+pub seconds_ahead : {afar : Afar} {above : List Record} {seen rest : List Sensed} {ga gb : Ghost} (desk : Desk) (read : List Sensed) (body : Machine) (c : Scene) → Reads afar above seen rest ga gb desk read body c
+    → GoesTo afar above rest ga gb c (machine_step desk read Second body).body (all_met_second (machine_step desk read Second body).acts c)
+seconds_ahead {afar = afar} {above = above} {rest = rest} {ga = ga} {gb = gb} desk read body c reads =
+    let one : Machine = body_read desk read body in
+    let now : Scene = scene_read desk read body c in
+    let did : Done = event_did desk Second one in
+    let first : GoesSecond afar above rest ga gb now did = second_goes one now desk (session_row one.exit.session second) refl reads.after in
+    let t = announces_ahead desk first.good (refused_free one desk (session_row one.exit.session second) refl reads.free) in
+    record {
+      goes = subst (λ (s : Scene). Goes afar above rest ga gb c (announces desk did.body).body s) (sym (seconds_are desk read body c))
+          (goes_since (all_outlet (all_read desk read body).acts c) (all_intake (all_read desk read body).acts c) (goes_both first t.goes));
+      read = t.read;
+    }
+
 pub seconds_go : {afar : Afar} {above : List Record} {ga gb : Ghost} (desk : Desk) (unread : List Sensed) (body : Machine) (c : Scene) → Good afar above unread ga gb body c
     → GoesSecond afar above [] ga gb c (machine_step desk unread Second body)
-seconds_go {afar = afar} {above = above} {ga = ga} {gb = gb} desk unread body c g =
-    let one : Machine = body_read desk unread body in
-    let now : Scene = scene_read desk unread body c in
-    let did : Done = event_did desk Second one in
-    let t = goes_on (second_goes one now desk (session_row one.exit.session second) refl (all_read_good desk unread body c g)) (λ a b next. announces_go desk next) in
-    subst (λ (s : Scene). Goes afar above [] ga gb c (announces desk did.body).body s) (sym (seconds_are desk unread body c))
-    (goes_since (all_outlet (all_read desk unread body).acts c) (all_intake (all_read desk unread body).acts c) t)
+seconds_go desk unread body c g = (seconds_ahead desk unread body c (reads_all desk unread body c g)).goes
 
 -- and where the answer is said as all else is, so that it vanishes on a link that doesn't stand
 pub seconds_vanish_go : {afar : Afar} {above : List Record} {ga gb : Ghost} (desk : Desk) (unread : List Sensed) (body : Machine) (c : Scene) → Good afar above unread ga gb body c
@@ -245,12 +265,12 @@ left_tells desk watch made =
     (λ act told plain same c. same (met_left act c)) (λ message told plain same c. same c)
     desk watch made
 
-left_row : {afar : Afar} {above : List Record} {ga gb : Ghost} (body : Machine) (c : Scene) (desk : Desk) (s : SessionEnd) (row : SessionRow) → IsSessionRow s second row
-    → Good afar above [] ga gb (with_session Exit s body) c → GoesLeft afar above [] ga gb c (actions_did desk Exit row.actions (with_session Exit row.after body))
+left_row : {afar : Afar} {above : List Record} {us : List Sensed} {ga gb : Ghost} (body : Machine) (c : Scene) (desk : Desk) (s : SessionEnd) (row : SessionRow) → IsSessionRow s second row
+    → Good afar above us ga gb (with_session Exit s body) c → GoesLeft afar above us ga gb c (actions_did desk Exit row.actions (with_session Exit row.after body))
 left_row body c desk _ _ (refuses_second is) g = goes_not g
 
-left_goes : {afar : Afar} {above : List Record} {ga gb : Ghost} (body : Machine) (c : Scene) (desk : Desk) (row : Option SessionRow) → session_row body.exit.session second ≡ row
-    → Good afar above [] ga gb body c → GoesLeft afar above [] ga gb c (session_did desk Exit row body)
+left_goes : {afar : Afar} {above : List Record} {us : List Sensed} {ga gb : Ghost} (body : Machine) (c : Scene) (desk : Desk) (row : Option SessionRow) → session_row body.exit.session second ≡ row
+    → Good afar above us ga gb body c → GoesLeft afar above us ga gb c (session_did desk Exit row body)
 left_goes body c desk None is g = goes_not g
 left_goes body c desk (Some row) is g = left_row body c desk body.exit.session row (session_row_is body.exit.session second row is) g
 
@@ -266,12 +286,20 @@ lefts_are desk unread body c =
     ∙ left_append did.acts last (scene_read desk unread body c) ∙ plain_left last (all_met_left did.acts (scene_read desk unread body c)) (announces_plain desk did.body)
 
 -- THE STEP OF THE MACHINE ABOVE at a second connection that the machine below has left
+pub lefts_ahead : {afar : Afar} {above : List Record} {seen rest : List Sensed} {ga gb : Ghost} (desk : Desk) (read : List Sensed) (body : Machine) (c : Scene) → Reads afar above seen rest ga gb desk read body c
+    → GoesTo afar above rest ga gb c (machine_step desk read Second body).body (all_met_left (machine_step desk read Second body).acts c)
+lefts_ahead {afar = afar} {above = above} {rest = rest} {ga = ga} {gb = gb} desk read body c reads =
+    let one : Machine = body_read desk read body in
+    let now : Scene = scene_read desk read body c in
+    let did : Done = event_did desk Second one in
+    let first : GoesLeft afar above rest ga gb now did = left_goes one now desk (session_row one.exit.session second) refl reads.after in
+    let t = announces_ahead desk first.good (refused_free one desk (session_row one.exit.session second) refl reads.free) in
+    record {
+      goes = subst (λ (s : Scene). Goes afar above rest ga gb c (announces desk did.body).body s) (sym (lefts_are desk read body c))
+          (goes_since (all_outlet (all_read desk read body).acts c) (all_intake (all_read desk read body).acts c) (goes_both first t.goes));
+      read = t.read;
+    }
+
 pub lefts_go : {afar : Afar} {above : List Record} {ga gb : Ghost} (desk : Desk) (unread : List Sensed) (body : Machine) (c : Scene) → Good afar above unread ga gb body c
     → GoesLeft afar above [] ga gb c (machine_step desk unread Second body)
-lefts_go {afar = afar} {above = above} {ga = ga} {gb = gb} desk unread body c g =
-    let one : Machine = body_read desk unread body in
-    let now : Scene = scene_read desk unread body c in
-    let did : Done = event_did desk Second one in
-    let t = goes_on (left_goes one now desk (session_row one.exit.session second) refl (all_read_good desk unread body c g)) (λ a b next. announces_go desk next) in
-    subst (λ (s : Scene). Goes afar above [] ga gb c (announces desk did.body).body s) (sym (lefts_are desk unread body c))
-    (goes_since (all_outlet (all_read desk unread body).acts c) (all_intake (all_read desk unread body).acts c) t)
+lefts_go desk unread body c g = (lefts_ahead desk unread body c (reads_all desk unread body c g)).goes

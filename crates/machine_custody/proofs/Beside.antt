@@ -6,6 +6,7 @@ use Rattle.std.proofs.lemmas.Bool.{eq-eqb}
 use Rattle.line_base.specs.declared.states.Quality.TheVariants as qualities
 use Rattle.line_base.specs.declared.states.Side.TheVariants.{Entry, Exit}
 use Rattle.board_record.specs.declared.record.Record.{Record}
+use Rattle.board_record.specs.declared.sensed.Sensed.{Sensed}
 use Rattle.hermes_horizontal.specs.declared.message.Horizontal.TheVariants as message
 use Rattle.smema_bridge.specs.Levels.{BridgeLevels}
 use Rattle.smema_bridge.specs.Segment.{becomes_available}
@@ -37,32 +38,32 @@ use Rattle.machine_custody.proofs.Rows.{goes_good}
 
 -- ---- the next board is told of ahead, and a board is asked for
 
-front_told : {afar : Afar} {above : List Record} {ga gb : Ghost} (desk : Desk) (front : Option Record) {body : Machine} {c : Scene}
-    → Good afar above [] ga gb body c → Goes afar above [] ga gb c body (all_met (forecasts desk front) c)
+front_told : {afar : Afar} {above : List Record} {us : List Sensed} {ga gb : Ghost} (desk : Desk) (front : Option Record) {body : Machine} {c : Scene}
+    → Good afar above us ga gb body c → Goes afar above us ga gb c body (all_met (forecasts desk front) c)
 front_told desk None g = goes_not g
 front_told desk (Some board) {body = body} {c = c} g = exit_says body c (message.BoardForecast (forecast_of board) ∷ []) refl g
 
-pub forecasts_go : {afar : Afar} {above : List Record} {ga gb : Ghost} {body : Machine} {c : Scene} (desk : Desk)
-    → Good afar above [] ga gb body c → GoesBy afar above [] ga gb c (forecasts_front desk body)
+pub forecasts_go : {afar : Afar} {above : List Record} {us : List Sensed} {ga gb : Ghost} {body : Machine} {c : Scene} (desk : Desk)
+    → Good afar above us ga gb body c → GoesBy afar above us ga gb c (forecasts_front desk body)
 forecasts_go {body = body} desk g = front_told desk (slice_get body.kept 0) g
 
-pub asks_go : {afar : Afar} {above : List Record} {ga gb : Ghost} {body : Machine} {c : Scene} (desk : Desk) (barcode : List ℕ)
-    → Good afar above [] ga gb body c → GoesBy afar above [] ga gb c (asks_for desk barcode body)
+pub asks_go : {afar : Afar} {above : List Record} {us : List Sensed} {ga gb : Ghost} {body : Machine} {c : Scene} (desk : Desk) (barcode : List ℕ)
+    → Good afar above us ga gb body c → GoesBy afar above us ga gb c (asks_for desk barcode body)
 asks_go {body = body} {c = c} desk barcode g = entry_says body c (message.QueryBoardInfo (Some barcode) None ∷ []) refl g
 
 -- ---- the supervisor is no business of links and floor
 
-pub supervises_go : {afar : Afar} {above : List Record} {ga gb : Ghost} {body : Machine} {c : Scene}
+pub supervises_go : {afar : Afar} {above : List Record} {us : List Sensed} {ga gb : Ghost} {body : Machine} {c : Scene}
     (desk : Desk) (what : Supervision)
-    → Good afar above [] ga gb body c → GoesBy afar above [] ga gb c (supervises desk what body)
+    → Good afar above us ga gb body c → GoesBy afar above us ga gb c (supervises desk what body)
 supervises_go desk (Supervise on) g = goes_not g
 supervises_go desk (Ask question) g = goes_not g
 supervises_go desk (Answer query order) g = goes_not g
 
 -- ---- a level of the segment is set
 
-tells_go : {afar : Afar} {above : List Record} {ga gb : Ghost} {body : Machine} {c : Scene} (line : SegmentLine) (on : Bool)
-    → Good afar above [] ga gb body c → GoesBy afar above [] ga gb c (tells_level line on body)
+tells_go : {afar : Afar} {above : List Record} {us : List Sensed} {ga gb : Ghost} {body : Machine} {c : Scene} (line : SegmentLine) (on : Bool)
+    → Good afar above us ga gb body c → GoesBy afar above us ga gb c (tells_level line on body)
 tells_go Ready on g = wills_go Entry on g
 tells_go Available on g = wills_go Exit on g
 tells_go Failed on g = goes_not g
@@ -90,16 +91,16 @@ marked_untouched None line on body id found same = cc
 marked_untouched (Some levels) line on body id found same =
     failing (becomes_available line on levels.segment) levels.segment.failed body.kept body.outlet.touched id found same
 
-fails_go : {afar : Afar} {above : List Record} {ga gb : Ghost} {body : Machine} {c : Scene} (found : Option ℕ)
+fails_go : {afar : Afar} {above : List Record} {us : List Sensed} {ga gb : Ghost} {body : Machine} {c : Scene} (found : Option ℕ)
     → ((id : ℕ) → found ≡ Some id → body.outlet.touched ≡ Some id → ⊥)
-    → Good afar above [] ga gb body c → GoesBy afar above [] ga gb c (fails found body)
+    → Good afar above us ga gb body c → GoesBy afar above us ga gb c (fails found body)
 fails_go None plain g = goes_not g
 fails_go {body = body} {c = c} (Some id) plain g =
     goes_good (all_outlet (marks id qualities.Failed body).acts c) (all_intake (marks id qualities.Failed body).acts c)
     (marks_good id qualities.Failed g (plain id refl))
 
-pub levels_go : {afar : Afar} {above : List Record} {ga gb : Ghost} {body : Machine} {c : Scene} (desk : Desk) (line : SegmentLine) (on : Bool)
-    → Good afar above [] ga gb body c → GoesBy afar above [] ga gb c (sets_level desk line on body)
+pub levels_go : {afar : Afar} {above : List Record} {us : List Sensed} {ga gb : Ghost} {body : Machine} {c : Scene} (desk : Desk) (line : SegmentLine) (on : Bool)
+    → Good afar above us ga gb body c → GoesBy afar above us ga gb c (sets_level desk line on body)
 levels_go {body = body} desk line on g =
     let one : Machine = (tells_level line on body).body in
     goes_then (tells_level line on body) (λ (x : Machine). fails (failed_front desk.bridge line on x) x) (tells_go line on g)

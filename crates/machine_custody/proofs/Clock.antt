@@ -59,9 +59,12 @@ exit_says {us = us} {ga = ga} {gb = gb} body c ms quiet g = record {
     exit_role = g.exit_role;
     away = g.away;
     here = g.here;
+    recent = g.recent;
   };
   lists_above = λ kept i q boards h. h;
   lists_below = λ o p kept boards h. h;
+  still_first = λ n. n;
+  still_over = λ n. n;
 }
 
 pub entry_says : {afar : Afar} {above : List Record} {us : List Sensed} {ga gb : Ghost} (body : Machine) (c : Scene) (ms : List Horizontal) → up_words ms ≡ []
@@ -81,9 +84,12 @@ entry_says {us = us} {ga = ga} {gb = gb} body c ms quiet g = record {
     exit_role = g.exit_role;
     away = g.away;
     here = g.here;
+    recent = g.recent;
   };
   lists_above = λ kept i q boards h. h;
   lists_below = λ o p kept boards h. h;
+  still_first = λ n. n;
+  still_over = λ n. n;
 }
 
 -- the machine closes a side that has said these messages before
@@ -177,14 +183,18 @@ pub wills_go : {afar : Afar} {above : List Record} {us : List Sensed} {ga gb : G
 wills_go {ga = ga} {gb = gb} Entry on g = record {
   a = ga;
   b = gb;
-  good = record { above_pair = g.above_pair; below_pair = g.below_pair; boards = g.boards; above_contents = g.above_contents; below_contents = g.below_contents; above_holds = g.above_holds; below_holds = g.below_holds; entry_role = g.entry_role; exit_role = g.exit_role; away = g.away; here = g.here };
+  good = record { above_pair = g.above_pair; below_pair = g.below_pair; boards = g.boards; above_contents = g.above_contents; below_contents = g.below_contents; above_holds = g.above_holds; below_holds = g.below_holds; entry_role = g.entry_role; exit_role = g.exit_role; away = g.away; here = g.here; recent = g.recent };
   lists_above = λ kept i q boards h. h;
   lists_below = λ o p kept boards h. h;
+  still_first = λ n. n;
+  still_over = λ n. n;
 }
 wills_go {ga = ga} {gb = gb} Exit on g = record {
   a = ga;
   b = gb;
-  good = record { above_pair = g.above_pair; below_pair = g.below_pair; boards = g.boards; above_contents = g.above_contents; below_contents = g.below_contents; above_holds = g.above_holds; below_holds = g.below_holds; entry_role = g.entry_role; exit_role = g.exit_role; away = g.away; here = g.here };
+  good = record { above_pair = g.above_pair; below_pair = g.below_pair; boards = g.boards; above_contents = g.above_contents; below_contents = g.below_contents; above_holds = g.above_holds; below_holds = g.below_holds; entry_role = g.entry_role; exit_role = g.exit_role; away = g.away; here = g.here; recent = g.recent };
   lists_above = λ kept i q boards h. h;
   lists_below = λ o p kept boards h. h;
+  still_first = λ n. n;
+  still_over = λ n. n;
 }

@@ -14,7 +14,7 @@ use Rattle.session_core.specs.Input.{opened}
 use Rattle.session_core.specs.Row.{SessionRow, session_row}
 use Rattle.session_core.specs.declared.actions.Action.TheVariants.{SendService}
 use Rattle.session_core.specs.declared.state.SessionState.{SessionState}
-use Rattle.session_core.specs.declared.state.SessionState.TheVariants.{Handshake, NotConnected}
+use Rattle.session_core.specs.declared.state.SessionState.TheVariants.{Handshake, NotConnected, Standing}
 use Rattle.handover_out.specs.Row.{OutRow, outlet_row}
 use Rattle.handover_out.specs.declared.input.OutInput.TheVariants as out_input
 use Rattle.handover_out.specs.declared.phase.Phase.{Phase as Out}
@@ -46,12 +46,13 @@ use Rattle.custody.proofs.Connect.{May, may, may_idle, may_waiting}
 use Rattle.custody.proofs.LinkEvents.{calls_again}
 use Rattle.machine_custody.specs.Scene.{Scene, link_above}
 use Rattle.machine_custody.specs.Good.{Afar, Goes, GoesBy, Good}
+use Rattle.machine_custody.specs.Ahead.{GoesAhead, IsFreeRead}
 use Rattle.machine_custody.specs.ByHand.{body_read, scene_read}
 use Rattle.machine_custody.specs.Joined.{with_link}
 use Rattle.machine_custody.proofs.BehindReading.{read_idle, outlet_apart}
 use Rattle.machine_custody.proofs.Quiet.{quiet_all, read_keeps, read_quiet}
-use Rattle.machine_custody.proofs.Reading.{all_read_good}
-use Rattle.machine_custody.proofs.Step.{step_by}
+use Rattle.machine_custody.proofs.Fronts.{step_ahead}
+use Rattle.machine_custody.proofs.FrontRead.{Reads, reads_all}
 
 -- ---- an entry without a connection
 
@@ -110,17 +111,17 @@ none_read desk (sensed ∷ others) body none = one_read desk sensed.side sensed.
 waits_read : {r : Record} {h : Bool} {es : List SensorEvent} {drive : Bool} {p : Place} {q : Record} → EntryFloor (inn.Waiting r seen.Complete h) es drive p q → es ≡ []
 waits_read (in_waiting is_in) = refl
 
-stays_may : (desk : Desk) (unread : List Sensed) (body : Machine) (c : Scene) (i : In) {drive : Bool} {p : Place} {q : Record} → body.intake.phase ≡ i → May i → EntryFloor i (events_at Entry unread) drive p q
-    → may_connect (body_read desk unread body).intake.phase ≡ true
-stays_may desk unread body c _ is may_idle floor = ap may_connect (read_idle desk unread body c is)
-stays_may desk unread body c _ is may_waiting floor = ap (λ (s : InState). may_connect s.phase) (none_read desk unread body (waits_read floor)) ∙ ap may_connect is
+stays_may : {es : List SensorEvent} (desk : Desk) (read : List Sensed) (body : Machine) (c : Scene) (i : In) {drive : Bool} {p : Place} {q : Record} → body.intake.phase ≡ i → May i → EntryFloor i es drive p q → (es ≡ [] → events_at Entry read ≡ [])
+    → may_connect (body_read desk read body).intake.phase ≡ true
+stays_may desk read body c _ is may_idle floor none = ap may_connect (read_idle desk read body c is)
+stays_may desk read body c _ is may_waiting floor none = ap (λ (s : InState). may_connect s.phase) (none_read desk read body (none (waits_read floor))) ∙ ap may_connect is
 
-pub read_may : {afar : Afar} {above : List Record} {ga gb : Ghost} (desk : Desk) (unread : List Sensed) (body : Machine) (c : Scene) → Good afar above unread ga gb body c → may_connect body.intake.phase ≡ true
-    → may_connect (body_read desk unread body).intake.phase ≡ true
-read_may desk unread body c g m = stays_may desk unread body c body.intake.phase refl (may body.intake.phase m) g.above_pair.in
+pub read_may : {afar : Afar} {above : List Record} {seen rest : List Sensed} {ga gb : Ghost} (desk : Desk) (read : List Sensed) (body : Machine) (c : Scene) → Reads afar above seen rest ga gb desk read body c → may_connect body.intake.phase ≡ true
+    → may_connect (body_read desk read body).intake.phase ≡ true
+read_may desk read body c reads m = stays_may desk read body c body.intake.phase refl (may body.intake.phase m) reads.before.above_pair.in reads.none
 
 -- what the link above is behind the reading, by a machine whose entry has no connection
-pub read_apart : {afar : Afar} {above : List Record} {ga gb : Ghost} (desk : Desk) (unread : List Sensed) (body : Machine) (c : Scene) (stands : Bool) (up down : List Horizontal) → Good afar above unread ga gb body c
+pub read_apart : {afar : Afar} {above : List Record} {us : List Sensed} {ga gb : Ghost} (desk : Desk) (unread : List Sensed) (body : Machine) (c : Scene) (stands : Bool) (up down : List Horizontal) → Good afar above us ga gb body c
     → body.entry.session.state ≡ NotConnected → scene_read desk unread body (with_link Entry stands up down c) ≡ with_link Entry stands up down (scene_read desk unread body c)
 read_apart desk unread body c stands up down g away = quiet_all Entry stands up down (all_read desk unread body).acts c (read_quiet desk Entry unread body (entry_unlinked away g))
 
@@ -141,13 +142,13 @@ vanishes true m ms off = cc
 vanishes false m ms _ = refl
 
 -- the description vanishes, and the entry shakes hands
-calls_go : {afar : Afar} {above : List Record} {ga gb : Ghost} (body : Machine) (c : Scene) → Good afar above [] ga gb body c → body.entry.session.state ≡ NotConnected → may_connect body.intake.phase ≡ true
-    → Goes afar above [] ga gb c (with_session Entry calling body) c
-calls_go {ga = ga} {gb = gb} body c g away m = record {
+calls_go : {afar : Afar} {above : List Record} {us : List Sensed} {ga gb : Ghost} (body : Machine) (c : Scene) → Good afar above us ga gb body c → body.entry.session.state ≡ NotConnected → may_connect body.intake.phase ≡ true
+    → Goes afar above us ga gb c (with_session Entry calling body) c
+calls_go {us = us} {ga = ga} {gb = gb} body c g away m = record {
   a = ga;
   b = gb;
   good = record {
-    above_pair = calls_again ga (link_above [] body c) g.above_pair m away;
+    above_pair = calls_again ga (link_above us body c) g.above_pair m away;
     below_pair = g.below_pair;
     boards = g.boards;
     above_contents = g.above_contents;
@@ -158,25 +159,40 @@ calls_go {ga = ga} {gb = gb} body c g away m = record {
     exit_role = g.exit_role;
     away = g.away;
     here = g.here;
+    recent = g.recent;
   };
   lists_above = λ kept i q boards h. h;
   lists_below = λ o p kept boards h. h;
+  still_first = λ n. n;
+  still_over = λ n. n;
 }
 
-pub connect_goes : {afar : Afar} {above : List Record} {ga gb : Ghost} (desk : Desk) (body : Machine) (c : Scene) → Good afar above [] ga gb body c → body.entry.session.state ≡ NotConnected
-    → may_connect body.intake.phase ≡ true → c.above.stands ≡ false → GoesBy afar above [] ga gb c (event_did desk Connect body)
-connect_goes {afar = afar} {above = above} {ga = ga} {gb = gb} desk body c g away m off =
-    subst (λ (d : Done). GoesBy afar above [] ga gb c d) (sym (connect_did desk body away g.entry_role))
-    (subst (λ (up : List Horizontal). Goes afar above [] ga gb c (with_session Entry calling body) (record c { above = record c.above { up = up } }))
+pub connect_goes : {afar : Afar} {above : List Record} {us : List Sensed} {ga gb : Ghost} (desk : Desk) (body : Machine) (c : Scene) → Good afar above us ga gb body c → body.entry.session.state ≡ NotConnected
+    → may_connect body.intake.phase ≡ true → c.above.stands ≡ false → GoesBy afar above us ga gb c (event_did desk Connect body)
+connect_goes {afar = afar} {above = above} {us = us} {ga = ga} {gb = gb} desk body c g away m off =
+    subst (λ (d : Done). GoesBy afar above us ga gb c d) (sym (connect_did desk body away g.entry_role))
+    (subst (λ (up : List Horizontal). Goes afar above us ga gb c (with_session Entry calling body) (record c { above = record c.above { up = up } }))
     (sym (vanishes c.above.stands (service_of desk) c.above.up off)) (calls_go body c g away m))
+
+-- an entry that shakes hands is in no session that stands
+pub shaking_free : {us : List Sensed} (body : Machine) → IsFreeRead us (with_session Entry calling body)
+shaking_free body = record { read = λ stands free. let never : Handshake ≡ Standing = stands in cc }
 
 -- THE STEP OF THE MACHINE BELOW, in a scene whose link above doesn't stand: a first connection before the exit takes it,
 -- or a second one
-pub connects_go : {afar : Afar} {above : List Record} {ga gb : Ghost} (desk : Desk) (unread : List Sensed) (body : Machine) (c : Scene) → Good afar above unread ga gb body c
-    → body.entry.session.state ≡ NotConnected → may_connect body.intake.phase ≡ true → c.above.stands ≡ false → GoesBy afar above [] ga gb c (machine_step desk unread Connect body)
-connects_go desk unread body c g away m off =
+pub connects_ahead : {afar : Afar} {above : List Record} {seen rest : List Sensed} {ga gb : Ghost} (desk : Desk) (read : List Sensed) (body : Machine) (c : Scene) → Reads afar above seen rest ga gb desk read body c
+    → body.entry.session.state ≡ NotConnected → may_connect body.intake.phase ≡ true → c.above.stands ≡ false → GoesAhead afar above rest ga gb c (machine_step desk read Connect body)
+connects_ahead {rest = rest} desk read body c reads away m off =
     let up = c.above.up in
     let down = c.above.down in
-    let is : (scene_read desk unread body c).above.stands ≡ c.above.stands = ap (λ (d : Scene). d.above.stands) (read_apart desk unread body c c.above.stands up down g away) in
-    step_by desk unread Connect body c (connect_goes desk (body_read desk unread body) (scene_read desk unread body c) (all_read_good desk unread body c g)
-    (ap (λ (e : End). e.session.state) (read_entry desk unread body) ∙ away) (read_may desk unread body c g m) (is ∙ off))
+    let one : Machine = body_read desk read body in
+    let still : one.entry.session.state ≡ NotConnected = ap (λ (e : End). e.session.state) (read_entry desk read body) ∙ away in
+    let is : (scene_read desk read body c).above.stands ≡ c.above.stands = ap (λ (d : Scene). d.above.stands) (read_apart desk read body c c.above.stands up down reads.before away) in
+    step_ahead desk read Connect body c (record {
+      goes = connect_goes desk one (scene_read desk read body c) reads.after still (read_may desk read body c reads m) (is ∙ off);
+      read = subst (λ (d : Done). IsFreeRead rest d.body) (sym (connect_did desk one still reads.after.entry_role)) (shaking_free one);
+    })
+
+pub connects_go : {afar : Afar} {above : List Record} {ga gb : Ghost} (desk : Desk) (unread : List Sensed) (body : Machine) (c : Scene) → Good afar above unread ga gb body c
+    → body.entry.session.state ≡ NotConnected → may_connect body.intake.phase ≡ true → c.above.stands ≡ false → GoesBy afar above [] ga gb c (machine_step desk unread Connect body)
+connects_go desk unread body c g away m off = (connects_ahead desk unread body c (reads_all desk unread body c g) away m off).goes

@@ -31,6 +31,7 @@ cut_good {above = above} {us = us} {ga = ga} {body = body} {c = c} Entry g = rec
   exit_role = g.exit_role;
   away = g.away;
   here = g.here;
+  recent = g.recent;
 }
 cut_good {us = us} {gb = gb} {body = body} {c = c} Exit g = record {
   above_pair = g.above_pair;
@@ -44,12 +45,13 @@ cut_good {us = us} {gb = gb} {body = body} {c = c} Exit g = record {
   exit_role = g.exit_role;
   away = g.away;
   here = g.here;
+  recent = g.recent;
 }
 
 pub cut_goes : {afar : Afar} {above : List Record} {us : List Sensed} {ga gb : Ghost} {c d : Scene} {after : Machine} (side : Side)
     → Goes afar above us ga gb c after d → Goes afar above us ga gb c after (cut_at side d)
-cut_goes Entry t = record { a = t.a; b = t.b; good = cut_good Entry t.good; lists_above = t.lists_above; lists_below = t.lists_below }
-cut_goes Exit t = record { a = t.a; b = t.b; good = cut_good Exit t.good; lists_above = t.lists_above; lists_below = t.lists_below }
+cut_goes Entry t = record { a = t.a; b = t.b; good = cut_good Entry t.good; lists_above = t.lists_above; lists_below = t.lists_below; still_first = t.still_first; still_over = t.still_over }
+cut_goes Exit t = record { a = t.a; b = t.b; good = cut_good Exit t.good; lists_above = t.lists_above; lists_below = t.lists_below; still_first = t.still_first; still_over = t.still_over }
 
 met_cut : (side : Side) (act : Act) (c : Scene) → met act (cut_at side c) ≡ cut_at side (met act c)
 met_cut Entry (acts.Hears Entry message) c = refl

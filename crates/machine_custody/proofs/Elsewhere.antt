@@ -46,7 +46,7 @@ kept_of id (board ∷ boards) there = kept_step id board boards (board.id == id)
 other_by : (q r : Record) → (q.id ≡ r.id → ⊥) → IsOther q (Some r)
 other_by q r differ = ne_eqb r.id q.id (λ is. differ (sym is))
 
-apart_from : (q : Record) (held : Option Record) → ((r : Record) → held ≡ Some r → q.id ≡ r.id → ⊥) → IsOther q held
+pub apart_from : (q : Record) (held : Option Record) → ((r : Record) → held ≡ Some r → q.id ≡ r.id → ⊥) → IsOther q held
 apart_from q None differ = tt
 apart_from q (Some r) differ = other_by q r (differ r refl)
 

@@ -1,39 +1,50 @@
 -- No act of a machine changes the other machines, nor what lies in the gaps.
-use Rattle.std.proofs.Common.{List, [], refl, ◌∙◌, ◌∷◌, ◌≡◌}
+use Rattle.std.proofs.Common.{List, Option, [], ap, refl, ℕ, ◌∙◌, ◌∷◌, ◌≡◌}
 use Rattle.line_base.specs.declared.states.Side.TheVariants.{Entry, Exit}
+use Rattle.handover_out.specs.State.{OutState}
 use Rattle.node_core.specs.declared.act.Act.{Act}
 use Rattle.node_core.specs.declared.act.Act.TheVariants as acts
 use Rattle.machine_custody.specs.Scene.{Scene, all_met, met}
 
-met_outlet : (act : Act) (c : Scene) → (met act c).above.outlet ≡ c.above.outlet
-met_outlet (acts.Reads Entry event) c = refl
-met_outlet (acts.Reads Exit event) c = refl
-met_outlet (acts.Hears Entry message) c = refl
-met_outlet (acts.Hears Exit message) c = refl
-met_outlet (acts.Breaches Entry text) c = refl
-met_outlet (acts.Breaches Exit text) c = refl
-met_outlet (acts.Sends Entry message) c = refl
-met_outlet (acts.Sends Exit message) c = refl
-met_outlet (acts.Closes Entry) c = refl
-met_outlet (acts.Closes Exit) c = refl
-met_outlet (acts.Notices Entry) c = refl
-met_outlet (acts.Notices Exit) c = refl
-met_outlet acts.Connects c = refl
-met_outlet (acts.Deed deed) c = refl
-met_outlet (acts.Drive Entry on) c = refl
-met_outlet (acts.Drive Exit on) c = refl
-met_outlet (acts.Marks id quality) c = refl
-met_outlet (acts.Inserts id) c = refl
-met_outlet (acts.Removes id) c = refl
-met_outlet (acts.Replaces old new) c = refl
-met_outlet (acts.Signals signal on) c = refl
-met_outlet (acts.Tells message) c = refl
-met_outlet (acts.Answered query order) c = refl
-met_outlet (acts.Sets setting) c = refl
+abbrev offering : Scene → OutState × Option ℕ
+offering c = (c.above.outlet, c.above.last_offer)
+
+met_offering : (act : Act) (c : Scene) → offering (met act c) ≡ offering c
+met_offering (acts.Reads Entry event) c = refl
+met_offering (acts.Reads Exit event) c = refl
+met_offering (acts.Hears Entry message) c = refl
+met_offering (acts.Hears Exit message) c = refl
+met_offering (acts.Breaches Entry text) c = refl
+met_offering (acts.Breaches Exit text) c = refl
+met_offering (acts.Sends Entry message) c = refl
+met_offering (acts.Sends Exit message) c = refl
+met_offering (acts.Closes Entry) c = refl
+met_offering (acts.Closes Exit) c = refl
+met_offering (acts.Notices Entry) c = refl
+met_offering (acts.Notices Exit) c = refl
+met_offering acts.Connects c = refl
+met_offering (acts.Deed deed) c = refl
+met_offering (acts.Drive Entry on) c = refl
+met_offering (acts.Drive Exit on) c = refl
+met_offering (acts.Marks id quality) c = refl
+met_offering (acts.Subs id place) c = refl
+met_offering (acts.Inserts id) c = refl
+met_offering (acts.Removes id) c = refl
+met_offering (acts.Replaces old new) c = refl
+met_offering (acts.Signals signal on) c = refl
+met_offering (acts.Tells message) c = refl
+met_offering (acts.Answered query order) c = refl
+met_offering (acts.Sets setting) c = refl
+
+all_offering : (done : List Act) (c : Scene) → offering (all_met done c) ≡ offering c
+all_offering [] c = refl
+all_offering (act ∷ others) c = all_offering others (met act c) ∙ met_offering act c
 
 pub all_outlet : (done : List Act) (c : Scene) → (all_met done c).above.outlet ≡ c.above.outlet
-all_outlet [] c = refl
-all_outlet (act ∷ others) c = all_outlet others (met act c) ∙ met_outlet act c
+all_outlet done c = ap (λ (p : OutState × Option ℕ). p.0) (all_offering done c)
+
+pub all_last : (done : List Act) (c : Scene) → (all_met done c).above.last_offer ≡ c.above.last_offer
+all_last done c = ap (λ (p : OutState × Option ℕ). p.1) (all_offering done c)
 
 met_intake : (act : Act) (c : Scene) → (met act c).below.intake ≡ c.below.intake
 met_intake (acts.Reads Entry event) c = refl
@@ -53,6 +64,7 @@ met_intake (acts.Deed deed) c = refl
 met_intake (acts.Drive Entry on) c = refl
 met_intake (acts.Drive Exit on) c = refl
 met_intake (acts.Marks id quality) c = refl
+met_intake (acts.Subs id place) c = refl
 met_intake (acts.Inserts id) c = refl
 met_intake (acts.Removes id) c = refl
 met_intake (acts.Replaces old new) c = refl
@@ -83,6 +95,7 @@ met_gap_above (acts.Deed deed) c = refl
 met_gap_above (acts.Drive Entry on) c = refl
 met_gap_above (acts.Drive Exit on) c = refl
 met_gap_above (acts.Marks id quality) c = refl
+met_gap_above (acts.Subs id place) c = refl
 met_gap_above (acts.Inserts id) c = refl
 met_gap_above (acts.Removes id) c = refl
 met_gap_above (acts.Replaces old new) c = refl
@@ -113,6 +126,7 @@ met_gap_below (acts.Deed deed) c = refl
 met_gap_below (acts.Drive Entry on) c = refl
 met_gap_below (acts.Drive Exit on) c = refl
 met_gap_below (acts.Marks id quality) c = refl
+met_gap_below (acts.Subs id place) c = refl
 met_gap_below (acts.Inserts id) c = refl
 met_gap_below (acts.Removes id) c = refl
 met_gap_below (acts.Replaces old new) c = refl
@@ -143,6 +157,7 @@ met_far_above (acts.Deed deed) c = refl
 met_far_above (acts.Drive Entry on) c = refl
 met_far_above (acts.Drive Exit on) c = refl
 met_far_above (acts.Marks id quality) c = refl
+met_far_above (acts.Subs id place) c = refl
 met_far_above (acts.Inserts id) c = refl
 met_far_above (acts.Removes id) c = refl
 met_far_above (acts.Replaces old new) c = refl
@@ -173,6 +188,7 @@ met_far_below (acts.Deed deed) c = refl
 met_far_below (acts.Drive Entry on) c = refl
 met_far_below (acts.Drive Exit on) c = refl
 met_far_below (acts.Marks id quality) c = refl
+met_far_below (acts.Subs id place) c = refl
 met_far_below (acts.Inserts id) c = refl
 met_far_below (acts.Removes id) c = refl
 met_far_below (acts.Replaces old new) c = refl
@@ -203,6 +219,7 @@ met_exit_above (acts.Deed deed) c = refl
 met_exit_above (acts.Drive Entry on) c = refl
 met_exit_above (acts.Drive Exit on) c = refl
 met_exit_above (acts.Marks id quality) c = refl
+met_exit_above (acts.Subs id place) c = refl
 met_exit_above (acts.Inserts id) c = refl
 met_exit_above (acts.Removes id) c = refl
 met_exit_above (acts.Replaces old new) c = refl
@@ -233,6 +250,7 @@ met_entry_below (acts.Deed deed) c = refl
 met_entry_below (acts.Drive Entry on) c = refl
 met_entry_below (acts.Drive Exit on) c = refl
 met_entry_below (acts.Marks id quality) c = refl
+met_entry_below (acts.Subs id place) c = refl
 met_entry_below (acts.Inserts id) c = refl
 met_entry_below (acts.Removes id) c = refl
 met_entry_below (acts.Replaces old new) c = refl

@@ -7,16 +7,14 @@ use Rattle.board_record.specs.declared.record.Record.{Record}
 use Rattle.board_record.specs.declared.sensed.Sensed.{Sensed}
 use Rattle.session_core.specs.declared.state.SessionState.TheVariants.{Standing}
 use Rattle.handover_out.specs.Row.{OutRow, outlet_row}
-use Rattle.handover_out.specs.State.{OutState}
 use Rattle.handover_out.specs.declared.input.OutInput.TheVariants as out_input
 use Rattle.handover_in.specs.Row.{InRow, intake_row}
-use Rattle.handover_in.specs.State.{InState}
 use Rattle.handover_in.specs.declared.input.InInput.TheVariants as in_input
 use Rattle.handover_in.specs.declared.phase.Phase.TheVariants as inn
 use Rattle.node_core.specs.Announces.{announces}
 use Rattle.node_core.specs.Desk.{Desk}
-use Rattle.node_core.specs.Done.{Done}
-use Rattle.node_core.specs.Event.{Nothing}
+use Rattle.node_core.specs.Done.{Done, and_then}
+use Rattle.node_core.specs.Event.{Event, Nothing, event_did}
 use Rattle.node_core.specs.Halves.{intake_row_did, outlet_row_did}
 use Rattle.node_core.specs.Reads.{all_read, saw}
 use Rattle.node_core.specs.Step.{machine_step}
@@ -25,11 +23,11 @@ use Rattle.custody.specs.Pair.{Ghost}
 use Rattle.custody.specs.Words.{events_at}
 use Rattle.custody.proofs.Ahead.{frees_read}
 use Rattle.machine_custody.specs.Scene.{Scene, all_met, link_above}
-use Rattle.machine_custody.specs.Good.{Afar, Goes, Good, ListsAbove, ListsBelow}
-use Rattle.machine_custody.specs.Ahead.{IsFreeRead}
-use Rattle.machine_custody.proofs.Announcing.{GoesAhead, announces_ahead}
+use Rattle.machine_custody.specs.Good.{Afar, Goes, Good}
+use Rattle.machine_custody.specs.Ahead.{GoesAhead, IsFreeRead}
+use Rattle.machine_custody.proofs.Announcing.{ahead_then, announces_ahead}
 use Rattle.machine_custody.proofs.Far.{all_intake, all_outlet}
-use Rattle.machine_custody.proofs.Goes.{met_append, step_met}
+use Rattle.machine_custody.proofs.Goes.{goes_not, goes_since, met_append, step_met}
 use Rattle.machine_custody.proofs.Reading.{read_at}
 
 -- ---- the relation
@@ -73,23 +71,22 @@ front_free desk (sensed ∷ others) rest body c g r =
     let first : Done = saw desk sensed.side sensed.event body in
     front_free desk others rest first.body (all_met first.acts c) (read_at desk sensed.side sensed.event g) (saw_free desk sensed.side sensed.event g r)
 
--- ---- THE STEP: it reads them, and announces
+-- ---- THE STEP: it reads them, is befallen, and announces
+
+pub step_ahead : {afar : Afar} {above : List Record} {rest : List Sensed} {ga gb : Ghost} (desk : Desk) (read : List Sensed) (event : Event) (body : Machine) (c : Scene)
+    → GoesAhead afar above rest ga gb (all_met (all_read desk read body).acts c) (event_did desk event (all_read desk read body).body) → GoesAhead afar above rest ga gb c (machine_step desk read event body)
+step_ahead {afar = afar} {above = above} {rest = rest} {ga = ga} {gb = gb} desk read event body c befalls =
+    let first : Done = all_read desk read body in
+    let now : Scene = all_met first.acts c in
+    let did : Done = and_then (event_did desk event first.body) (announces desk) in
+    let t : GoesAhead afar above rest ga gb now did = ahead_then (event_did desk event first.body) (announces desk) befalls (λ a b next free. announces_ahead desk next free) in
+    record {
+      goes = subst (λ s. Goes afar above rest ga gb c did.body s)
+          (sym (step_met desk read event body c ∙ met_append first.acts did.acts c)) (goes_since (all_outlet first.acts c) (all_intake first.acts c) t.goes);
+      read = t.read;
+    }
 
 pub fronts_go : {afar : Afar} {above : List Record} {ga gb : Ghost} (desk : Desk) (read rest : List Sensed) (body : Machine) (c : Scene)
     → Good afar above (read ++ rest) ga gb body c → IsFreeRead (read ++ rest) body → GoesAhead afar above rest ga gb c (machine_step desk read Nothing body)
-fronts_go {afar = afar} {above = above} {ga = ga} {gb = gb} desk read rest body c g r =
-    let first : Done = all_read desk read body in
-    let now : Scene = all_met first.acts c in
-    let did : Done = announces desk first.body in
-    let t = announces_ahead desk (front_good desk read rest body c g) (front_free desk read rest body c g r) in
-    record {
-      goes = subst (λ s. Goes afar above rest ga gb c did.body s)
-          (sym (step_met desk read Nothing body c ∙ met_append first.acts did.acts c)) (record {
-            a = t.goes.a;
-            b = t.goes.b;
-            good = t.goes.good;
-            lists_above = subst (λ (o : OutState). ListsAbove o.phase ga (all_met did.acts now).above.outlet.phase t.goes.a) (all_outlet first.acts c) t.goes.lists_above;
-            lists_below = subst (λ (i : InState). ListsBelow i.phase gb (all_met did.acts now).below.intake.phase t.goes.b) (all_intake first.acts c) t.goes.lists_below;
-          });
-      read = t.read;
-    }
+fronts_go desk read rest body c g r =
+    step_ahead desk read Nothing body c (record { goes = goes_not (front_good desk read rest body c g); read = front_free desk read rest body c g r })

@@ -27,6 +27,9 @@ pub mod Answering
 pub mod Cutting
 pub mod Joining
 pub mod Fronts
-pub mod Sudden
+pub mod InTime
+pub mod HearingFree
+pub mod FrontRead
+pub mod Timely
 pub mod ComingLast
 pub mod TakingAlone

@@ -3,7 +3,7 @@ use Rattle.std.proofs.Common.{List, subst, sym, ◌≡◌}
 use Rattle.board_record.specs.declared.record.Record.{Record}
 use Rattle.board_record.specs.declared.sensed.Sensed.{Sensed}
 use Rattle.hermes_horizontal.specs.declared.message.Horizontal.{Horizontal}
-use Rattle.handover_out.specs.Row.{OutRow}
+use Rattle.handover_out.specs.Row.{OutRow, last_after}
 use Rattle.handover_out.specs.State.{OutState}
 use Rattle.handover_out.specs.Table.{IsOutletRow, offers}
 use Rattle.handover_out.specs.declared.act.OutAct.{OutAct}
@@ -22,13 +22,8 @@ use Rattle.custody.proofs.HandsContents.{contents_settled}
 use Rattle.machine_custody.specs.Scene.{Scene, all_met, link_above, link_below}
 use Rattle.machine_custody.specs.Good.{Afar, Goes, GoesBy, Good, Holds, ListsAbove, ListsBelow}
 use Rattle.machine_custody.proofs.Far.{all_intake, all_outlet}
-use Rattle.machine_custody.proofs.Holding.{IsNoStart, StartsNot, holds_at_entry, holds_at_exit, holds_settled, row_holds_less}
+use Rattle.machine_custody.proofs.Holding.{IsNoStart, IsNotOffer, StartsNot, holds_at_entry, holds_at_exit, holds_settled, row_holds_less, row_recent}
 use Rattle.machine_custody.proofs.Told.{IsNoOffer, back_is, in_messages, in_met, in_scene, in_words, keep_is, out_messages, out_met, out_scene, out_words}
-
--- only an offer sends one
-abbrev pub IsNotOffer : OutInput → Type 0
-IsNotOffer (out_input.Offer id) = ⊥
-IsNotOffer _ = Unit {0}
 
 row_no_offer : (s : OutState) (w : OutInput) (row : OutRow) → IsOutletRow s w row → IsNotOffer w → IsNoOffer row.act.send
 row_no_offer _ _ _ offers plain = plain
@@ -43,10 +38,10 @@ unheard_above rest c = record c { above = record c.above { down = rest } }
 
 -- what a row of the outlet does to all
 exit_good : {afar : Afar} {above : List Record} {us ws : List Sensed} {ga gb : Ghost} {body : Machine} {c : Scene} (w : OutInput) (rest : List Horizontal)
-    → IsNoStart w → Good afar above us ga gb body c → (step : ExitStep (gone_by afar.gone_below) gb (link_below us body c) w ws rest)
+    → IsNotOffer w → IsNoStart w → Good afar above us ga gb body c → (step : ExitStep (gone_by afar.gone_below) gb (link_below us body c) w ws rest)
     → Pair ga (link_above ws body c)
-    → Good afar above ws ga gb (record body { outlet = step.row.after; kept = given_back step.row.act.back body.kept }) (out_scene step.row.act.send step.row.act.drive (unheard_below rest c))
-exit_good {afar = afar} {ws = ws} {ga = ga} {gb = gb} {body = body} {c = c} w rest begun g step skipped =
+    → Good afar above ws ga gb (record body { outlet = step.row.after; kept = given_back step.row.act.back body.kept; last_offer = last_after step.row body.last_offer }) (out_scene step.row.act.send step.row.act.drive (unheard_below rest c))
+exit_good {afar = afar} {ws = ws} {ga = ga} {gb = gb} {body = body} {c = c} w rest plain begun g step skipped =
     let ms = out_messages step.row.act.send in
     let e = out_words step.row.act.send in
     let back = back_is step.row.act.back body.kept in
@@ -55,13 +50,14 @@ exit_good {afar = afar} {ws = ws} {ga = ga} {gb = gb} {body = body} {c = c} w re
       below_pair = step.pair ms e;
       boards = subst (λ kept. Body step.row.after.phase gb.place kept body.intake.phase ga.place c.boards) back (step.body body.kept body.intake.phase ga.place c.boards g.boards);
       above_contents = g.above_contents;
-      below_contents = subst (λ kept. IsContent (gone_by afar.gone_below) (link_below ws (record body { outlet = step.row.after }) (out_scene step.row.act.send step.row.act.drive (unheard_below rest c))) kept) back (step.contents body.kept ms e g.below_contents);
+      below_contents = subst (λ kept. IsContent (gone_by afar.gone_below) (link_below ws (record body { outlet = step.row.after; last_offer = last_after step.row body.last_offer }) (out_scene step.row.act.send step.row.act.drive (unheard_below rest c))) kept) back (step.contents body.kept ms e g.below_contents);
       above_holds = g.above_holds;
-      below_holds = subst (λ kept. Holds afar.gone_below kept gb.place step.row.after.phase c.below.intake.phase) back (holds_at_exit w step.row g.below_pair begun step.is step.body g.below_holds);
+      below_holds = subst (λ kept. Holds afar.gone_below kept (last_after step.row body.last_offer) gb.place step.row.after.phase c.below.intake.phase) back (holds_at_exit w step.row g.below_pair plain begun g.recent step.is step.body g.below_holds);
       entry_role = g.entry_role;
       exit_role = g.exit_role;
       away = λ r held up. g.away r (row_holds_less body.outlet w step.row r step.is begun held) up;
       here = g.here;
+      recent = row_recent body.outlet w step.row step.is plain begun g.recent;
     }
 
 -- the relation as it stands, where the other machines' halves are as before
@@ -73,6 +69,8 @@ goes_good {ga = ga} {gb = gb} {c = c} {d = d} outlet intake g = record {
   good = g;
   lists_above = subst (λ (o : OutState). ListsAbove c.above.outlet.phase ga o.phase ga) (sym outlet) (λ kept i q boards h. h);
   lists_below = subst (λ (i : InState). ListsBelow c.below.intake.phase gb i.phase gb) (sym intake) (λ o p kept boards h. h);
+  still_first = λ n. n;
+  still_over = λ n. n;
 }
 
 -- the row's acts do that
@@ -84,7 +82,7 @@ row_good_exit {afar = afar} {above = above} {ws = ws} {ga = ga} {gb = gb} {body 
     let act : OutAct = step.row.act in
     subst (λ s. Good afar above ws ga gb (outlet_did desk body step.row).body s)
     (sym (out_met desk body.kept act.deed act.send act.drive act.back (unheard_below rest c) (row_no_offer _ w step.row (row_is body.outlet w step.row step.is) plain)))
-    (exit_good w rest begun g step skipped)
+    (exit_good w rest plain begun g step skipped)
 
 pub row_at_exit : {afar : Afar} {above : List Record} {us ws : List Sensed} {ga gb : Ghost} {body : Machine} {c : Scene} (desk : Desk) (w : OutInput) (rest : List Horizontal)
     → IsNotOffer w → IsNoStart w → Good afar above us ga gb body c → (step : ExitStep (gone_by afar.gone_below) gb (link_below us body c) w ws rest)
@@ -124,11 +122,12 @@ entry_good {afar = afar} {ws = ws} {ga = ga} {gb = gb} {body = body} {c = c} w r
       above_contents = step.contents ms e g.above_contents;
       below_contents = subst (λ kept. IsContent (gone_by afar.gone_below) (link_below ws body c) kept) keep (contents_settled step.row.act.keep g.below_contents);
       above_holds = holds_at_entry body.intake w step.row plain step.is (λ r keeps. (step.settles r keeps).free) step.body g.above_holds;
-      below_holds = subst (λ kept. Holds afar.gone_below kept gb.place body.outlet.phase c.below.intake.phase) keep (holds_settled step.row.act.keep g.below_holds);
+      below_holds = subst (λ kept. Holds afar.gone_below kept body.last_offer gb.place body.outlet.phase c.below.intake.phase) keep (holds_settled step.row.act.keep g.below_holds);
       entry_role = g.entry_role;
       exit_role = g.exit_role;
       away = g.away;
       here = g.here;
+      recent = g.recent;
     }
 
 pub row_good_entry : {afar : Afar} {above : List Record} {us ws : List Sensed} {ga gb : Ghost} {body : Machine} {c : Scene} (desk : Desk) (w : InInput) (rest : List Horizontal)

@@ -21,58 +21,68 @@ use Rattle.custody.specs.Words.{up_words}
 use Rattle.custody.proofs.Taken.{taken_alone, taken_contents}
 use Rattle.machine_custody.specs.Scene.{Scene, all_met, link_below}
 use Rattle.machine_custody.specs.Good.{Afar, Goes, Good}
+use Rattle.machine_custody.specs.Ahead.{GoesTo}
 use Rattle.machine_custody.specs.ByHand.{body_read, scene_read}
 use Rattle.machine_custody.specs.Joined.{with_link}
-use Rattle.machine_custody.proofs.Accepting.{accept_did, accepting, goes_since, read_apart_below, read_exit}
-use Rattle.machine_custody.proofs.Announcing.{announces_go}
+use Rattle.machine_custody.proofs.Accepting.{accept_did, accepting, read_apart_below, read_exit}
+use Rattle.machine_custody.proofs.Announcing.{announces_ahead}
 use Rattle.machine_custody.proofs.Far.{all_intake, all_outlet}
-use Rattle.machine_custody.proofs.Goes.{met_append, step_met}
-use Rattle.machine_custody.proofs.Reading.{all_read_good}
+use Rattle.machine_custody.proofs.Goes.{goes_since, met_append, step_met}
+use Rattle.machine_custody.proofs.FrontRead.{Reads, reads_all}
 
 -- the scene with these messages to the exit
 abbrev pub called : List Horizontal → Scene → Scene
 called up c = with_link Exit c.below.stands up c.below.down c
 
-takes_good : {afar : Afar} {above : List Record} {ga gb : Ghost} (body : Machine) (c : Scene) (up : List Horizontal) → Good afar above [] ga gb body c → body.exit.session.state ≡ NotConnected → IsCall (up_words up)
-    → Good afar above [] ga gb (with_session Exit accepting body) (called up c)
-takes_good {gb = gb} body c up g away call = record {
+takes_good : {afar : Afar} {above : List Record} {us : List Sensed} {ga gb : Ghost} (body : Machine) (c : Scene) (up : List Horizontal) → Good afar above us ga gb body c → body.exit.session.state ≡ NotConnected → IsCall (up_words up)
+    → Good afar above us ga gb (with_session Exit accepting body) (called up c)
+takes_good {us = us} {gb = gb} body c up g away call = record {
   above_pair = g.above_pair;
-  below_pair = taken_alone gb (link_below [] body c) up g.below_pair away call;
+  below_pair = taken_alone gb (link_below us body c) up g.below_pair away call;
   boards = g.boards;
   above_contents = g.above_contents;
-  below_contents = taken_contents (link_below [] body c) up body.kept call g.below_contents;
+  below_contents = taken_contents (link_below us body c) up body.kept call g.below_contents;
   above_holds = g.above_holds;
   below_holds = g.below_holds;
   entry_role = g.entry_role;
   exit_role = refl;
   away = g.away;
   here = g.here;
+  recent = g.recent;
 }
 
-plain_takes_go : {afar : Afar} {above : List Record} {ga gb : Ghost} (desk : Desk) (unread : List Sensed) (body : Machine) (c : Scene) (up : List Horizontal)
-    → Good afar above unread ga gb body c → body.exit.session.state ≡ NotConnected → IsCall (up_words up)
-    → Goes afar above [] ga gb c (plain_step desk unread Accepted body).body (all_met (plain_step desk unread Accepted body).acts (called up c))
-plain_takes_go {afar = afar} {above = above} {ga = ga} {gb = gb} desk unread body c up g away call =
-    let read : Done = all_read desk unread body in
-    let one : Machine = body_read desk unread body in
-    let now : Scene = scene_read desk unread body c in
+plain_takes_ahead : {afar : Afar} {above : List Record} {seen rest : List Sensed} {ga gb : Ghost} (desk : Desk) (read : List Sensed) (body : Machine) (c : Scene) (up : List Horizontal)
+    → Reads afar above seen rest ga gb desk read body c → body.exit.session.state ≡ NotConnected → IsCall (up_words up)
+    → GoesTo afar above rest ga gb c (plain_step desk read Accepted body).body (all_met (plain_step desk read Accepted body).acts (called up c))
+plain_takes_ahead {afar = afar} {above = above} {rest = rest} {ga = ga} {gb = gb} desk read body c up reads away call =
+    let first : Done = all_read desk read body in
+    let one : Machine = body_read desk read body in
+    let now : Scene = scene_read desk read body c in
+    let g = reads.before in
     let left : Scene → Scene = with_link Exit c.below.stands up c.below.down in
-    let still : one.exit.session.state ≡ NotConnected = ap (λ (e : End). e.session.state) (read_exit desk unread body) ∙ away in
-    let read_good : Good afar above [] ga gb one now = all_read_good desk unread body c g in
-    let same : now ≡ with_link Exit c.below.stands c.below.up c.below.down now = read_apart_below desk unread body c c c.below.stands c.below.up c.below.down g away in
-    let good : Good afar above [] ga gb (with_session Exit accepting one) (left now) =
-    subst (λ (s : Scene). Good afar above [] ga gb (with_session Exit accepting one) (with_link Exit s.below.stands up s.below.down now)) same (takes_good one now up read_good still call) in
-    let t = announces_go desk good in
+    let still : one.exit.session.state ≡ NotConnected = ap (λ (e : End). e.session.state) (read_exit desk read body) ∙ away in
+    let same : now ≡ with_link Exit c.below.stands c.below.up c.below.down now = read_apart_below desk read body c c c.below.stands c.below.up c.below.down g away in
+    let good : Good afar above rest ga gb (with_session Exit accepting one) (left now) =
+    subst (λ (s : Scene). Good afar above rest ga gb (with_session Exit accepting one) (with_link Exit s.below.stands up s.below.down now)) same (takes_good one now up reads.after still call) in
+    let t = announces_ahead desk good (record { read = reads.free.read }) in
     let last : List Act = (announces desk (with_session Exit accepting one)).acts in
-    subst (λ (d : Done). Goes afar above [] ga gb c (announces desk d.body).body (all_met (read.acts ++ (d.acts ++ (announces desk d.body).acts)) (left c))) (sym (accept_did desk one still read_good.exit_role))
-    (subst (λ (s : Scene). Goes afar above [] ga gb c (announces desk (with_session Exit accepting one)).body s)
-    (sym (met_append read.acts last (left c) ∙ ap (all_met last) (read_apart_below desk unread body c c c.below.stands up c.below.down g away)))
-    (goes_since (all_outlet read.acts c) (all_intake read.acts c) t))
+    subst (λ (d : Done). GoesTo afar above rest ga gb c (announces desk d.body).body (all_met (first.acts ++ (d.acts ++ (announces desk d.body).acts)) (left c))) (sym (accept_did desk one still reads.after.exit_role))
+    (record {
+      goes = subst (λ (s : Scene). Goes afar above rest ga gb c (announces desk (with_session Exit accepting one)).body s)
+          (sym (met_append first.acts last (left c) ∙ ap (all_met last) (read_apart_below desk read body c c c.below.stands up c.below.down g away)))
+          (goes_since (all_outlet first.acts c) (all_intake first.acts c) t.goes);
+      read = t.read;
+    })
 
 -- THE STEP OF THE MACHINE ABOVE
+pub takes_ahead : {afar : Afar} {above : List Record} {seen rest : List Sensed} {ga gb : Ghost} (desk : Desk) (read : List Sensed) (body : Machine) (c : Scene) (up : List Horizontal)
+    → Reads afar above seen rest ga gb desk read body c → body.exit.session.state ≡ NotConnected → IsCall (up_words up)
+    → GoesTo afar above rest ga gb c (machine_step desk read Accepted body).body (all_met (machine_step desk read Accepted body).acts (called up c))
+takes_ahead {afar = afar} {above = above} {rest = rest} {ga = ga} {gb = gb} desk read body c up reads away call =
+    subst (λ (s : Scene). GoesTo afar above rest ga gb c (plain_step desk read Accepted body).body s) (sym (step_met desk read Accepted body (called up c)))
+    (plain_takes_ahead desk read body c up reads away call)
+
 pub takes_go : {afar : Afar} {above : List Record} {ga gb : Ghost} (desk : Desk) (unread : List Sensed) (body : Machine) (c : Scene) (up : List Horizontal)
     → Good afar above unread ga gb body c → body.exit.session.state ≡ NotConnected → IsCall (up_words up)
     → Goes afar above [] ga gb c (machine_step desk unread Accepted body).body (all_met (machine_step desk unread Accepted body).acts (called up c))
-takes_go {afar = afar} {above = above} {ga = ga} {gb = gb} desk unread body c up g away call =
-    subst (λ (s : Scene). Goes afar above [] ga gb c (plain_step desk unread Accepted body).body s) (sym (step_met desk unread Accepted body (called up c)))
-    (plain_takes_go desk unread body c up g away call)
+takes_go desk unread body c up g away call = (takes_ahead desk unread body c up (reads_all desk unread body c g) away call).goes

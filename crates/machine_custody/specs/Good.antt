@@ -1,6 +1,8 @@
 -- THE RELATION OF A MACHINE AND ITS TWO LINKS, and what a micro event does to it.
-use Rattle.std.specs.Prelude.{Bool, List, None, Some, false, true, ℕ, ◌∷◌, ◌≡◌, ◌⊎◌}
+use Rattle.std.specs.Prelude.{Bool, List, None, Option, Some, false, true, ℕ, ◌∷◌, ◌≡◌, ◌⊎◌}
 use Rattle.line_base.specs.declared.states.Role.TheVariants.{Downstream, Upstream}
+use Rattle.line_base.specs.declared.states.SensorEvent.TheVariants as event
+use Rattle.line_base.specs.declared.states.Side.TheVariants.{Entry}
 use Rattle.board_record.specs.declared.record.Record.{Record}
 use Rattle.board_record.specs.declared.sensed.Sensed.{Sensed}
 use Rattle.line_world.specs.declared.board.Board.{Board}
@@ -10,10 +12,13 @@ use Rattle.handover_in.specs.State.{board_of_phase as held_in}
 use Rattle.handover_in.specs.declared.phase.Phase.{Phase as In}
 use Rattle.node_core.specs.Done.{Done}
 use Rattle.node_core.specs.declared.lane.Body.{Body as Machine}
-use Rattle.custody.specs.Contents.{Kept}
+use Rattle.custody.specs.Contents.{Foremost, IsRecent}
 use Rattle.custody.specs.Events.{IsContent, gone_by}
+use Rattle.custody.specs.Facts.{Has}
 use Rattle.custody.specs.Pair.{Body, Ghost, Pair}
 use Rattle.custody.specs.Place.{Place, is_away, is_inside, is_upstream}
+use Rattle.custody.specs.Unread.{NotOver}
+use Rattle.custody.specs.Words.{events_at}
 use Rattle.machine_custody.specs.Scene.{Scene, all_met, link_above, link_below}
 
 -- a board with this id is among these
@@ -31,18 +36,19 @@ pub record Afar : Type 0 where
 
 -- what the halves of a handover hold, by the place of its board: what the outlet holds of a board
 -- that is inside, the intake holds too; a board that was taken out by hand is gone; and while the
--- intake alone holds a board that is upstream, it is kept there, or gone
-pub record Holds (gone : ℕ
-    → Bool) (kept : List Record) (p : Place) (o : Out) (i : In) : Type 0 where
+-- intake alone holds a board that is upstream, it is the front there and was offered last, or gone
+pub record Holds (gone : ℕ → Bool) (kept : List Record) (last : Option ℕ) (p : Place) (o : Out)
+    (i : In) : Type 0 where
   pub inside : (q : Record) → held_out o ≡ Some q → is_inside p ≡ true → held_in i ≡ Some q
   pub away_out : (q : Record) → held_out o ≡ Some q → is_away p ≡ true → gone q.id ≡ true
   pub away_in : (q : Record) → held_in i ≡ Some q → is_away p ≡ true → gone q.id ≡ true
   pub upstream : (q : Record) → held_in i ≡ Some q → held_out o ≡ None → is_upstream p ≡ true
-      → Kept q.id kept ⊎ (gone q.id ≡ true)
+      → Foremost q.id last kept ⊎ (gone q.id ≡ true)
 
 -- a machine that has not read these sensor events stands in the relation of both its links: the
 -- ghosts name place and board of each. `above` are the records that the machine above keeps. What
--- each handover's halves hold is where the ghost says. No board that lies here is gone by this
+-- each handover's halves hold is where the ghost says. What it offers and what its outlet holds was
+-- offered last. No board that lies here is gone by this
 -- machine, and what its outlet holds lies elsewhere once it isn't upstream
 pub record Good (afar : Afar) (above : List Record) (unread : List Sensed) (ga gb : Ghost)
     (body : Machine) (c : Scene) : Type 0 where
@@ -51,8 +57,11 @@ pub record Good (afar : Afar) (above : List Record) (unread : List Sensed) (ga g
   pub boards : Body body.outlet.phase gb.place body.kept body.intake.phase ga.place c.boards
   pub above_contents : IsContent (gone_by afar.gone_above) (link_above unread body c) above
   pub below_contents : IsContent (gone_by afar.gone_below) (link_below unread body c) body.kept
-  pub above_holds : Holds afar.gone_above above ga.place c.above.outlet.phase body.intake.phase
-  pub below_holds : Holds afar.gone_below body.kept gb.place body.outlet.phase c.below.intake.phase
+  pub above_holds : Holds afar.gone_above above c.above.last_offer ga.place c.above.outlet.phase
+      body.intake.phase
+  pub below_holds : Holds afar.gone_below body.kept body.last_offer gb.place body.outlet.phase
+      c.below.intake.phase
+  pub recent : IsRecent body.last_offer body.outlet
   pub entry_role : body.entry.session.role ≡ Downstream
   pub exit_role : body.exit.session.role ≡ Upstream
   pub away : (r : Record) → held_out body.outlet.phase ≡ Some r → is_upstream gb.place ≡ false
@@ -71,7 +80,13 @@ ListsBelow i g i2 g2 =
     (o : Out) (p : Place) (kept : List Record) (boards : List Board)
     → Body o p kept i g.place boards → Body o p kept i2 g2.place boards
 
--- what holds behind a micro event that left these sensor events unread
+-- a machine that has these events unread has read that the board at its entry begins, where that
+-- has gone across
+abbrev pub ReadsFirst : List Sensed → Ghost → Type 0
+ReadsFirst unread g = Has event.Begun (events_at Entry unread) → NotOver g.place
+
+-- what holds behind a micro event that left these sensor events unread. What was read first is so
+-- still, and a board below that has not gone across is none that has
 pub record Goes (afar : Afar) (above : List Record) (unread : List Sensed) (ga gb : Ghost)
     (c : Scene) (after : Machine) (d : Scene) : Type 0 where
   pub a : Ghost
@@ -79,6 +94,8 @@ pub record Goes (afar : Afar) (above : List Record) (unread : List Sensed) (ga g
   pub good : Good afar above unread a b after d
   pub lists_above : ListsAbove c.above.outlet.phase ga d.above.outlet.phase a
   pub lists_below : ListsBelow c.below.intake.phase gb d.below.intake.phase b
+  pub still_first : ReadsFirst unread ga → ReadsFirst unread a
+  pub still_over : NotOver gb.place → NotOver b.place
 
 -- a micro event that keeps it
 abbrev pub GoesBy : Afar → List Record → List Sensed → Ghost → Ghost → Scene → Done → Type 0

@@ -5,4 +5,4 @@ pub mod Flight
 pub mod ByHand
 pub mod Joined
 pub mod Ahead
-pub mod Sudden
+pub mod InTime

@@ -1,5 +1,5 @@
 -- A machine between its two links: what lies above it and below it, and what its acts do there.
-use Rattle.std.specs.Prelude.{Bool, List, Some, [], drop, false, ◌++◌, ◌∷◌}
+use Rattle.std.specs.Prelude.{Bool, List, Option, Some, [], drop, false, ℕ, ◌++◌, ◌∷◌}
 use Rattle.line_base.specs.declared.states.Side.{Side}
 use Rattle.line_base.specs.declared.states.Side.TheVariants.{Entry, Exit}
 use Rattle.board_record.specs.declared.sensed.Sensed.{Sensed}
@@ -16,12 +16,13 @@ use Rattle.node_core.specs.declared.lane.Body.{Body}
 use Rattle.custody.specs.Pair.{LinkState}
 use Rattle.custody.specs.Words.{sent}
 
--- what lies above a machine: the exit of the machine there with its outlet, whether the link
--- stands, the gap, what is at that machine on the floor, and the messages that are sent and not
--- heard yet, up to it and down from it
+-- what lies above a machine: the exit of the machine there with its outlet and what it offered
+-- last, whether the link stands, the gap, what is at that machine on the floor, and the messages
+-- that are sent and not heard yet, up to it and down from it
 pub record Above : Type 0 where
   pub exit : SessionState
   pub outlet : OutState
+  pub last_offer : Option ℕ
   pub stands : Bool
   pub gap : AtGap
   pub far : AtMachine
@@ -50,6 +51,7 @@ abbrev pub link_above : List Sensed → Body → Scene → LinkState
 link_above unread body c = record {
   exit = c.above.exit;
   outlet = c.above.outlet;
+  last_offer = c.above.last_offer;
   entry = body.entry.session.state;
   intake = body.intake;
   stands = c.above.stands;
@@ -66,6 +68,7 @@ abbrev pub link_below : List Sensed → Body → Scene → LinkState
 link_below unread body c = record {
   exit = body.exit.session.state;
   outlet = body.outlet;
+  last_offer = body.last_offer;
   entry = c.below.entry;
   intake = c.below.intake;
   stands = c.below.stands;

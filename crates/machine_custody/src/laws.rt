@@ -7,6 +7,7 @@ ghost use Rattle.line_base.specs.declared.states.Side.TheVariants.{Entry, Exit};
 ghost use Rattle.line_base.specs.declared.states.Quality.{Quality};
 ghost use Rattle.board_record.specs.declared.record.Record.{Record};
 ghost use Rattle.board_record.specs.declared.sensed.Sensed.{Sensed};
+ghost use Rattle.board_record.specs.declared.sub_board.SubBoard.{SubBoard};
 ghost use Rattle.hermes_horizontal.specs.declared.message.Horizontal.{Horizontal};
 ghost use Rattle.hermes_horizontal.specs.declared.message.Horizontal.TheVariants as message;
 ghost use Rattle.hermes_horizontal.specs.declared.message.Service.{Service};
@@ -14,9 +15,9 @@ ghost use Rattle.session_core.specs.declared.state.SessionState.TheVariants.{Han
 ghost use Rattle.line_world.specs.FloorPlan.{with_new_id, without_board};
 ghost use Rattle.handover_in.specs.State.{may_connect};
 ghost use Rattle.handover_in.specs.declared.phase.Phase.TheVariants as inn;
-ghost use Rattle.node_core.specs.Boards.{is_kept};
+ghost use Rattle.node_core.specs.Boards.{is_kept, with_kept, without};
 ghost use Rattle.node_core.specs.Desk.{Desk};
-ghost use Rattle.node_core.specs.Event.{Accepted, Connect, Event, Insert, Mark, Nothing, Remove, Replace, Second};
+ghost use Rattle.node_core.specs.Event.{Accepted, Connect, Event, Insert, Mark, Nothing, Remove, Replace, Second, Sub};
 ghost use Rattle.node_core.specs.Halves.{OffersFront};
 ghost use Rattle.node_core.specs.Step.{machine_step};
 ghost use Rattle.node_core.specs.declared.act.Act.{Act};
@@ -24,13 +25,13 @@ ghost use Rattle.node_core.specs.declared.lane.Body.{Body as Machine};
 ghost use Rattle.custody.specs.Pair.{Ghost};
 ghost use Rattle.custody.specs.Talks.{IsCall};
 ghost use Rattle.custody.specs.Words.{down_words, up_words};
-ghost use Rattle.machine_custody.specs.Ahead.{IsFreeRead};
+ghost use Rattle.machine_custody.specs.Ahead.{GoesAhead, GoesTo, IsFreeRead};
 ghost use Rattle.machine_custody.specs.ByHand.{AreHere, Grows, body_read};
 ghost use Rattle.machine_custody.specs.Flight.{IsPlain};
 ghost use Rattle.machine_custody.specs.Good.{Afar, Goes, GoesBy, Good};
-ghost use Rattle.machine_custody.specs.Joined.{GoesLeft, GoesSecond, described_by, with_link};
+ghost use Rattle.machine_custody.specs.InTime.{IsMetInTime, IsReadEnough};
+ghost use Rattle.machine_custody.specs.Joined.{GoesLeft, GoesSecond, all_met_left, all_met_second, described_by, with_link};
 ghost use Rattle.machine_custody.specs.Scene.{Scene, all_met};
-ghost use Rattle.machine_custody.specs.Sudden.{IsReadEnough, IsSudden};
 ghost use Rattle.machine_custody.specs.Unique.{IsApart};
 
 /// A step in which no board is changed by hand and no connection is made keeps the relation of
@@ -45,8 +46,8 @@ pub fn a_step_keeps_both_links()
         → GoesBy afar above [] ga gb c (machine_step desk unread event body) }
 {}
 
-/// And so does a step in which a board is put in, taken out, replaced or marked by hand: a new
-/// board whose id is none on the floor, or one that is kept still when the events are read. The
+/// And so does a step in which a board is put in, taken out, replaced or marked by hand, or gets a
+/// circuit of a panel: a new board whose id is none on the floor, or one that is kept still when the events are read. The
 /// ids of boards that go are gone from then on.
 pub fn a_change_by_hand_keeps_both_links()
     ensures insert { (afar : Afar) (above : List Record) (ga gb : Ghost) (gone : ℕ → Bool)
@@ -73,6 +74,28 @@ pub fn a_change_by_hand_keeps_both_links()
         (unread : List Sensed) (id : ℕ) (quality : Quality) (body : Machine) (c : Scene)
         → Good afar above unread ga gb body c → (body.outlet.touched ≡ Some id → ⊥)
         → GoesBy afar above [] ga gb c (machine_step desk unread (Mark id quality) body) }
+    ensures sub { (afar : Afar) (above : List Record) (ga gb : Ghost) (desk : Desk)
+        (unread : List Sensed) (id : ℕ) (sub : SubBoard) (body : Machine) (c : Scene)
+        → Good afar above unread ga gb body c → (body.outlet.touched ≡ Some id → ⊥)
+        → GoesBy afar above [] ga gb c (machine_step desk unread (Sub id sub) body) }
+{}
+
+/// A board that changes lanes inside a machine: one that is kept and wasn't offered last goes out of
+/// the kept ones and off the floor, and nothing is gone; and one comes behind the kept ones as it is,
+/// beside an idle intake, if it isn't gone by this machine.
+pub fn a_board_that_changes_lanes_keeps_both_links()
+    ensures given { (afar : Afar) (above : List Record) (unread : List Sensed) (ga gb : Ghost)
+        (id : ℕ) (body : Machine) (c : Scene) → Good afar above unread ga gb body c
+        → is_kept id body.kept ≡ true → (body.last_offer ≡ Some id → ⊥)
+        → AreHere afar.gone_below (without_board id c.boards)
+        → Good afar above unread ga gb (with_kept (without id body.kept) body)
+        (record c { boards = without_board id c.boards }) }
+    ensures got { (afar : Afar) (above : List Record) (unread : List Sensed) (ga gb : Ghost)
+        (board : Record) (body : Machine) (c : Scene) → Good afar above unread ga gb body c
+        → body.intake.phase ≡ inn.Idle
+        → AreHere afar.gone_below (c.boards ++ record { id = Some board.id } ∷ [])
+        → Good afar above unread ga gb (with_kept (body.kept ++ board ∷ []) body)
+        (record c { boards = c.boards ++ record { id = Some board.id } ∷ [] }) }
 {}
 
 /// The two steps in which a link is connected. The machine below calls: in the relation the link
@@ -126,17 +149,92 @@ pub fn a_step_reads_a_front()
         → IsFreeRead rest (machine_step desk read Nothing body).body }
 {}
 
-/// It may leave events unread also as it finds a connection closed, as a drive fails, as its clock
-/// ticks, or as its will changes, once it has read what its boards did at either gap (`IsReadEnough`).
+/// It may leave events unread whatever befalls it, once it has read what its boards did at either gap
+/// (`IsReadEnough`), and hears each word in time (`IsMetInTime`): as its connection is found closed,
+/// a drive fails, its clock ticks, it shuts down, its will or a level changes, or it hears words.
 pub fn a_step_comes_before_all_is_read()
     ensures links { (afar : Afar) (above : List Record) (ga gb : Ghost) (desk : Desk)
-        (read rest : List Sensed) (event : Event) (body : Machine) (c : Scene) → IsSudden event
-        → Good afar above (read ++ rest) ga gb body c → IsFreeRead (read ++ rest) body
-        → IsReadEnough rest ga → GoesBy afar above rest ga gb c (machine_step desk read event body) }
+        (read rest : List Sensed) (event : Event) (body : Machine) (c : Scene) → IsPlain event c
+        → IsMetInTime event rest → OffersFront body → Good afar above (read ++ rest) ga gb body c
+        → IsFreeRead (read ++ rest) body → IsReadEnough rest ga
+        → GoesBy afar above rest ga gb c (machine_step desk read event body) }
     ensures free { (afar : Afar) (above : List Record) (ga gb : Ghost) (desk : Desk)
-        (read rest : List Sensed) (event : Event) (body : Machine) (c : Scene) → IsSudden event
+        (read rest : List Sensed) (event : Event) (body : Machine) (c : Scene) → IsPlain event c
+        → IsMetInTime event rest → OffersFront body → Good afar above (read ++ rest) ga gb body c
+        → IsFreeRead (read ++ rest) body → IsReadEnough rest ga
+        → IsFreeRead rest (machine_step desk read event body).body }
+{}
+
+/// And so it may as a board is changed by hand, whatever its sensors have seen and it has not read.
+pub fn a_change_by_hand_comes_before_all_is_read()
+    ensures insert { (afar : Afar) (above : List Record) (ga gb : Ghost) (gone : ℕ → Bool)
+        (desk : Desk) (read rest : List Sensed) (id : ℕ) (barcode : Option (List ℕ))
+        (body : Machine) (c : Scene) → Good afar above (read ++ rest) ga gb body c
+        → IsFreeRead (read ++ rest) body → body.intake.phase ≡ inn.Idle
+        → Grows afar.gone_below gone → AreHere gone (c.boards ++ record { id = Some id } ∷ [])
+        → GoesAhead (record afar { gone_below = gone }) above rest ga gb c
+        (machine_step desk read (Insert id barcode) body) }
+    ensures remove { (afar : Afar) (above : List Record) (ga gb : Ghost) (gone : ℕ → Bool)
+        (desk : Desk) (read rest : List Sensed) (id : ℕ) (body : Machine) (c : Scene)
         → Good afar above (read ++ rest) ga gb body c → IsFreeRead (read ++ rest) body
-        → IsReadEnough rest ga → IsFreeRead rest (machine_step desk read event body).body }
+        → IsApart afar c → is_kept id (body_read desk read body).kept ≡ true
+        → Grows afar.gone_below gone → gone id ≡ true → AreHere gone (without_board id c.boards)
+        → GoesAhead (record afar { gone_below = gone }) above rest ga gb c
+        (machine_step desk read (Remove id) body) }
+    ensures replace { (afar : Afar) (above : List Record) (ga gb : Ghost) (gone : ℕ → Bool)
+        (desk : Desk) (read rest : List Sensed) (old new : ℕ) (body : Machine) (c : Scene)
+        → Good afar above (read ++ rest) ga gb body c → IsFreeRead (read ++ rest) body
+        → IsApart afar c → is_kept old (body_read desk read body).kept ≡ true
+        → Grows afar.gone_below gone → gone old ≡ true
+        → AreHere gone (with_new_id old new c.boards)
+        → GoesAhead (record afar { gone_below = gone }) above rest ga gb c
+        (machine_step desk read (Replace old new) body) }
+    ensures mark { (afar : Afar) (above : List Record) (ga gb : Ghost) (desk : Desk)
+        (read rest : List Sensed) (id : ℕ) (quality : Quality) (body : Machine) (c : Scene)
+        → Good afar above (read ++ rest) ga gb body c → IsFreeRead (read ++ rest) body
+        → (body.outlet.touched ≡ Some id → ⊥)
+        → GoesAhead afar above rest ga gb c (machine_step desk read (Mark id quality) body) }
+    ensures sub { (afar : Afar) (above : List Record) (ga gb : Ghost) (desk : Desk)
+        (read rest : List Sensed) (id : ℕ) (sub : SubBoard) (body : Machine) (c : Scene)
+        → Good afar above (read ++ rest) ga gb body c → IsFreeRead (read ++ rest) body
+        → (body.outlet.touched ≡ Some id → ⊥)
+        → GoesAhead afar above rest ga gb c (machine_step desk read (Sub id sub) body) }
+{}
+
+/// And as a connection is made: one that the machine above took first, one that has no other end, at
+/// either machine, or that is refused, whether the machine below has it still or has left it.
+pub fn a_connection_comes_before_all_is_read()
+    ensures first { (afar : Afar) (above : List Record) (ga gb : Ghost) (desk : Desk)
+        (read rest : List Sensed) (body : Machine) (c : Scene) (down : List Horizontal)
+        → Good afar above (read ++ rest) ga gb body c → IsFreeRead (read ++ rest) body
+        → body.entry.session.state ≡ NotConnected → may_connect body.intake.phase ≡ true
+        → c.above.exit ≡ Handshake → up_words c.above.up ≡ [] → down_words down ≡ []
+        → GoesTo afar above rest ga gb c (machine_step desk read Connect body).body
+        (all_met (machine_step desk read Connect body).acts (with_link Entry true [] down c)) }
+    ensures above { (afar : Afar) (above : List Record) (ga gb : Ghost) (desk : Desk)
+        (read rest : List Sensed) (body : Machine) (c : Scene) (up : List Horizontal)
+        → Good afar above (read ++ rest) ga gb body c → IsFreeRead (read ++ rest) body
+        → body.exit.session.state ≡ NotConnected → IsCall (up_words up)
+        → GoesTo afar above rest ga gb c (machine_step desk read Accepted body).body
+        (all_met (machine_step desk read Accepted body).acts
+        (with_link Exit c.below.stands up c.below.down c)) }
+    ensures below { (afar : Afar) (above : List Record) (ga gb : Ghost) (desk : Desk)
+        (read rest : List Sensed) (body : Machine) (c : Scene) (down : List Horizontal)
+        → Good afar above (read ++ rest) ga gb body c → IsFreeRead (read ++ rest) body
+        → body.entry.session.state ≡ NotConnected → may_connect body.intake.phase ≡ true
+        → down_words down ≡ []
+        → GoesAhead afar above rest ga gb (with_link Entry c.above.stands c.above.up down c)
+        (machine_step desk read Connect body) }
+    ensures refused { (afar : Afar) (above : List Record) (ga gb : Ghost) (desk : Desk)
+        (read rest : List Sensed) (body : Machine) (c : Scene)
+        → Good afar above (read ++ rest) ga gb body c → IsFreeRead (read ++ rest) body
+        → GoesTo afar above rest ga gb c (machine_step desk read Second body).body
+        (all_met_second (machine_step desk read Second body).acts c) }
+    ensures left { (afar : Afar) (above : List Record) (ga gb : Ghost) (desk : Desk)
+        (read rest : List Sensed) (body : Machine) (c : Scene)
+        → Good afar above (read ++ rest) ga gb body c → IsFreeRead (read ++ rest) body
+        → GoesTo afar above rest ga gb c (machine_step desk read Second body).body
+        (all_met_left (machine_step desk read Second body).acts c) }
 {}
 
 /// The machine below finds its connection made where the machine above has taken it first: the

@@ -1,6 +1,6 @@
 -- A MACHINE BEHIND ITS PORT: the machine, what waits on the ways to its neighbours, the levels of
 -- its drives and signals, and what it did last.
-use Rattle.std.specs.Prelude.{◌≡◌, ◌+◌, ℕ, ℤ, Bool, true, false, List, [], ◌∷◌, Option, None, Some, Result, Ok, Err, drop}
+use Rattle.std.specs.Prelude.{◌≡◌, ◌+◌, ℕ, ℤ, Bool, true, false, List, [], ◌∷◌, Option, None, Some, Result, Ok, Err, drop, nat_lt, if◌then◌else◌}
 use Rattle.line_base.specs.declared.states.Side.{Side}
 use Rattle.line_base.specs.declared.states.Side.TheVariants.{Entry, Exit}
 use Rattle.board_record.specs.declared.sensed.Sensed.{Sensed}
@@ -22,12 +22,14 @@ use Rattle.machine_port.specs.Ways.{WayState, at_rest, said_at, way_after, way_s
 use Rattle.machine_port.specs.declared.levels.Levels.{Levels}
 
 -- a port is spent once memory was wanting. `number` is the number in the ids that its machine
--- makes, and `made` how many it made, with those before it was new; `refusal` is the text for a
--- second connection of the downstream neighbour, and `last` are the acts of the last call that was done
+-- makes, and `made` how many it made, with those before it was new; `steps` is how many steps it
+-- made; `refusal` is the text for a second connection of the downstream neighbour, and `last` are
+-- the acts of the last call that was done
 pub record PortState : Type 0 where
   pub spent : Bool
   pub number : ℕ
   pub made : ℕ
+  pub steps : ℕ
   pub node : NodeState
   pub entry : WayState
   pub exit : WayState
@@ -41,6 +43,7 @@ new_port profile = record {
   spent = false;
   number = profile.number;
   made = profile.used;
+  steps = 0;
   node = new_node profile;
   entry = at_rest;
   exit = at_rest;
@@ -115,12 +118,17 @@ made_after (inputs.Insert barcode) made = made + 1
 made_after (inputs.Replace id) made = made + 1
 made_after _ made = made
 
+-- how many steps are made with one more, as far as 64 bits count
+abbrev pub one_step_more : ℕ → ℕ
+one_step_more steps = if nat_lt steps 18446744073709551615 then steps + 1 else steps
+
 -- THE PORT AFTER A STEP of its machine, that did these acts
 abbrev pub stepped : Input → NodeState → List Act → PortState → PortState
 stepped input node told s =
     record (routed (is_second input) told (dropped (closed_by input) s)) {
       spent = false;
       made = made_after input s.made;
+      steps = one_step_more s.steps;
       node = node;
       levels = levels_after s.levels told;
       last = told;

@@ -2,7 +2,7 @@ ghost use Rattle.std.specs.Prelude.{◌≡◌, ◌≤◌, ◌<◌, ◌^◌, ◌+
 ghost use Rattle.line_base.specs.declared.states.Side.TheVariants.{Exit};
 ghost use Rattle.node_core.specs.May.{may_do, may_of};
 ghost use Rattle.node_core.specs.declared.input.Input.TheVariants as inputs;
-ghost use Rattle.machine_port.specs.Port.{HasClosed, HasStepped, closed_by, dropped, is_second, made_after, may_take, new_port, on_ways, routed, said_to_second, sent, sent_refusal, way_at, with_way};
+ghost use Rattle.machine_port.specs.Port.{HasClosed, HasStepped, closed_by, dropped, is_second, made_after, may_take, new_port, one_step_more, on_ways, routed, said_to_second, sent, sent_refusal, way_at, with_way};
 ghost use Rattle.machine_port.specs.Ways.{at_rest, said_at};
 
 use crate::error::NotDone;
@@ -15,6 +15,9 @@ use node_core::{Act, Input, No, Node, NodeProfile, Outputs};
 use std::alloc::Global;
 use std::marker::Model;
 
+/// As far as steps are counted.
+const MOST_STEPS: u64 = 18_446_744_073_709_551_615;
+
 /// One machine behind its port.
 ///
 /// Once memory was wanting it is spent: each later step answers `Memory`, its drives are to stand
@@ -25,6 +28,7 @@ pub struct Port {
     spent: bool,
     number: u32,
     made: u64,
+    steps: u64,
     node: Node,
     entry: Outgoing,
     exit: Outgoing,
@@ -43,6 +47,7 @@ impl Model for Port {
       spent = port.spent;
       number = port.number;
       made = port.made;
+      steps = port.steps;
       node = port.node;
       entry = port.entry;
       exit = port.exit;
@@ -71,6 +76,7 @@ impl Port {
             spent: false,
             number,
             made,
+            steps: 0,
             node: Node::new(alloc, profile)?,
             entry: Outgoing::new(alloc),
             exit: Outgoing::new(alloc),
@@ -164,6 +170,7 @@ impl Port {
             (HasStepped sensed.now input.entry moment self.old self.new) }
     {
         let made = self.made_after(&input);
+        let steps = self.one_step_more();
         self.spent = true;
         self.made = made;
         let second = is_second(&input);
@@ -172,6 +179,7 @@ impl Port {
         self.route(second, acts.list())?;
         self.levels.obey(acts.list());
         self.last = acts;
+        self.steps = steps;
         self.spent = false;
         Ok(())
     }
@@ -186,6 +194,17 @@ impl Port {
         match input {
             Input::Insert(_) | Input::Replace(_) => self.made + 1,
             _ => self.made,
+        }
+    }
+
+    /// How many steps are made with one more.
+    fn one_step_more(&self) -> u64
+        ensures { result ≡ one_step_more self.now.steps }
+    {
+        if self.steps < MOST_STEPS {
+            self.steps + 1
+        } else {
+            self.steps
         }
     }
 
@@ -263,6 +282,13 @@ impl Port {
         ensures machine { self.now.spent ≡ false → self.now.made ≡ self.now.node.maker.used }
     {
         self.made
+    }
+
+    /// How many steps it made, as far as 64 bits count.
+    pub fn steps(&self) -> u64
+        ensures { result ≡ self.now.steps }
+    {
+        self.steps
     }
 
     /// Whether memory was wanting.

@@ -80,3 +80,4 @@ act_seen (acts.Replaces old new) = record (of_board 20 0 0 old) { other = id_byt
 act_seen (acts.Tells message) = told_seen message.body
 act_seen (acts.Answered query order) = record (numbered 22 0 0) { query = query }
 act_seen (acts.Sets setting) = numbered 23 0 0
+act_seen (acts.Subs id place) = of_board 24 0 place id

@@ -1,5 +1,4 @@
 pub mod Numbers
 pub mod Seen
 pub mod Acts
-pub mod Texts
 pub mod Records

@@ -20,7 +20,7 @@ closes s side = flag (s.spent || (way_at side s).closes)
 -- how a machine is seen; of two, the first is the entry's
 abbrev pub view_of : PortState → HermesView
 view_of s = record {
-  size = 128;
+  size = 136;
   spent = flag s.spent;
   bridge = flag (is_some s.node.bridge);
   supervised = flag s.node.supervised;
@@ -36,4 +36,5 @@ view_of s = record {
   acts = length s.last;
   unsent = length s.entry.text ∷ length s.exit.text ∷ 0 ∷ length s.refusal ∷ [];
   ids_made = s.made;
+  steps = s.steps;
 }

@@ -7,12 +7,10 @@ mod board;
 mod copied;
 mod field;
 mod numbers;
-mod text;
 mod view;
 
 pub use act::{ACT_BYTES, HermesAct, act_seen};
 pub use board::{BOARD_BYTES, HermesBoard, board_seen, record_at};
 pub use copied::copy_front;
 pub use field::write_field;
-pub use text::write_log_text;
 pub use view::{HermesView, VIEW_BYTES, view_of};

@@ -6,13 +6,13 @@ use line_base::Side;
 use machine_port::Port;
 
 /// How many bytes a view has.
-pub const VIEW_BYTES: u32 = 128;
+pub const VIEW_BYTES: u32 = 136;
 
 /// How a machine stands. Of two, the first is the entry's, the second the exit's.
 #[repr(C)]
 #[derive(Clone, Copy)]
 pub struct HermesView {
-    /// How many bytes this has, 128.
+    /// How many bytes this has, 136.
     pub size: u32,
     /// 1 where memory was wanting in a step: then no drive may run, and each connection is to be
     /// closed.
@@ -40,6 +40,8 @@ pub struct HermesView {
     pub unsent: [u64; 4],
     /// How many ids it has made, those of the profile among them.
     pub ids_made: u64,
+    /// How many steps it made, as far as 64 bits count.
+    pub steps: u64,
 }
 
 /// How a machine stands.
@@ -81,6 +83,7 @@ pub fn view_of(port: &Port) -> HermesView
             port.refusal().len() as u64,
         ],
         ids_made: port.ids_made(),
+        steps: port.steps(),
     }
 }
 

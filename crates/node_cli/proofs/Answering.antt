@@ -8,7 +8,7 @@ use Rattle.node_core.specs.Node.{new_node}
 use Rattle.node_run.specs.Next.{next_of}
 use Rattle.node_run.specs.Runs.{HasRun, IsMoment}
 use Rattle.node_run.specs.State.{RunState, started}
-use Rattle.node_run.specs.Told.{profile_of, rules_of}
+use Rattle.node_run.specs.Told.{neighbours_of, profile_of, rules_of}
 use Rattle.node_run.specs.declared.place.Next.TheVariants as nexts
 use Rattle.node_run.specs.declared.status.NodeStatus.{NodeStatus}
 use Rattle.node_run.specs.declared.status.NodeStatus.TheVariants as statuses
@@ -36,10 +36,10 @@ quiet_answer {Answer} told given_old given_new log_old log_new quiet is =
     answered {moments = []} {calls = []} {log = []} (All-nil (IsMoment told)) is given log
 
 ran : (settings : Settings) (told : Option ℤ) (given_old given_new : Option (List Given)) (log_old log_new : Option (List ℕ)) {fb fn lb ln : ℕ} {status : NodeStatus} (t : RunState)
-    → HasRun told (rules_of settings) (started (new_node (profile_of settings))) t given_old given_new log_old log_new → next_of (rules_of settings) t ≡ nexts.End status
+    → HasRun told (rules_of settings) (started (neighbours_of settings) (new_node (profile_of settings))) t given_old given_new log_old log_new → next_of (rules_of settings) t ≡ nexts.End status
     → Answers (IsSettingsAnswer (Ok settings)) told given_old given_new log_old log_new fb fn lb ln status
 ran settings told given_old given_new log_old log_new {status = status} t run ends =
-    let whole : IsWhole (rules_of settings) (started (new_node (profile_of settings))) run.moments run.calls run.log status = record { reached = t; run = run.run; ends = ends } in
+    let whole : IsWhole (rules_of settings) (started (neighbours_of settings) (new_node (profile_of settings))) run.moments run.calls run.log status = record { reached = t; run = run.run; ends = ends } in
     answered {moments = run.moments} {calls = run.calls} {log = run.log} run.at whole run.told run.logged
 
 settings_answered : (settings : Settings) (told : Option ℤ) (given_old given_new : Option (List Given)) (log_old log_new : Option (List ℕ)) (fb fn pb pn lb ln : ℕ) (status : NodeStatus)
@@ -89,7 +89,7 @@ settings_once : EachRunIsOne → (read : Result Settings Refusal) (moments other
     → IsSettingsAnswer read moments calls log status → IsSettingsAnswer read others more text end
     → Agree moments others → Agree (answers_of calls) (answers_of more) → (more ≡ calls) × (text ≡ log) × (end ≡ status)
 settings_once law (Ok settings) moments others calls more log text status end one other times answers =
-    let once = law (rules_of settings) (started (new_node (profile_of settings))) moments others calls more log text status end one other times answers in
+    let once = law (rules_of settings) (started (neighbours_of settings) (new_node (profile_of settings))) moments others calls more log text status end one other times answers in
     (once.1, once.2, once.3)
 settings_once law (Err refusal) moments others calls more log text status end one other times answers = alone_once one other
 

@@ -9,7 +9,7 @@ use Rattle.line_outside.specs.Sink.{Grows}
 use Rattle.node_core.specs.Node.{new_node}
 use Rattle.node_run.specs.Runs.{IsMoment}
 use Rattle.node_run.specs.State.{started}
-use Rattle.node_run.specs.Told.{profile_of, rules_of}
+use Rattle.node_run.specs.Told.{neighbours_of, profile_of, rules_of}
 use Rattle.node_run.specs.declared.status.NodeStatus.{NodeStatus}
 use Rattle.node_run.specs.declared.status.NodeStatus.TheVariants as statuses
 use Rattle.node_settings.specs.Settings.{Refusal, read_of}
@@ -26,7 +26,7 @@ abbrev pub IsSettingsAnswer : Result Settings Refusal → List ℤ → List Give
     → Type 0
 IsSettingsAnswer (Ok settings) moments calls log status =
     IsWhole (rules_of settings)
-    (started (new_node (profile_of settings))) moments calls log status
+    (started (neighbours_of settings) (new_node (profile_of settings))) moments calls log status
 IsSettingsAnswer (Err refusal) moments calls log status =
     IsStatusAlone (statuses.ConfigRefused refusal.key refusal.why) calls log status
 

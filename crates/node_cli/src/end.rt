@@ -8,17 +8,14 @@ use node_run::NodeStatus;
 use node_settings::{ConfigKey, ConfigWhy};
 use std::alloc::Global;
 use std::io::Write;
-use thiserror::Error;
 
 /// Why the line of an end was not written whole.
-#[derive(Clone, Copy, Debug, PartialEq, Eq, Error)]
+#[derive(Clone, Copy, Debug, PartialEq, Eq)]
 pub enum EndError {
     /// The sink failed. A front of the line was written.
-    #[error("can't write")]
     Fault,
     /// Memory was wanting for a line that names what of the settings is refused, or an address.
     /// Nothing was written.
-    #[error("out of memory")]
     Memory,
 }
 

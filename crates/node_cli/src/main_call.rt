@@ -1,9 +1,12 @@
 ghost use Rattle.std.specs.Prelude.{◌≡◌};
 ghost use Rattle.one_run.specs.One.{EachPartIsAFront, EachRunIsOne};
+ghost use Rattle.joined_nodes.specs.Laws.{NodesStand};
 ghost use Rattle.node_cli.specs.Answered.{EachInputHasOneAnswer, IsAnswered};
 ghost use Rattle.node_cli.specs.Command.{DoesNode, FitsNode, HasCauses, is_one, status_of};
 ghost use Rattle.node_cli.specs.Logged.{LogTellsOwn, TextIsBounded};
 ghost use Rattle.node_connections.specs.Connections.{ConnectionsAreInOrder};
+ghost use Rattle.node_run.specs.Settled.{SettingsAreTheLast};
+ghost use Rattle.running_line.specs.Reading.{Behind};
 
 use crate::settings_file::{FileError, read_file};
 use line_base::Words;
@@ -15,8 +18,9 @@ use std::alloc::Global;
 /// The program `node`: runs the machine that a settings file describes.
 ///
 /// Its one word names the file, whose bytes are `file`. It listens for its panel and its
-/// downstream neighbour at `ports`, connects to its upstream neighbour when its panel says so, and
-/// writes what it does to `log`.
+/// downstream neighbour at `ports`, and where the file says so for its supervisor and for the
+/// configuration service, connects to its upstream neighbour when its panel says so, and writes what
+/// it does to `log`.
 pub fn node_main<S: Source, P: Ports, C: Clock, K: Sink>(
     alloc: Global,
     words: &Words,
@@ -50,11 +54,19 @@ pub fn node_main<S: Source, P: Ports, C: Clock, K: Sink>(
     ensures bounded { TextIsBounded }
     // what is said on a connection is sent in its order, and what is given there heard in its order
     ensures connections { ConnectionsAreInOrder }
+    // where its neighbours are, the last Set says that was taken, or else the file
+    ensures settles { SettingsAreTheLast }
+    // and with neighbours that run so too, each board's record has one standing behind each move
+    // of theirs, as long as each board is let go behind the reading, what is heard was said behind
+    // what is read, and what is found on a connection was said there
+    ensures neighbours { NodesStand Behind }
 {
     node_run::laws::what_a_machine_owns_is_read_off_its_log();
     node_run::laws::too_much_text_closes_a_way();
     one_run::laws::a_run_is_one();
     node_connections::laws::the_bytes_of_a_connection_are_in_order();
+    node_run::laws::the_settings_are_those_of_the_last_set();
+    joined_nodes::laws::woven_nodes_run_behind_the_reading();
     run_named(alloc, words, file, ports, clock, log)
 }
 

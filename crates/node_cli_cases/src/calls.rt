@@ -103,6 +103,7 @@ fn way_word(way: Way) -> &'static str {
         Way::Upstream => "up",
         Way::Downstream => "down",
         Way::Supervisory => "super",
+        Way::Configuration => "config",
     }
 }
 

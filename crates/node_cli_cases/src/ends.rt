@@ -50,14 +50,14 @@ pub fn tell_status(
     written(to.extend_from_slice(said.contents().unwrap_or(b"untold")))?;
     match answer {
         Ok(()) => Ok(()),
-        Err(error) => written(write!(to, "! {error}\n")),
+        Err(error) => written(write!(to, "! {error:?}\n")),
     }
 }
 
 fn name_status(status: NodeStatus, to: &mut Vec<u8>) -> Result<(), Memory> {
     match status {
         NodeStatus::ConfigRefused(key, why) => {
-            written(write!(to, "--- ConfigRefused, {key}: {why}\n"))
+            written(write!(to, "--- ConfigRefused, {key}: {why:?}\n"))
         }
         NodeStatus::ListenFault(address) => {
             written(write!(to, "--- ListenFault, "))?;

@@ -20,12 +20,12 @@ use Rattle.node_core.specs.declared.lane.Body.{Body}
 use Rattle.line_step.specs.Opened.{open_after, opened_by}
 use Rattle.line_step.proofs.Once.{closed-stays}
 use Rattle.line_step.proofs.Opening.{steps_open}
-use Rattle.node_run.specs.Account.{AreProper}
+use Rattle.machine_log.specs.Account.{AreProper}
 use Rattle.node_run.specs.After.{way_of}
 use Rattle.node_run.specs.Held.{Finding}
 use Rattle.node_run.specs.State.{RunState, way_at}
 use Rattle.node_run.specs.Steps.{messages_for}
-use Rattle.node_run.specs.Texts.{lines_of}
+use Rattle.machine_log.specs.Texts.{lines_of}
 use Rattle.node_run.specs.declared.rules.Rules.{Rules}
 use Rattle.node_connections.specs.Connections.{Connection, IsFront, IsInOrder, acts_for, heard_by, step_does}
 

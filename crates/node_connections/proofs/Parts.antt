@@ -1,11 +1,17 @@
 -- What a move does behind its call: nothing to the machine and to what goes over its neighbours' ways, or one step.
-use Rattle.std.proofs.Common.{◌≡◌, ◌∙◌, refl, sym, ap, subst, ℕ, ℤ, Bool, true, false, List, [], ◌++◌, Option, None, Some, Result, Ok, Err, codes}
+use Rattle.std.proofs.Common.{◌≡◌, ◌==◌, ◌∙◌, refl, sym, ap, subst, ℕ, ℤ, Bool, true, false, List, [], ◌++◌, Option, None, Some, Result, Ok, Err, codes}
 use Rattle.line_base.specs.declared.states.Side.TheVariants.{Entry, Exit}
 use Rattle.board_record.specs.declared.sensed.Sensed.{Sensed}
 use Rattle.line_outside.specs.declared.answer.GotBytes.{GotBytes}
 use Rattle.line_outside.specs.declared.answer.GotBytes.TheVariants as founds
+use Rattle.line_outside.specs.declared.ports.Opened.{Opened}
+use Rattle.line_outside.specs.declared.ports.Opened.TheVariants as opens
 use Rattle.line_outside.specs.declared.way.Address.{Address}
 use Rattle.line_outside.specs.declared.way.Way.TheVariants as ways
+use Rattle.config_service.specs.Plans.{plan_of}
+use Rattle.config_service.specs.declared.config.Plan.{Plan}
+use Rattle.config_service.specs.declared.config.Plan.TheVariants as plans
+use Rattle.config_service.specs.declared.message.Settings.{Settings}
 use Rattle.hermes_vertical.specs.Parts.{kind_of}
 use Rattle.hermes_vertical.specs.declared.message.Vertical.{Vertical}
 use Rattle.supervisory_core.specs.Row.{SupervisedRow, supervised_row}
@@ -30,13 +36,18 @@ use Rattle.node_panel.specs.declared.line.PanelLine.TheVariants as lines
 use Rattle.node_run.specs.declared.rules.Rules.{Rules}
 use Rattle.node_run.specs.State.{RunState, with_wire}
 use Rattle.node_run.specs.Next.{has_ended}
+use Rattle.node_run.specs.Configuring.{Accepts, AfterTry, DoesConfig, DoesConfigFound, DoesConfigWord, DoesPlan, TriesIf, with_config}
 use Rattle.node_run.specs.Hearing.{AnswersIf, DoesAction, DoesFound, DoesHear, DoesRow, DoesWord, Unsupervised, broken_off, said, system_of, with_channel, with_stands}
+use Rattle.node_run.specs.declared.channel.ConfigFound.{ConfigFound}
+use Rattle.node_run.specs.declared.channel.ConfigFound.TheVariants as config_finds
+use Rattle.node_run.specs.declared.channel.ConfigWord.{ConfigWord}
+use Rattle.node_run.specs.declared.channel.ConfigWord.TheVariants as config_words
 use Rattle.node_run.specs.declared.channel.Found.{Found}
 use Rattle.node_run.specs.declared.channel.Found.TheVariants as finds
 use Rattle.node_run.specs.declared.channel.Word.{Word}
 use Rattle.node_run.specs.declared.channel.Word.TheVariants as words
 use Rattle.node_run.specs.Steps.{MeetsSecond, Takes, TakesStep, messages_for}
-use Rattle.node_run.specs.After.{AfterPanel, PanelArrives, after_supervisory, panel_bytes, panel_closed, panel_second, supervisory_arrived, supervisory_bytes, supervisory_closed, supervisory_second}
+use Rattle.node_run.specs.After.{AfterPanel, PanelArrives, after_configuration, after_supervisory, configuration_arrived, configuration_bytes, configuration_closed, configuration_second, panel_bytes, panel_closed, panel_second, supervisory_arrived, supervisory_bytes, supervisory_closed, supervisory_second}
 use Rattle.node_run.specs.Lines.{AsksConnect, AsksIf, DoesAsked, DoesCut, DoesInput, Ends, Fronts, KeepsFront, Tells, is_too_long, may_ask, without_return}
 use Rattle.node_run.specs.Owning.{IsAnswer, denies, greets, refuses, shows}
 use Rattle.node_run.specs.declared.way_state.Wire.{Wire}
@@ -67,7 +78,7 @@ moved_part same (steps input of st) = steps input of (stepped_from same st)
 abbrev pub IsWhole : Input → Type 0
 IsWhole input = (told : List Act) → acts_for input told ≡ told
 
-pub step_part : (asked : Bool) (rules : Rules) (moment : ℤ) (sensed : List Sensed) (input : Input) (s t : RunState) (log : List ℕ) → IsWhole input → may_of s.node input ≡ may_do → TakesStep asked rules moment sensed input s t log → Stepped rules input s t log
+abbrev pub step_part : (asked : Bool) (rules : Rules) (moment : ℤ) (sensed : List Sensed) (input : Input) (s t : RunState) (log : List ℕ) → IsWhole input → may_of s.node input ≡ may_do → TakesStep asked rules moment sensed input s t log → Stepped rules input s t log
 step_part asked rules moment sensed input s t log whole may takes = record {
   sensed = sensed;
   moment = moment;
@@ -180,6 +191,70 @@ supervisory_same moment founds.NotYet s = same_self
 supervisory_same moment founds.Closed s = supervisory_closed_same s.supervisory.wire s
 supervisory_same moment founds.Failed s = supervisory_closed_same s.supervisory.wire s
 
+-- ---- the configuration service's
+
+configuration_arrived_same : (wire : Wire) (s : RunState) → Same s (configuration_arrived wire s)
+configuration_arrived_same wires.Rests s = record { node = refl; up = refl; down = refl; held = refl }
+configuration_arrived_same wires.Stands s = same_self
+configuration_arrived_same wires.Ends s = same_self
+configuration_arrived_same wires.Breaks s = same_self
+
+configuration_second_same : (wire : Wire) (moment : ℤ) (s : RunState) → Same s (configuration_second wire moment s)
+configuration_second_same wires.Rests moment s = same_self
+configuration_second_same wires.Stands moment s = record { node = refl; up = refl; down = refl; held = refl }
+configuration_second_same wires.Ends moment s = same_self
+configuration_second_same wires.Breaks moment s = same_self
+
+configuration_bytes_same : (wire : Wire) (bytes : List ℕ) (s : RunState) → Same s (configuration_bytes wire bytes s)
+configuration_bytes_same wires.Rests bytes s = same_self
+configuration_bytes_same wires.Stands bytes s = record { node = refl; up = refl; down = refl; held = refl }
+configuration_bytes_same wires.Ends bytes s = same_self
+configuration_bytes_same wires.Breaks bytes s = same_self
+
+configuration_closed_same : (wire : Wire) (s : RunState) → Same s (configuration_closed wire s)
+configuration_closed_same wires.Rests s = same_self
+configuration_closed_same wires.Stands s = record { node = refl; up = refl; down = refl; held = refl }
+configuration_closed_same wires.Ends s = same_self
+configuration_closed_same wires.Breaks s = same_self
+
+pub configuration_same : (moment : ℤ) (got : GotBytes) (s : RunState) → Same s (after_configuration moment got s)
+configuration_same moment founds.Arrived s = configuration_arrived_same s.configuration.wire s
+configuration_same moment founds.Second s = configuration_second_same s.configuration.wire moment s
+configuration_same moment (founds.Bytes bytes) s = configuration_bytes_same s.configuration.wire bytes s
+configuration_same moment founds.NotYet s = same_self
+configuration_same moment founds.Closed s = configuration_closed_same s.configuration.wire s
+configuration_same moment founds.Failed s = configuration_closed_same s.configuration.wire s
+
+-- its messages are no step
+accepts_same : (moment : ℤ) (settings : Settings) (s t : RunState) → Accepts moment settings s t → Same s t
+accepts_same moment settings s t accepts = same_is accepts.after (record { node = refl; up = refl; down = refl; held = refl })
+
+tries_same : (same : Bool) (moment : ℤ) (settings : Settings) (s t : RunState) → TriesIf same moment settings s t → Same s t
+tries_same true moment settings s t tries = accepts_same moment settings s t tries
+tries_same false moment settings s t tries = same_is tries (record { node = refl; up = refl; down = refl; held = refl })
+
+pub try_same : (opened : Opened) (moment : ℤ) (settings : Settings) (s t : RunState) → AfterTry opened moment settings s t → Same s t
+try_same opens.Done moment settings s t after = accepts_same moment settings s t after
+try_same opens.Failed moment settings s t after = same_is after (record { node = refl; up = refl; down = refl; held = refl })
+
+plan_same : (plan : Plan) (moment : ℤ) (s t : RunState) → DoesPlan plan moment s t → Same s t
+plan_same plans.Tell moment s t does = same_is does (record { node = refl; up = refl; down = refl; held = refl })
+plan_same (plans.Try settings) moment s t does = tries_same (settings.port == s.settings.port) moment settings s t does
+plan_same plans.Nothing moment s t does = same_is does same_self
+plan_same plans.Breach moment s t does = same_is does (record { node = refl; up = refl; down = refl; held = refl })
+
+config_word_same : (word : ConfigWord) (moment : ℤ) (s t : RunState) → DoesConfigWord word moment s t → Same s t
+config_word_same (config_words.Says message) moment s t does = plan_same (plan_of message.body) moment s t does
+config_word_same (config_words.Wrong text) moment s t does = same_is does (record { node = refl; up = refl; down = refl; held = refl })
+
+config_found_same : (found : ConfigFound) (moment : ℤ) (s t : RunState) → DoesConfigFound found moment s t → Same s t
+config_found_same (config_finds.Word word) moment s t does = config_word_same word moment s t does
+config_found_same config_finds.More moment s t does = same_is does same_self
+config_found_same config_finds.TooLong moment s t does = same_is does (record { node = refl; up = refl; down = refl; held = refl })
+
+pub config_same : (moment : ℤ) (s t : RunState) → DoesConfig moment s t → Same s t
+config_same moment s t does = same_then (record { node = refl; up = refl; down = refl; held = refl }) (config_found_same does.found moment (with_config does.config s) t does.does)
+
 -- a machine that is supervised no more
 pub unsupervised_part : (rules : Rules) (moment : ℤ) (closed s t : RunState) (log : List ℕ) → Same s closed → Unsupervised rules moment closed t log → Part IsAside rules s t log
 unsupervised_part rules moment closed s t log same after = moved_part same (takes_part (may_of closed.node (inputs.Supervise false)) rules moment (inputs.Supervise false) closed closed t log tt (λ told. refl) refl same_self after)
@@ -203,11 +278,12 @@ asked_part (Err why) rules moment s t log does = tells_part rules _ s t log (ref
 asked_part (Ok lines.Blank) rules moment s t log does = still does.0 does.1 same_self
 asked_part (Ok lines.End) rules moment s t log does = still does.0 does.1 (record { node = refl; up = refl; down = refl; held = refl })
 asked_part (Ok lines.Show) rules moment s t log does = tells_part rules _ s t log (shows s.turn s.node.lane.body.kept (outlets.held s.node.lane.body.outlet) (intakes.held s.node.lane.body.intake)) does
-asked_part (Ok lines.Connect) rules moment s t log does = connect_part rules.connections.upstream rules s t log does
+asked_part (Ok lines.Connect) rules moment s t log does = connect_part s.settings.upstream rules s t log does
 asked_part (Ok (lines.Insert barcode)) rules moment s t log does = input_part (may_of s.node (inputs.Insert barcode)) rules moment _ (inputs.Insert barcode) s t log tt (λ told. refl) refl does
 asked_part (Ok (lines.Remove id)) rules moment s t log does = input_part (may_of s.node (inputs.Remove id)) rules moment _ (inputs.Remove id) s t log tt (λ told. refl) refl does
 asked_part (Ok (lines.Replace id)) rules moment s t log does = input_part (may_of s.node (inputs.Replace id)) rules moment _ (inputs.Replace id) s t log tt (λ told. refl) refl does
 asked_part (Ok (lines.Mark id quality)) rules moment s t log does = input_part (may_of s.node (inputs.Mark id quality)) rules moment _ (inputs.Mark id quality) s t log tt (λ told. refl) refl does
+asked_part (Ok (lines.Sub id place barcode)) rules moment s t log does = input_part (may_of s.node (inputs.Sub id place barcode)) rules moment _ (inputs.Sub id place barcode) s t log tt (λ told. refl) refl does
 asked_part (Ok (lines.Hold side)) rules moment s t log does = input_part (may_of s.node (inputs.Will side false)) rules moment _ (inputs.Will side false) s t log tt (λ told. refl) refl does
 asked_part (Ok (lines.Go side)) rules moment s t log does = input_part (may_of s.node (inputs.Will side true)) rules moment _ (inputs.Will side true) s t log tt (λ told. refl) refl does
 asked_part (Ok lines.Shutdown) rules moment s t log does = input_part (may_of s.node inputs.Shutdown) rules moment _ inputs.Shutdown s t log tt (λ told. refl) refl does

@@ -5,6 +5,7 @@ use Rattle.std.proofs.lemmas.Bool.{true≢false}
 use Rattle.std.proofs.lemmas.List.{take-append-drop}
 use Rattle.line_base.specs.declared.states.Side.{Side}
 use Rattle.line_base.specs.declared.states.Side.TheVariants.{Entry, Exit}
+use Rattle.line_outside.specs.Listening.{at_all}
 use Rattle.line_outside.specs.Given.{Closes, Connects, Given, Listens, Polls, Refuses, Sends}
 use Rattle.line_outside.specs.declared.answer.GotBytes.{GotBytes}
 use Rattle.line_outside.specs.declared.answer.GotBytes.TheVariants as founds
@@ -15,9 +16,11 @@ use Rattle.line_outside.specs.declared.ports.Sent.TheVariants as sents
 use Rattle.line_outside.specs.declared.way.Address.{Address}
 use Rattle.line_outside.specs.declared.way.Way.{Way}
 use Rattle.line_outside.specs.declared.way.Way.TheVariants as ways
-use Rattle.node_core.specs.May.{may_of}
+use Rattle.config_service.specs.declared.message.Settings.{Settings}
+use Rattle.node_core.specs.May.{may_do, may_of}
 use Rattle.node_core.specs.Node.{NodeState}
 use Rattle.node_core.specs.Sides.{is_open}
+use Rattle.node_core.specs.Step.{Steps}
 use Rattle.node_core.specs.declared.act.Act.{Act}
 use Rattle.node_core.specs.declared.input.Input.{Input}
 use Rattle.node_core.specs.declared.input.Input.TheVariants as inputs
@@ -25,19 +28,21 @@ use Rattle.node_core.specs.declared.input.No.{No}
 use Rattle.node_run.specs.declared.rules.Rules.{Rules}
 use Rattle.node_run.specs.After.{AfterClose, AfterDownstream, AfterPoll, AfterUpstream, TakesFinding, TakesFound, TakesHeld, after_listen, after_send, broken, looked, way_of, with_held}
 use Rattle.node_run.specs.Held.{Finding, holds, nothing_held}
+use Rattle.node_run.specs.Configuring.{AfterTry}
 use Rattle.node_run.specs.Lines.{cut_line}
 use Rattle.node_run.specs.Next.{moved_on}
 use Rattle.node_run.specs.Owning.{IsAnswer, TellsActs, answer_lines, step_lines}
-use Rattle.node_run.specs.Runs.{Moves, closes, connects, does_hear, does_line, listens, looks_again, polls, refuses as refuses_second, room_bytes, sends, skips, takes_held}
+use Rattle.node_run.specs.Runs.{Moves, closes, connects, does_config, does_hear, does_line, listens, looks_again, polls, refuses as refuses_second, resets_side, room_bytes, sends, skips, takes_held, tries_port}
 use Rattle.node_run.specs.State.{RunState, at_rest, way_at, with_wire}
+use Rattle.node_run.specs.Resetting.{ResetsSide, leaving, reset_begun, reset_text}
 use Rattle.node_run.specs.Channel.{no_session}
 use Rattle.node_run.specs.Steps.{Takes}
 use Rattle.node_run.specs.declared.place.Next.TheVariants as nexts
 use Rattle.node_run.specs.declared.way_state.Wire.TheVariants as wires
 use Rattle.node_connections.specs.Connections.{Connection, InOrderAlong, IsFront, call_does, does, heard_by, step_does}
-use Rattle.node_connections.specs.Doings.{Doing, StepsAlong, acts_in, at_end, called, calls, calls_in, stepped, steps}
+use Rattle.node_connections.specs.Doings.{Doing, StepsAlong, acts_in, at_end, called, calls, calls_in, reset, says, stepped, steps}
 use Rattle.node_connections.proofs.Holding.{Holds, Pending, Same, Stepped, all_heard, any_pending, cut_off, held_by, held_for, in_order, is_reached, is_unreached, opens_at, same_holds, same_is, same_self, step_holds, step_sent, stays_closed}
-use Rattle.node_connections.proofs.Parts.{IsAside, Part, answers, cut_part, hear_part, meets_part, panel_part, quiet, step_part, steps as part_steps, supervisory_same, takes_part, unsupervised_part}
+use Rattle.node_connections.proofs.Parts.{IsAside, Part, answers, config_same, configuration_same, cut_part, hear_part, meets_part, panel_part, quiet, step_part, steps as part_steps, supervisory_same, takes_part, try_same, unsupervised_part}
 use Rattle.node_connections.proofs.Polled.{none_held}
 
 -- ---- what is done, one doing after the other
@@ -356,6 +361,10 @@ supervisory_poll_aside : (found : GotBytes) (at : Side) (c : Connection) → cal
 supervisory_poll_aside found Entry c = refl
 supervisory_poll_aside found Exit c = refl
 
+configuration_poll_aside : (found : GotBytes) (at : Side) (c : Connection) → call_does (way_of at) (Polls ways.Configuration room_bytes found) c ≡ c
+configuration_poll_aside found Entry c = refl
+configuration_poll_aside found Exit c = refl
+
 -- ---- polls of the neighbours' ways, of which nothing is held
 
 -- what arrives there begins anew
@@ -473,6 +482,8 @@ poll_piece moment ways.Upstream found none after = upstream_piece moment found n
 poll_piece moment ways.Downstream found none after = downstream_piece moment found none after
 poll_piece {rules} {s} {t} {log} moment ways.Supervisory found none after =
     piece_call (called_aside (supervisory_poll_aside found) same_moved) (quiet_behind (tells_none rules log after.1) (same_is after.0 (supervisory_same moment found (moved_on s))))
+poll_piece {rules} {s} {t} {log} moment ways.Configuration found none after =
+    piece_call (called_aside (configuration_poll_aside found) same_moved) (quiet_behind (tells_none rules log after.1) (same_is after.0 (configuration_same moment found (moved_on s))))
 
 -- ---- sends
 
@@ -487,30 +498,36 @@ node_sent ways.Panel (sents.Took n) s = refl
 node_sent ways.Upstream (sents.Took n) s = refl
 node_sent ways.Downstream (sents.Took n) s = refl
 node_sent ways.Supervisory (sents.Took n) s = refl
+node_sent ways.Configuration (sents.Took n) s = refl
 node_sent way sents.NotYet s = refl
 node_sent ways.Panel sents.Closed s = refl
 node_sent ways.Upstream sents.Closed s = refl
 node_sent ways.Downstream sents.Closed s = refl
 node_sent ways.Supervisory sents.Closed s = refl
+node_sent ways.Configuration sents.Closed s = refl
 node_sent ways.Panel sents.Failed s = refl
 node_sent ways.Upstream sents.Failed s = refl
 node_sent ways.Downstream sents.Failed s = refl
 node_sent ways.Supervisory sents.Failed s = refl
+node_sent ways.Configuration sents.Failed s = refl
 
 held_sent : (way : Way) (sent : Sent) (s : RunState) → (after_send way sent s).held.finding ≡ s.held.finding
 held_sent ways.Panel (sents.Took n) s = refl
 held_sent ways.Upstream (sents.Took n) s = refl
 held_sent ways.Downstream (sents.Took n) s = refl
 held_sent ways.Supervisory (sents.Took n) s = refl
+held_sent ways.Configuration (sents.Took n) s = refl
 held_sent way sents.NotYet s = refl
 held_sent ways.Panel sents.Closed s = refl
 held_sent ways.Upstream sents.Closed s = refl
 held_sent ways.Downstream sents.Closed s = refl
 held_sent ways.Supervisory sents.Closed s = refl
+held_sent ways.Configuration sents.Closed s = refl
 held_sent ways.Panel sents.Failed s = refl
 held_sent ways.Upstream sents.Failed s = refl
 held_sent ways.Downstream sents.Failed s = refl
 held_sent ways.Supervisory sents.Failed s = refl
+held_sent ways.Configuration sents.Failed s = refl
 
 sent_pending : (way : Way) (sent : Sent) (s : RunState) (at : Side) {given heard : List ℕ} → Pending false at s given heard → Pending false at (after_send way sent (moved_on s)) given heard
 sent_pending way sent s at {given} {heard} (all_heard is) = all_heard (is ∙ ap (λ (f : Option Finding). heard ++ held_for at f) (sym (held_sent way sent (moved_on s))))
@@ -555,6 +572,12 @@ other_unsent Exit ways.Upstream sents.Failed s other = refl
 other_unsent Exit ways.Supervisory (sents.Took n) s other = refl
 other_unsent Exit ways.Supervisory sents.Closed s other = refl
 other_unsent Exit ways.Supervisory sents.Failed s other = refl
+other_unsent Entry ways.Configuration (sents.Took n) s other = refl
+other_unsent Entry ways.Configuration sents.Closed s other = refl
+other_unsent Entry ways.Configuration sents.Failed s other = refl
+other_unsent Exit ways.Configuration (sents.Took n) s other = refl
+other_unsent Exit ways.Configuration sents.Closed s other = refl
+other_unsent Exit ways.Configuration sents.Failed s other = refl
 
 other_call : (at : Side) (way : Way) (piece : List ℕ) (sent : Sent) (c : Connection) → IsOther at way → call_does (way_of at) (Sends way piece sent) c ≡ c
 other_call Entry ways.Upstream piece sent c other = absurd other
@@ -565,6 +588,8 @@ other_call Entry ways.Supervisory piece sent c other = refl
 other_call Exit ways.Panel piece sent c other = refl
 other_call Exit ways.Upstream piece sent c other = refl
 other_call Exit ways.Supervisory piece sent c other = refl
+other_call Entry ways.Configuration piece sent c other = refl
+other_call Exit ways.Configuration piece sent c other = refl
 
 moved_unsent : (at : Side) (s : RunState) → (way_at (way_of at) (moved_on s)).unsent ≡ (way_at (way_of at) s).unsent
 moved_unsent Entry s = refl
@@ -585,6 +610,8 @@ sent_holds Entry ways.Supervisory sent s c kept = other_sent Entry ways.Supervis
 sent_holds Exit ways.Panel sent s c kept = other_sent Exit ways.Panel sent s c tt kept
 sent_holds Exit ways.Upstream sent s c kept = other_sent Exit ways.Upstream sent s c tt kept
 sent_holds Exit ways.Supervisory sent s c kept = other_sent Exit ways.Supervisory sent s c tt kept
+sent_holds Entry ways.Configuration sent s c kept = other_sent Entry ways.Configuration sent s c tt kept
+sent_holds Exit ways.Configuration sent s c kept = other_sent Exit ways.Configuration sent s c tt kept
 
 send_piece : {rules : Rules} (way : Way) (sent : Sent) (s : RunState) → Piece rules s (after_send way sent (moved_on s)) (Sends way (way_at way s).unsent sent ∷ []) []
 send_piece way sent s = piece_call (record { node = node_sent way sent (moved_on s); keeps = λ at c kept. sent_holds at way sent s c kept }) (quiet_same refl refl)
@@ -598,6 +625,10 @@ panel_close_aside Exit c = refl
 supervisory_close_aside : (at : Side) (c : Connection) → call_does (way_of at) (Closes ways.Supervisory) c ≡ c
 supervisory_close_aside Entry c = refl
 supervisory_close_aside Exit c = refl
+
+configuration_close_aside : (at : Side) (c : Connection) → call_does (way_of at) (Closes ways.Configuration) c ≡ c
+configuration_close_aside Entry c = refl
+configuration_close_aside Exit c = refl
 
 -- a way that is closed has nothing said and taken any more; what was found is as it was
 found_stays : {s u : RunState} {given heard : List ℕ} (at : Side) → u.node ≡ s.node → u.held.finding ≡ s.held.finding → Pending false at s given heard → Pending false at u given heard
@@ -627,6 +658,63 @@ close_piece {rules} {s} {t} {log} moment ways.Downstream after =
 close_piece {rules} {s} {t} {log} moment ways.Supervisory after =
     piece_call (called_aside supervisory_close_aside (record { node = refl; up = refl; down = refl; held = refl }))
     (part_behind (unsupervised_part rules moment (record s { supervisory = at_rest; channel = no_session }) (record s { supervisory = at_rest; channel = no_session }) t log same_self after))
+close_piece {rules} {s} {t} {log} moment ways.Configuration after = piece_call (called_aside configuration_close_aside (record { node = refl; up = refl; down = refl; held = refl })) (quiet_same after.0 after.1)
+
+-- ---- a listen inside a turn
+
+try_piece : {rules : Rules} {s t : RunState} {log : List ℕ} (moment : ℤ) (settings : Settings) (opened : Opened) → AfterTry opened moment settings s t → log ≡ [] → Piece rules s t (Listens ways.Downstream (at_all settings.port) opened ∷ []) log
+try_piece {rules} {s} {t} {log} moment settings opened after none =
+    piece_call (called_aside (listen_aside ways.Downstream (at_all settings.port) opened) (try_same opened moment settings s t after)) (quiet_behind (tells_none rules log none) same_self)
+
+-- ---- the reset of a side
+
+-- its neighbour is told why, behind all that was said there before
+left_holds : (moment : ℤ) (side : Side) (s : RunState) (at : Side) (c : Connection) → Holds false at s c → Holds false at (leaving moment side (reset_begun side s)) (does at (says side (reset_text moment)) c)
+left_holds moment Entry s Entry c kept = record { sent = ap (λ (text : List ℕ). text ++ reset_text moment) kept.sent ∙ append_assoc c.taken s.upstream.unsent (reset_text moment); heard = found_stays Entry refl refl kept.heard }
+left_holds moment Exit s Exit c kept = record { sent = ap (λ (text : List ℕ). text ++ reset_text moment) kept.sent ∙ append_assoc c.taken s.downstream.unsent (reset_text moment); heard = found_stays Exit refl refl kept.heard }
+left_holds moment Entry s Exit c kept = record { sent = append-nil c.said ∙ kept.sent; heard = found_stays Exit refl refl kept.heard }
+left_holds moment Exit s Entry c kept = record { sent = append-nil c.said ∙ kept.sent; heard = found_stays Entry refl refl kept.heard }
+
+notice_dry : (side at : Side) → heard_by at (inputs.Notice side) ≡ []
+notice_dry side Entry = refl
+notice_dry side Exit = refl
+
+notice_plain : (side at : Side) → opens_at at (inputs.Notice side) ≡ false
+notice_plain side Entry = refl
+notice_plain side Exit = refl
+
+same_begun : (side : Side) (s : RunState) → Same s (reset_begun side s)
+same_begun Entry s = record { node = refl; up = refl; down = refl; held = refl }
+same_begun Exit s = record { node = refl; up = refl; down = refl; held = refl }
+
+left_node : (moment : ℤ) (side : Side) (s : RunState) → (leaving moment side (reset_begun side s)).node ≡ s.node
+left_node moment Entry s = refl
+left_node moment Exit s = refl
+
+left_piece : {rules : Rules} {s t : RunState} {log : List ℕ} (moment : ℤ) (side : Side) → may_of s.node (inputs.Notice side) ≡ may_do → (st : Stepped rules (inputs.Notice side) (leaving moment side (reset_begun side s)) t log)
+    → Steps s.node [] (inputs.Notice side) moment t.node st.told → Piece rules s t [] log
+left_piece {rules} {s} {t} {log} moment side may st made = record {
+  more = says side (reset_text moment) ∷ steps (inputs.Notice side) st.told ∷ [];
+  calls_are = refl;
+  along = reset moment may made at_end;
+  tells = tells_step st;
+  keeps = λ at c kept. (
+      let told : Holds false at (leaving moment side (reset_begun side s)) (does at (says side (reset_text moment)) c) = left_holds moment side s at c kept in
+      let behind = step_holds at st (notice_dry side at) (subst (λ (o : Bool). Holds o at (leaving moment side (reset_begun side s)) (does at (says side (reset_text moment)) c)) (sym (notice_plain side at)) told) in
+      ((in_order kept, (in_order told, in_order behind)), behind));
+}
+
+reset_by : {rules : Rules} {s t : RunState} {log : List ℕ} (may : Result (Unit {0}) No) (moment : ℤ) (side : Side) → may_of s.node (inputs.Notice side) ≡ may
+    → Takes may rules moment (inputs.Notice side) (leaving moment side (reset_begun side s)) (reset_begun side s) t log → Piece rules s t [] log
+reset_by {rules} {s} {t} {log} (Ok done) moment side may takes =
+    let u : RunState = leaving moment side (reset_begun side s) in
+    let node : u.node ≡ s.node = left_node moment side s in
+    left_piece moment side may (step_part false rules moment [] (inputs.Notice side) u t log (λ told. refl) (ap (λ (n : NodeState). may_of n (inputs.Notice side)) node ∙ may) takes)
+    (subst (λ (n : NodeState). Steps n [] (inputs.Notice side) moment t.node takes.told) node (subst (λ (n : NodeState). Steps u.node [] (inputs.Notice side) moment n takes.told) (sym (ap (λ (r : RunState). r.node) takes.after)) takes.steps))
+reset_by {rules} {s} {t} {log} (Err why) moment side may takes = piece_none (quiet_behind (tells_none rules log takes.1) (same_is takes.0 (same_begun side s)))
+
+reset_piece : {rules : Rules} {s t : RunState} {log : List ℕ} (moment : ℤ) (side : Side) → ResetsSide rules moment side s t log → Piece rules s t [] log
+reset_piece {rules} {s} {t} {log} moment side resets = reset_by (may_of s.node (inputs.Notice side)) moment side refl resets
 
 -- ---- A MOVE
 
@@ -642,3 +730,6 @@ move_piece {rules} {moment} (looks_again {s} {t} {got} {log} next done) = piece_
 move_piece {rules} {moment} (takes_held {s} {t} {log} next done) = piece_none (held_behind moment done)
 move_piece {rules} {moment} (does_line {s} {t} {log} next done) = piece_none (part_behind (cut_part (cut_line s.rest) rules moment s t log done))
 move_piece {rules} {moment} (does_hear {s} {t} {log} next done) = piece_none (part_behind (hear_part rules moment s t log done))
+move_piece {rules} {moment} (does_config {s} {t} {log} next done none) = piece_none (quiet_behind (tells_none rules log none) (config_same moment s t done))
+move_piece {rules} {moment} (tries_port {s} {t} {settings} {opened} {log} next done none) = try_piece moment settings opened done none
+move_piece {rules} {moment} (resets_side {s} {t} {side} {log} next done) = reset_piece moment side done

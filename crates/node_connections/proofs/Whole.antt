@@ -3,6 +3,7 @@ use Rattle.std.proofs.Common.{◌≡◌, ◌∙◌, refl, sym, ap, subst, ℕ, �
 use Rattle.line_base.specs.declared.states.Side.{Side}
 use Rattle.line_base.specs.declared.states.Side.TheVariants.{Entry, Exit}
 use Rattle.line_outside.specs.Given.{Given}
+use Rattle.config_service.specs.declared.message.Settings.{Settings}
 use Rattle.node_core.specs.Node.{NodeState}
 use Rattle.node_core.specs.declared.act.Act.{Act}
 use Rattle.node_run.specs.Owning.{TellsActs, no_lines}
@@ -10,7 +11,7 @@ use Rattle.node_run.specs.Runs.{Runs, begins, goes_on}
 use Rattle.node_run.specs.State.{RunState, started}
 use Rattle.node_run.specs.declared.rules.Rules.{Rules}
 use Rattle.node_connections.specs.Connections.{Connection, ConnectionsAreInOrder, InOrderAlong, does, no_connection}
-use Rattle.node_connections.specs.Doings.{Doing, StepsAlong, act_in, acts_in, at_end, call_in, called, calls_in, stepped}
+use Rattle.node_connections.specs.Doings.{Doing, StepsAlong, act_in, acts_in, at_end, call_in, called, calls_in, reset, stepped}
 use Rattle.node_connections.proofs.Holding.{Holds, all_heard, in_order}
 use Rattle.node_connections.proofs.Pieces.{Piece, done_all, move_piece}
 
@@ -28,6 +29,7 @@ along_join : {a b c : NodeState} {one : List Doing} (two : List Doing) → Steps
 along_join two at_end next = next
 along_join two (called more) next = called (along_join two more next)
 along_join two (stepped read moment may step more) next = stepped read moment may step (along_join two more next)
+along_join two (reset moment may step more) next = reset moment may step (along_join two more next)
 
 order_join : (side : Side) (c : Connection) (one two : List Doing) → InOrderAlong side c one → InOrderAlong side (done_all side one c) two → InOrderAlong side c (one ++ two)
 order_join side c [] two first later = later
@@ -57,22 +59,22 @@ goes_further {rules} {s} {t} {u} {given} {more} {log} {lines} far piece = record
   holds = λ side. subst (λ (c : Connection). Holds false side u c) (sym (done_join side no_connection far.doings piece.more)) (piece.keeps side (done_all side far.doings no_connection) (far.holds side)).1;
 }
 
-begun : (node : NodeState) (side : Side) → Holds false side (started node) no_connection
-begun node Entry = record { sent = refl; heard = all_heard refl }
-begun node Exit = record { sent = refl; heard = all_heard refl }
+begun : (settings : Settings) (node : NodeState) (side : Side) → Holds false side (started settings node) no_connection
+begun settings node Entry = record { sent = refl; heard = all_heard refl }
+begun settings node Exit = record { sent = refl; heard = all_heard refl }
 
-far_in : {rules : Rules} {node : NodeState} {s t : RunState} {moments : List ℤ} {given : List Given} {log : List ℕ} → Runs rules s moments given t log → s ≡ started node → SoFar rules s t given log
-far_in {rules} {node} (begins {s}) is = record {
+far_in : {rules : Rules} {settings : Settings} {node : NodeState} {s t : RunState} {moments : List ℤ} {given : List Given} {log : List ℕ} → Runs rules s moments given t log → s ≡ started settings node → SoFar rules s t given log
+far_in {rules} {settings} {node} (begins {s}) is = record {
   doings = [];
   calls_are = refl;
   along = at_end;
   tells = no_lines;
-  order = λ side. in_order (begun node side);
-  holds = λ side. subst (λ (r : RunState). Holds false side r no_connection) (sym is) (begun node side);
+  order = λ side. in_order (begun settings node side);
+  holds = λ side. subst (λ (r : RunState). Holds false side r no_connection) (sym is) (begun settings node side);
 }
 far_in (goes_on run move) is = goes_further (far_in run is) (move_piece move)
 
 pub connections_are_in_order : ConnectionsAreInOrder
-connections_are_in_order rules node moments t given log run =
-    let far : SoFar rules (started node) t given log = far_in run refl in
+connections_are_in_order rules settings node moments t given log run =
+    let far : SoFar rules (started settings node) t given log = far_in run refl in
     record { doings = far.doings; calls_are = far.calls_are; along = far.along; tells = far.tells; order = far.order }

@@ -2,6 +2,7 @@
 use Rattle.std.specs.Prelude.{ℕ, ℤ, List, [], ◌∷◌, ◌++◌, ◌≡◌, if◌then◌else◌}
 use Rattle.line_base.specs.declared.states.Side.{Side}
 use Rattle.line_base.specs.declared.states.Side.TheVariants.{Entry, Exit}
+use Rattle.config_service.specs.declared.message.Settings.{Settings}
 use Rattle.line_outside.specs.Given.{Closes, Connects, Given, Listens, Polls, Refuses, Sends, is_same_way, taken_of}
 use Rattle.line_outside.specs.declared.answer.GotBytes.{GotBytes}
 use Rattle.line_outside.specs.declared.answer.GotBytes.TheVariants as founds
@@ -16,11 +17,11 @@ use Rattle.node_run.specs.Runs.{Runs}
 use Rattle.node_run.specs.State.{RunState, started}
 use Rattle.node_run.specs.Steps.{messages_for, others}
 use Rattle.node_run.specs.declared.rules.Rules.{Rules}
-use Rattle.node_connections.specs.Doings.{Doing, StepsAlong, acts_in, calls, calls_in, steps}
+use Rattle.node_connections.specs.Doings.{Doing, StepsAlong, acts_in, calls, calls_in, says, steps}
 
 -- ---- a connection
 
--- the texts that the machine said on its side since the way was closed last, and what the ports took of
+-- the texts that were said on a side since its way was closed last, and what the ports took of
 -- them; the bytes that the ports gave since a connection arrived there last, and what the machine heard
 -- of them
 pub record Connection : Type 0 where
@@ -68,9 +69,16 @@ step_does side input acts c =
       heard = c.heard ++ heard_by side input;
     }
 
+-- what is said on the connection of a side is on that alone
+abbrev pub said_at : Side → Side → List ℕ → List ℕ
+said_at Entry Entry text = text
+said_at Exit Exit text = text
+said_at side other text = []
+
 abbrev pub does : Side → Doing → Connection → Connection
 does side (calls given) c = call_does (way_of side) given c
 does side (steps input acts) c = step_does side input acts c
+does side (says other text) c = record c { said = c.said ++ said_at side other text }
 
 -- ---- WHAT HOLDS OF IT
 
@@ -102,6 +110,6 @@ pub record HasConnections (rules : Rules) (s t : RunState) (given : List Given)
 -- THE LAW, of each run from its beginning
 abbrev pub ConnectionsAreInOrder : Type 0
 ConnectionsAreInOrder =
-    (rules : Rules) (node : NodeState) (moments : List ℤ) (t : RunState) (given : List Given)
-    (log : List ℕ) → Runs rules (started node) moments given t log
-    → HasConnections rules (started node) t given log
+    (rules : Rules) (settings : Settings) (node : NodeState) (moments : List ℤ) (t : RunState)
+    (given : List Given) (log : List ℕ) → Runs rules (started settings node) moments given t log
+    → HasConnections rules (started settings node) t given log

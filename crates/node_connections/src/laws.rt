@@ -3,10 +3,10 @@
 ghost use Rattle.node_connections.specs.Connections.{ConnectionsAreInOrder};
 
 /// In each run of a node, at both of its sides: what the ports took of its way since that was closed last
-/// is a front of the texts that its machine said there since then; and what the machine heard there
-/// since a connection arrived last is a front of the bytes that the ports gave since then. A text
-/// that answers a second connection is no part of either. So nothing is said or heard twice, out
-/// of order, or on the connection before.
+/// is a front of the texts that were said there since then, by its machine's acts and at a reset of
+/// the side; and what the machine heard there since a connection arrived last is a front of the
+/// bytes that the ports gave since then. A text that answers a second connection is no part of
+/// either. So nothing is said or heard twice, out of order, or on the connection before.
 pub fn the_bytes_of_a_connection_are_in_order()
     ensures { ConnectionsAreInOrder }
 {}

@@ -62,6 +62,7 @@ upper = record {
   intake = record { phase = in_phase.Idle; offer = None; ready = false };
   entry = record { session = at_rest Downstream; willing = true };
   exit = record { session = in_state (at_rest Upstream) Standing; willing = true };
+  last_offer = Some 7;
 }
 
 abbrev lower : Body
@@ -71,6 +72,7 @@ lower = record {
   intake = record { phase = in_phase.Idle; offer = None; ready = true };
   entry = record { session = in_state (at_rest Downstream) Standing; willing = true };
   exit = record { session = at_rest Upstream; willing = true };
+  last_offer = None;
 }
 
 -- a new machine connects, and describes itself

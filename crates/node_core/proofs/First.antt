@@ -1,14 +1,15 @@
 -- The first record of an id.
-use Rattle.std.proofs.Common.{◌≡◌, ◌∙◌, ◌<◌, ◌≤◌, ◌==◌, ℕ, zero, suc, Bool, true, false, List, [], ◌∷◌, Option, Some, None, length, get_or, refl, ap, arith}
-use Rattle.std.specs.Prelude.{IfSome, position, slice_get}
+use Rattle.std.proofs.Common.{◌≡◌, ◌∙◌, ◌<◌, ◌≤◌, ◌==◌, ℕ, zero, suc, Bool, true, false, List, [], ◌∷◌, Option, Some, None, length, not, get_or, refl, ap, arith, sym, if◌then◌else◌, ◌++◌}
+use Rattle.std.specs.Prelude.{IfSome, position, slice_get, slice_set}
 use Rattle.std.specs.List.{position_or_len}
 use Rattle.std.proofs.lemmas.List.Quantifiers.{position-Some}
 use Rattle.std.proofs.lemmas.List.Sums.{fails_before_first}
+use Rattle.std.proofs.lemmas.Bool.{false≢true}
 use Rattle.std.proofs.lemmas.Grind.{common_steps}
-use Rattle.line_base.specs.declared.states.Quality.{Quality}
 use Rattle.board_record.specs.declared.record.Record.{Record}
-use Rattle.board_record.specs.Kept.{with_quality}
-use Rattle.node_core.specs.Boards.{IsFirstAt, is_kept}
+use Rattle.board_record.specs.declared.sub_board.SubBoard.{SubBoard}
+use Rattle.board_record.specs.SubBoards.{is_full}
+use Rattle.node_core.specs.Boards.{IsFirstAt, first_passes, is_kept, takes_sub}
 
 abbrev has : ℕ → Record → Bool
 has id board = board.id == id
@@ -20,11 +21,21 @@ here id board boards is = record {
   removed = rw is refl;
   replaced = λ other. rw is refl;
   marked = λ quality. rw is refl;
+  subbed = λ sub. rw is refl;
+  roomy = λ sub. rw is refl;
 }
 
-marks-later : (board : Record) (boards : List Record) (k : ℕ) (quality : Quality) (there : Option Record) → slice_get boards k ≡ there → with_quality (board ∷ boards) (suc k) quality ≡ board ∷ with_quality boards k quality
-marks-later board boards k quality None is = rw (is, with_quality) refl
-marks-later board boards k quality (Some found) is = rw (is, with_quality) refl
+-- the records with the one at a place changed so
+abbrev changed_at : List Record → ℕ → (Record → Record) → List Record
+changed_at boards place change =
+    elim (slice_get boards place) [
+      | None ↦ boards
+      | Some board ↦ slice_set boards place (change board)
+    ]
+
+changed-later : (board : Record) (boards : List Record) (k : ℕ) (change : Record → Record) (there : Option Record) → slice_get boards k ≡ there → changed_at (board ∷ boards) (suc k) change ≡ board ∷ changed_at boards k change
+changed-later board boards k change None is = rw (is, changed_at) refl
+changed-later board boards k change (Some found) is = rw (is, changed_at) refl
 
 later : (id : ℕ) (board : Record) (boards : List Record) (k : ℕ) → board.id == id ≡ false → IsFirstAt id boards k → IsFirstAt id (board ∷ boards) (suc k)
 later id board boards k not first = record {
@@ -32,7 +43,9 @@ later id board boards k not first = record {
   is_kept = rw not first.is_kept;
   removed = rw not (ap (λ (xs : List Record). board ∷ xs) first.removed);
   replaced = λ other. rw not (ap (λ (xs : List Record). board ∷ xs) (first.replaced other));
-  marked = λ quality. rw not (marks-later board boards k quality (slice_get boards k) refl ∙ ap (λ (xs : List Record). board ∷ xs) (first.marked quality));
+  marked = λ quality. rw not (changed-later board boards k (λ r. record r { quality = quality }) (slice_get boards k) refl ∙ ap (λ (xs : List Record). board ∷ xs) (first.marked quality));
+  subbed = λ sub. rw not (changed-later board boards k (λ r. record r { subs = r.subs ++ sub ∷ [] }) (slice_get boards k) refl ∙ ap (λ (xs : List Record). board ∷ xs) (first.subbed sub));
+  roomy = λ sub. rw not (first.roomy sub);
 }
 
 -- the first that passes the test is the first of the id
@@ -66,3 +79,24 @@ all_fail id kept d is k inside =
 pub position_none : (id : ℕ) (kept : List Record) → position (λ (b : Record). b.id == id) kept ≡ None → is_kept id kept ≡ false
 position_none id [] is = refl
 position_none id (board ∷ boards) is = none_kept id (board ∷ boards) board (all_fail id (board ∷ boards) board is)
+
+-- nor does one pass a test
+none_passes : (id : ℕ) (test : Record → Bool) (kept : List Record) → is_kept id kept ≡ false → first_passes id test kept ≡ false
+none_passes id test [] none = refl
+none_passes id test (board ∷ boards) none = by (board.id == id) (none_passes id test boards) none where
+  by : (same : Bool) → (is_kept id boards ≡ false → first_passes id test boards ≡ false) → (if same then true else is_kept id boards) ≡ false → (if same then test board else first_passes id test boards) ≡ false
+  by true later none = absurd (false≢true (sym none))
+  by false later none = later none
+
+-- a record that passes is kept
+pub passing_kept : (id : ℕ) (test : Record → Bool) (kept : List Record) → first_passes id test kept ≡ true → is_kept id kept ≡ true
+passing_kept id test kept passes = by (is_kept id kept) refl where
+  by : (found : Bool) → is_kept id kept ≡ found → is_kept id kept ≡ true
+  by true is = is
+  by false is = absurd (false≢true (sym (none_passes id test kept is) ∙ passes))
+
+pub takes_kept : (id : ℕ) (sub : SubBoard) (kept : List Record) → takes_sub id sub kept ≡ true → is_kept id kept ≡ true
+takes_kept id sub kept takes = passing_kept id (λ board. not (is_full board.subs sub)) kept takes
+
+pub position_roomless : (id : ℕ) (kept : List Record) → position (λ (b : Record). b.id == id) kept ≡ None → (sub : SubBoard) → takes_sub id sub kept ≡ false
+position_roomless id kept is sub = none_passes id (λ board. not (is_full board.subs sub)) kept (position_none id kept is)

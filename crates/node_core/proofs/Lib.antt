@@ -5,6 +5,7 @@ pub mod First
 pub mod Offers
 pub mod HalfRows
 pub mod Keeping
+pub mod KeptIds
 pub mod Telling
 pub mod Signalling
 pub mod Sound

@@ -13,6 +13,7 @@ use Rattle.smema_bridge.specs.declared.line.SegmentLine.TheVariants.{Ready, Avai
 use Rattle.board_record.specs.declared.record.Record.{Record}
 use Rattle.board_record.specs.Record.{plain_record}
 use Rattle.board_record.specs.declared.sensed.Sensed.{Sensed as Seen}
+use Rattle.board_record.specs.declared.sub_board.SubBoard.{SubBoard}
 use Rattle.session_core.specs.Input.{opened, second, tick, shutdown}
 use Rattle.session_core.specs.Row.{session_row}
 use Rattle.handover_out.specs.declared.input.OutInput.TheVariants as out_input
@@ -40,13 +41,13 @@ use Rattle.node_core.specs.Sides.{session_at, is_open, is_standing}
 use Rattle.node_core.specs.Halves.{OffersFront, settled, outlet_row_did, intake_row_did, ended}
 use Rattle.node_core.specs.Reads.{saw, reads, all_read}
 use Rattle.node_core.specs.Connect.{opens, notices, ticks, shuts_down}
-use Rattle.node_core.specs.Boards.{without, with_instead, with_mark, is_kept, if_kept, removes, replaces, marks, inserts, faults, wills}
+use Rattle.node_core.specs.Boards.{without, with_changed, with_instead, with_mark, with_sub, is_kept, takes_sub, if_kept, removes, replaces, marks, adds_sub, inserts, faults, wills}
 use Rattle.node_core.specs.Bridge.{with_level_will, failed_front, fails, sets_level}
 use Rattle.node_core.specs.Information.{forecasts, asks_for}
 use Rattle.node_core.specs.Places.{used, place_for, has_place}
 use Rattle.node_core.specs.Announces.{is_free, is_intake_free, is_front, revokes_now, revoke_by, revoke, unreadies_now, unready_by, unready, offers_now, offer_by, offer, readies_now, ready_by, ready, starts_now, start_by, start, announces}
 use Rattle.node_core.specs.Words.{word_did}
-use Rattle.node_core.specs.Event.{Event, Nothing, Connect, Accepted, Second, Words, Notice, Tick, Shutdown, Fault, Will, Level, Insert, Remove, Replace, Mark, Forecast, Query, Supervised, event_did}
+use Rattle.node_core.specs.Event.{Event, Nothing, Connect, Accepted, Second, Words, Notice, Tick, Shutdown, Fault, Will, Level, Insert, Remove, Replace, Mark, Sub, Forecast, Query, Supervised, event_did}
 use Rattle.node_core.specs.Supervising.{Supervision, Supervise, Ask, Answer, supervises, watch_of, with_tells}
 use Rattle.node_core.specs.declared.supervising.Watch.{Watch}
 use Rattle.node_core.specs.Step.{machine_step, plain_step}
@@ -54,6 +55,7 @@ use Rattle.node_core.specs.Own.{Own, own_act, own_after, own_of, ids_of, without
 use Rattle.node_core.specs.Sound.{IsSound}
 use Rattle.node_core.proofs.Offers.{Offers, offers_none, offers_front, OffersOf, to_offers, from_offers, front_offers, settled_offers, nothing_offered}
 use Rattle.node_core.proofs.HalfRows.{offer_offers, offer_places, offer_owns, in_places, in_row_places, in_row_owns}
+use Rattle.node_core.proofs.KeptIds.{LeavesId, ids_behind, ids_changed, ids_instead, ids_without}
 use Rattle.node_core.proofs.Telling.{beside}
 use Rattle.node_core.proofs.Keeping.{Keeps, SameParts, SameWills, keeps_still, keeps_told, keeps_behind, keeps_both, own_append, at_outlet_keeps, at_intake_keeps, ended_keeps, session_keeps, heard_keeps, word_keeps, if_keeps, fewer_out}
 
@@ -135,31 +137,6 @@ where_kept : (most : ℕ) (test : Bool) (body after : Body) (act : Act) → Keep
 where_kept most true body after act k = k
 where_kept most false body after act k = loosely most body (stays body) (keeps_still most body)
 
-without_is : (test : Bool) (id : ℕ) (board : Record) (boards : List Record) → board.id == id ≡ test → ids_of (without id boards) ≡ without_id id (ids_of boards) → ids_of (without id (board ∷ boards)) ≡ without_id id (ids_of (board ∷ boards))
-without_is true id board boards is same = rw is refl
-without_is false id board boards is same = rw is (ap (λ (ids : List ℕ). board.id ∷ ids) same)
-
-ids_without : (id : ℕ) (kept : List Record) → ids_of (without id kept) ≡ without_id id (ids_of kept)
-ids_without id [] = refl
-ids_without id (board ∷ boards) = without_is (board.id == id) id board boards refl (ids_without id boards)
-
-instead_is : (test : Bool) (id : ℕ) (other board : Record) (boards : List Record) → board.id == id ≡ test → ids_of (with_instead id other boards) ≡ with_id_instead id other.id (ids_of boards)
-    → ids_of (with_instead id other (board ∷ boards)) ≡ with_id_instead id other.id (ids_of (board ∷ boards))
-instead_is true id other board boards is same = rw is refl
-instead_is false id other board boards is same = rw is (ap (λ (ids : List ℕ). board.id ∷ ids) same)
-
-ids_instead : (id : ℕ) (other : Record) (kept : List Record) → ids_of (with_instead id other kept) ≡ with_id_instead id other.id (ids_of kept)
-ids_instead id other [] = refl
-ids_instead id other (board ∷ boards) = instead_is (board.id == id) id other board boards refl (ids_instead id other boards)
-
-marked_is : (test : Bool) (id : ℕ) (quality : Quality) (board : Record) (boards : List Record) → board.id == id ≡ test → ids_of (with_mark id quality boards) ≡ ids_of boards → ids_of (with_mark id quality (board ∷ boards)) ≡ ids_of (board ∷ boards)
-marked_is true id quality board boards is same = rw is refl
-marked_is false id quality board boards is same = rw is (ap (λ (ids : List ℕ). board.id ∷ ids) same)
-
-ids_marked : (id : ℕ) (quality : Quality) (kept : List Record) → ids_of (with_mark id quality kept) ≡ ids_of kept
-ids_marked id quality [] = refl
-ids_marked id quality (board ∷ boards) = marked_is (board.id == id) id quality board boards refl (ids_marked id quality boards)
-
 -- as many ids as records
 length_ids : (kept : List Record) → length (ids_of kept) ≡ length kept
 length_ids [] = refl
@@ -183,23 +160,28 @@ length_instead id new (mine ∷ ids) = same_instead (mine == id) id new mine ids
 
 removes_keeps : (most id : ℕ) (body : Body) → KeepsLoosely most body (removes id body)
 removes_keeps most id body =
-    let fewer : length (without id body.kept) ≤ length body.kept = omega (arith, sym (length_ids (without id body.kept)) ∙ ap length (ids_without id body.kept), length_without id (ids_of body.kept), length_ids body.kept) in
-    where_kept most (is_kept id body.kept) body _ (acts.Removes id) (by_hand most body (without id body.kept) (acts.Removes id) fewer (ap (λ (ids : List ℕ). record (own_of body) { kept = ids }) (sym (ids_without id body.kept))))
+    let fewer : length (without id body.kept) ≤ length body.kept = omega (arith, sym (length_ids (without id body.kept)) ∙ ap length (sym (ids_without id body.kept)), length_without id (ids_of body.kept), length_ids body.kept) in
+    where_kept most (is_kept id body.kept) body _ (acts.Removes id) (by_hand most body (without id body.kept) (acts.Removes id) fewer (ap (λ (ids : List ℕ). record (own_of body) { kept = ids }) (ids_without id body.kept)))
 
 replaces_keeps : (most : ℕ) (desk : Desk) (old new : ℕ) (body : Body) → KeepsLoosely most body (replaces desk old new body)
 replaces_keeps most desk old new body =
     let other = plain_record new desk.name None in
-    let fewer : length (with_instead old other body.kept) ≤ length body.kept = omega (arith, sym (length_ids (with_instead old other body.kept)) ∙ ap length (ids_instead old other body.kept), length_instead old new (ids_of body.kept), length_ids body.kept) in
-    where_kept most (is_kept old body.kept) body _ (acts.Replaces old new) (by_hand most body (with_instead old other body.kept) (acts.Replaces old new) fewer (ap (λ (ids : List ℕ). record (own_of body) { kept = ids }) (sym (ids_instead old other body.kept))))
+    let fewer : length (with_instead old other body.kept) ≤ length body.kept = omega (arith, sym (length_ids (with_instead old other body.kept)) ∙ ap length (sym (ids_instead old other body.kept)), length_instead old new (ids_of body.kept), length_ids body.kept) in
+    where_kept most (is_kept old body.kept) body _ (acts.Replaces old new) (by_hand most body (with_instead old other body.kept) (acts.Replaces old new) fewer (ap (λ (ids : List ℕ). record (own_of body) { kept = ids }) (ids_instead old other body.kept)))
+
+-- a record is changed, and neither its id nor what the machine owns
+changes_keeps : (most id : ℕ) (change : Record → Record) (test : Bool) (act : Act) (body : Body) → LeavesId change → own_act (own_of body) act ≡ own_of body
+    → KeepsLoosely most body (if_kept test (record body { kept = with_changed id change body.kept }) act body)
+changes_keeps most id change test act body leaves quiet =
+    let same : ids_of body.kept ≡ ids_of (with_changed id change body.kept) = ids_changed id change body.kept leaves in
+    let fewer : length (with_changed id change body.kept) ≤ length body.kept = omega (arith, sym (length_ids (with_changed id change body.kept)) ∙ ap length (sym same), length_ids body.kept) in
+    where_kept most test body _ act (by_hand most body (with_changed id change body.kept) act fewer (quiet ∙ ap (λ (ids : List ℕ). record (own_of body) { kept = ids }) same))
 
 marks_keeps : (most id : ℕ) (quality : Quality) (body : Body) → KeepsLoosely most body (marks id quality body)
-marks_keeps most id quality body =
-    let fewer : length (with_mark id quality body.kept) ≤ length body.kept = omega (arith, sym (length_ids (with_mark id quality body.kept)) ∙ ap length (ids_marked id quality body.kept), length_ids body.kept) in
-    where_kept most (is_kept id body.kept) body _ (acts.Marks id quality) (by_hand most body (with_mark id quality body.kept) (acts.Marks id quality) fewer (ap (λ (ids : List ℕ). record (own_of body) { kept = ids }) (sym (ids_marked id quality body.kept))))
+marks_keeps most id quality body = changes_keeps most id (λ board. record board { quality = quality }) (is_kept id body.kept) (acts.Marks id quality) body (λ _. refl) refl
 
-pub ids_behind : (kept : List Record) (board : Record) → ids_of kept ++ board.id ∷ [] ≡ ids_of (kept ++ board ∷ [])
-ids_behind [] board = refl
-ids_behind (b ∷ bs) board = ap (λ (ids : List ℕ). b.id ∷ ids) (ids_behind bs board)
+subs_keeps : (most id : ℕ) (sub : SubBoard) (body : Body) → KeepsLoosely most body (adds_sub id sub body)
+subs_keeps most id sub body = changes_keeps most id (λ board. record board { subs = board.subs ++ sub ∷ [] }) (takes_sub id sub body.kept) (acts.Subs id sub.pos) body (λ _. refl) refl
 
 one_more : (kept : List Record) (board : Record) (a b most : ℕ) → length kept + a + b < most → length (kept ++ board ∷ []) + a + b ≤ most
 one_more kept board a b most fits = omega (arith, fits, length-append kept (board ∷ []))
@@ -267,6 +249,7 @@ event_keeps most desk (Insert id barcode) body fits = inserts_keeps most desk id
 event_keeps most desk (Remove id) body fits = removes_keeps most id body
 event_keeps most desk (Replace old new) body fits = replaces_keeps most desk old new body
 event_keeps most desk (Mark id quality) body fits = marks_keeps most id quality body
+event_keeps most desk (Sub id sub) body fits = subs_keeps most id sub body
 event_keeps most desk Forecast body fits = loosely most body _ (forecasts_keep most desk (slice_get body.kept 0) body)
 event_keeps most desk (Query barcode) body fits = loosely most body _ (asks_keeps most desk barcode body)
 event_keeps most desk (Supervised what) body fits = loosely most body _ (supervises_keeps most desk what body)
@@ -288,7 +271,6 @@ IsWilless (Level line on) = ⊥
 IsWilless _ = Unit {0}
 
 pub event_wills : (desk : Desk) (event : Event) (body : Body) → IsWilless event → SameWills body (event_did desk event body).body
-event_wills desk Nothing body no_will = record { entry = refl; exit = refl }
 event_wills desk Connect body no_will = (keeps_behind 0 body (acts.Connects ∷ []) (opens desk Entry body) (λ own. refl) (opens_keeps 0 desk Entry body)).wills
 event_wills desk Accepted body no_will = (opens_keeps 0 desk Exit body).wills
 event_wills desk Second body no_will = (session_keeps 0 desk Exit second body (session_row (session_at Exit body) second) refl).wills
@@ -299,13 +281,11 @@ event_wills desk Shutdown body no_will = (keeps_both 0 body (shuts_down desk Ent
 event_wills desk (Fault side) body no_will = (faults_keeps 0 desk side body).wills
 event_wills desk (Will side on) body no_will = absurd no_will
 event_wills desk (Level line on) body no_will = absurd no_will
-event_wills desk (Insert id barcode) body no_will = record { entry = refl; exit = refl }
 event_wills desk (Remove id) body no_will = kept_wills (is_kept id body.kept) (without id body.kept) (acts.Removes id) body
 event_wills desk (Replace old new) body no_will = kept_wills (is_kept old body.kept) (with_instead old (plain_record new desk.name None) body.kept) (acts.Replaces old new) body
 event_wills desk (Mark id quality) body no_will = kept_wills (is_kept id body.kept) (with_mark id quality body.kept) (acts.Marks id quality) body
-event_wills desk Forecast body no_will = record { entry = refl; exit = refl }
-event_wills desk (Query barcode) body no_will = record { entry = refl; exit = refl }
-event_wills desk (Supervised what) body no_will = record { entry = refl; exit = refl }
+event_wills desk (Sub id sub) body no_will = kept_wills (takes_sub id sub body.kept) (with_sub id sub body.kept) (acts.Subs id sub.pos) body
+event_wills desk _ body no_will = record { entry = refl; exit = refl }
 
 -- ---- the announcements
 

@@ -1,12 +1,14 @@
--- What is done by hand: boards are put in, taken out, replaced and marked, drives fail, and the
--- will changes.
-use Rattle.std.specs.Prelude.{◌≡◌, ◌<◌, ℕ, Bool, true, false, List, [], ◌∷◌, ◌++◌, ◌==◌, Option, None, length, remove, slice_set, if◌then◌else◌}
+-- What is done by hand: boards are put in, taken out, replaced and marked, get circuits of a panel,
+-- drives fail, and the will changes.
+use Rattle.std.specs.Prelude.{◌≡◌, ◌<◌, ℕ, Bool, true, false, List, [], ◌∷◌, ◌++◌, ◌==◌, Option, None, length, not, remove, slice_set, if◌then◌else◌}
 use Rattle.line_base.specs.declared.states.Side.{Side}
 use Rattle.line_base.specs.declared.states.Side.TheVariants.{Entry, Exit}
 use Rattle.line_base.specs.declared.states.Quality.{Quality}
 use Rattle.board_record.specs.declared.record.Record.{Record}
 use Rattle.board_record.specs.Record.{plain_record}
-use Rattle.board_record.specs.Kept.{with_quality}
+use Rattle.board_record.specs.Kept.{is_full_at, with_quality, with_sub as with_sub_at}
+use Rattle.board_record.specs.SubBoards.{is_full}
+use Rattle.board_record.specs.declared.sub_board.SubBoard.{SubBoard}
 use Rattle.handover_out.specs.declared.input.OutInput.TheVariants as out_input
 use Rattle.handover_in.specs.declared.input.InInput.TheVariants as in_input
 use Rattle.node_core.specs.declared.act.Act.{Act}
@@ -20,27 +22,41 @@ use Rattle.node_core.specs.Halves.{at_outlet, at_intake}
 
 -- ---- the first record of an id
 
+-- there is one, and it passes a test
+abbrev pub first_passes : ℕ → (Record → Bool) → List Record → Bool
+first_passes id test [] = false
+first_passes id test (board ∷ boards) =
+    if board.id == id then test board else first_passes id test boards
+
 abbrev pub is_kept : ℕ → List Record → Bool
-is_kept id [] = false
-is_kept id (board ∷ boards) = if board.id == id then true else is_kept id boards
+is_kept id kept = first_passes id (λ _. true) kept
+
+-- it has room for a circuit more
+abbrev pub takes_sub : ℕ → SubBoard → List Record → Bool
+takes_sub id sub kept = first_passes id (λ board. not (is_full board.subs sub)) kept
 
 -- the records without it
 abbrev pub without : ℕ → List Record → List Record
 without id [] = []
 without id (board ∷ boards) = if board.id == id then boards else board ∷ without id boards
 
+-- the records with the first of an id changed so
+abbrev pub with_changed : ℕ → (Record → Record) → List Record → List Record
+with_changed id change [] = []
+with_changed id change (board ∷ boards) =
+    if board.id == id then change board ∷ boards else board ∷ with_changed id change boards
+
 -- the records with another in its place
 abbrev pub with_instead : ℕ → Record → List Record → List Record
-with_instead id other [] = []
-with_instead id other (board ∷ boards) =
-    if board.id == id then other ∷ boards else board ∷ with_instead id other boards
+with_instead id other kept = with_changed id (λ _. other) kept
 
 -- the records with its quality changed
 abbrev pub with_mark : ℕ → Quality → List Record → List Record
-with_mark id quality [] = []
-with_mark id quality (board ∷ boards) =
-    if board.id == id then record board { quality = quality } ∷ boards else board ∷ with_mark id
-    quality boards
+with_mark id quality kept = with_changed id (λ board. record board { quality = quality }) kept
+
+-- the records with one circuit more of it, behind those that it has
+abbrev pub with_sub : ℕ → SubBoard → List Record → List Record
+with_sub id sub kept = with_changed id (λ board. record board { subs = board.subs ++ sub ∷ [] }) kept
 
 -- the first record of an id stands at this place
 pub record IsFirstAt (id : ℕ) (kept : List Record) (place : ℕ) : Type 0 where
@@ -49,11 +65,13 @@ pub record IsFirstAt (id : ℕ) (kept : List Record) (place : ℕ) : Type 0 wher
   pub removed : remove kept place ≡ without id kept
   pub replaced : (other : Record) → slice_set kept place other ≡ with_instead id other kept
   pub marked : (quality : Quality) → with_quality kept place quality ≡ with_mark id quality kept
+  pub subbed : (sub : SubBoard) → with_sub_at kept place sub ≡ with_sub id sub kept
+  pub roomy : (sub : SubBoard) → takes_sub id sub kept ≡ not (is_full_at kept place sub)
 
 abbrev pub with_kept : List Record → Body → Body
 with_kept kept body = record body { kept = kept }
 
--- only where a record of this id is kept
+-- only where the test passes: that a record of this id is kept, or has room
 abbrev pub if_kept : Bool → Body → Act → Body → Done
 if_kept true after act body = done after (act ∷ [])
 if_kept false after act body = stays body
@@ -83,6 +101,12 @@ abbrev pub marks : ℕ → Quality → Body → Done
 marks id quality body =
     if_kept (is_kept id body.kept) (with_kept (with_mark id quality body.kept) body)
     (acts.Marks id quality) body
+
+-- THE MICRO EVENT: a board has a circuit more, where its record has room for it
+abbrev pub adds_sub : ℕ → SubBoard → Body → Done
+adds_sub id sub body =
+    if_kept (takes_sub id sub body.kept) (with_kept (with_sub id sub body.kept) body)
+    (acts.Subs id sub.pos) body
 
 -- THE MICRO EVENT: the drive of a side fails
 abbrev pub faults : Desk → Side → Body → Done

@@ -7,6 +7,8 @@ use Rattle.line_base.specs.declared.states.Quality.{Quality}
 use Rattle.smema_bridge.specs.declared.line.SegmentLine.{SegmentLine}
 use Rattle.board_record.specs.Maker.{Maker, next_id, after_next}
 use Rattle.board_record.specs.declared.maker.IdsUsedUp.{IdsUsedUp}
+use Rattle.board_record.specs.declared.sub_board.SubBoard.{SubBoard}
+use Rattle.board_record.specs.SubBoards.{unknown_sub}
 use Rattle.node_core.specs.declared.act.Act.TheVariants as acts
 use Rattle.node_core.specs.declared.input.Input.{Input}
 use Rattle.node_core.specs.declared.input.Input.TheVariants as inputs
@@ -15,7 +17,7 @@ use Rattle.node_core.specs.declared.word.Word.{Word}
 use Rattle.node_core.specs.Desk.{Desk}
 use Rattle.node_core.specs.Done.{Done, stays, behind}
 use Rattle.node_core.specs.Connect.{opens, meets_second, notices, both_tick, both_shut_down}
-use Rattle.node_core.specs.Boards.{inserts, removes, replaces, marks, faults, wills}
+use Rattle.node_core.specs.Boards.{inserts, removes, replaces, marks, adds_sub, faults, wills}
 use Rattle.node_core.specs.Bridge.{sets_level}
 use Rattle.node_core.specs.Information.{forecasts_front, asks_for}
 use Rattle.node_core.specs.Words.{all_heard}
@@ -37,6 +39,7 @@ pub data Event : Type 0 where
   Remove : ℕ → Event
   Replace : ℕ → ℕ → Event
   Mark : ℕ → Quality → Event
+  Sub : ℕ → SubBoard → Event
   Forecast : Event
   Query : List ℕ → Event
   Supervised : Supervision → Event
@@ -63,6 +66,7 @@ event_of maker (inputs.Insert barcode) words = with_new (next_id maker) (λ id. 
 event_of maker (inputs.Remove id) words = Remove id
 event_of maker (inputs.Replace id) words = with_new (next_id maker) (Replace id)
 event_of maker (inputs.Mark id quality) words = Mark id quality
+event_of maker (inputs.Sub id place barcode) words = Sub id (unknown_sub place barcode)
 event_of maker inputs.Forecast words = Forecast
 event_of maker (inputs.Query barcode) words = Query barcode
 event_of maker (inputs.Supervise on) words = Supervised (Supervise on)
@@ -92,6 +96,7 @@ event_did desk (Insert id barcode) body = inserts desk id barcode body
 event_did desk (Remove id) body = removes id body
 event_did desk (Replace old new) body = replaces desk old new body
 event_did desk (Mark id quality) body = marks id quality body
+event_did desk (Sub id sub) body = adds_sub id sub body
 event_did desk Forecast body = forecasts_front desk body
 event_did desk (Query barcode) body = asks_for desk barcode body
 event_did desk (Supervised what) body = supervises desk what body

@@ -6,7 +6,7 @@ use Rattle.board_record.specs.declared.record.Record.{Record}
 use Rattle.session_core.specs.End.{at_rest}
 use Rattle.handover_out.specs.declared.input.OutInput.{OutInput}
 use Rattle.handover_out.specs.declared.input.OutInput.TheVariants as out_input
-use Rattle.handover_out.specs.Row.{OutRow, outlet_row}
+use Rattle.handover_out.specs.Row.{OutRow, last_after, outlet_row}
 use Rattle.handover_out.specs.State.{is_idle_phase}
 use Rattle.handover_in.specs.declared.input.InInput.{InInput}
 use Rattle.handover_in.specs.declared.input.InInput.TheVariants as in_input
@@ -30,7 +30,12 @@ settled (Some board) kept = kept ++ board ∷ []
 -- what a row of the outlet table does
 abbrev pub outlet_did : Desk → Body → OutRow → Done
 outlet_did desk body row =
-    done (record body { outlet = row.after; kept = given_back row.act.back body.kept })
+    done
+    (record body {
+      outlet = row.after;
+      kept = given_back row.act.back body.kept;
+      last_offer = last_after row body.last_offer;
+    })
     (out_told desk body.kept row.act)
 
 -- what a row of the intake table does

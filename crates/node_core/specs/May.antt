@@ -2,6 +2,8 @@
 use Rattle.std.specs.Prelude.{ℕ, pos, Bool, true, false, ◌&&◌, ◌^◌, ◌-◌, Option, Some, None, Result, Ok, Err, is_none, is_some, not, nat_le, slice_get}
 use Rattle.line_base.specs.declared.states.Side.{Side}
 use Rattle.line_base.specs.declared.states.Side.TheVariants.{Entry, Exit}
+use Rattle.board_record.specs.declared.sub_board.SubBoard.{SubBoard}
+use Rattle.board_record.specs.SubBoards.{unknown_sub}
 use Rattle.handover_out.specs.declared.phase.OutPhase.{OutPhase}
 use Rattle.handover_out.specs.declared.phase.OutPhase.TheVariants as out_names
 use Rattle.handover_out.specs.State as out_state
@@ -19,7 +21,7 @@ use Rattle.node_core.specs.declared.lane.Body.{Body}
 use Rattle.node_core.specs.Sides.{end_at, session_at, is_open, is_standing}
 use Rattle.node_core.specs.Places.{has_place}
 use Rattle.node_core.specs.Announces.{is_intake_free}
-use Rattle.node_core.specs.Boards.{is_kept}
+use Rattle.node_core.specs.Boards.{is_kept, takes_sub}
 use Rattle.node_core.specs.Node.{NodeState, desk_of}
 use Rattle.supervisory_core.specs.declared.error.AnswerError.{AnswerError}
 use Rattle.supervisory_core.specs.declared.error.AnswerError.TheVariants as answer_errors
@@ -97,6 +99,12 @@ may_mark id body =
     no_if (not (is_kept id body.kept)) no.NotKept
     (no_if (out_state.is_id body.outlet.touched id) no.Offered may_do)
 
+abbrev pub may_sub : ℕ → SubBoard → Body → Result (Unit {0}) No
+may_sub id sub body =
+    no_if (not (is_kept id body.kept)) no.NotKept
+    (no_if (out_state.is_id body.outlet.touched id) no.Offered
+    (no_if (not (takes_sub id sub body.kept)) no.SubsFull may_do))
+
 abbrev pub may_forecast : Body → Result (Unit {0}) No
 may_forecast body =
     no_if (not (is_standing Exit body)) no.NotStanding
@@ -152,6 +160,7 @@ may_of s (inputs.Insert barcode) = may_insert s
 may_of s (inputs.Remove id) = may_remove id s.lane.body
 may_of s (inputs.Replace id) = may_replace id s
 may_of s (inputs.Mark id quality) = may_mark id s.lane.body
+may_of s (inputs.Sub id place barcode) = may_sub id (unknown_sub place barcode) s.lane.body
 may_of s inputs.Forecast = may_forecast s.lane.body
 may_of s (inputs.Query barcode) = may_query s.lane.body
 may_of s (inputs.Supervise on) = may_supervise on s

@@ -40,7 +40,7 @@ desk_of s moment = record {
   asked = length s.orders;
 }
 
--- nothing is kept, and no session has a connection. A machine is willing on both sides, and a
+-- nothing is kept, nothing was ever offered, and no session has a connection. A machine is willing on both sides, and a
 -- bridge on none, as no level of its segment is on
 abbrev pub first_body : Bool → Body
 first_body is_bridge = record {
@@ -49,6 +49,7 @@ first_body is_bridge = record {
   intake = intake.at_rest;
   entry = record { session = ends.at_rest Downstream; willing = not is_bridge };
   exit = record { session = ends.at_rest Upstream; willing = not is_bridge };
+  last_offer = None;
 }
 
 -- that of a machine that is no bridge

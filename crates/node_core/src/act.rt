@@ -1,4 +1,4 @@
-ghost use Rattle.std.specs.Prelude.{◌≡◌, [], ◌∷◌, ◌++◌, IfOk, OnOk};
+ghost use Rattle.std.specs.Prelude.{◌≡◌, [], ◌∷◌, ◌++◌, IfOk, OnErr, OnOk};
 
 use board_record::BoardId;
 use hermes_horizontal::Message;
@@ -45,6 +45,8 @@ pub enum Act {
     Answered(u64, Text),
     /// It was told otherwise.
     Sets(Setting),
+    /// A kept record has a circuit more, at this place of the panel.
+    Subs { id: BoardId, pos: u32 },
 }
 
 /// What a supervisor is told, or asked. It lies apart, so that an act is small: few acts tell a
@@ -151,9 +153,10 @@ impl Outputs {
         }
     }
 
-    /// Appends an act. `Memory` where there is none for it.
+    /// Appends an act. `Memory` where there is none for it: the acts are as they were then.
     pub fn push(&mut self, act: Act) -> Result<(), Memory>
-        ensures { OnOk result (self.new ≡ self.old ++ act ∷ []) }
+        ensures pushed { OnOk result (self.new ≡ self.old ++ act ∷ []) }
+        ensures unchanged { OnErr result (self.new ≡ self.old) }
     {
         self.acts.push(act)?;
         Ok(())

@@ -1,21 +1,24 @@
 ghost use Rattle.std.specs.Prelude.{◌≡◌, ◌++◌, IfSome, OnOk, None, false};
 ghost use Rattle.node_core.specs.Sides.{end_at};
-ghost use Rattle.node_core.specs.Boards.{IsFirstAt, is_kept, inserts, removes, replaces, marks, faults, wills};
+ghost use Rattle.node_core.specs.Boards.{IsFirstAt, is_kept, takes_sub, inserts, removes, replaces, marks, adds_sub, faults, wills};
+ghost use Rattle.board_record.specs.declared.sub_board.SubBoard.{SubBoard as Sub};
+ghost use Rattle.board_record.specs.SubBoards.{unknown_sub};
 
 use crate::act::{Act, Outputs, Setting};
 use crate::desk::Desk;
 use crate::lane::Body;
 use crate::shelf::Shelf;
-use board_record::{BoardId, Record};
+use board_record::{BoardId, Record, SubBoard, SubError};
 use handover_in::InInput;
 use handover_out::OutInput;
 use line_base::{Memory, Quality, Side, Text};
 
 /// The place of the first record of this id.
-#[tactic(auto, using(crate::proofs::First::position_first, crate::proofs::First::position_none))]
+#[tactic(auto, using(crate::proofs::First::position_first, crate::proofs::First::position_none, crate::proofs::First::position_roomless))]
 fn place_of(kept: &Shelf, id: BoardId) -> Option<usize>
     ensures first { IfSome result (IsFirstAt id kept.now) }
     ensures none { result ≡ None → is_kept id kept.now ≡ false }
+    ensures roomless { result ≡ None → (sub : Sub) → takes_sub id sub kept.now ≡ false }
 {
     kept.position_of(id)
 }
@@ -97,6 +100,38 @@ impl Body {
                 self.kept.set_quality(place, quality);
                 to.push(Act::Marks(id, quality))
             }
+            None => Ok(()),
+        }
+    }
+
+    /// Whether the first record of an id has room for a circuit more, with this place of the panel
+    /// and this barcode.
+    pub(crate) fn takes_sub(&self, id: BoardId, pos: u32, barcode: &Option<Text>) -> bool
+        ensures { result ≡ takes_sub id (unknown_sub pos barcode.now) self.now.kept }
+    {
+        match place_of(&self.kept, id) {
+            Some(place) => !self.kept.is_full_at(place, pos, barcode),
+            None => false,
+        }
+    }
+
+    /// A board, a panel, has a circuit more. Nothing where its record has no room for it.
+    pub(crate) fn add_sub(
+        &mut self,
+        id: BoardId,
+        sub: SubBoard,
+        to: &mut Outputs,
+    ) -> Result<(), Memory>
+        ensures body { OnOk result (self.new ≡ (adds_sub id sub self.old).body) }
+        ensures acts { OnOk result (to.new ≡ to.old ++ (adds_sub id sub self.old).acts) }
+    {
+        let pos = sub.pos;
+        match place_of(&self.kept, id) {
+            Some(place) => match self.kept.push_sub(place, sub) {
+                Ok(()) => to.push(Act::Subs { id, pos }),
+                Err(SubError::Full) => Ok(()),
+                Err(SubError::Memory) => Err(Memory),
+            },
             None => Ok(()),
         }
     }

@@ -1,5 +1,6 @@
 ghost use Rattle.std.specs.Prelude.{◌≡◌, ◌++◌, None, OnOk, slice_get};
 ghost use Rattle.handover_out.specs.Given.{IsGiven, breach_of};
+ghost use Rattle.handover_out.specs.Row.{last_by};
 ghost use Rattle.handover_in.specs.Given.{IsGiven as IsGivenIn, breach_of as in_breach_of};
 ghost use Rattle.node_core.specs.Halves.{given_back, settled, at_outlet, at_intake, half_closed};
 ghost use Rattle.node_core.specs.Told.{sends, does, out_does, in_does, drives, offers, out_says, out_sends, in_sends, in_says, deed_of_out, deed_of_in, out_told, in_told};
@@ -7,7 +8,7 @@ ghost use Rattle.node_core.specs.Told.{sends, does, out_does, in_does, drives, o
 use crate::act::{Act, Deed, Outputs};
 use crate::desk::Desk;
 use crate::lane::Body;
-use board_record::Record;
+use board_record::{BoardId, Record};
 use handover_in::{InAct, InDeed, InInput, InSend};
 use handover_out::{OutAct, OutDeed, OutInput, OutSend};
 use hermes_horizontal::{Horizontal, Message, Said};
@@ -157,8 +158,24 @@ fn in_send(desk: &Desk, what: Option<InSend>, to: &mut Outputs) -> Result<(), Me
     }
 }
 
+/// The board that was offered last, beside what the outlet says.
+fn last_by(
+    what: Option<OutSend>,
+    offered: Option<BoardId>,
+    last: Option<BoardId>,
+) -> Option<BoardId>
+    ensures { result ≡ last_by what offered last }
+{
+    match what {
+        Some(OutSend::BoardAvailable) => offered,
+        Some(OutSend::RevokeBoardAvailable) => last,
+        Some(OutSend::Finished { .. }) => last,
+        None => last,
+    }
+}
+
 impl Body {
-    /// What an act of the outlet tells, and does to the kept records.
+    /// What an act of the outlet tells, and does to the kept records and the last offer.
     #[inline(always)]
     pub(crate) fn follow_out(
         &mut self,
@@ -167,12 +184,17 @@ impl Body {
         to: &mut Outputs,
     ) -> Result<(), Memory>
         ensures body { OnOk result
-            (self.new ≡ record self.old { kept = given_back act.back self.old.kept }) }
+            (self.new
+            ≡ record self.old {
+              kept = given_back act.back self.old.kept;
+              last_offer = last_by act.send self.old.outlet.offered self.old.last_offer;
+            }) }
         ensures acts { OnOk result (to.new ≡ to.old ++ out_told desk.now self.old.kept act) }
     {
         tell_out_deed(act.deed, to)?;
         out_send(desk, self.kept.list(), act.send, to)?;
         tell_drive(Side::Exit, act.drive, to)?;
+        self.last_offer = last_by(act.send, self.outlet.offered(), self.last_offer);
         match act.back {
             Some(board) => self.kept.push_front(board),
             None => Ok(()),

@@ -2,7 +2,6 @@ use board_record::BoardId;
 use hermes_vertical::Question;
 use line_base::{Quality, Side, Text};
 use smema_bridge::SegmentLine;
-use thiserror::Error;
 
 /// What is given to a machine in a step.
 #[derive(Drop)]
@@ -46,67 +45,60 @@ pub enum Input<'a> {
     /// The supervisor is asked for a work order.
     Ask(Question),
     /// The supervisor answers the question of this number by this work order.
-    Answer { query: u64, order: Text },
+    Answer {
+        query: u64,
+        order: Text,
+    },
+    /// This board, a panel, has a circuit more at this place, maybe with a barcode. Whether it is
+    /// good isn't known.
+    Sub {
+        id: BoardId,
+        pos: u32,
+        barcode: Option<Text>,
+    },
 }
 
 /// Why an input may not be given.
-#[derive(Clone, Copy, Debug, PartialEq, Eq, Error)]
+#[derive(Clone, Copy, Debug, PartialEq, Eq)]
 pub enum No {
     /// The intake has an open handover.
-    #[error("intake open")]
     IntakeOpen,
     /// There is no place for one board more.
-    #[error("full")]
     Full,
     /// The machine has made all its ids.
-    #[error("ids used up")]
     IdsUsedUp,
     /// The machine keeps no record of this board.
-    #[error("not kept")]
     NotKept,
     /// The board was offered, so its record may be known downstream.
-    #[error("offered")]
     Offered,
     /// It is so already.
-    #[error("same")]
     Same,
     /// That side has a connection.
-    #[error("connected")]
     Connected,
     /// The intake has a board between itself and its neighbour.
-    #[error("intake unsettled")]
     IntakeUnsettled,
     /// That side, or each of the two, has no connection.
-    #[error("not connected")]
     NotConnected,
     /// No board is moving at that side.
-    #[error("no handover")]
     NoHandover,
     /// The machine is a bridge, so the levels of its segment say what it is willing to do.
-    #[error("bridge")]
     Bridge,
     /// The machine is no bridge, so it has no segment.
-    #[error("not a bridge")]
     NotABridge,
     /// The session of that side doesn't stand.
-    #[error("not standing")]
     NotStanding,
     /// The neighbour doesn't list the feature that takes such a message.
-    #[error("not supported")]
     NotSupported,
     /// The machine keeps no board.
-    #[error("nothing kept")]
     NothingKept,
     /// The machine is not supervised.
-    #[error("not supervised")]
     NotSupervised,
     /// As many questions for work orders have no answer as may wait for one.
-    #[error("queries full")]
     QueriesFull,
     /// No question of this number was asked.
-    #[error("unknown query")]
     UnknownQuery,
     /// The question of this number was answered before.
-    #[error("answered")]
     Answered(u64),
+    /// The board's record has no room for one circuit more.
+    SubsFull,
 }

@@ -1,4 +1,5 @@
 use crate::shelf::Shelf;
+use board_record::BoardId;
 use handover_in::Intake;
 use handover_out::Outlet;
 use hermes_stream::Cutter;
@@ -11,8 +12,8 @@ pub struct End {
     pub(crate) willing: bool,
 }
 
-/// What the tables speak of: the records that are kept, the two halves of handovers, and the two
-/// sides.
+/// What the tables speak of: the records that are kept, the two halves of handovers, the two sides,
+/// and the board that was offered last, which nothing clears.
 #[derive(Drop)]
 pub struct Body {
     pub(crate) kept: Shelf,
@@ -20,6 +21,7 @@ pub struct Body {
     pub(crate) intake: Intake,
     pub(crate) entry: End,
     pub(crate) exit: End,
+    pub(crate) last_offer: Option<BoardId>,
 }
 
 /// A lane of a machine: its body, and beside it the bytes of each side that make no message yet.

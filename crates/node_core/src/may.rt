@@ -1,6 +1,7 @@
+ghost use Rattle.board_record.specs.SubBoards.{unknown_sub};
 ghost use Rattle.std.specs.Prelude.{◌≡◌, not};
 ghost use Rattle.smema_bridge.specs.Segment.{level_of};
-ghost use Rattle.node_core.specs.May.{is_handing_over, is_used_up, may_of, may_connect, may_accept, may_reach, may_reach_any, may_fault, may_will, may_level, may_insert, may_remove, may_replace, may_mark, may_forecast, may_query, may_supervise, may_ask, may_answer};
+ghost use Rattle.node_core.specs.May.{is_handing_over, is_used_up, may_of, may_connect, may_accept, may_reach, may_reach_any, may_fault, may_will, may_level, may_insert, may_remove, may_replace, may_mark, may_sub, may_forecast, may_query, may_supervise, may_ask, may_answer};
 
 use crate::input::{Input, No};
 use crate::lane::Body;
@@ -8,7 +9,7 @@ use crate::node::Node;
 use board_record::BoardId;
 use handover_in::InPhase;
 use handover_out::OutPhase;
-use line_base::Side;
+use line_base::{Side, Text};
 use smema_bridge::{Bridge, SegmentLine};
 use supervisory_core::AnswerError;
 
@@ -120,6 +121,22 @@ impl Body {
         Ok(())
     }
 
+    fn may_sub(&self, id: BoardId, pos: u32, barcode: &Option<Text>) -> Result<(), No>
+        ensures { result ≡ may_sub id (unknown_sub pos barcode.now) self.now }
+    {
+        if !self.keeps(id) {
+            return Err(No::NotKept);
+        }
+        let touched = self.outlet.touched();
+        if touched == Some(id) {
+            return Err(No::Offered);
+        }
+        if !self.takes_sub(id, pos, barcode) {
+            return Err(No::SubsFull);
+        }
+        Ok(())
+    }
+
     fn may_forecast(&self) -> Result<(), No>
         ensures { result ≡ may_forecast self.now }
     {
@@ -158,8 +175,8 @@ impl Node {
     /// `IdsUsedUp`. `Remove`: `NotKept`. `Replace`: `NotKept`, `IdsUsedUp`. `Mark`: `NotKept`,
     /// `Offered`. `Forecast`: `NotStanding`, `NotSupported`, `NothingKept`. `Query`:
     /// `NotStanding`, `NotSupported`. `Supervise`: `Same`. `Ask`: `NotSupervised`, `QueriesFull`.
-    /// `Answer`: `NotSupervised`, `UnknownQuery`, `Answered` with the number of the query. It
-    /// takes no memory.
+    /// `Answer`: `NotSupervised`, `UnknownQuery`, `Answered` with the number of the query.
+    /// `Sub`: `NotKept`, `Offered`, `SubsFull`. It takes no memory.
     #[inline(always)]
     pub fn may(&self, input: &Input<'_>) -> Result<(), No>
         ensures { result ≡ may_of self.now input.now }
@@ -185,6 +202,7 @@ impl Node {
             Input::Supervise(on) => self.may_supervise(*on),
             Input::Ask(_) => self.may_ask(),
             Input::Answer { query, .. } => self.may_answer(*query),
+            Input::Sub { id, pos, barcode } => self.lane.body.may_sub(*id, *pos, barcode),
         }
     }
 

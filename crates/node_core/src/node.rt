@@ -25,7 +25,7 @@ use crate::laws::one_meaning;
 use crate::profile::NodeProfile;
 use crate::shelf::Shelf;
 use crate::supervising::{note_orders, supervised_after};
-use board_record::{IdMaker, Record, Sensed};
+use board_record::{BoardId, IdMaker, Record, Sensed};
 use forecast_query::Forecasts;
 use handover_in::Intake;
 use handover_out::Outlet;
@@ -97,6 +97,7 @@ fn first_body(alloc: Global, is_bridge: bool) -> Body
             session: Session::new(Role::Upstream),
             willing: !is_bridge,
         },
+        last_offer: None,
     }
 }
 
@@ -217,6 +218,13 @@ impl Node {
         ensures { result.now ≡ self.now.lane.body.outlet }
     {
         &self.lane.body.outlet
+    }
+
+    /// The board that was offered last. Nothing clears it: `None` exactly where none ever was.
+    pub fn last_offer(&self) -> Option<BoardId>
+        ensures { result ≡ self.now.lane.body.last_offer }
+    {
+        self.lane.body.last_offer
     }
 
     /// The downstream half of handovers.

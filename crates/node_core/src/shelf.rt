@@ -1,9 +1,11 @@
-ghost use Rattle.std.specs.Prelude.{◌≡◌, ◌==◌, ◌<◌, [], ◌∷◌, ◌++◌, OnOk, drop, length, position, remove, slice_get, slice_set};
+ghost use Rattle.std.specs.Prelude.{◌≡◌, ◌==◌, ◌<◌, [], ◌∷◌, ◌++◌, ◌↔◌, Err, OnOk, OnErr, true, drop, length, position, remove, slice_get, slice_set};
 ghost use Rattle.board_record.specs.declared.record.Record.{Record};
-ghost use Rattle.board_record.specs.Kept.{with_quality};
+ghost use Rattle.board_record.specs.Kept.{is_full_at, with_quality, with_sub};
+ghost use Rattle.board_record.specs.declared.sub_boards.SubError.TheVariants as errors;
+ghost use Rattle.board_record.specs.SubBoards.{unknown_sub};
 
-use board_record::{BoardId, Kept, Record};
-use line_base::{Memory, Quality};
+use board_record::{BoardId, Kept, Record, SubBoard, SubError};
+use line_base::{Memory, Quality, Text};
 use std::alloc::Global;
 use std::marker::Model;
 
@@ -75,6 +77,25 @@ impl Shelf {
         ensures { self.new ≡ with_quality self.old place quality }
     {
         self.kept.set_quality(place, quality);
+    }
+
+    /// Whether the record at a place has no room for a circuit more, with this place of the panel
+    /// and this barcode.
+    pub(crate) fn is_full_at(&self, place: usize, pos: u32, barcode: &Option<Text>) -> bool
+        requires { place < length self.now }
+        ensures { result ≡ is_full_at self.now place (unknown_sub pos barcode.now) }
+    {
+        self.kept.list()[place].subs.is_full_with(pos, barcode)
+    }
+
+    /// Adds a circuit to the record at a place.
+    pub(crate) fn push_sub(&mut self, place: usize, sub: SubBoard) -> Result<(), SubError>
+        requires { place < length self.old }
+        ensures full { (result ≡ Err errors.Full) ↔ (is_full_at self.old place sub ≡ true) }
+        ensures added { OnOk result (self.new ≡ with_sub self.old place sub) }
+        ensures unchanged { OnErr result (self.new ≡ self.old) }
+    {
+        self.kept.push_sub(place, sub)
     }
 
     /// The first place with a board of this id.

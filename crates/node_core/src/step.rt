@@ -1,6 +1,7 @@
 ghost use Rattle.std.specs.Prelude.{◌≡◌, ◌++◌, [], OnOk, IfOk};
 ghost use Rattle.line_base.specs.declared.states.Side.TheVariants.{Entry, Exit};
 ghost use Rattle.line_base.specs.declared.states.Role.TheVariants.{Upstream};
+ghost use Rattle.board_record.specs.SubBoards.{unknown_sub};
 ghost use Rattle.node_core.specs.declared.input.Input.TheVariants as inputs;
 ghost use Rattle.node_core.specs.Halves.{OffersFront};
 ghost use Rattle.node_core.specs.Event.{Connect, Accepted, event_did};
@@ -13,8 +14,19 @@ use crate::input::Input;
 use crate::lane::Lane;
 use crate::piece::hear_piece;
 use crate::supervising::{Watch, ask, with_tells};
-use board_record::{BoardId, IdMaker, Sensed};
-use line_base::{Memory, Side, Text};
+use board_record::{BoardId, IdMaker, Sensed, SubBoard};
+use line_base::{Memory, Quality, Side, Text};
+
+/// A circuit of which it isn't known whether it is good.
+fn unknown_sub(pos: u32, barcode: Option<Text>) -> SubBoard
+    ensures { result ≡ unknown_sub pos barcode }
+{
+    SubBoard {
+        pos,
+        barcode,
+        state: Quality::Unknown,
+    }
+}
 
 impl Lane {
     /// Bytes arrive at a side; without a connection they are nobody's.
@@ -133,6 +145,9 @@ impl Lane {
             Input::Supervise(on) => to.push(Act::Sets(Setting::Supervise(on))),
             Input::Ask(question) => ask(desk, question, to),
             Input::Answer { query, order } => to.push(Act::Answered(query, order)),
+            Input::Sub { id, pos, barcode } => {
+                self.body.add_sub(id, unknown_sub(pos, barcode), to)
+            }
         }
     }
 

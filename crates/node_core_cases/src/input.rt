@@ -48,7 +48,19 @@ fn plain_input<'a>(alloc: Global, word: &str) -> Result<Input<'a>, Memory> {
         "ask.barcode" => Ok(Input::Ask(Question::Barcode(Text::plain(alloc, b"PCB7")?))),
         "ask.order" => Ok(Input::Ask(Question::Order(Text::plain(alloc, b"WO-12")?))),
         "ask.place" => place(alloc),
-        _ => answered_input(alloc, word),
+        _ => coded_input(alloc, word),
+    }
+}
+
+/// `coded:1.1` is a circuit more of that board, with a barcode that is escaped in a message.
+fn coded_input<'a>(alloc: Global, word: &str) -> Result<Input<'a>, Memory> {
+    match word.strip_prefix("coded:") {
+        Some(id) => Ok(Input::Sub {
+            id: id_of(id),
+            pos: 8,
+            barcode: Some(Text::plain(alloc, b"A&B")?),
+        }),
+        None => answered_input(alloc, word),
     }
 }
 
@@ -111,6 +123,11 @@ fn input_of_id<'a>(word: &str) -> Input<'a> {
         Some(("replace", id)) => Input::Replace(id_of(id)),
         Some(("good", id)) => Input::Mark(id_of(id), Quality::Good),
         Some(("failed", id)) => Input::Mark(id_of(id), Quality::Failed),
+        Some(("sub", id)) => Input::Sub {
+            id: id_of(id),
+            pos: 7,
+            barcode: None,
+        },
         _ => Input::Nothing,
     }
 }

@@ -46,6 +46,10 @@ fn spell_about(what: &str, id: &str, to: &mut Vec<u8>) -> io::Result<()> {
             to,
             "<Hermes><BoardAvailable BoardId='{id}' BoardIdCreatedBy='P' FailedBoard='2' FlippedBoard='0'/></Hermes>"
         ),
+        "panel" => write!(
+            to,
+            "<Hermes><BoardAvailable BoardId='{id}' BoardIdCreatedBy='P' FailedBoard='0' FlippedBoard='0'><SubBoards><SB Pos='7' St='1'/><SB Pos='8' Bc='A&amp;B' St='2'/></SubBoards></BoardAvailable></Hermes>"
+        ),
         "start" => write!(to, "<Hermes><StartTransport BoardId='{id}'/></Hermes>"),
         "stop1" => write!(
             to,

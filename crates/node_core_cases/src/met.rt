@@ -62,7 +62,7 @@ pub fn hear(node: &mut Node, side: Side, bytes: &[u8], to: &mut Vec<u8>) -> io::
     let input = Input::Bytes(side, bytes);
     match node.may(&input) {
         Ok(()) => hear_open(node, input, to),
-        Err(no) => write!(to, " | no: {no}"),
+        Err(no) => write!(to, " | no: {no:?}"),
     }
 }
 
@@ -147,7 +147,7 @@ fn try_step(
 ) -> io::Result<()> {
     match node.may(&input) {
         Ok(()) => tell_step(node, sensed, input, to),
-        Err(no) => write!(to, " | no: {no}"),
+        Err(no) => write!(to, " | no: {no:?}"),
     }
 }
 

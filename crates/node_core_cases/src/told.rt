@@ -1,7 +1,7 @@
 //! What is told of acts and of how a machine stands.
 
 use crate::ids;
-use board_record::BoardId;
+use board_record::{BoardId, SubBoard, SubBoards};
 use handover_in::Intake;
 use handover_out::Outlet;
 use hermes_horizontal::{Horizontal, Info, Message, Ping, write_horizontal};
@@ -103,6 +103,10 @@ fn tell_by_hand(act: &Act, to: &mut Vec<u8>) -> io::Result<()> {
             about("marks", *id, to)?;
             let quality = quality_of(*quality);
             write!(to, " {quality}")
+        }
+        Act::Subs { id, pos } => {
+            about("subs", *id, to)?;
+            write!(to, " {pos}")
         }
         _ => tell_supervised(act, to),
     }
@@ -263,7 +267,10 @@ fn tell_contents(body: &Horizontal, to: &mut Vec<u8>) -> io::Result<()> {
             write!(to, " {number} {severity:?}")?;
             tell_text(text, to)
         }
-        Horizontal::BoardAvailable(board) => tell_id(board.id, to),
+        Horizontal::BoardAvailable(board) => {
+            tell_id(board.id, to)?;
+            tell_subs(&board.subs, to)
+        }
         Horizontal::StartTransport { id } => tell_id(*id, to),
         Horizontal::StopTransport { state, id } => tell_end(*state, *id, to),
         Horizontal::TransportFinished { state, id } => tell_end(*state, *id, to),
@@ -277,7 +284,7 @@ fn tell_contents(body: &Horizontal, to: &mut Vec<u8>) -> io::Result<()> {
     }
 }
 
-/// The id or `none`, and then the quality and the top barcode where they are told.
+/// The id or `none`, then the quality and the top barcode where they are told, and the circuits.
 fn tell_info(info: &Info, to: &mut Vec<u8>) -> io::Result<()> {
     match info.id {
         Some(id) => tell_id(id, to)?,
@@ -287,7 +294,8 @@ fn tell_info(info: &Info, to: &mut Vec<u8>) -> io::Result<()> {
         let quality = quality_of(quality);
         write!(to, " {quality}")?;
     }
-    tell_barcode("top", &info.top, to)
+    tell_barcode("top", &info.top, to)?;
+    tell_subs(&info.subs, to)
 }
 
 fn tell_barcode(side: &str, barcode: &Option<Text>, to: &mut Vec<u8>) -> io::Result<()> {
@@ -333,17 +341,41 @@ pub fn stands(node: &Node, to: &mut Vec<u8>) -> io::Result<()> {
     write!(to, " || kept")?;
     for board in node.kept() {
         tell_id(board.id, to)?;
-        match board.quality {
-            Quality::Unknown => {}
-            Quality::Good => write!(to, "+")?,
-            Quality::Failed => write!(to, "-")?,
-        }
+        tell_sign(board.quality, to)?;
+        tell_subs(&board.subs, to)?;
     }
     let entry = node.state(Side::Entry);
     let exit = node.state(Side::Exit);
     write!(to, "; {entry:?}; {exit:?}")?;
     tell_forecasts(node.forecasts(), to)?;
     tell_supervision(node, to)
+}
+
+fn tell_sign(quality: Quality, to: &mut Vec<u8>) -> io::Result<()> {
+    match quality {
+        Quality::Unknown => Ok(()),
+        Quality::Good => write!(to, "+"),
+        Quality::Failed => write!(to, "-"),
+    }
+}
+
+/// Appends the circuits of a panel, each as `:`, its place, whether it is good or failed, and its
+/// barcode.
+fn tell_subs(subs: &SubBoards, to: &mut Vec<u8>) -> io::Result<()> {
+    for sub in subs.list() {
+        tell_sub(sub, to)?;
+    }
+    Ok(())
+}
+
+fn tell_sub(sub: &SubBoard, to: &mut Vec<u8>) -> io::Result<()> {
+    let pos = sub.pos;
+    write!(to, ":{pos}")?;
+    tell_sign(sub.state, to)?;
+    match &sub.barcode {
+        Some(barcode) => tell_text(barcode, to),
+        None => Ok(()),
+    }
 }
 
 /// Appends how a side of a machine stands, with the session and the half of a handover there.

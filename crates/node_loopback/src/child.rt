@@ -3,14 +3,25 @@ use std::net::{Ipv4Addr, Net, OpenListener, SocketAddr, SocketAddrV4, TcpListene
 use std::process::{Child, Command, Output, Stdio};
 use std::{env, fmt, io};
 
-/// Two ports at which nobody listens now.
-pub fn free_ports(host: &impl Net) -> io::Result<MachinePorts> {
+/// Ports at which nobody listens now: those of a machine, and one more.
+pub struct FreePorts {
+    pub machine: MachinePorts,
+    pub spare: u16,
+}
+
+pub fn free_ports(host: &impl Net) -> io::Result<FreePorts> {
     let any = SocketAddr::V4(SocketAddrV4::new(Ipv4Addr::LOCALHOST, 0));
     let panel = TcpListener::bind(host, any)?;
     let downstream = TcpListener::bind(host, any)?;
-    let panel = panel.local_addr()?.port();
-    let downstream = downstream.local_addr()?.port();
-    Ok(MachinePorts { panel, downstream })
+    let config = TcpListener::bind(host, any)?;
+    let spare = TcpListener::bind(host, any)?;
+    let machine = MachinePorts {
+        panel: panel.local_addr()?.port(),
+        downstream: downstream.local_addr()?.port(),
+        config: config.local_addr()?.port(),
+    };
+    let spare = spare.local_addr()?.port();
+    Ok(FreePorts { machine, spare })
 }
 
 /// Starts this program once more, as the machine. Its log can be read.
@@ -18,10 +29,12 @@ pub fn start(rt: &HostRuntime, ports: MachinePorts) -> io::Result<Child> {
     let own = env::current_exe(rt)?;
     let panel = text_of(rt, ports.panel)?;
     let downstream = text_of(rt, ports.downstream)?;
+    let config = text_of(rt, ports.config)?;
     let mut command = Command::new(rt.alloc(), &own)?;
     command.arg(MACHINE_WORD)?;
     command.arg(panel.as_str())?;
     command.arg(downstream.as_str())?;
+    command.arg(config.as_str())?;
     command.stdin(Stdio::null());
     command.stdout(Stdio::piped());
     command.spawn(rt)

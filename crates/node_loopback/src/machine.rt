@@ -17,6 +17,7 @@ pub const STORY_WORD: &str = "story";
 pub struct MachinePorts {
     pub panel: u16,
     pub downstream: u16,
+    pub config: u16,
 }
 
 /// The ports of the machine that this program is to be, if it is.
@@ -28,7 +29,12 @@ pub fn asked_ports(rt: &HostRuntime) -> Option<MachinePorts> {
     }
     let panel = words.next()?.as_str().parse::<u16>().ok()?;
     let downstream = words.next()?.as_str().parse::<u16>().ok()?;
-    Some(MachinePorts { panel, downstream })
+    let config = words.next()?.as_str().parse::<u16>().ok()?;
+    Some(MachinePorts {
+        panel,
+        downstream,
+        config,
+    })
 }
 
 /// Runs the machine as the program `node` does, with its log on standard output.
@@ -66,11 +72,15 @@ fn run_with(rt: &HostRuntime, settings: &[u8]) -> Result<NodeStatus, Memory> {
 /// The settings file. A machine that nobody ends is done after some hundred seconds, since a turn
 /// at rest takes a millisecond.
 fn settings_of(alloc: Global, ports: MachinePorts) -> Result<Vec<u8>, Memory> {
-    let MachinePorts { panel, downstream } = ports;
+    let MachinePorts {
+        panel,
+        downstream,
+        config,
+    } = ports;
     let mut text = Vec::new(alloc);
     let written = write!(
         text,
-        "number = 7\nmachine_id = \"Loader\"\nlane = 1\ncapacity = 4\npanel_port = {panel}\ndownstream_port = {downstream}\nturns = 100000\n"
+        "number = 7\nmachine_id = \"Loader\"\nlane = 1\ncapacity = 4\npanel_port = {panel}\ndownstream_port = {downstream}\nconfig_port = {config}\nturns = 100000\n"
     );
     match written {
         Ok(()) => Ok(text),

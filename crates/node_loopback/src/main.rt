@@ -2,8 +2,8 @@
 //! panel are played here. Writes what these took, the machine's log without the numbers of the
 //! turns, and how it ended. Before these plays it plays the stories of its input (src/story.rt).
 //!
-//! With no words it plays. It starts itself with the words `machine PANEL DOWNSTREAM`, two ports,
-//! to be the machine.
+//! With no words it plays. It starts itself with the words `machine PANEL DOWNSTREAM CONFIG`, three
+//! ports, to be the machine.
 #![tactic(auto)]
 
 mod child;
@@ -21,11 +21,12 @@ use crate::plays::Play;
 use std::io::{self, Write};
 use std::process::ExitCode;
 
-const PLAYS: [Play; 4] = [
+const PLAYS: [Play; 5] = [
     Play::NodeOverPorts,
     Play::ByteByByte,
     Play::SecondConnection,
     Play::LongLine,
+    Play::NewPort,
 ];
 
 fn main(rt: HostRuntime) -> ExitCode {

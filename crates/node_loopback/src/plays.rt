@@ -1,4 +1,4 @@
-use crate::child::{ended, free_ports, start};
+use crate::child::{FreePorts, ended, free_ports, start};
 use crate::machine::MachinePorts;
 use crate::peer::Peer;
 use crate::told::{append, tell_log, tell_taken};
@@ -19,6 +19,9 @@ pub enum Play {
     SecondConnection,
     /// The panel sends a line that is too long, a byte more than a line may have.
     LongLine,
+    /// A tool sets another port for the downstream neighbour while one is connected, which connects
+    /// there then.
+    NewPort,
 }
 
 const DESCRIPTION: &[u8] =
@@ -41,10 +44,13 @@ const LINE_BYTES: usize = 4096;
 /// killed then.
 pub fn play_one(rt: &HostRuntime, play: Play, to: &mut Vec<u8>) -> io::Result<()> {
     append(name_of(play), to)?;
-    let ports = free_ports(rt)?;
+    let FreePorts {
+        machine: ports,
+        spare,
+    } = free_ports(rt)?;
     let mut peer = Peer::new(rt.clone()?, rt.clone()?);
     let child = start(rt, ports)?;
-    let played = play_with(rt.alloc(), &mut peer, ports, play, to);
+    let played = play_with(rt.alloc(), &mut peer, ports, spare, play, to);
     let output = ended(rt, child, played.is_err())?;
     tell_end(&output, to)?;
     played
@@ -64,6 +70,7 @@ fn name_of(play: Play) -> &'static str {
         Play::ByteByByte => "=== a byte at a time\n",
         Play::SecondConnection => "=== a second connection\n",
         Play::LongLine => "=== a line that is too long\n",
+        Play::NewPort => "=== another port while a neighbour is connected\n",
     }
 }
 
@@ -71,6 +78,7 @@ fn play_with(
     alloc: Global,
     peer: &mut Peer<HostRuntime>,
     ports: MachinePorts,
+    spare: u16,
     play: Play,
     to: &mut Vec<u8>,
 ) -> io::Result<()> {
@@ -79,6 +87,7 @@ fn play_with(
         Play::ByteByByte => byte_by_byte(alloc, peer, ports, to)?,
         Play::SecondConnection => second_connection(alloc, peer, ports, to)?,
         Play::LongLine => long_line(alloc, peer, ports, to)?,
+        Play::NewPort => new_port(alloc, peer, ports, spare, to)?,
     }
     end(peer, ports, play)
 }
@@ -167,5 +176,52 @@ fn long_line(
     append("the panel took:\n", to)?;
     tell_log(text.as_slice(), to)?;
     append("the log:\n", to)?;
+    Ok(())
+}
+
+fn new_port(
+    alloc: Global,
+    peer: &mut Peer<HostRuntime>,
+    ports: MachinePorts,
+    port: u16,
+    to: &mut Vec<u8>,
+) -> io::Result<()> {
+    let mut text = Vec::new(alloc);
+    peer.connect(Way::Downstream, ports.downstream)?;
+    peer.send(Way::Downstream, DESCRIPTION, WHOLE)?;
+    peer.take_until(Way::Downstream, END_OF_MESSAGE, &mut text)?;
+    set_port(alloc, peer, ports, port, to)?;
+    text.clear();
+    peer.take_all(Way::Downstream, &mut text)?;
+    tell_taken("downstream took, and was closed: ", text.as_slice(), to)?;
+    text.clear();
+    peer.connect(Way::Upstream, port)?;
+    peer.send(Way::Upstream, DESCRIPTION, WHOLE)?;
+    peer.take_until(Way::Upstream, END_OF_MESSAGE, &mut text)?;
+    tell_taken("at the new port it took: ", text.as_slice(), to)?;
+    Ok(())
+}
+
+/// The tool sets the port, and takes an answer that names it.
+fn set_port(
+    alloc: Global,
+    peer: &mut Peer<HostRuntime>,
+    ports: MachinePorts,
+    port: u16,
+    to: &mut Vec<u8>,
+) -> io::Result<()> {
+    let asked = format!(in alloc;
+        "<Hermes><SetConfiguration DownstreamPort=\"{port}\"/></Hermes>"
+    )?;
+    let wanted = format!(in alloc; "<CurrentConfiguration DownstreamPort=\"{port}\"/></Hermes>")?;
+    let mut text = Vec::new(alloc);
+    peer.connect(Way::Configuration, ports.config)?;
+    peer.send(Way::Configuration, asked.as_str().as_bytes(), WHOLE)?;
+    peer.take_until(Way::Configuration, END_OF_MESSAGE, &mut text)?;
+    if text.as_slice().ends_with(wanted.as_str().as_bytes()) {
+        append("the tool took the new port\n", to)?;
+    } else {
+        tell_taken("the tool took: ", text.as_slice(), to)?;
+    }
     Ok(())
 }

@@ -10,7 +10,7 @@ use Rattle.line_base.specs.declared.states.Quality.TheVariants as qualities
 use Rattle.line_base.specs.declared.states.SensorEvent.{SensorEvent}
 use Rattle.line_base.specs.declared.states.SensorEvent.TheVariants as sensors
 use Rattle.hermes_vertical.specs.declared.message.Question.TheVariants as questions
-use Rattle.line_script.specs.Words.{words_of, is_text_byte, number_in, literal_of, identity_of, token_of, segment_line_of, switch_of, asked_by_of, question_of}
+use Rattle.line_script.specs.Words.{words_of, is_text_byte, number_in, literal_of, identity_of, token_of, segment_line_of, switch_of, asked_by_of, question_of, barcode_of}
 use Rattle.line_script.specs.declared.line.LineWhy.{LineWhy}
 use Rattle.line_script.specs.declared.line.LineWhy.TheVariants as whys
 use Rattle.node_panel.specs.declared.line.PanelLine.{PanelLine}
@@ -76,6 +76,12 @@ mark_of (id ∷ quality ∷ []) =
     then_ok (id_of id) (λ id. mapped_ok (lines.Mark id) (quality_of quality))
 mark_of _ = Err whys.WrongCount
 
+abbrev pub sub_of : List (List ℕ) → Result PanelLine LineWhy
+sub_of (id ∷ place ∷ barcode ∷ []) =
+    then_ok (id_of id) (λ id. then_ok (number_in 0 999999999 place)
+    (λ place. mapped_ok (lines.Sub id place) (barcode_of barcode)))
+sub_of _ = Err whys.WrongCount
+
 abbrev pub made_sense : Side → SensorEvent → PanelLine
 made_sense side event = lines.Sense (record { side = side; event = event })
 
@@ -113,8 +119,8 @@ ask_of (word ∷ magazine ∷ slot ∷ []) = place_asked word magazine slot
 ask_of _ = Err whys.WrongCount
 
 -- THE TABLE: `insert [barcode]`, `query barcode`, `ask barcode|order w`, `ask place w s`, `remove
--- id`, `replace id`, `mark id quality`, `hold side`, `go side`, `fault side`, `sense side event`,
--- `signal ready|available|failed on|off`, `connect`, `shutdown`, `tick`, `forecast`, `show`, `end`
+-- id`, `replace id`, `mark id quality`, `sub id pos barcode`, `hold side`, `go side`, `fault side`,
+-- `sense side event`, `signal ready|available|failed on|off`, `connect`, `shutdown`, `tick`, `forecast`, `show`, `end`
 abbrev pub asked_of_connections : List ℕ → List (List ℕ) → Result PanelLine LineWhy
 asked_of_connections first words =
     if bytes_eq first (codes "connect") then bare lines.Connect words else
@@ -140,7 +146,8 @@ asked_of first words =
     (if bytes_eq first (codes "ask") then ask_of words else
     (if bytes_eq first (codes "remove") then with_id lines.Remove words else
     (if bytes_eq first (codes "replace") then with_id lines.Replace words else
-    (if bytes_eq first (codes "mark") then mark_of words else asked_of_sides first words)))))
+    (if bytes_eq first (codes "mark") then mark_of words else
+    (if bytes_eq first (codes "sub") then sub_of words else asked_of_sides first words))))))
 
 -- a line whose first word begins with `#` is a comment
 abbrev pub is_comment : List ℕ → Bool

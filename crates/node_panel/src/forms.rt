@@ -1,20 +1,25 @@
 //! One reader for each form of line, by what stands behind its first word.
 
-ghost use Rattle.std.specs.Prelude.{◌≡◌, map};
+ghost use Rattle.std.specs.Prelude.{◌≡◌, ◌∷◌, [], map};
 ghost use Rattle.line_script.specs.Words.{Reads};
-ghost use Rattle.node_panel.specs.Panel.{insert_of, with_id, with_side, mark_of, sense_of, signal_of, query_of, text_asked, place_asked, ask_of, bare, asked_of, asked_of_sides, asked_of_connections};
+ghost use Rattle.node_panel.specs.Panel.{insert_of, with_id, with_side, mark_of, sub_of, sense_of, signal_of, query_of, text_asked, place_asked, ask_of, bare, asked_of, asked_of_sides, asked_of_connections};
 ghost use Rattle.node_panel.specs.declared.line.PanelLine.TheVariants as lines;
 
 use crate::line::PanelLine;
 use crate::words::{event_of, id_of, quality_of, side_of};
 use board_record::Sensed;
 use hermes_vertical::Question;
-use line_script::words::{asked_by, literal, number, question, segment_line, switch, token};
+use line_script::words::{
+    asked_by, barcode, literal, number, question, segment_line, switch, token,
+};
 use line_script::{LineError, LineWhy};
 use std::alloc::Global;
 
 /// The last slot of a magazine, of nine digits.
 const MOST_SLOT: u64 = 999_999_999;
+
+/// The last place of a circuit on a panel, of nine digits.
+const MOST_POS: u64 = 999_999_999;
 
 /// The line that a first word and those behind it ask for.
 pub fn asked_of(alloc: Global, first: &[u8], words: &[&[u8]]) -> Result<PanelLine, LineError>
@@ -37,6 +42,9 @@ pub fn asked_of(alloc: Global, first: &[u8], words: &[&[u8]]) -> Result<PanelLin
     }
     if first == &b"mark"[..] {
         return refused(mark(words));
+    }
+    if first == &b"sub"[..] {
+        return sub(alloc, words);
     }
     refused(asked_of_sides(first, words))
 }
@@ -216,6 +224,37 @@ fn mark(words: &[&[u8]]) -> Result<PanelLine, LineWhy>
             Ok(PanelLine::Mark { id, quality })
         }
         _ => Err(LineWhy::WrongCount),
+    }
+}
+
+fn sub(alloc: Global, words: &[&[u8]]) -> Result<PanelLine, LineError>
+    ensures { Reads (sub_of (map (λ word. word.now) words.now)) result }
+{
+    match words {
+        [id, pos, barcode] => sub_board(alloc, id, pos, barcode),
+        _ => Err(LineError::Refused(LineWhy::WrongCount)),
+    }
+}
+
+fn sub_board(
+    alloc: Global,
+    id: &[u8],
+    pos: &[u8],
+    spelled_barcode: &[u8],
+) -> Result<PanelLine, LineError>
+    ensures { Reads (sub_of (id.now ∷ pos.now ∷ spelled_barcode.now ∷ [])) result }
+{
+    let id = match id_of(id) {
+        Ok(id) => id,
+        Err(why) => return Err(LineError::Refused(why)),
+    };
+    let pos = match number(pos, 0, MOST_POS) {
+        Ok(pos) => pos as u32,
+        Err(why) => return Err(LineError::Refused(why)),
+    };
+    match barcode(alloc, spelled_barcode) {
+        Ok(barcode) => Ok(PanelLine::Sub { id, pos, barcode }),
+        Err(error) => Err(error),
     }
 }
 

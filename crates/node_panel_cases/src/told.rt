@@ -21,6 +21,7 @@ fn told_line(alloc: Global, line: &PanelLine) -> Result<String, AllocError> {
         PanelLine::Remove { id } => told_board(alloc, "remove", *id),
         PanelLine::Replace { id } => told_board(alloc, "replace", *id),
         PanelLine::Mark { id, quality } => told_mark(alloc, *id, *quality),
+        PanelLine::Sub { id, pos, barcode } => told_sub(alloc, *id, *pos, barcode),
         PanelLine::Hold { side } => told_side(alloc, "hold", *side),
         PanelLine::Go { side } => told_side(alloc, "go", *side),
         PanelLine::Fault { side } => told_side(alloc, "fault", *side),
@@ -49,6 +50,21 @@ fn told_insert(alloc: Global, barcode: &Option<Text>) -> Result<String, AllocErr
     match barcode {
         Some(barcode) => told_text(alloc, "insert", barcode),
         None => String::from_str(alloc, "insert"),
+    }
+}
+
+fn told_sub(
+    alloc: Global,
+    id: BoardId,
+    pos: u32,
+    barcode: &Option<Text>,
+) -> Result<String, AllocError> {
+    match barcode {
+        Some(barcode) => {
+            let text = str::from_utf8(barcode.bytes()).unwrap_or("no text");
+            format!(in alloc; "sub {id} {pos} {text}")
+        }
+        None => format!(in alloc; "sub {id} {pos}"),
     }
 }
 

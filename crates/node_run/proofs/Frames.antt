@@ -22,7 +22,7 @@ use Rattle.node_run.specs.Held.{HeldValue, holds}
 use Rattle.node_run.specs.State.{RunState, WayValue, echoed, way_at, with_way, with_wire}
 use Rattle.node_run.specs.Next.{has_ended}
 use Rattle.node_run.specs.Steps.{Takes, TakesStep, MeetsSecond}
-use Rattle.node_run.specs.After.{after_send, greeting, PanelArrives, AfterPanel, panel_second, panel_bytes, panel_closed, after_supervisory, supervisory_arrived, supervisory_second, supervisory_bytes, supervisory_closed, with_held, AfterUpstream, AfterDownstream, AfterPoll}
+use Rattle.node_run.specs.After.{after_send, greeting, PanelArrives, AfterPanel, panel_second, panel_bytes, panel_closed, after_configuration, configuration_arrived, configuration_second, configuration_bytes, configuration_closed, after_supervisory, supervisory_arrived, supervisory_second, supervisory_bytes, supervisory_closed, with_held, AfterUpstream, AfterDownstream, AfterPoll}
 use Rattle.node_run.specs.Lines.{cut_line, behind_first, without_return, is_too_long, Tells, DoesInput, AsksIf, AsksConnect, may_ask, DoesAsked, KeepsFront, Fronts, Ends, DoesCut, DoesLine}
 use Rattle.node_run.specs.declared.way_state.Wire.{Wire}
 use Rattle.node_run.specs.declared.way_state.Wire.TheVariants as wires
@@ -34,17 +34,18 @@ pub record SamePlace (most : ℕ) (s t : RunState) : Type 0 where
   pub turn : t.turn ≡ s.turn
   pub place : t.place ≡ s.place
   pub ended : t.ended ≡ s.ended
+  pub settings : t.settings ≡ s.settings
   pub rest : length s.rest ≤ most → length t.rest ≤ most
 
 same : (most : ℕ) (s : RunState) → SamePlace most s s
-same most s = record { turn = refl; place = refl; ended = refl; rest = λ few. few }
+same most s = record { turn = refl; place = refl; ended = refl; settings = refl; rest = λ few. few }
 
 same_at : (most : ℕ) (s u t : RunState) → t ≡ u → SamePlace most s u → SamePlace most s t
 same_at most s u t e frame = let P : RunState → Type 0 = SamePlace most s in subst P (sym e) frame
 
 step_same : (most : ℕ) (rules : Rules) (moment : ℤ) (sensed : List Sensed) (input : Input) (s u t : RunState) (log : List ℕ) → TakesStep false rules moment sensed input u t log → SamePlace most s u → SamePlace most s t
 step_same most rules moment sensed input s u t log takes frame =
-    record { turn = ap (λ (r : RunState). r.turn) takes.after ∙ frame.turn; place = ap (λ (r : RunState). r.place) takes.after ∙ frame.place; ended = ap (λ (r : RunState). r.ended) takes.after ∙ frame.ended; rest = λ few. omega (arith, ap (λ (r : RunState). length r.rest) takes.after, frame.rest few) }
+    record { turn = ap (λ (r : RunState). r.turn) takes.after ∙ frame.turn; place = ap (λ (r : RunState). r.place) takes.after ∙ frame.place; ended = ap (λ (r : RunState). r.ended) takes.after ∙ frame.ended; settings = ap (λ (r : RunState). r.settings) takes.after ∙ frame.settings; rest = λ few. omega (arith, ap (λ (r : RunState). length r.rest) takes.after, frame.rest few) }
 
 takes_same : (most : ℕ) (may : Result (Unit {0}) No) (rules : Rules) (moment : ℤ) (input : Input) (u s t : RunState) (log : List ℕ) → Takes may rules moment input u s t log → SamePlace most s u → SamePlace most s t
 takes_same most (Ok done) rules moment input u s t log takes frame = step_same most rules moment [] input s u t log takes frame
@@ -52,29 +53,29 @@ takes_same most (Err why) rules moment input u s t log takes frame = same_at mos
 
 second_same : (most : ℕ) (may : Result (Unit {0}) No) (rules : Rules) (moment : ℤ) (input : Input) (s t : RunState) (log : List ℕ) → MeetsSecond may rules moment input s t log → SamePlace most s t
 second_same most (Ok done) rules moment input s t log meets =
-    record { turn = ap (λ (r : RunState). r.turn) meets.after; place = ap (λ (r : RunState). r.place) meets.after; ended = ap (λ (r : RunState). r.ended) meets.after; rest = λ few. omega (arith, ap (λ (r : RunState). length r.rest) meets.after, few) }
+    record { turn = ap (λ (r : RunState). r.turn) meets.after; place = ap (λ (r : RunState). r.place) meets.after; ended = ap (λ (r : RunState). r.ended) meets.after; settings = ap (λ (r : RunState). r.settings) meets.after; rest = λ few. omega (arith, ap (λ (r : RunState). length r.rest) meets.after, few) }
 second_same most (Err why) rules moment input s t log meets = same_at most s s t meets.0 (same most s)
 
 arrived_same : (most : ℕ) (wire : Wire) (rules : Rules) (s t : RunState) (log : List ℕ) → PanelArrives wire rules s t log → SamePlace most s t
-arrived_same most wires.Rests rules s t log arrives = same_at most s (echoed (greeting rules s) (with_wire ways.Panel wires.Stands s)) t arrives.0 (record { turn = refl; place = refl; ended = refl; rest = λ few. few })
+arrived_same most wires.Rests rules s t log arrives = same_at most s (echoed (greeting rules s) (with_wire ways.Panel wires.Stands s)) t arrives.0 (record { turn = refl; place = refl; ended = refl; settings = refl; rest = λ few. few })
 arrived_same most wires.Stands rules s t log arrives = same_at most s s t arrives.0 (same most s)
 arrived_same most wires.Ends rules s t log arrives = same_at most s s t arrives.0 (same most s)
 arrived_same most wires.Breaks rules s t log arrives = same_at most s s t arrives.0 (same most s)
 
 seconded_same : (most : ℕ) (wire : Wire) (s : RunState) → SamePlace most s (panel_second wire s)
-seconded_same most wires.Stands s = record { turn = refl; place = refl; ended = refl; rest = λ few. few }
+seconded_same most wires.Stands s = record { turn = refl; place = refl; ended = refl; settings = refl; rest = λ few. few }
 seconded_same most wires.Rests s = same most s
 seconded_same most wires.Ends s = same most s
 seconded_same most wires.Breaks s = same most s
 
 bytes_same : (most : ℕ) (wire : Wire) (bytes : List ℕ) (s : RunState) → length bytes ≤ most → SamePlace most s (panel_bytes wire bytes s)
-bytes_same most wires.Stands bytes s short = record { turn = refl; place = refl; ended = refl; rest = λ few. short }
+bytes_same most wires.Stands bytes s short = record { turn = refl; place = refl; ended = refl; settings = refl; rest = λ few. short }
 bytes_same most wires.Rests bytes s short = same most s
 bytes_same most wires.Ends bytes s short = same most s
 bytes_same most wires.Breaks bytes s short = same most s
 
 closed_same : (most : ℕ) (wire : Wire) (s : RunState) → SamePlace most s (panel_closed wire s)
-closed_same most wires.Stands s = record { turn = refl; place = refl; ended = refl; rest = λ few. few }
+closed_same most wires.Stands s = record { turn = refl; place = refl; ended = refl; settings = refl; rest = λ few. few }
 closed_same most wires.Rests s = same most s
 closed_same most wires.Ends s = same most s
 closed_same most wires.Breaks s = same most s
@@ -97,10 +98,10 @@ panel_same most rules founds.Closed s t log short after = same_at most s _ t aft
 panel_same most rules founds.Failed s t log short after = same_at most s _ t after.0 (closed_same most s.panel.wire s)
 
 held_same : (most : ℕ) (held : HeldValue) (s : RunState) → SamePlace most s (with_held held s)
-held_same most held s = record { turn = refl; place = refl; ended = refl; rest = λ few. few }
+held_same most held s = record { turn = refl; place = refl; ended = refl; settings = refl; rest = λ few. few }
 
 upstream_same : (most : ℕ) (rules : Rules) (moment : ℤ) (got : GotBytes) (s t : RunState) (log : List ℕ) → AfterUpstream rules moment got s t log → SamePlace most s t
-upstream_same most rules moment founds.Arrived s t log after = takes_same most (may_of s.node inputs.Connect) rules moment inputs.Connect (with_wire ways.Upstream wires.Stands s) s t log after (record { turn = refl; place = refl; ended = refl; rest = λ few. few })
+upstream_same most rules moment founds.Arrived s t log after = takes_same most (may_of s.node inputs.Connect) rules moment inputs.Connect (with_wire ways.Upstream wires.Stands s) s t log after (record { turn = refl; place = refl; ended = refl; settings = refl; rest = λ few. few })
 upstream_same most rules moment founds.Second s t log after = same_at most s s t after.0 (same most s)
 upstream_same most rules moment (founds.Bytes bytes) s t log after = same_at most s _ t after.0 (held_same most (holds Entry (Some bytes)) s)
 upstream_same most rules moment founds.NotYet s t log after = same_at most s s t after.0 (same most s)
@@ -108,7 +109,7 @@ upstream_same most rules moment founds.Closed s t log after = same_at most s _ t
 upstream_same most rules moment founds.Failed s t log after = same_at most s _ t after.0 (held_same most (holds Entry None) s)
 
 downstream_same : (most : ℕ) (rules : Rules) (moment : ℤ) (got : GotBytes) (s t : RunState) (log : List ℕ) → AfterDownstream rules moment got s t log → SamePlace most s t
-downstream_same most rules moment founds.Arrived s t log after = takes_same most (may_of s.node inputs.Accepted) rules moment inputs.Accepted (with_wire ways.Downstream wires.Stands s) s t log after (record { turn = refl; place = refl; ended = refl; rest = λ few. few })
+downstream_same most rules moment founds.Arrived s t log after = takes_same most (may_of s.node inputs.Accepted) rules moment inputs.Accepted (with_wire ways.Downstream wires.Stands s) s t log after (record { turn = refl; place = refl; ended = refl; settings = refl; rest = λ few. few })
 downstream_same most rules moment founds.Second s t log after = second_same most (may_of s.node inputs.Second) rules moment inputs.Second s t log after
 downstream_same most rules moment (founds.Bytes bytes) s t log after = same_at most s _ t after.0 (held_same most (holds Exit (Some bytes)) s)
 downstream_same most rules moment founds.NotYet s t log after = same_at most s s t after.0 (same most s)
@@ -116,25 +117,25 @@ downstream_same most rules moment founds.Closed s t log after = same_at most s _
 downstream_same most rules moment founds.Failed s t log after = same_at most s _ t after.0 (held_same most (holds Exit None) s)
 
 supervisory_arrived_same : (most : ℕ) (wire : Wire) (s : RunState) → SamePlace most s (supervisory_arrived wire s)
-supervisory_arrived_same most wires.Rests s = record { turn = refl; place = refl; ended = refl; rest = λ few. few }
+supervisory_arrived_same most wires.Rests s = record { turn = refl; place = refl; ended = refl; settings = refl; rest = λ few. few }
 supervisory_arrived_same most wires.Stands s = same most s
 supervisory_arrived_same most wires.Ends s = same most s
 supervisory_arrived_same most wires.Breaks s = same most s
 
 supervisory_second_same : (most : ℕ) (wire : Wire) (moment : ℤ) (s : RunState) → SamePlace most s (supervisory_second wire moment s)
-supervisory_second_same most wires.Stands moment s = record { turn = refl; place = refl; ended = refl; rest = λ few. few }
+supervisory_second_same most wires.Stands moment s = record { turn = refl; place = refl; ended = refl; settings = refl; rest = λ few. few }
 supervisory_second_same most wires.Rests moment s = same most s
 supervisory_second_same most wires.Ends moment s = same most s
 supervisory_second_same most wires.Breaks moment s = same most s
 
 supervisory_bytes_same : (most : ℕ) (wire : Wire) (bytes : List ℕ) (s : RunState) → SamePlace most s (supervisory_bytes wire bytes s)
-supervisory_bytes_same most wires.Stands bytes s = record { turn = refl; place = refl; ended = refl; rest = λ few. few }
+supervisory_bytes_same most wires.Stands bytes s = record { turn = refl; place = refl; ended = refl; settings = refl; rest = λ few. few }
 supervisory_bytes_same most wires.Rests bytes s = same most s
 supervisory_bytes_same most wires.Ends bytes s = same most s
 supervisory_bytes_same most wires.Breaks bytes s = same most s
 
 supervisory_closed_same : (most : ℕ) (wire : Wire) (s : RunState) → SamePlace most s (supervisory_closed wire s)
-supervisory_closed_same most wires.Stands s = record { turn = refl; place = refl; ended = refl; rest = λ few. few }
+supervisory_closed_same most wires.Stands s = record { turn = refl; place = refl; ended = refl; settings = refl; rest = λ few. few }
 supervisory_closed_same most wires.Rests s = same most s
 supervisory_closed_same most wires.Ends s = same most s
 supervisory_closed_same most wires.Breaks s = same most s
@@ -147,11 +148,44 @@ supervisory_same most moment founds.NotYet s = same most s
 supervisory_same most moment founds.Closed s = supervisory_closed_same most s.supervisory.wire s
 supervisory_same most moment founds.Failed s = supervisory_closed_same most s.supervisory.wire s
 
+configuration_arrived_same : (most : ℕ) (wire : Wire) (s : RunState) → SamePlace most s (configuration_arrived wire s)
+configuration_arrived_same most wires.Rests s = record { turn = refl; place = refl; ended = refl; settings = refl; rest = λ few. few }
+configuration_arrived_same most wires.Stands s = same most s
+configuration_arrived_same most wires.Ends s = same most s
+configuration_arrived_same most wires.Breaks s = same most s
+
+configuration_second_same : (most : ℕ) (wire : Wire) (moment : ℤ) (s : RunState) → SamePlace most s (configuration_second wire moment s)
+configuration_second_same most wires.Stands moment s = record { turn = refl; place = refl; ended = refl; settings = refl; rest = λ few. few }
+configuration_second_same most wires.Rests moment s = same most s
+configuration_second_same most wires.Ends moment s = same most s
+configuration_second_same most wires.Breaks moment s = same most s
+
+configuration_bytes_same : (most : ℕ) (wire : Wire) (bytes : List ℕ) (s : RunState) → SamePlace most s (configuration_bytes wire bytes s)
+configuration_bytes_same most wires.Stands bytes s = record { turn = refl; place = refl; ended = refl; settings = refl; rest = λ few. few }
+configuration_bytes_same most wires.Rests bytes s = same most s
+configuration_bytes_same most wires.Ends bytes s = same most s
+configuration_bytes_same most wires.Breaks bytes s = same most s
+
+configuration_closed_same : (most : ℕ) (wire : Wire) (s : RunState) → SamePlace most s (configuration_closed wire s)
+configuration_closed_same most wires.Stands s = record { turn = refl; place = refl; ended = refl; settings = refl; rest = λ few. few }
+configuration_closed_same most wires.Rests s = same most s
+configuration_closed_same most wires.Ends s = same most s
+configuration_closed_same most wires.Breaks s = same most s
+
+configuration_same : (most : ℕ) (moment : ℤ) (got : GotBytes) (s : RunState) → SamePlace most s (after_configuration moment got s)
+configuration_same most moment founds.Arrived s = configuration_arrived_same most s.configuration.wire s
+configuration_same most moment founds.Second s = configuration_second_same most s.configuration.wire moment s
+configuration_same most moment (founds.Bytes bytes) s = configuration_bytes_same most s.configuration.wire bytes s
+configuration_same most moment founds.NotYet s = same most s
+configuration_same most moment founds.Closed s = configuration_closed_same most s.configuration.wire s
+configuration_same most moment founds.Failed s = configuration_closed_same most s.configuration.wire s
+
 pub poll_same : (most : ℕ) (rules : Rules) (moment : ℤ) (way : Way) (got : GotBytes) (s t : RunState) (log : List ℕ) → IsShortGot most got → AfterPoll rules moment way got s t log → SamePlace most s t
 poll_same most rules moment ways.Panel got s t log short after = panel_same most rules got s t log short after
 poll_same most rules moment ways.Upstream got s t log short after = upstream_same most rules moment got s t log after
 poll_same most rules moment ways.Downstream got s t log short after = downstream_same most rules moment got s t log after
 poll_same most rules moment ways.Supervisory got s t log short after = same_at most s _ t after.0 (supervisory_same most moment got s)
+poll_same most rules moment ways.Configuration got s t log short after = same_at most s _ t after.0 (configuration_same most moment got s)
 
 -- ---- sending
 
@@ -160,16 +194,18 @@ pub record SameThere (s t : RunState) : Type 0 where
   pub place : t.place ≡ s.place
   pub rest : t.rest ≡ s.rest
   pub ended : t.ended ≡ s.ended
+  pub settings : t.settings ≡ s.settings
 
 way_same : (way : Way) (value : WayValue) (s : RunState) → SameThere s (with_way way value s)
-way_same ways.Panel value s = record { turn = refl; place = refl; rest = refl; ended = refl }
-way_same ways.Upstream value s = record { turn = refl; place = refl; rest = refl; ended = refl }
-way_same ways.Downstream value s = record { turn = refl; place = refl; rest = refl; ended = refl }
-way_same ways.Supervisory value s = record { turn = refl; place = refl; rest = refl; ended = refl }
+way_same ways.Panel value s = record { turn = refl; place = refl; rest = refl; ended = refl; settings = refl }
+way_same ways.Upstream value s = record { turn = refl; place = refl; rest = refl; ended = refl; settings = refl }
+way_same ways.Downstream value s = record { turn = refl; place = refl; rest = refl; ended = refl; settings = refl }
+way_same ways.Supervisory value s = record { turn = refl; place = refl; rest = refl; ended = refl; settings = refl }
+way_same ways.Configuration value s = record { turn = refl; place = refl; rest = refl; ended = refl; settings = refl }
 
 pub sent_same : (way : Way) (sent : Sent) (s : RunState) → SameThere s (after_send way sent s)
 sent_same way (sents.Took n) s = way_same way (record (way_at way s) { unsent = drop n (way_at way s).unsent }) s
-sent_same way sents.NotYet s = record { turn = refl; place = refl; rest = refl; ended = refl }
+sent_same way sents.NotYet s = record { turn = refl; place = refl; rest = refl; ended = refl; settings = refl }
 sent_same way sents.Closed s = way_same way (record (way_at way s) { wire = wires.Breaks }) s
 sent_same way sents.Failed s = way_same way (record (way_at way s) { wire = wires.Breaks }) s
 
@@ -178,35 +214,37 @@ sent_same way sents.Failed s = way_same way (record (way_at way s) { wire = wire
 abbrev pub EndsBy : Option NodeStatus → Option NodeStatus → Type 0
 EndsBy before after = (after ≡ before) ⊎ (after ≡ Some statuses.Done)
 
--- a line leaves the turn, the place, the text behind it, the supervisor's channel and what is held, and ends the run at most as done
+-- a line leaves the turn, the place, the text behind it, what is heard and what is held, and ends the run at most as done
 pub record SameRest (s t : RunState) : Type 0 where
   pub turn : t.turn ≡ s.turn
   pub place : t.place ≡ s.place
   pub rest : t.rest ≡ s.rest
   pub channel : t.channel ≡ s.channel
+  pub config : t.config ≡ s.config
   pub held : t.held ≡ s.held
+  pub settings : t.settings ≡ s.settings
   pub ended : EndsBy s.ended t.ended
 
 rests : (s : RunState) → SameRest s s
-rests s = record { turn = refl; place = refl; rest = refl; channel = refl; held = refl; ended = inl refl }
+rests s = record { turn = refl; place = refl; rest = refl; channel = refl; config = refl; held = refl; settings = refl; ended = inl refl }
 
 rests_at : (s u t : RunState) → t ≡ u → SameRest s u → SameRest s t
 rests_at s u t e frame = let P : RunState → Type 0 = SameRest s in subst P (sym e) frame
 
 tells_rest : (text : List ℕ) (s t : RunState) (log : List ℕ) → Tells text s t log → SameRest s t
-tells_rest text s t log tells = rests_at s (echoed text s) t tells.0 (record { turn = refl; place = refl; rest = refl; channel = refl; held = refl; ended = inl refl })
+tells_rest text s t log tells = rests_at s (echoed text s) t tells.0 (record { turn = refl; place = refl; rest = refl; channel = refl; config = refl; held = refl; settings = refl; ended = inl refl })
 
 aloud_rest : (rules : Rules) (moment : ℤ) (sensed : List Sensed) (input : Input) (s t : RunState) (log : List ℕ) → TakesStep true rules moment sensed input s t log → SameRest s t
 aloud_rest rules moment sensed input s t log aloud =
     let after = aloud.after in
-    record { turn = ap (λ (r : RunState). r.turn) after; place = ap (λ (r : RunState). r.place) after; rest = ap (λ (r : RunState). r.rest) after; channel = ap (λ (r : RunState). r.channel) after; held = ap (λ (r : RunState). r.held) after; ended = inl (ap (λ (r : RunState). r.ended) after) }
+    record { turn = ap (λ (r : RunState). r.turn) after; place = ap (λ (r : RunState). r.place) after; rest = ap (λ (r : RunState). r.rest) after; channel = ap (λ (r : RunState). r.channel) after; config = ap (λ (r : RunState). r.config) after; held = ap (λ (r : RunState). r.held) after; settings = ap (λ (r : RunState). r.settings) after; ended = inl (ap (λ (r : RunState). r.ended) after) }
 
 input_rest : (may : Result (Unit {0}) No) (rules : Rules) (moment : ℤ) (sensed : List Sensed) (input : Input) (s t : RunState) (log : List ℕ) → DoesInput may rules moment sensed input s t log → SameRest s t
 input_rest (Ok done) rules moment sensed input s t log does = aloud_rest rules moment sensed input s t log does
 input_rest (Err why) rules moment sensed input s t log does = tells_rest _ s t log does
 
 asks_rest : (may : Result (Unit {0}) No) (s t : RunState) (log : List ℕ) → AsksIf may s t log → SameRest s t
-asks_rest (Ok done) s t log asks = rests_at s (record s { asks = true }) t asks.0 (record { turn = refl; place = refl; rest = refl; channel = refl; held = refl; ended = inl refl })
+asks_rest (Ok done) s t log asks = rests_at s (record s { asks = true }) t asks.0 (record { turn = refl; place = refl; rest = refl; channel = refl; config = refl; held = refl; settings = refl; ended = inl refl })
 asks_rest (Err why) s t log asks = tells_rest _ s t log asks
 
 connect_rest : (upstream : Option Address) (s t : RunState) (log : List ℕ) → AsksConnect upstream s t log → SameRest s t
@@ -216,13 +254,14 @@ connect_rest (Some address) s t log asks = asks_rest (may_ask (has_ended s.upstr
 asked_rest : (asked : Result PanelLine LineWhy) (rules : Rules) (moment : ℤ) (s t : RunState) (log : List ℕ) → DoesAsked asked rules moment s t log → SameRest s t
 asked_rest (Err why) rules moment s t log does = tells_rest _ s t log does
 asked_rest (Ok lines.Blank) rules moment s t log does = rests_at s s t does.0 (rests s)
-asked_rest (Ok lines.End) rules moment s t log does = rests_at s (record s { ended = Some statuses.Done }) t does.0 (record { turn = refl; place = refl; rest = refl; channel = refl; held = refl; ended = inr refl })
+asked_rest (Ok lines.End) rules moment s t log does = rests_at s (record s { ended = Some statuses.Done }) t does.0 (record { turn = refl; place = refl; rest = refl; channel = refl; config = refl; held = refl; settings = refl; ended = inr refl })
 asked_rest (Ok lines.Show) rules moment s t log does = tells_rest _ s t log does
-asked_rest (Ok lines.Connect) rules moment s t log does = connect_rest rules.connections.upstream s t log does
+asked_rest (Ok lines.Connect) rules moment s t log does = connect_rest s.settings.upstream s t log does
 asked_rest (Ok (lines.Insert barcode)) rules moment s t log does = input_rest (may_of s.node (inputs.Insert barcode)) rules moment _ _ s t log does
 asked_rest (Ok (lines.Remove id)) rules moment s t log does = input_rest (may_of s.node (inputs.Remove id)) rules moment _ _ s t log does
 asked_rest (Ok (lines.Replace id)) rules moment s t log does = input_rest (may_of s.node (inputs.Replace id)) rules moment _ _ s t log does
 asked_rest (Ok (lines.Mark id quality)) rules moment s t log does = input_rest (may_of s.node (inputs.Mark id quality)) rules moment _ _ s t log does
+asked_rest (Ok (lines.Sub id place barcode)) rules moment s t log does = input_rest (may_of s.node (inputs.Sub id place barcode)) rules moment _ _ s t log does
 asked_rest (Ok (lines.Hold side)) rules moment s t log does = input_rest (may_of s.node (inputs.Will side false)) rules moment _ _ s t log does
 asked_rest (Ok (lines.Go side)) rules moment s t log does = input_rest (may_of s.node (inputs.Will side true)) rules moment _ _ s t log does
 asked_rest (Ok lines.Shutdown) rules moment s t log does = input_rest (may_of s.node inputs.Shutdown) rules moment _ _ s t log does
@@ -236,16 +275,16 @@ asked_rest (Ok (lines.Ask question)) rules moment s t log does =
 asked_rest (Ok (lines.Sense sensed)) rules moment s t log does = input_rest (may_of s.node inputs.Nothing) rules moment _ _ s t log does
 
 keeps_rest : (long : Bool) (front : List ℕ) (s t : RunState) (log : List ℕ) → KeepsFront long front s t log → SameRest s t
-keeps_rest true front s t log keeps = let told = tells_rest _ (record s { line = []; drops = true }) t log keeps in record { turn = told.turn; place = told.place; rest = told.rest; channel = told.channel; held = told.held; ended = told.ended }
-keeps_rest false front s t log keeps = rests_at s (record s { line = front }) t keeps.0 (record { turn = refl; place = refl; rest = refl; channel = refl; held = refl; ended = inl refl })
+keeps_rest true front s t log keeps = let told = tells_rest _ (record s { line = []; drops = true }) t log keeps in record { turn = told.turn; place = told.place; rest = told.rest; channel = told.channel; config = told.config; held = told.held; settings = told.settings; ended = told.ended }
+keeps_rest false front s t log keeps = rests_at s (record s { line = front }) t keeps.0 (record { turn = refl; place = refl; rest = refl; channel = refl; config = refl; held = refl; settings = refl; ended = inl refl })
 
 fronts_rest : (drops : Bool) (front : List ℕ) (s t : RunState) (log : List ℕ) → Fronts drops front s t log → SameRest s t
 fronts_rest true front s t log fronts = rests_at s s t fronts.0 (rests s)
 fronts_rest false front s t log fronts = keeps_rest (is_too_long front) front s t log fronts
 
 ends_rest : (drops : Bool) (line : List ℕ) (rules : Rules) (moment : ℤ) (s t : RunState) (log : List ℕ) → Ends drops line rules moment s t log → SameRest s t
-ends_rest true line rules moment s t log ends = rests_at s (record s { drops = false }) t ends.0 (record { turn = refl; place = refl; rest = refl; channel = refl; held = refl; ended = inl refl })
-ends_rest false line rules moment s t log ends = let does = asked_rest (panel_line_of (without_return line)) rules moment (record s { line = [] }) t log ends in record { turn = does.turn; place = does.place; rest = does.rest; channel = does.channel; held = does.held; ended = does.ended }
+ends_rest true line rules moment s t log ends = rests_at s (record s { drops = false }) t ends.0 (record { turn = refl; place = refl; rest = refl; channel = refl; config = refl; held = refl; settings = refl; ended = inl refl })
+ends_rest false line rules moment s t log ends = let does = asked_rest (panel_line_of (without_return line)) rules moment (record s { line = [] }) t log ends in record { turn = does.turn; place = does.place; rest = does.rest; channel = does.channel; config = does.config; held = does.held; settings = does.settings; ended = does.ended }
 
 -- what stands behind the first end of a line is less than all
 abbrev IsShorter : List ℕ → Option (List ℕ × List ℕ) → Type 0
@@ -270,16 +309,18 @@ pub record TakesLine (s t : RunState) : Type 0 where
   pub place : t.place ≡ s.place
   pub rest : length t.rest < length s.rest
   pub channel : t.channel ≡ s.channel
+  pub config : t.config ≡ s.config
   pub held : t.held ≡ s.held
+  pub settings : t.settings ≡ s.settings
   pub ended : EndsBy s.ended t.ended
 
 cut_takes : (cut : Option (List ℕ × List ℕ)) (rules : Rules) (moment : ℤ) (s t : RunState) (log : List ℕ) → IsShorter s.rest cut → 0 < length s.rest → DoesCut cut rules moment s t log → TakesLine s t
 cut_takes None rules moment s t log shorter some does =
     let rest = fronts_rest s.drops (s.line ++ s.rest) (record s { rest = [] }) t log does in
-    record { turn = rest.turn; place = rest.place; rest = rw rest.rest some; channel = rest.channel; held = rest.held; ended = rest.ended }
+    record { turn = rest.turn; place = rest.place; rest = rw rest.rest some; channel = rest.channel; config = rest.config; held = rest.held; settings = rest.settings; ended = rest.ended }
 cut_takes (Some parts) rules moment s t log shorter some does =
     let rest = ends_rest s.drops (s.line ++ parts.0) rules moment (record s { rest = parts.1 }) t log does in
-    record { turn = rest.turn; place = rest.place; rest = rw rest.rest shorter; channel = rest.channel; held = rest.held; ended = rest.ended }
+    record { turn = rest.turn; place = rest.place; rest = rw rest.rest shorter; channel = rest.channel; config = rest.config; held = rest.held; settings = rest.settings; ended = rest.ended }
 
 pub line_takes : (rules : Rules) (moment : ℤ) (s t : RunState) (log : List ℕ) → 0 < length s.rest → DoesLine rules moment s t log → TakesLine s t
 line_takes rules moment s t log some does = cut_takes (cut_line s.rest) rules moment s t log (cut_shorter s.rest) some does

@@ -32,14 +32,14 @@ pub record IsFed (old : ChannelValue) : Type 0 where
   pub waiting : length (fed old).waiting ≡ length old.waiting + room_of old
   pub piece : length (fed old).piece + room_of old ≡ length old.piece
 
-is_fed : (old : ChannelValue) → IsFed old
+pub is_fed : (old : ChannelValue) → IsFed old
 is_fed old = record {
   waiting = omega (arith, length-append old.waiting (taken_of old.waiting old.piece), length-take (room_of old) old.piece);
   piece = omega (arith, length-drop (room_of old) old.piece);
 }
 
 -- a frame has nine bytes at least
-word_less : (old new : ChannelValue) (w k : ℕ) → old.hears ≡ true → IsFed old → length (fed old).waiting ≡ w → k + length new.waiting ≤ w → 9 ≤ k
+pub word_less : (old new : ChannelValue) (w k : ℕ) → old.hears ≡ true → IsFed old → length (fed old).waiting ≡ w → k + length new.waiting ≤ w → 9 ≤ k
     → new.piece ≡ (fed old).piece → new.hears ≡ true → hear_work new < hear_work old
 word_less old new w k hears bytes wide fewer nine piece goes = omega (arith, ap count hears, ap count goes, bytes.waiting, bytes.piece, wide, fewer, nine, ap length piece)
 
@@ -48,7 +48,7 @@ some_behind [] e = absurd (false≢true e)
 some_behind (byte ∷ bytes) e = omega arith
 
 -- where no end waits, all of the answer is among the bytes that wait, or there is less than there was room for
-more_less : (old new : ChannelValue) (more : Bool) → not (is_empty (fed old).piece) ≡ more → old.hears ≡ true → IsFed old → length new.waiting < 65536 → length new.waiting ≤ length (fed old).waiting
+pub more_less : (old new : ChannelValue) (more : Bool) → not (is_empty (fed old).piece) ≡ more → old.hears ≡ true → IsFed old → length new.waiting < 65536 → length new.waiting ≤ length (fed old).waiting
     → new.piece ≡ (fed old).piece → new.hears ≡ more → hear_work new < hear_work old
 more_less old new true some hears bytes room fewer piece goes =
     let behind = some_behind (fed old).piece some in
@@ -65,10 +65,12 @@ pub record SameHere (s t : RunState) : Type 0 where
   pub rest : t.rest ≡ s.rest
   pub ended : t.ended ≡ s.ended
   pub channel : t.channel ≡ s.channel
+  pub config : t.config ≡ s.config
   pub held : t.held ≡ s.held
+  pub settings : t.settings ≡ s.settings
 
 here : (s : RunState) → SameHere s s
-here s = record { turn = refl; place = refl; rest = refl; ended = refl; channel = refl; held = refl }
+here s = record { turn = refl; place = refl; rest = refl; ended = refl; channel = refl; config = refl; held = refl; settings = refl }
 
 pub here_at : (s t : RunState) → t ≡ s → SameHere s t
 here_at s t e = let P : RunState → Type 0 = SameHere s in subst P (sym e) (here s)
@@ -80,7 +82,9 @@ step_here rules moment sensed input s t log takes = record {
   rest = ap (λ (r : RunState). r.rest) takes.after;
   ended = ap (λ (r : RunState). r.ended) takes.after;
   channel = ap (λ (r : RunState). r.channel) takes.after;
+  config = ap (λ (r : RunState). r.config) takes.after;
   held = ap (λ (r : RunState). r.held) takes.after;
+  settings = ap (λ (r : RunState). r.settings) takes.after;
 }
 
 pub takes_here : (may : Result (Unit {0}) No) (rules : Rules) (moment : ℤ) (input : Input) (s t : RunState) (log : List ℕ) → Takes may rules moment input s s t log → SameHere s t
@@ -93,15 +97,15 @@ answers_here : (may : Result (Unit {0}) No) (rules : Rules) (moment : ℤ) (quer
 answers_here (Ok done) rules moment query order s t log answers = step_here rules moment [] (inputs.Answer query order) s t log answers
 answers_here (Err why) rules moment query order s t log answers =
     let told = here_at _ t answers.0 in
-    record { turn = told.turn; place = told.place; rest = told.rest; ended = told.ended; channel = told.channel; held = told.held }
+    record { turn = told.turn; place = told.place; rest = told.rest; ended = told.ended; channel = told.channel; config = told.config; held = told.held; settings = told.settings }
 
 action_here : (action : VerticalAction) (rules : Rules) (moment : ℤ) (s t : RunState) (log : List ℕ) → DoesAction action rules moment s t log → SameHere s t
 action_here actions.Describe rules moment s t log does =
     let told = takes_here (may_of s.node (inputs.Supervise true)) rules moment (inputs.Supervise true) (said moment (system_of rules.machine_id) s) t log does in
-    record { turn = told.turn; place = told.place; rest = told.rest; ended = told.ended; channel = told.channel; held = told.held }
+    record { turn = told.turn; place = told.place; rest = told.rest; ended = told.ended; channel = told.channel; config = told.config; held = told.held; settings = told.settings }
 action_here (actions.Pong id) rules moment s t log does =
     let told = here_at _ t does.0 in
-    record { turn = told.turn; place = told.place; rest = told.rest; ended = told.ended; channel = told.channel; held = told.held }
+    record { turn = told.turn; place = told.place; rest = told.rest; ended = told.ended; channel = told.channel; config = told.config; held = told.held; settings = told.settings }
 action_here (actions.Answer query order) rules moment s t log does = answers_here (may_of s.node (inputs.Answer query order)) rules moment query order s t log does
 action_here actions.Nothing rules moment s t log does = here_at s t does.0
 
@@ -111,7 +115,9 @@ pub record HearsLess (s t : RunState) : Type 0 where
   pub place : t.place ≡ s.place
   pub rest : t.rest ≡ s.rest
   pub ended : t.ended ≡ s.ended
+  pub config : t.config ≡ s.config
   pub held : t.held ≡ s.held
+  pub settings : t.settings ≡ s.settings
   pub less : hear_work t.channel < hear_work s.channel
 
 -- where a session is broken off, nothing is heard any more
@@ -119,13 +125,13 @@ breaks_less : (rules : Rules) (moment : ℤ) (text : List ℕ) (channel : Channe
 breaks_less rules moment text channel s t log hears breaks =
     let broken = broken_off moment text (with_channel channel s) in
     let told = takes_here (may_of s.node (inputs.Supervise false)) rules moment (inputs.Supervise false) broken t log breaks in
-    record { turn = told.turn; place = told.place; rest = told.rest; ended = told.ended; held = told.held; less = omega (arith, ap hear_work told.channel, ap count hears) }
+    record { turn = told.turn; place = told.place; rest = told.rest; ended = told.ended; config = told.config; held = told.held; settings = told.settings; less = omega (arith, ap hear_work told.channel, ap count hears) }
 
 acts_less : (row : SupervisedRow) (rules : Rules) (moment : ℤ) (channel : ChannelValue) (s t : RunState) (log : List ℕ) → hear_work channel < hear_work s.channel
     → DoesAction row.action rules moment (with_stands row.after (with_channel channel s)) t log → HearsLess s t
 acts_less row rules moment channel s t log less does =
     let told = action_here row.action rules moment (with_stands row.after (with_channel channel s)) t log does in
-    record { turn = told.turn; place = told.place; rest = told.rest; ended = told.ended; held = told.held; less = omega (arith, ap hear_work told.channel, less) }
+    record { turn = told.turn; place = told.place; rest = told.rest; ended = told.ended; config = told.config; held = told.held; settings = told.settings; less = omega (arith, ap hear_work told.channel, less) }
 
 row_less : (row : Option SupervisedRow) (body : Vertical) (rules : Rules) (moment : ℤ) (channel : ChannelValue) (s t : RunState) (log : List ℕ) → s.channel.hears ≡ true → hear_work channel < hear_work s.channel
     → DoesRow row body rules moment (with_channel channel s) t log → HearsLess s t
@@ -151,7 +157,7 @@ found_less founds.More rules moment channel s t log hears next does =
     let room : length channel.waiting < 65536 = omega (arith, next.finds.0.room, behind) in
     let fewer : length channel.waiting ≤ length (fed s.channel).waiting = omega (arith, next.finds.0.fewer, behind) in
     let less = more_less s.channel channel (not (is_empty (fed s.channel).piece)) refl hears (is_fed s.channel) room fewer next.piece next.hears in
-    record { turn = told.turn; place = told.place; rest = told.rest; ended = told.ended; held = told.held; less = omega (arith, ap hear_work told.channel, less) }
+    record { turn = told.turn; place = told.place; rest = told.rest; ended = told.ended; config = told.config; held = told.held; settings = told.settings; less = omega (arith, ap hear_work told.channel, less) }
 found_less founds.TooLong rules moment channel s t log hears next does = breaks_less rules moment (codes "message too long") channel s t log hears does
 
 -- A MESSAGE LEAVES LESS TO HEAR

@@ -20,38 +20,39 @@ use Rattle.node_run.specs.declared.way_state.Wire.{Wire}
 use Rattle.node_run.specs.declared.way_state.Wire.TheVariants as wires
 use Rattle.node_run.proofs.Heard.{SameHere, here_at, takes_here}
 
--- ---- a poll of the panel leaves the supervisor's channel, and what is held
+-- ---- a poll of the panel leaves what is heard, and what is held
 
 pub record PanelAlone (s t : RunState) : Type 0 where
   pub channel : t.channel ≡ s.channel
+  pub config : t.config ≡ s.config
   pub held : t.held ≡ s.held
 
 alone : (s : RunState) → PanelAlone s s
-alone s = record { channel = refl; held = refl }
+alone s = record { channel = refl; config = refl; held = refl }
 
 alone_at : (s u t : RunState) → t ≡ u → PanelAlone s u → PanelAlone s t
 alone_at s u t e frame = let P : RunState → Type 0 = PanelAlone s in subst P (sym e) frame
 
 arrived_alone : (wire : Wire) (rules : Rules) (s t : RunState) (log : List ℕ) → PanelArrives wire rules s t log → PanelAlone s t
-arrived_alone wires.Rests rules s t log arrives = alone_at s (echoed (greeting rules s) (with_wire ways.Panel wires.Stands s)) t arrives.0 (record { channel = refl; held = refl })
+arrived_alone wires.Rests rules s t log arrives = alone_at s (echoed (greeting rules s) (with_wire ways.Panel wires.Stands s)) t arrives.0 (record { channel = refl; config = refl; held = refl })
 arrived_alone wires.Stands rules s t log arrives = alone_at s s t arrives.0 (alone s)
 arrived_alone wires.Ends rules s t log arrives = alone_at s s t arrives.0 (alone s)
 arrived_alone wires.Breaks rules s t log arrives = alone_at s s t arrives.0 (alone s)
 
 second_alone : (wire : Wire) (s : RunState) → PanelAlone s (panel_second wire s)
-second_alone wires.Stands s = record { channel = refl; held = refl }
+second_alone wires.Stands s = record { channel = refl; config = refl; held = refl }
 second_alone wires.Rests s = alone s
 second_alone wires.Ends s = alone s
 second_alone wires.Breaks s = alone s
 
 bytes_alone : (wire : Wire) (bytes : List ℕ) (s : RunState) → PanelAlone s (panel_bytes wire bytes s)
-bytes_alone wires.Stands bytes s = record { channel = refl; held = refl }
+bytes_alone wires.Stands bytes s = record { channel = refl; config = refl; held = refl }
 bytes_alone wires.Rests bytes s = alone s
 bytes_alone wires.Ends bytes s = alone s
 bytes_alone wires.Breaks bytes s = alone s
 
 closed_alone : (wire : Wire) (s : RunState) → PanelAlone s (panel_closed wire s)
-closed_alone wires.Stands s = record { channel = refl; held = refl }
+closed_alone wires.Stands s = record { channel = refl; config = refl; held = refl }
 closed_alone wires.Rests s = alone s
 closed_alone wires.Ends s = alone s
 closed_alone wires.Breaks s = alone s
@@ -73,23 +74,23 @@ behind_less false looks some = some
 some_looks : (looks : ℕ) → nat_lt 0 looks ≡ true → 0 < looks
 some_looks looks e = grind (arith, nat_tests)
 
-pub looks_less : (finding : Option Finding) (more : Bool) (looks : ℕ) → is_some finding ≡ true → nat_lt 0 looks ≡ true → look_work_of finding (looks_behind more looks) + 100000 ≤ look_work_of finding looks
+pub looks_less : (finding : Option Finding) (more : Bool) (looks : ℕ) → is_some finding ≡ true → nat_lt 0 looks ≡ true → look_work_of finding (looks_behind more looks) + 500000 ≤ look_work_of finding looks
 looks_less None more looks some e = absurd (false≢true some)
 looks_less (Some finding) more looks some e = omega (arith, behind_less more looks (some_looks looks e))
 
-pub some_work : (finding : Option Finding) (looks : ℕ) → is_some finding ≡ true → 100000 ≤ look_work_of finding looks
+pub some_work : (finding : Option Finding) (looks : ℕ) → is_some finding ≡ true → 500000 ≤ look_work_of finding looks
 some_work None looks some = absurd (false≢true some)
 some_work (Some finding) looks some = omega arith
 
-pub few_work : (finding : Option Finding) (looks : ℕ) → looks ≤ 16 → look_work_of finding looks ≤ 1700000
+pub few_work : (finding : Option Finding) (looks : ℕ) → looks ≤ 16 → look_work_of finding looks ≤ 8500000
 few_work None looks few = omega arith
 few_work (Some finding) looks few = omega (arith, few)
 
 -- ---- what was found is taken
 
 broken_here : (side : Side) (test : Bool) (s : RunState) → SameHere s (broken (way_of side) test s)
-broken_here Entry true s = record { turn = refl; place = refl; rest = refl; ended = refl; channel = refl; held = refl }
-broken_here Exit true s = record { turn = refl; place = refl; rest = refl; ended = refl; channel = refl; held = refl }
+broken_here Entry true s = record { turn = refl; place = refl; rest = refl; ended = refl; channel = refl; config = refl; held = refl; settings = refl }
+broken_here Exit true s = record { turn = refl; place = refl; rest = refl; ended = refl; channel = refl; config = refl; held = refl; settings = refl }
 broken_here side false s = here_at s s refl
 
 here_behind : (s u t : RunState) → t ≡ u → SameHere s u → SameHere s t

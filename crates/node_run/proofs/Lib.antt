@@ -1,9 +1,8 @@
-mod Solid
-mod Inner
 mod Accounts
 pub mod Nexts
 pub mod Frames
 pub mod Heard
+pub mod Configured
 pub mod Holding
 pub mod Taking
 pub mod Closing
@@ -12,3 +11,4 @@ pub mod Moving
 pub mod Cutting
 pub mod Bounded
 pub mod Owns
+pub mod Settling

@@ -5,6 +5,9 @@ use Rattle.std.proofs.lemmas.List.Elements.{All-nil, All-push}
 use Rattle.std.specs.Prelude.{OnOk, OnErr}
 use Rattle.line_base.specs.declared.memory.Memory.{Memory}
 use Rattle.line_base.specs.Moment.{IsMomentMillis}
+use Rattle.line_base.specs.declared.states.Side.{Side}
+use Rattle.config_service.specs.declared.message.Settings.{Settings}
+use Rattle.line_outside.specs.Listening.{at_all}
 use Rattle.line_outside.specs.Clock.{TellsMoment}
 use Rattle.line_outside.specs.Faults.{Rose}
 use Rattle.line_outside.specs.Given.{Given, Listens, Connects, Polls, Sends, Refuses, Closes}
@@ -24,10 +27,12 @@ use Rattle.node_run.specs.After.{found_of, after_listen, after_send, looked, Aft
 use Rattle.node_run.specs.Channel.{is_empty, IsShort}
 use Rattle.node_run.specs.Held.{HasFewLooks}
 use Rattle.node_run.specs.Hearing.{DoesHear}
+use Rattle.node_run.specs.Configuring.{AfterTry, DoesConfig}
+use Rattle.node_run.specs.Resetting.{ResetsSide}
 use Rattle.node_run.specs.Lines.{DoesLine}
 use Rattle.node_run.specs.Moving.{MovesAs, MissesMove, IsEndCaused, MovesOn, FailsLog, FailsMemory, IsAtEnd, EndsMove, IsRunEnd, IsOnceStatus}
 use Rattle.node_run.specs.Next.{next_of, moved_on}
-use Rattle.node_run.specs.Runs.{Moves, listens, connects, polls, sends, refuses, closes, skips, looks_again, takes_held, does_line, does_hear, begins, goes_on, no_call, polled, polled_again, closed, IsMoment, HasRun, HasRunInPart, RunEnds, IsRunStatus, room_bytes}
+use Rattle.node_run.specs.Runs.{Moves, listens, connects, polls, sends, refuses, closes, skips, looks_again, takes_held, does_line, does_hear, does_config, tries_port, resets_side, begins, goes_on, no_call, polled, polled_again, closed, tried, IsMoment, HasRun, HasRunInPart, RunEnds, IsRunStatus, room_bytes}
 use Rattle.node_run.specs.State.{Refusal, RunState, RunView, refusal_text, way_at}
 use Rattle.node_run.specs.Work.{far_of}
 use Rattle.node_run.specs.Told.{HasRunCauses}
@@ -40,6 +45,7 @@ use Rattle.node_run.proofs.Far.{close_less, moves_nearer, not_empty}
 use Rattle.node_run.proofs.Frames.{EndsBy, IsShortGot, line_takes, panel_same, poll_same, sent_same}
 use Rattle.node_run.proofs.Holding.{held_here}
 use Rattle.node_run.proofs.Heard.{hear_less}
+use Rattle.node_run.proofs.Configured.{config_less, reset_stays}
 use Rattle.node_run.proofs.Nexts.{is_from, not_ended}
 
 -- ---- calls that come behind others
@@ -243,6 +249,48 @@ taken_on told moment r u given before now next rest at rules does =
       ended = uncaused u.state.ended before now (there.ended ∙ not_ended r.rules r.state nexts.Take next refl);
     }
 
+pub configured_on : (told : Option ℤ) (moment : ℤ) (r u : RunView) (given : Option (List Given)) (before now : ℕ)
+    → next_of r.rules r.state ≡ nexts.HearConfig → length r.state.rest ≤ 4096 → r.told ≡ [] → IsMoment told moment → u.rules ≡ r.rules → u.told ≡ r.told → DoesConfig moment r.state u.state
+    → MovesAs told r u given given before now
+configured_on told moment r u given before now next rest quiet at rules same does =
+    let less = config_less moment r.state u.state (is_from r.rules r.state nexts.HearConfig next) does in
+    record {
+      rules = rules;
+      makes = record { moment = moment; same = at; calls = []; move = does_config next does (same ∙ quiet); gains = gains_none given };
+      rest = omega (arith, ap length less.rest, rest);
+      ended = uncaused u.state.ended before now (less.ended ∙ not_ended r.rules r.state nexts.HearConfig next refl);
+    }
+
+tried_rest : (opened : Opened) (moment : ℤ) (settings : Settings) (s t : RunState) → AfterTry opened moment settings s t → (t.rest ≡ s.rest) × (t.ended ≡ s.ended)
+tried_rest opens.Done moment settings s t after = (ap (λ (r : RunState). r.rest) after.after, ap (λ (r : RunState). r.ended) after.after)
+tried_rest opens.Failed moment settings s t after = (ap (λ (r : RunState). r.rest) after, ap (λ (r : RunState). r.ended) after)
+
+pub tried_on : (told : Option ℤ) (moment : ℤ) (r u : RunView) (settings : Settings) (address : Address) (opened : Opened) (given_old given_new : Option (List Given)) (before now : ℕ)
+    → next_of r.rules r.state ≡ nexts.Try settings → length r.state.rest ≤ 4096 → r.told ≡ [] → IsMoment told moment → u.rules ≡ r.rules → u.told ≡ r.told → address ≡ at_all settings.port
+    → Gains given_old given_new (Listens ways.Downstream address opened ∷ []) → AfterTry opened moment settings r.state u.state
+    → MovesAs told r u given_old given_new before now
+tried_on told moment r u settings address opened given_old given_new before now next rest quiet at rules same there gains after =
+    let P : Address → Type 0 = λ a. Gains given_old given_new (Listens ways.Downstream a opened ∷ []) in
+    let kept = tried_rest opened moment settings r.state u.state after in
+    record {
+      rules = rules;
+      makes = record { moment = moment; same = at; calls = Listens ways.Downstream (at_all settings.port) opened ∷ []; move = tries_port next after (same ∙ quiet); gains = subst P there gains };
+      rest = omega (arith, ap length kept.0, rest);
+      ended = uncaused u.state.ended before now (kept.1 ∙ not_ended r.rules r.state (nexts.Try settings) next refl);
+    }
+
+pub reset_on : (told : Option ℤ) (moment : ℤ) (r u : RunView) (side : Side) (given : Option (List Given)) (before now : ℕ)
+    → next_of r.rules r.state ≡ nexts.Reset side → length r.state.rest ≤ 4096 → IsMoment told moment → u.rules ≡ r.rules → ResetsSide r.rules moment side r.state u.state u.told
+    → MovesAs told r u given given before now
+reset_on told moment r u side given before now next rest at rules does =
+    let there = reset_stays r.rules moment side r.state u.state u.told does in
+    record {
+      rules = rules;
+      makes = record { moment = moment; same = at; calls = []; move = resets_side next does; gains = gains_none given };
+      rest = omega (arith, ap length there.rest, rest);
+      ended = uncaused u.state.ended before now (there.ended ∙ not_ended r.rules r.state (nexts.Reset side) next refl);
+    }
+
 pub closed_on : (told : Option ℤ) (moment : ℤ) (r u : RunView) (way : Way) (given_old given_new : Option (List Given)) (before now : ℕ)
     → next_of r.rules r.state ≡ nexts.Close way → length r.state.rest ≤ 4096 → IsMoment told moment → u.rules ≡ r.rules
     → Gains given_old given_new (Closes way ∷ []) → AfterClose r.rules moment way r.state u.state u.told
@@ -273,6 +321,12 @@ missed_look rules s room got given_old given_new next full gains =
 
 pub missed_close : (rules : Rules) (s : RunState) (way : Way) (given_old given_new : Option (List Given)) → next_of rules s ≡ nexts.Close way → Gains given_old given_new (Closes way ∷ []) → MissesMove rules s given_old given_new
 missed_close rules s way given_old given_new next gains = record { last = Closes way ∷ []; next = closed next; gains = gains }
+
+pub missed_try : (rules : Rules) (s : RunState) (settings : Settings) (address : Address) (opened : Opened) (given_old given_new : Option (List Given)) → next_of rules s ≡ nexts.Try settings → address ≡ at_all settings.port
+    → Gains given_old given_new (Listens ways.Downstream address opened ∷ []) → MissesMove rules s given_old given_new
+missed_try rules s settings address opened given_old given_new next there gains =
+    let P : Address → Type 0 = λ a. Gains given_old given_new (Listens ways.Downstream a opened ∷ []) in
+    record { last = Listens ways.Downstream (at_all settings.port) opened ∷ []; next = tried next; gains = subst P there gains }
 
 -- ---- once in the loop
 
@@ -421,10 +475,10 @@ ends_started told rules s log r given_old given_new log_old log_new status e end
 
 -- a run that went on is nearer to its end
 pub nearer_on : (told : Option ℤ) (rules rules_now : Rules) (s t : RunState) (given_old given_new : Option (List Given)) (log_old log_new : Option (List ℕ))
-    → rules_now ≡ rules → MovesOn told rules s t given_old given_new log_old log_new → length s.rest ≤ 4096 → length t.rest ≤ 4096 → IsShort t.channel → HasFewLooks t.held → far_of rules_now t < far_of rules s
-nearer_on told rules rules_now s t given_old given_new log_old log_new same moves before after short few =
+    → rules_now ≡ rules → MovesOn told rules s t given_old given_new log_old log_new → length s.rest ≤ 4096 → length t.rest ≤ 4096 → IsShort t.channel → IsShort t.config → HasFewLooks t.held → far_of rules_now t < far_of rules s
+nearer_on told rules rules_now s t given_old given_new log_old log_new same moves before after short heard few =
     let P : Rules → Type 0 = λ r. far_of r t < far_of rules s in
-    subst P (sym same) (moves_nearer rules moves.makes.moment moves.makes.move before after short few)
+    subst P (sym same) (moves_nearer rules moves.makes.moment moves.makes.move before after short heard few)
 
 -- ---- causes
 
@@ -539,6 +593,31 @@ pub if_heard : (answer : Result (Unit {0}) Memory) (told : Option ℤ) (moment :
     → OnOk answer (MovesAs told r u given given before now)
 if_heard (Ok done) told moment r u given before now next rest at rules does = heard_on told moment r u given before now next rest at rules does
 if_heard (Err memory) told moment r u given before now next rest at rules does = tt
+
+pub if_configured : (answer : Result (Unit {0}) Memory) (told : Option ℤ) (moment : ℤ) (r u : RunView) (given : Option (List Given)) (before now : ℕ)
+    → next_of r.rules r.state ≡ nexts.HearConfig → length r.state.rest ≤ 4096 → r.told ≡ [] → IsMoment told moment → u.rules ≡ r.rules → u.told ≡ r.told → OnOk answer (DoesConfig moment r.state u.state)
+    → OnOk answer (MovesAs told r u given given before now)
+if_configured (Ok done) told moment r u given before now next rest quiet at rules same does = configured_on told moment r u given before now next rest quiet at rules same does
+if_configured (Err memory) told moment r u given before now next rest quiet at rules same does = tt
+
+pub if_tried : (answer : Result (Unit {0}) Memory) (told : Option ℤ) (moment : ℤ) (r u : RunView) (settings : Settings) (address : Address) (opened : Opened) (given_old given_new : Option (List Given)) (before now : ℕ)
+    → next_of r.rules r.state ≡ nexts.Try settings → length r.state.rest ≤ 4096 → r.told ≡ [] → IsMoment told moment → u.rules ≡ r.rules → u.told ≡ r.told → address ≡ at_all settings.port
+    → Gains given_old given_new (Listens ways.Downstream address opened ∷ []) → OnOk answer (AfterTry opened moment settings r.state u.state)
+    → OnOk answer (MovesAs told r u given_old given_new before now)
+if_tried (Ok done) told moment r u settings address opened given_old given_new before now next rest quiet at rules same there gains after =
+    tried_on told moment r u settings address opened given_old given_new before now next rest quiet at rules same there gains after
+if_tried (Err memory) told moment r u settings address opened given_old given_new before now next rest quiet at rules same there gains after = tt
+
+pub unless_tried : (answer : Result (Unit {0}) Memory) (rules : Rules) (s : RunState) (settings : Settings) (address : Address) (opened : Opened) (given_old given_new : Option (List Given)) → next_of rules s ≡ nexts.Try settings → address ≡ at_all settings.port
+    → Gains given_old given_new (Listens ways.Downstream address opened ∷ []) → OnErr answer (MissesMove rules s given_old given_new)
+unless_tried (Ok done) rules s settings address opened given_old given_new next there gains = tt
+unless_tried (Err memory) rules s settings address opened given_old given_new next there gains = missed_try rules s settings address opened given_old given_new next there gains
+
+pub if_reset : (answer : Result (Unit {0}) Memory) (told : Option ℤ) (moment : ℤ) (r u : RunView) (side : Side) (given : Option (List Given)) (before now : ℕ)
+    → next_of r.rules r.state ≡ nexts.Reset side → length r.state.rest ≤ 4096 → IsMoment told moment → u.rules ≡ r.rules → OnOk answer (ResetsSide r.rules moment side r.state u.state u.told)
+    → OnOk answer (MovesAs told r u given given before now)
+if_reset (Ok done) told moment r u side given before now next rest at rules does = reset_on told moment r u side given before now next rest at rules does
+if_reset (Err memory) told moment r u side given before now next rest at rules does = tt
 
 pub unless_lined : (answer : Result (Unit {0}) Memory) (rules : Rules) (s : RunState) (given : Option (List Given)) → OnErr answer (MissesMove rules s given given)
 unless_lined (Ok done) rules s given = tt

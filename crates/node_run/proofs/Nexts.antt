@@ -3,13 +3,15 @@ use Rattle.std.proofs.Common.{◌≡◌, ◌∙◌, sym, subst, ap, refl, ℕ, B
 use Rattle.std.proofs.lemmas.Bool.{false≢true}
 use Rattle.std.proofs.lemmas.Bool.Decides.{nat_tests}
 use Rattle.std.proofs.lemmas.List.{length-drop}
+use Rattle.line_base.specs.declared.states.Side.TheVariants.{Entry, Exit}
+use Rattle.config_service.specs.declared.message.Settings.{Settings}
 use Rattle.line_outside.specs.declared.way.Address.{Address}
 use Rattle.line_outside.specs.declared.way.Way.{Way}
 use Rattle.line_outside.specs.declared.way.Way.TheVariants as ways
 use Rattle.node_run.specs.declared.rules.Rules.{Rules}
 use Rattle.node_run.specs.State.{Refusal, RunState, way_at}
 use Rattle.node_run.specs.Channel.{is_empty}
-use Rattle.node_run.specs.Next.{next_of, ends_next, refuses_next, asks_next, lines_next, hears_next, held_next, takes_next, at_place, listens_if, is_polled, is_due, IsTurnLeft}
+use Rattle.node_run.specs.Next.{next_of, ends_next, refuses_next, tries_next, asks_next, lines_next, hears_next, configures_next, is_to_reset, held_next, takes_next, at_place, listens_if, is_polled, is_due, IsTurnLeft}
 use Rattle.node_run.specs.Moving.{is_end}
 use Rattle.node_run.specs.declared.place.Next.{Next}
 use Rattle.node_run.specs.declared.place.Next.TheVariants as nexts
@@ -37,9 +39,12 @@ abbrev pub IsFrom : Rules → RunState → Next → Type 0
 IsFrom rules s (nexts.End status) = (s.ended ≡ Some status) ⊎ (status ≡ statuses.TurnsUsed)
 IsFrom rules s (nexts.Refuse way) = (refusal : Refusal) × (s.refusal ≡ Some refusal) × (refusal.way ≡ way)
 IsFrom rules s (nexts.Close way) = is_due (way_at way s) ≡ true
+IsFrom rules s (nexts.Reset side) = is_to_reset side s.resets ≡ true
+IsFrom rules s (nexts.Try settings) = s.tries ≡ Some settings
 IsFrom rules s (nexts.Connect address) = s.asks ≡ true
 IsFrom rules s nexts.Line = is_empty s.rest ≡ false
 IsFrom rules s nexts.Hear = s.channel.hears ≡ true
+IsFrom rules s nexts.HearConfig = s.config.hears ≡ true
 IsFrom rules s nexts.Look = (is_some s.held.finding ≡ true) × (nat_lt 0 s.held.looks ≡ true)
 IsFrom rules s nexts.Take = is_some s.held.finding ≡ true
 IsFrom rules s nexts.Skip = at_place rules s s.place ≡ nexts.Skip
@@ -52,6 +57,9 @@ abbrev IsPlaced : Next → Type 0
 IsPlaced (nexts.End status) = status ≡ statuses.TurnsUsed
 IsPlaced nexts.Line = ⊥
 IsPlaced nexts.Hear = ⊥
+IsPlaced nexts.HearConfig = ⊥
+IsPlaced (nexts.Try settings) = ⊥
+IsPlaced (nexts.Reset side) = ⊥
 IsPlaced nexts.Look = ⊥
 IsPlaced nexts.Take = ⊥
 IsPlaced (nexts.Refuse way) = ⊥
@@ -74,22 +82,25 @@ turn_is : (test : Bool) → IsPlaced (if test then nexts.Skip else nexts.End sta
 turn_is true = tt
 turn_is false = refl
 
-listens_is : (port : Option ℕ) → IsPlaced (listens_if port)
-listens_is None = tt
-listens_is (Some port) = tt
+listens_is : (way : Way) (port : Option ℕ) → IsPlaced (listens_if way port)
+listens_is way None = tt
+listens_is way (Some port) = tt
 
 at_place_is : (rules : Rules) (s : RunState) (place : Place) → IsPlaced (at_place rules s place)
 at_place_is rules s places.ListenPanel = tt
 at_place_is rules s places.ListenDownstream = tt
-at_place_is rules s places.ListenSupervisory = listens_is rules.connections.supervisory_port
+at_place_is rules s places.ListenSupervisory = listens_is ways.Supervisory rules.connections.supervisory_port
+at_place_is rules s places.ListenConfiguration = listens_is ways.Configuration rules.connections.config_port
 at_place_is rules s places.PollPanel = tt
 at_place_is rules s places.PollUpstream = polls_is (is_polled rules s ways.Upstream) ways.Upstream
 at_place_is rules s places.PollDownstream = polls_is (is_polled rules s ways.Downstream) ways.Downstream
 at_place_is rules s places.PollSupervisory = polls_is (is_polled rules s ways.Supervisory) ways.Supervisory
+at_place_is rules s places.PollConfiguration = polls_is (is_polled rules s ways.Configuration) ways.Configuration
 at_place_is rules s places.SendPanel = sends_is (is_empty s.panel.unsent) ways.Panel
 at_place_is rules s places.SendUpstream = sends_is (is_empty s.upstream.unsent) ways.Upstream
 at_place_is rules s places.SendDownstream = sends_is (is_empty s.downstream.unsent) ways.Downstream
 at_place_is rules s places.SendSupervisory = sends_is (is_empty s.supervisory.unsent) ways.Supervisory
+at_place_is rules s places.SendConfiguration = sends_is (is_empty s.configuration.unsent) ways.Configuration
 at_place_is rules s places.TurnDone = turn_is (nat_lt s.turn rules.turns)
 
 place_from : (rules : Rules) (s : RunState) (next : Next) → at_place rules s s.place ≡ next → IsPlaced next → IsFrom rules s next
@@ -99,6 +110,9 @@ place_from rules s (nexts.Close way) e placed = absurd placed
 place_from rules s (nexts.Connect address) e placed = absurd placed
 place_from rules s nexts.Line e placed = absurd placed
 place_from rules s nexts.Hear e placed = absurd placed
+place_from rules s nexts.HearConfig e placed = absurd placed
+place_from rules s (nexts.Try settings) e placed = absurd placed
+place_from rules s (nexts.Reset side) e placed = absurd placed
 place_from rules s nexts.Look e placed = absurd placed
 place_from rules s nexts.Take e placed = absurd placed
 place_from rules s nexts.Skip e placed = e
@@ -114,9 +128,13 @@ held_from : (rules : Rules) (s : RunState) (some : Bool) → is_some s.held.find
 held_from rules s true e = takes_from rules s (nat_lt 0 s.held.looks) e refl
 held_from rules s false e = place_from rules s (at_place rules s s.place) refl (at_place_is rules s s.place)
 
-hears_from : (rules : Rules) (s : RunState) (hears : Bool) → s.channel.hears ≡ hears → IsFrom rules s (if hears then nexts.Hear else held_next rules s)
+configures_from : (rules : Rules) (s : RunState) (hears : Bool) → s.config.hears ≡ hears → IsFrom rules s (if hears then nexts.HearConfig else held_next rules s)
+configures_from rules s true e = e
+configures_from rules s false e = held_from rules s (is_some s.held.finding) refl
+
+hears_from : (rules : Rules) (s : RunState) (hears : Bool) → s.channel.hears ≡ hears → IsFrom rules s (if hears then nexts.Hear else configures_next rules s)
 hears_from rules s true e = e
-hears_from rules s false e = held_from rules s (is_some s.held.finding) refl
+hears_from rules s false e = configures_from rules s s.config.hears refl
 
 lines_from : (rules : Rules) (s : RunState) (empty : Bool) → is_empty s.rest ≡ empty → IsFrom rules s (if empty then hears_next rules s else nexts.Line)
 lines_from rules s true e = hears_from rules s s.channel.hears refl
@@ -126,6 +144,16 @@ asks_from : (rules : Rules) (s : RunState) (asks : Bool) (upstream : Option Addr
 asks_from rules s true None next e from = from
 asks_from rules s true (Some address) next e from = e
 asks_from rules s false upstream next e from = from
+
+tries_from : (rules : Rules) (s : RunState) (tries : Option Settings) (next : Next) → s.tries ≡ tries → IsFrom rules s next → IsFrom rules s (tries_next tries next)
+tries_from rules s None next e from = from
+tries_from rules s (Some settings) next e from = e
+
+resets_from : (rules : Rules) (s : RunState) (up down : Bool) (next : Next) → s.resets.upstream ≡ up → s.resets.downstream ≡ down → IsFrom rules s next
+    → IsFrom rules s (if up then nexts.Reset Entry else (if down then nexts.Reset Exit else next))
+resets_from rules s true down next entry exit from = entry
+resets_from rules s false true next entry exit from = exit
+resets_from rules s false false next entry exit from = from
 
 closes_from : (rules : Rules) (s : RunState) (test : Bool) (way : Way) (next : Next) → is_due (way_at way s) ≡ test → IsFrom rules s next → IsFrom rules s (if test then nexts.Close way else next)
 closes_from rules s true way next e from = e
@@ -141,10 +169,10 @@ ends_from rules s (Some status) next e from = inl e
 
 from : (rules : Rules) (s : RunState) → IsFrom rules s (next_of rules s)
 from rules s =
-    ends_from rules s s.ended _ refl (refuses_from rules s s.refusal _ refl
+    ends_from rules s s.ended _ refl (refuses_from rules s s.refusal _ refl (resets_from rules s s.resets.upstream s.resets.downstream _ refl refl
     (closes_from rules s (is_due s.panel) ways.Panel _ refl (closes_from rules s (is_due s.upstream) ways.Upstream _ refl (closes_from rules s (is_due s.downstream) ways.Downstream _ refl
-    (closes_from rules s (is_due s.supervisory) ways.Supervisory _ refl
-    (asks_from rules s s.asks rules.connections.upstream (lines_next rules s) refl (lines_from rules s (is_empty s.rest) refl)))))))
+    (closes_from rules s (is_due s.supervisory) ways.Supervisory _ refl (closes_from rules s (is_due s.configuration) ways.Configuration _ refl
+    (tries_from rules s s.tries _ refl (asks_from rules s s.asks s.settings.upstream (lines_next rules s) refl (lines_from rules s (is_empty s.rest) refl))))))))))
 
 pub is_from : (rules : Rules) (s : RunState) (found : Next) → next_of rules s ≡ found → IsFrom rules s found
 is_from rules s found e = let P : Next → Type 0 = IsFrom rules s in subst P e (from rules s)
@@ -161,14 +189,17 @@ left_at rules s places.TurnDone goes = turn_goes (nat_lt s.turn rules.turns) s.t
 left_at rules s places.ListenPanel goes = tt
 left_at rules s places.ListenDownstream goes = tt
 left_at rules s places.ListenSupervisory goes = tt
+left_at rules s places.ListenConfiguration goes = tt
 left_at rules s places.PollPanel goes = tt
 left_at rules s places.PollUpstream goes = tt
 left_at rules s places.PollDownstream goes = tt
 left_at rules s places.PollSupervisory goes = tt
+left_at rules s places.PollConfiguration goes = tt
 left_at rules s places.SendPanel goes = tt
 left_at rules s places.SendUpstream goes = tt
 left_at rules s places.SendDownstream goes = tt
 left_at rules s places.SendSupervisory goes = tt
+left_at rules s places.SendConfiguration goes = tt
 
 left_for : (rules : Rules) (s : RunState) (found : Next) → at_place rules s s.place ≡ found → is_end found ≡ false → IsTurnLeft s.place s.turn rules.turns
 left_for rules s found e goes = left_at rules s s.place (ap is_end e ∙ goes)
@@ -191,9 +222,9 @@ polls_no_send : (test : Bool) (polled way : Way) → (if test then nexts.Poll po
 polls_no_send true polled way e = cc
 polls_no_send false polled way e = cc
 
-listens_no_send : (port : Option ℕ) (way : Way) → listens_if port ≡ nexts.Send way → ⊥
-listens_no_send None way e = cc
-listens_no_send (Some port) way e = cc
+listens_no_send : (at : Way) (port : Option ℕ) (way : Way) → listens_if at port ≡ nexts.Send way → ⊥
+listens_no_send at None way e = cc
+listens_no_send at (Some port) way e = cc
 
 abbrev sent_way : Way → Next → Way
 sent_way way (nexts.Send sent) = sent
@@ -210,15 +241,18 @@ turn_no_send false way e = cc
 some_at : (rules : Rules) (s : RunState) (place : Place) (way : Way) → at_place rules s place ≡ nexts.Send way → is_empty (way_at way s).unsent ≡ false
 some_at rules s places.ListenPanel way e = cc
 some_at rules s places.ListenDownstream way e = cc
-some_at rules s places.ListenSupervisory way e = absurd (listens_no_send rules.connections.supervisory_port way e)
+some_at rules s places.ListenSupervisory way e = absurd (listens_no_send ways.Supervisory rules.connections.supervisory_port way e)
+some_at rules s places.ListenConfiguration way e = absurd (listens_no_send ways.Configuration rules.connections.config_port way e)
 some_at rules s places.PollPanel way e = absurd (polls_no_send true ways.Panel way e)
 some_at rules s places.PollUpstream way e = absurd (polls_no_send (is_polled rules s ways.Upstream) ways.Upstream way e)
 some_at rules s places.PollDownstream way e = absurd (polls_no_send (is_polled rules s ways.Downstream) ways.Downstream way e)
 some_at rules s places.PollSupervisory way e = absurd (polls_no_send (is_polled rules s ways.Supervisory) ways.Supervisory way e)
+some_at rules s places.PollConfiguration way e = absurd (polls_no_send (is_polled rules s ways.Configuration) ways.Configuration way e)
 some_at rules s places.SendPanel way e = sends_some s ways.Panel way (is_empty s.panel.unsent) refl e
 some_at rules s places.SendUpstream way e = sends_some s ways.Upstream way (is_empty s.upstream.unsent) refl e
 some_at rules s places.SendDownstream way e = sends_some s ways.Downstream way (is_empty s.downstream.unsent) refl e
 some_at rules s places.SendSupervisory way e = sends_some s ways.Supervisory way (is_empty s.supervisory.unsent) refl e
+some_at rules s places.SendConfiguration way e = sends_some s ways.Configuration way (is_empty s.configuration.unsent) refl e
 some_at rules s places.TurnDone way e = absurd (turn_no_send (nat_lt s.turn rules.turns) way e)
 
 pub some_to_send : (rules : Rules) (s : RunState) (way : Way) → next_of rules s ≡ nexts.Send way → is_empty (way_at way s).unsent ≡ false

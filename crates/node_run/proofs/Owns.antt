@@ -1,5 +1,5 @@
 -- What a machine owns follows from its log.
-use Rattle.std.proofs.Common.{◌≡◌, ◌∙◌, sym, subst, ap, refl, ℕ, ℤ, Bool, true, false, List, [], ◌++◌, Option, None, Some, Result, Ok, Err, append-nil, codes}
+use Rattle.std.proofs.Common.{◌≡◌, ◌∙◌, sym, subst, ap, refl, ℕ, ℤ, Bool, true, false, List, [], ◌++◌, ◌==◌, Option, None, Some, Result, Ok, Err, append-nil, codes}
 use Rattle.node_core.proofs.Keeping.{own_append}
 use Rattle.line_base.specs.declared.states.Side.{Side}
 use Rattle.line_base.specs.declared.states.Side.TheVariants.{Entry, Exit}
@@ -48,14 +48,23 @@ use Rattle.node_run.specs.declared.channel.Found.{Found}
 use Rattle.node_run.specs.declared.channel.Found.TheVariants as finds
 use Rattle.node_run.specs.declared.channel.Word.{Word}
 use Rattle.node_run.specs.declared.channel.Word.TheVariants as words
+use Rattle.config_service.specs.Plans.{plan_of}
+use Rattle.config_service.specs.declared.config.Plan.{Plan}
+use Rattle.config_service.specs.declared.config.Plan.TheVariants as plans
+use Rattle.config_service.specs.declared.message.Settings.{Settings}
+use Rattle.node_run.specs.Configuring.{AfterTry, DoesConfigFound, DoesPlan, TriesIf, with_config}
+use Rattle.node_run.specs.Resetting.{ResetsSide, leaving, reset_begun}
+use Rattle.node_run.specs.declared.channel.ConfigFound.{ConfigFound}
+use Rattle.node_run.specs.declared.channel.ConfigFound.TheVariants as configs
+use Rattle.node_run.specs.declared.channel.ConfigWord.TheVariants as config_words
 use Rattle.node_run.specs.Steps.{Takes, TakesStep, MeetsSecond}
-use Rattle.node_run.specs.After.{after_listen, after_send, PanelArrives, AfterPanel, panel_second, panel_bytes, panel_closed, after_supervisory, supervisory_arrived, supervisory_second, supervisory_bytes, supervisory_closed, broken, looked, way_of, with_held, AfterUpstream, AfterDownstream, AfterPoll, AfterClose, TakesFinding, TakesFound, TakesHeld}
+use Rattle.node_run.specs.After.{after_listen, after_send, PanelArrives, AfterPanel, panel_second, panel_bytes, panel_closed, after_configuration, configuration_arrived, configuration_second, configuration_bytes, configuration_closed, configuration_gone, after_supervisory, supervisory_arrived, supervisory_second, supervisory_bytes, supervisory_closed, broken, looked, way_of, with_held, AfterUpstream, AfterDownstream, AfterPoll, AfterClose, TakesFinding, TakesFound, TakesHeld}
 use Rattle.node_run.specs.Lines.{cut_line, without_return, is_too_long, Tells, DoesInput, AsksIf, AsksConnect, may_ask, DoesAsked, KeepsFront, Fronts, Ends, DoesCut}
 use Rattle.node_run.proofs.Accounts.{own_read}
-use Rattle.node_run.specs.Account.{AreProper}
+use Rattle.machine_log.specs.Account.{AreProper}
 use Rattle.node_run.specs.Owning.{OwnIsRead, IsAnswer, refuses, denies, shows, greets, TellsActs, no_lines, step_lines, answer_lines, OwnFollows}
-use Rattle.node_run.specs.Runs.{Moves, listens, connects, polls, sends, refuses as refuses_second, closes, skips, looks_again, takes_held, does_line, does_hear, Runs, begins, goes_on}
-use Rattle.node_run.specs.Texts.{lines_of}
+use Rattle.node_run.specs.Runs.{Moves, listens, connects, polls, sends, refuses as refuses_second, closes, skips, looks_again, takes_held, does_line, does_hear, does_config, tries_port, resets_side, Runs, begins, goes_on}
+use Rattle.machine_log.specs.Texts.{lines_of}
 use Rattle.node_run.specs.declared.way_state.Wire.{Wire}
 use Rattle.node_run.specs.declared.way_state.Wire.TheVariants as wires
 
@@ -105,6 +114,7 @@ way_node ways.Panel value s = refl
 way_node ways.Upstream value s = refl
 way_node ways.Downstream value s = refl
 way_node ways.Supervisory value s = refl
+way_node ways.Configuration value s = refl
 
 second_node : (wire : Wire) (s : RunState) → (panel_second wire s).node ≡ s.node
 second_node wires.Rests s = refl
@@ -156,6 +166,38 @@ supervisory_node moment founds.NotYet s = refl
 supervisory_node moment founds.Closed s = supervisory_closed_node s.supervisory.wire s
 supervisory_node moment founds.Failed s = supervisory_closed_node s.supervisory.wire s
 
+configuration_arrived_node : (wire : Wire) (s : RunState) → (configuration_arrived wire s).node ≡ s.node
+configuration_arrived_node wires.Rests s = refl
+configuration_arrived_node wires.Stands s = refl
+configuration_arrived_node wires.Ends s = refl
+configuration_arrived_node wires.Breaks s = refl
+
+configuration_second_node : (wire : Wire) (moment : ℤ) (s : RunState) → (configuration_second wire moment s).node ≡ s.node
+configuration_second_node wires.Rests moment s = refl
+configuration_second_node wires.Stands moment s = refl
+configuration_second_node wires.Ends moment s = refl
+configuration_second_node wires.Breaks moment s = refl
+
+configuration_bytes_node : (wire : Wire) (bytes : List ℕ) (s : RunState) → (configuration_bytes wire bytes s).node ≡ s.node
+configuration_bytes_node wires.Rests bytes s = refl
+configuration_bytes_node wires.Stands bytes s = refl
+configuration_bytes_node wires.Ends bytes s = refl
+configuration_bytes_node wires.Breaks bytes s = refl
+
+configuration_closed_node : (wire : Wire) (s : RunState) → (configuration_closed wire s).node ≡ s.node
+configuration_closed_node wires.Rests s = refl
+configuration_closed_node wires.Stands s = refl
+configuration_closed_node wires.Ends s = refl
+configuration_closed_node wires.Breaks s = refl
+
+configuration_node : (moment : ℤ) (got : GotBytes) (s : RunState) → (after_configuration moment got s).node ≡ s.node
+configuration_node moment founds.Arrived s = configuration_arrived_node s.configuration.wire s
+configuration_node moment founds.Second s = configuration_second_node s.configuration.wire moment s
+configuration_node moment (founds.Bytes bytes) s = configuration_bytes_node s.configuration.wire bytes s
+configuration_node moment founds.NotYet s = refl
+configuration_node moment founds.Closed s = configuration_closed_node s.configuration.wire s
+configuration_node moment founds.Failed s = configuration_closed_node s.configuration.wire s
+
 upstream_part : (rules : Rules) (moment : ℤ) (got : GotBytes) (s t : RunState) (log : List ℕ) → AfterUpstream rules moment got s t log → Part rules s t log
 upstream_part rules moment founds.Arrived s t log after = takes_part (may_of s.node inputs.Connect) rules moment inputs.Connect (with_wire ways.Upstream wires.Stands s) s t log refl refl after
 upstream_part rules moment founds.Second s t log after = still rules s s t log after.0 after.1 refl
@@ -191,6 +233,7 @@ poll_part rules moment ways.Panel got s t log after = panel_part rules got s t l
 poll_part rules moment ways.Upstream got s t log after = upstream_part rules moment got s t log after
 poll_part rules moment ways.Downstream got s t log after = downstream_part rules moment got s t log after
 poll_part rules moment ways.Supervisory got s t log after = still rules s _ t log after.0 after.1 (supervisory_node moment got s)
+poll_part rules moment ways.Configuration got s t log after = still rules s _ t log after.0 after.1 (configuration_node moment got s)
 
 -- ---- what was found of a neighbour
 
@@ -231,6 +274,7 @@ close_part rules moment ways.Panel s t log after = still rules s _ t log after.0
 close_part rules moment ways.Upstream s t log after = closed_part (may_of s.node (inputs.Notice Entry)) rules moment (inputs.Notice Entry) (record s { upstream = at_rest }) s t log refl refl after
 close_part rules moment ways.Downstream s t log after = closed_part (may_of s.node (inputs.Notice Exit)) rules moment (inputs.Notice Exit) (record s { downstream = at_rest }) s t log refl refl after
 close_part rules moment ways.Supervisory s t log after = unsupervised_part rules moment (record s { supervisory = at_rest; channel = no_session }) s t log refl after
+close_part rules moment ways.Configuration s t log after = still rules s _ t log after.0 after.1 refl
 
 -- ---- lines
 
@@ -251,11 +295,12 @@ asked_part (Err why) rules moment s t log does = tells_part rules _ s t log (ref
 asked_part (Ok lines.Blank) rules moment s t log does = still rules s s t log does.0 does.1 refl
 asked_part (Ok lines.End) rules moment s t log does = still rules s _ t log does.0 does.1 refl
 asked_part (Ok lines.Show) rules moment s t log does = tells_part rules _ s t log (shows s.turn s.node.lane.body.kept (outlets.held s.node.lane.body.outlet) (intakes.held s.node.lane.body.intake)) does
-asked_part (Ok lines.Connect) rules moment s t log does = connect_part rules.connections.upstream rules s t log does
+asked_part (Ok lines.Connect) rules moment s t log does = connect_part s.settings.upstream rules s t log does
 asked_part (Ok (lines.Insert barcode)) rules moment s t log does = input_part (may_of s.node (inputs.Insert barcode)) rules moment _ (inputs.Insert barcode) s t log refl does
 asked_part (Ok (lines.Remove id)) rules moment s t log does = input_part (may_of s.node (inputs.Remove id)) rules moment _ (inputs.Remove id) s t log refl does
 asked_part (Ok (lines.Replace id)) rules moment s t log does = input_part (may_of s.node (inputs.Replace id)) rules moment _ (inputs.Replace id) s t log refl does
 asked_part (Ok (lines.Mark id quality)) rules moment s t log does = input_part (may_of s.node (inputs.Mark id quality)) rules moment _ (inputs.Mark id quality) s t log refl does
+asked_part (Ok (lines.Sub id place barcode)) rules moment s t log does = input_part (may_of s.node (inputs.Sub id place barcode)) rules moment _ (inputs.Sub id place barcode) s t log refl does
 asked_part (Ok (lines.Hold side)) rules moment s t log does = input_part (may_of s.node (inputs.Will side false)) rules moment _ (inputs.Will side false) s t log refl does
 asked_part (Ok (lines.Go side)) rules moment s t log does = input_part (may_of s.node (inputs.Will side true)) rules moment _ (inputs.Will side true) s t log refl does
 asked_part (Ok lines.Shutdown) rules moment s t log does = input_part (may_of s.node inputs.Shutdown) rules moment _ inputs.Shutdown s t log refl does
@@ -318,6 +363,34 @@ hear_part : (rules : Rules) (moment : ℤ) (s t : RunState) (log : List ℕ) →
 hear_part rules moment s t log does =
     moved_part rules (with_channel does.channel s) s t log refl (found_part does.found rules moment (with_channel does.channel s) t log does.does)
 
+-- ---- messages of the configuration service, and the reset of a side
+
+triesif_node : (same : Bool) (moment : ℤ) (settings : Settings) (s t : RunState) → TriesIf same moment settings s t → t.node ≡ s.node
+triesif_node true moment settings s t does = ap (λ (r : RunState). r.node) does.after
+triesif_node false moment settings s t does = ap (λ (r : RunState). r.node) does
+
+plan_node : (plan : Plan) (moment : ℤ) (s t : RunState) → DoesPlan plan moment s t → t.node ≡ s.node
+plan_node plans.Tell moment s t does = ap (λ (r : RunState). r.node) does
+plan_node (plans.Try settings) moment s t does = triesif_node (settings.port == s.settings.port) moment settings s t does
+plan_node plans.Nothing moment s t does = ap (λ (r : RunState). r.node) does
+plan_node plans.Breach moment s t does = ap (λ (r : RunState). r.node) does
+
+config_node : (found : ConfigFound) (moment : ℤ) (s t : RunState) → DoesConfigFound found moment s t → t.node ≡ s.node
+config_node (configs.Word (config_words.Says message)) moment s t does = plan_node (plan_of message.body) moment s t does
+config_node (configs.Word (config_words.Wrong text)) moment s t does = ap (λ (r : RunState). r.node) does
+config_node configs.More moment s t does = ap (λ (r : RunState). r.node) does
+config_node configs.TooLong moment s t does = ap (λ (r : RunState). r.node) does
+
+tried_node : (opened : Opened) (moment : ℤ) (settings : Settings) (s t : RunState) → AfterTry opened moment settings s t → t.node ≡ s.node
+tried_node opens.Done moment settings s t after = ap (λ (r : RunState). r.node) after.after
+tried_node opens.Failed moment settings s t after = ap (λ (r : RunState). r.node) after
+
+reset_part : (side : Side) (rules : Rules) (moment : ℤ) (s t : RunState) (log : List ℕ) → ResetsSide rules moment side s t log → Part rules s t log
+reset_part Entry rules moment s t log resets =
+    moved_part rules (reset_begun Entry s) s t log refl (takes_part (may_of s.node (inputs.Notice Entry)) rules moment (inputs.Notice Entry) (leaving moment Entry (reset_begun Entry s)) (reset_begun Entry s) t log refl refl resets)
+reset_part Exit rules moment s t log resets =
+    moved_part rules (reset_begun Exit s) s t log refl (takes_part (may_of s.node (inputs.Notice Exit)) rules moment (inputs.Notice Exit) (leaving moment Exit (reset_begun Exit s)) (reset_begun Exit s) t log refl refl resets)
+
 -- ---- moves and runs
 
 move_part : (rules : Rules) (moment : ℤ) {s t : RunState} {calls : List Given} {log : List ℕ} → Moves rules moment s calls t log → Part rules s t log
@@ -332,6 +405,9 @@ move_part rules moment (looks_again {s} {t} {got} {log} next done) = moved_part 
 move_part rules moment (takes_held {s} {t} {log} next done) = held_part rules moment s t log done
 move_part rules moment (does_line {s} {t} {log} next done) = cut_part (cut_line s.rest) rules moment s t log done
 move_part rules moment (does_hear {s} {t} {log} next done) = hear_part rules moment s t log done
+move_part rules moment (does_config {s} {t} {log} next done none) = quiet none (config_node done.found moment (with_config done.config s) t done.does)
+move_part rules moment (tries_port {s} {t} {settings} {opened} {log} next done none) = quiet none (tried_node opened moment settings s t done)
+move_part rules moment (resets_side {s} {t} {side} {log} next done) = reset_part side rules moment s t log done
 
 follows_on : (rules : Rules) (s t u : RunState) (log lines : List ℕ) → OwnFollows rules s t log → Part rules t u lines → OwnFollows rules s u (log ++ lines)
 follows_on rules s t u log lines follows (quiet none node) =

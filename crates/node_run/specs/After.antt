@@ -19,13 +19,14 @@ use Rattle.node_core.specs.Sides.{is_open}
 use Rattle.node_core.specs.declared.input.Input.TheVariants as inputs
 use Rattle.node_run.specs.declared.rules.Rules.{Rules}
 use Rattle.node_run.specs.Channel.{no_session}
+use Rattle.node_run.specs.Configuring.{config_text, configured_already}
 use Rattle.node_run.specs.Held.{Finding, HeldValue, holds, is_more, looks_behind, nothing_held}
 use Rattle.node_run.specs.Hearing.{Unsupervised, connected_already, text_of}
 use Rattle.node_run.specs.State.{RunState, at_rest, way_at, with_way, with_wire}
 use Rattle.node_run.specs.Next.{moved_on}
 use Rattle.node_run.specs.Steps.{Takes, MeetsSecond}
 use Rattle.node_run.specs.Lines.{Tells}
-use Rattle.node_run.specs.Texts.{drives_lines}
+use Rattle.machine_log.specs.Texts.{drives_lines}
 use Rattle.node_run.specs.declared.status.NodeStatus.TheVariants as statuses
 use Rattle.node_run.specs.declared.way_state.Wire.{Wire}
 use Rattle.node_run.specs.declared.way_state.Wire.TheVariants as wires
@@ -113,6 +114,40 @@ after_supervisory moment founds.NotYet s = s
 after_supervisory moment founds.Closed s = supervisory_closed s.supervisory.wire s
 after_supervisory moment founds.Failed s = supervisory_closed s.supervisory.wire s
 
+-- ---- what a poll of the configuration way found
+
+abbrev pub configuration_arrived : Wire → RunState → RunState
+configuration_arrived wires.Rests s =
+    record (with_wire ways.Configuration wires.Stands s) { config = no_session }
+configuration_arrived wire s = s
+
+abbrev pub configuration_second : Wire → ℤ → RunState → RunState
+configuration_second wires.Stands moment s =
+    record s {
+      refusal = Some
+          (record { way = ways.Configuration; text = config_text moment configured_already });
+    }
+configuration_second wire moment s = s
+
+abbrev pub configuration_bytes : Wire → List ℕ → RunState → RunState
+configuration_bytes wires.Stands bytes s =
+    record s { config = record s.config { piece = bytes; hears = true } }
+configuration_bytes wire bytes s = s
+
+abbrev pub configuration_closed : Wire → RunState → RunState
+configuration_closed wires.Stands s = with_wire ways.Configuration wires.Breaks s
+configuration_closed wire s = s
+
+abbrev pub after_configuration : ℤ → GotBytes → RunState → RunState
+after_configuration moment founds.Arrived s = configuration_arrived s.configuration.wire s
+after_configuration moment founds.Second s =
+    configuration_second s.configuration.wire moment s
+after_configuration moment (founds.Bytes bytes) s =
+    configuration_bytes s.configuration.wire bytes s
+after_configuration moment founds.NotYet s = s
+after_configuration moment founds.Closed s = configuration_closed s.configuration.wire s
+after_configuration moment founds.Failed s = configuration_closed s.configuration.wire s
+
 -- ---- what a poll of a neighbour's way found: a connection is taken at once; bytes, and the end of
 -- a connection, wait until the panel was polled again
 
@@ -150,6 +185,8 @@ AfterPoll rules moment ways.Upstream got s t log = AfterUpstream rules moment go
 AfterPoll rules moment ways.Downstream got s t log = AfterDownstream rules moment got s t log
 AfterPoll rules moment ways.Supervisory got s t log =
     (t ≡ after_supervisory moment got s) × (log ≡ [])
+AfterPoll rules moment ways.Configuration got s t log =
+    (t ≡ after_configuration moment got s) × (log ≡ [])
 
 -- ---- the panel is polled again, and then what was found is taken
 
@@ -206,6 +243,10 @@ after_send way sents.Failed s = with_wire way wires.Breaks s
 abbrev pub panel_gone : RunState → RunState
 panel_gone s = record s { panel = at_rest; line = []; drops = false; rest = [] }
 
+-- what else came on the configuration way is dropped
+abbrev pub configuration_gone : RunState → RunState
+configuration_gone s = record s { configuration = at_rest; config = no_session }
+
 -- a way is closed, its text is dropped, and the machine notices where its side has a connection
 abbrev pub AfterClose : Rules → ℤ → Way → RunState → RunState → List ℕ → Type 0
 AfterClose rules moment ways.Panel s t log = (t ≡ panel_gone s) × (log ≡ [])
@@ -219,3 +260,4 @@ AfterClose rules moment ways.Downstream s t log =
     (inputs.Notice Exit) closed closed t log
 AfterClose rules moment ways.Supervisory s t log =
     Unsupervised rules moment (record s { supervisory = at_rest; channel = no_session }) t log
+AfterClose rules moment ways.Configuration s t log = (t ≡ configuration_gone s) × (log ≡ [])

@@ -1,7 +1,4 @@
 pub mod Status
-pub mod Texts
-pub mod Account
-pub mod Drives
 pub mod Channel
 pub mod Held
 pub mod State
@@ -9,10 +6,13 @@ pub mod Next
 pub mod Steps
 pub mod Lines
 pub mod Hearing
+pub mod Configuring
 pub mod After
+pub mod Resetting
 pub mod Runs
 pub mod Moving
 pub mod Work
 pub mod Cuts
+pub mod Settled
 pub mod Owning
 pub mod Told

@@ -20,7 +20,7 @@ use Rattle.node_run.specs.declared.rules.Rules.{Rules}
 use Rattle.node_run.specs.State.{RunState, echoed}
 use Rattle.node_run.specs.Next.{has_ended}
 use Rattle.node_run.specs.Steps.{TakesStep}
-use Rattle.node_run.specs.Texts.{refused_line, no_line, show_lines}
+use Rattle.machine_log.specs.Texts.{refused_line, no_line, show_lines}
 use Rattle.node_run.specs.declared.status.NodeStatus.TheVariants as statuses
 
 -- what stands before the first end of a line, and what behind it
@@ -56,6 +56,7 @@ input_of (lines.Insert barcode) = inputs.Insert barcode
 input_of (lines.Remove id) = inputs.Remove id
 input_of (lines.Replace id) = inputs.Replace id
 input_of (lines.Mark id quality) = inputs.Mark id quality
+input_of (lines.Sub id place barcode) = inputs.Sub id place barcode
 input_of (lines.Hold side) = inputs.Will side false
 input_of (lines.Go side) = inputs.Will side true
 input_of lines.Shutdown = inputs.Shutdown
@@ -100,7 +101,7 @@ DoesAsked (Ok lines.Blank) rules moment s t log = (t ≡ s) × (log ≡ [])
 DoesAsked (Ok lines.End) rules moment s t log =
     (t ≡ record s { ended = Some statuses.Done }) × (log ≡ [])
 DoesAsked (Ok lines.Show) rules moment s t log = Tells (shown rules s) s t log
-DoesAsked (Ok lines.Connect) rules moment s t log = AsksConnect rules.connections.upstream s t log
+DoesAsked (Ok lines.Connect) rules moment s t log = AsksConnect s.settings.upstream s t log
 DoesAsked (Ok line) rules moment s t log =
     DoesInput (may_of s.node (input_of line)) rules moment (sensed_of line) (input_of line) s t log
 

@@ -1,6 +1,11 @@
--- WHAT COMES NEXT in a run: a call of the ports, a line of the panel, a message of the supervisor,
--- what was found of a neighbour, a place where nothing is to do, or the end.
+-- WHAT COMES NEXT in a run: a call of the ports, a line of the panel, a message of the supervisor
+-- or of the configuration service, a side that is reset, what was found of a neighbour, a place
+-- where nothing is to do, or the end.
 use Rattle.std.specs.Prelude.{◌≡◌, ◌≤◌, ◌⊎◌, ℕ, ◌+◌, ◌<◌, Bool, true, false, ◌||◌, ◌&&◌, not, nat_lt, List, length, Option, None, Some, is_some, if◌then◌else◌}
+use Rattle.line_base.specs.declared.states.Side.{Side}
+use Rattle.line_base.specs.declared.states.Side.TheVariants.{Entry, Exit}
+use Rattle.config_service.specs.declared.config.Resets.{Resets}
+use Rattle.config_service.specs.declared.message.Settings.{Settings}
 use Rattle.line_outside.specs.Listening.{at_all, at_loopback}
 use Rattle.line_outside.specs.declared.way.Address.{Address}
 use Rattle.line_outside.specs.declared.way.Way.{Way}
@@ -40,10 +45,12 @@ has_ended _ = false
 abbrev pub is_polled : Rules → RunState → Way → Bool
 is_polled rules s ways.Panel = true
 is_polled rules s ways.Upstream =
-    is_some rules.connections.upstream && not (has_ended s.upstream.wire)
+    is_some s.settings.upstream && not (has_ended s.upstream.wire)
 is_polled rules s ways.Downstream = not (has_ended s.downstream.wire)
 is_polled rules s ways.Supervisory =
     is_some rules.connections.supervisory_port && not (has_ended s.supervisory.wire)
+is_polled rules s ways.Configuration =
+    is_some rules.connections.config_port && not (has_ended s.configuration.wire)
 
 abbrev pub polls : Rules → RunState → Way → Next
 polls rules s way = if is_polled rules s way then nexts.Poll way else nexts.Skip
@@ -59,10 +66,10 @@ sends s way = sends_by way (way_at way s)
 abbrev pub turn_next : Rules → RunState → Next
 turn_next rules s = if nat_lt s.turn rules.turns then nexts.Skip else nexts.End statuses.TurnsUsed
 
--- the supervisor's port is listened at where it is set
-abbrev pub listens_if : Option ℕ → Next
-listens_if None = nexts.Skip
-listens_if (Some port) = nexts.Listen ways.Supervisory (at_all port)
+-- a port is listened at where it is set
+abbrev pub listens_if : Way → Option ℕ → Next
+listens_if way None = nexts.Skip
+listens_if way (Some port) = nexts.Listen way (at_all port)
 
 -- THE PANEL CONNECTS FROM THE SAME COMPUTER, unless it may from anywhere
 abbrev pub panel_address : Bool → ℕ → Address
@@ -73,16 +80,21 @@ abbrev pub at_place : Rules → RunState → Place → Next
 at_place rules s places.ListenPanel =
     nexts.Listen ways.Panel (panel_address rules.panel.anywhere rules.connections.panel_port)
 at_place rules s places.ListenDownstream =
-    nexts.Listen ways.Downstream (at_all rules.connections.downstream_port)
-at_place rules s places.ListenSupervisory = listens_if rules.connections.supervisory_port
+    nexts.Listen ways.Downstream (at_all s.settings.port)
+at_place rules s places.ListenSupervisory =
+    listens_if ways.Supervisory rules.connections.supervisory_port
+at_place rules s places.ListenConfiguration =
+    listens_if ways.Configuration rules.connections.config_port
 at_place rules s places.PollPanel = polls rules s ways.Panel
 at_place rules s places.PollUpstream = polls rules s ways.Upstream
 at_place rules s places.PollDownstream = polls rules s ways.Downstream
 at_place rules s places.PollSupervisory = polls rules s ways.Supervisory
+at_place rules s places.PollConfiguration = polls rules s ways.Configuration
 at_place rules s places.SendPanel = sends s ways.Panel
 at_place rules s places.SendUpstream = sends s ways.Upstream
 at_place rules s places.SendDownstream = sends s ways.Downstream
 at_place rules s places.SendSupervisory = sends s ways.Supervisory
+at_place rules s places.SendConfiguration = sends s ways.Configuration
 at_place rules s places.TurnDone = turn_next rules s
 
 abbrev pub asks_next : Option Address → Next → Next
@@ -97,9 +109,13 @@ abbrev pub held_next : Rules → RunState → Next
 held_next rules s =
     if is_some s.held.finding then takes_next s.held.looks else at_place rules s s.place
 
--- before that, the supervisor's messages, one by one
+-- before that, the messages of the configuration service, one by one
+abbrev pub configures_next : Rules → RunState → Next
+configures_next rules s = if s.config.hears then nexts.HearConfig else held_next rules s
+
+-- before them, the supervisor's
 abbrev pub hears_next : Rules → RunState → Next
-hears_next rules s = if s.channel.hears then nexts.Hear else held_next rules s
+hears_next rules s = if s.channel.hears then nexts.Hear else configures_next rules s
 
 -- before them, the panel's lines, one by one
 abbrev pub lines_next : Rules → RunState → Next
@@ -108,8 +124,13 @@ lines_next rules s = if is_empty s.rest then hears_next rules s else nexts.Line
 -- before them, a connection that was asked for
 abbrev pub connects_next : Rules → RunState → Next
 connects_next rules s =
-    if s.asks then asks_next rules.connections.upstream
+    if s.asks then asks_next s.settings.upstream
     (lines_next rules s) else lines_next rules s
+
+-- before that, the port of a Set, which is listened at
+abbrev pub tries_next : Option Settings → Next → Next
+tries_next None next = next
+tries_next (Some settings) next = nexts.Try settings
 
 -- before that, the ways that have to be closed, in the order of the polls
 abbrev pub closes_next : Rules → RunState → Next
@@ -117,7 +138,19 @@ closes_next rules s =
     if is_due s.panel then nexts.Close ways.Panel else
     (if is_due s.upstream then nexts.Close ways.Upstream else
     (if is_due s.downstream then nexts.Close ways.Downstream else
-    (if is_due s.supervisory then nexts.Close ways.Supervisory else connects_next rules s)))
+    (if is_due s.supervisory then nexts.Close ways.Supervisory else
+    (if is_due s.configuration then nexts.Close ways.Configuration else
+    tries_next s.tries (connects_next rules s)))))
+
+-- before them, the sides that a Set resets, the entry first
+abbrev pub is_to_reset : Side → Resets → Bool
+is_to_reset Entry resets = resets.upstream
+is_to_reset Exit resets = resets.downstream
+
+abbrev pub resets_next : Resets → Next → Next
+resets_next resets next =
+    if resets.upstream then nexts.Reset Entry else
+    (if resets.downstream then nexts.Reset Exit else next)
 
 -- before them, a second connection that is to be refused
 abbrev pub refuses_next : Option Refusal → Next → Next
@@ -130,19 +163,24 @@ ends_next None next = next
 ends_next (Some status) next = nexts.End status
 
 abbrev pub next_of : Rules → RunState → Next
-next_of rules s = ends_next s.ended (refuses_next s.refusal (closes_next rules s))
+next_of rules s =
+    ends_next s.ended (refuses_next s.refusal (resets_next s.resets (closes_next rules s)))
 
--- it goes on: neither an end, nor a refusal of a second connection, nor a close comes next
+-- it goes on: neither an end, nor a refusal of a second connection, nor a reset, nor a close comes
+-- next
 abbrev pub goes_on : Next → Bool
 goes_on (nexts.End status) = false
 goes_on (nexts.Refuse way) = false
+goes_on (nexts.Reset side) = false
 goes_on (nexts.Close way) = false
 goes_on nexts.Line = true
 goes_on nexts.Hear = true
+goes_on nexts.HearConfig = true
 goes_on nexts.Look = true
 goes_on nexts.Take = true
 goes_on nexts.Skip = true
 goes_on (nexts.Listen way address) = true
+goes_on (nexts.Try settings) = true
 goes_on (nexts.Connect address) = true
 goes_on (nexts.Poll way) = true
 goes_on (nexts.Send way) = true
@@ -156,15 +194,18 @@ HasBoundedText way = (way.wire ≡ wires.Rests) ⊎ (length way.unsent ≤ most_
 abbrev pub place_behind : Place → Place
 place_behind places.ListenPanel = places.ListenDownstream
 place_behind places.ListenDownstream = places.ListenSupervisory
-place_behind places.ListenSupervisory = places.PollPanel
+place_behind places.ListenSupervisory = places.ListenConfiguration
+place_behind places.ListenConfiguration = places.PollPanel
 place_behind places.PollPanel = places.PollUpstream
 place_behind places.PollUpstream = places.PollDownstream
 place_behind places.PollDownstream = places.PollSupervisory
-place_behind places.PollSupervisory = places.SendPanel
+place_behind places.PollSupervisory = places.PollConfiguration
+place_behind places.PollConfiguration = places.SendPanel
 place_behind places.SendPanel = places.SendUpstream
 place_behind places.SendUpstream = places.SendDownstream
 place_behind places.SendDownstream = places.SendSupervisory
-place_behind places.SendSupervisory = places.TurnDone
+place_behind places.SendSupervisory = places.SendConfiguration
+place_behind places.SendConfiguration = places.TurnDone
 place_behind places.TurnDone = places.PollPanel
 
 abbrev pub turn_behind : Place → ℕ → ℕ

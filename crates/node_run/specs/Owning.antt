@@ -5,10 +5,10 @@ use Rattle.line_script.specs.declared.line.LineWhy.{LineWhy}
 use Rattle.line_report.specs.declared.happening.Reason.{Reason}
 use Rattle.node_core.specs.Own.{own_of, own_after}
 use Rattle.node_core.specs.declared.act.Act.{Act}
-use Rattle.node_run.specs.Account.{AreProper, own_by_log}
+use Rattle.machine_log.specs.Account.{AreProper, own_by_log}
 use Rattle.node_run.specs.State.{RunState}
-use Rattle.node_run.specs.Texts.{drives_lines, lines_of, refused_line, no_line, show_lines}
-use Rattle.node_run.specs.declared.drives.Drives.{Drives}
+use Rattle.machine_log.specs.Texts.{drives_lines, lines_of, refused_line, no_line, show_lines}
+use Rattle.machine_log.specs.declared.drives.Drives.{Drives}
 use Rattle.node_run.specs.declared.rules.Rules.{Rules}
 
 -- lines that answer the panel, and tell no act

@@ -1,8 +1,12 @@
 -- A RUN: a chain of moves. Each is one call of the ports with its answer, a line of the panel, a
--- message of the supervisor, what was found of a neighbour, or a place that is passed.
+-- message of the supervisor or of the configuration service, the reset of a side, what was found of
+-- a neighbour, or a place that is passed.
 use Rattle.std.specs.Prelude.{◌≡◌, ◌++◌, ℕ, ℤ, false, List, [], ◌∷◌, Option, None, Some}
 use Rattle.std.specs.List.{All}
 use Rattle.line_base.specs.Moment.{IsMomentMillis}
+use Rattle.line_base.specs.declared.states.Side.{Side}
+use Rattle.config_service.specs.declared.message.Settings.{Settings}
+use Rattle.line_outside.specs.Listening.{at_all}
 use Rattle.line_outside.specs.Given.{Given, Listens, Connects, Polls, Sends, Refuses, Closes}
 use Rattle.line_outside.specs.Ports.{Gains}
 use Rattle.line_outside.specs.Sink.{Grows, GrowsInPart}
@@ -16,6 +20,8 @@ use Rattle.node_run.specs.declared.rules.Rules.{Rules}
 use Rattle.node_run.specs.State.{Refusal, RunState, way_at}
 use Rattle.node_run.specs.Next.{next_of, moved_on}
 use Rattle.node_run.specs.Hearing.{DoesHear}
+use Rattle.node_run.specs.Configuring.{AfterTry, DoesConfig}
+use Rattle.node_run.specs.Resetting.{ResetsSide}
 use Rattle.node_run.specs.Lines.{DoesLine}
 use Rattle.node_run.specs.After.{after_listen, AfterPoll, AfterLook, TakesHeld, after_send, AfterClose}
 use Rattle.node_run.specs.declared.place.Next.TheVariants as nexts
@@ -58,6 +64,13 @@ pub data Moves (rules : Rules) (moment : ℤ) : RunState → List Given → RunS
       → DoesLine rules moment s t log → Moves rules moment s [] t log
   does_hear : {s t : RunState} {log : List ℕ} → next_of rules s ≡ nexts.Hear
       → DoesHear rules moment s t log → Moves rules moment s [] t log
+  does_config : {s t : RunState} {log : List ℕ} → next_of rules s ≡ nexts.HearConfig
+      → DoesConfig moment s t → log ≡ [] → Moves rules moment s [] t log
+  tries_port : {s t : RunState} {settings : Settings} {opened : Opened} {log : List ℕ}
+      → next_of rules s ≡ nexts.Try settings → AfterTry opened moment settings s t → log ≡ []
+      → Moves rules moment s (Listens ways.Downstream (at_all settings.port) opened ∷ []) t log
+  resets_side : {s t : RunState} {side : Side} {log : List ℕ} → next_of rules s ≡ nexts.Reset side
+      → ResetsSide rules moment side s t log → Moves rules moment s [] t log
 
 -- A RUN from a state, with the moment of each of its moves, all its calls and all its log
 pub data Runs (rules : Rules) : RunState → List ℤ → List Given → RunState → List ℕ
@@ -94,6 +107,9 @@ pub data CallsNext (rules : Rules) : RunState → List Given → Type 0 where
       → CallsNext rules s (Polls ways.Panel room_bytes got ∷ [])
   closed : {s : RunState} {way : Way} → next_of rules s ≡ nexts.Close way
       → CallsNext rules s (Closes way ∷ [])
+  tried : {s : RunState} {settings : Settings} {opened : Opened}
+      → next_of rules s ≡ nexts.Try settings
+      → CallsNext rules s (Listens ways.Downstream (at_all settings.port) opened ∷ [])
 
 -- a run that was broken off: the calls are those of a run, and at most the next, and the log is a
 -- front of the run's

@@ -1,13 +1,16 @@
--- The state of a run: the machine, its ways, the supervisor's channel, the drives, the panel's
--- text, what was found of a neighbour and isn't taken yet, and what comes next.
+-- The state of a run: the machine, its ways, the bytes of those that are heard message by message,
+-- where its neighbours are, the drives, the panel's text, what was found of a neighbour and isn't
+-- taken yet, and what comes next.
 use Rattle.std.specs.Prelude.{ℕ, ◌++◌, Bool, false, List, [], Option, None, Some}
 use Rattle.line_outside.specs.declared.way.Way.{Way}
 use Rattle.line_outside.specs.declared.way.Way.TheVariants as ways
+use Rattle.config_service.specs.declared.config.Resets.{Resets}
+use Rattle.config_service.specs.declared.message.Settings.{Settings}
 use Rattle.node_core.specs.Node.{NodeState}
 use Rattle.node_run.specs.Channel.{ChannelValue, no_session}
-use Rattle.node_run.specs.Drives.{all_off}
+use Rattle.machine_log.specs.Drives.{all_off}
 use Rattle.node_run.specs.Held.{HeldValue, nothing_held}
-use Rattle.node_run.specs.declared.drives.Drives.{Drives}
+use Rattle.machine_log.specs.declared.drives.Drives.{Drives}
 use Rattle.node_run.specs.declared.rules.Rules.{Rules}
 use Rattle.node_run.specs.declared.status.NodeStatus.{NodeStatus}
 use Rattle.node_run.specs.declared.place.Place.{Place}
@@ -25,13 +28,20 @@ pub record Refusal : Type 0 where
   pub way : Way
   pub text : List ℕ
 
+-- where the neighbours are (`settings`), a Set that waits for its listen (`tries`), and the sides
+-- that are to be reset (`resets`), are what the configuration service changes
 pub record RunState : Type 0 where
   pub node : NodeState
   pub panel : WayValue
   pub upstream : WayValue
   pub downstream : WayValue
   pub supervisory : WayValue
+  pub configuration : WayValue
   pub channel : ChannelValue
+  pub config : ChannelValue
+  pub settings : Settings
+  pub tries : Option Settings
+  pub resets : Resets
   pub drives : Drives
   pub line : List ℕ
   pub drops : Bool
@@ -57,15 +67,23 @@ at_rest = record { wire = wires.Rests; unsent = [] }
 abbrev pub echoed : List ℕ → RunState → RunState
 echoed text s = record s { panel = record s.panel { unsent = s.panel.unsent ++ text } }
 
--- a run begins with a new machine, before its first turn
-abbrev pub started : NodeState → RunState
-started node = record {
+abbrev pub no_resets : Resets
+no_resets = record { upstream = false; downstream = false }
+
+-- a run begins with a new machine, whose neighbours are these, before its first turn
+abbrev pub started : Settings → NodeState → RunState
+started settings node = record {
   node = node;
   panel = at_rest;
   upstream = at_rest;
   downstream = at_rest;
   supervisory = at_rest;
+  configuration = at_rest;
   channel = no_session;
+  config = no_session;
+  settings = settings;
+  tries = None;
+  resets = no_resets;
   drives = all_off;
   line = [];
   drops = false;
@@ -83,12 +101,14 @@ way_at ways.Panel s = s.panel
 way_at ways.Upstream s = s.upstream
 way_at ways.Downstream s = s.downstream
 way_at ways.Supervisory s = s.supervisory
+way_at ways.Configuration s = s.configuration
 
 abbrev pub with_way : Way → WayValue → RunState → RunState
 with_way ways.Panel way s = record s { panel = way }
 with_way ways.Upstream way s = record s { upstream = way }
 with_way ways.Downstream way s = record s { downstream = way }
 with_way ways.Supervisory way s = record s { supervisory = way }
+with_way ways.Configuration way s = record s { configuration = way }
 
 -- the run with the wire of a way as it is now
 abbrev pub with_wire : Way → Wire → RunState → RunState

@@ -15,10 +15,10 @@ use Rattle.node_core.specs.declared.act.Act.TheVariants as acts
 use Rattle.node_core.specs.declared.input.Input.{Input}
 use Rattle.node_core.specs.declared.input.No.{No}
 use Rattle.node_run.specs.declared.rules.Rules.{Rules}
-use Rattle.node_run.specs.Account.{AreProper}
-use Rattle.node_run.specs.Drives.{drives_after}
+use Rattle.machine_log.specs.Account.{AreProper}
+use Rattle.machine_log.specs.Drives.{drives_after}
 use Rattle.node_run.specs.State.{WayValue, RunState, echoed}
-use Rattle.node_run.specs.Texts.{lines_of, news_lines}
+use Rattle.machine_log.specs.Texts.{lines_of, news_lines}
 use Rattle.node_run.specs.declared.way_state.Wire.{Wire}
 use Rattle.node_run.specs.declared.way_state.Wire.TheVariants as wires
 

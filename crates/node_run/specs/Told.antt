@@ -5,6 +5,7 @@ use Rattle.line_outside.specs.Given.{Given}
 use Rattle.line_outside.specs.declared.way.Address.{Address}
 use Rattle.node_core.specs.Node.{new_node}
 use Rattle.node_core.specs.declared.profile.NodeProfile.{NodeProfile}
+use Rattle.config_service.specs.declared.message.Settings.{Settings as Neighbours}
 use Rattle.node_settings.specs.declared.settings.Settings.{Settings}
 use Rattle.node_run.specs.State.{started}
 use Rattle.node_run.specs.Runs.{RunEnds}
@@ -32,12 +33,20 @@ profile_of settings = record {
   bridge = settings.bridge;
 }
 
+-- where the file says that the neighbours are
+abbrev pub neighbours_of : Settings → Neighbours
+neighbours_of settings = record {
+  upstream = settings.connections.upstream;
+  port = settings.connections.downstream_port;
+}
+
 -- how the run that settings ask for ends, over a clock that tells its moment or not
 abbrev pub RunEndsTold : Option ℤ → Settings → Option (List Given) → Option (List Given)
     → Option (List ℕ) → Option (List ℕ) → NodeStatus → Type 0
 RunEndsTold told settings given_old given_new log_old log_new status =
     RunEnds told (rules_of settings)
-    (started (new_node (profile_of settings))) given_old given_new log_old log_new status
+    (started (neighbours_of settings) (new_node (profile_of settings))) given_old given_new log_old
+    log_new status
 
 -- no count falls, and a fault comes only where the count of that object rose
 pub record HasRunCauses (status : NodeStatus)

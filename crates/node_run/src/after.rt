@@ -6,16 +6,17 @@ ghost use Rattle.node_run.specs.declared.way_state.Wire.TheVariants as wires;
 ghost use Rattle.node_run.specs.Next.{IsTurnLeft, moved_on};
 ghost use Rattle.node_core.specs.Sides.{is_open};
 ghost use Rattle.node_run.specs.Held.{nothing_held, seen_finding};
-ghost use Rattle.node_run.specs.After.{after_listen, after_send, after_supervisory, broken, greeting, found_of, looked, panel_gone, supervisory_second, way_of, with_held, AfterPanel, AfterPoll, AfterLook, AfterUpstream, AfterDownstream, AfterClose, HearsBytes, TakesFound, TakesHeld};
+ghost use Rattle.node_run.specs.After.{after_configuration, after_listen, after_send, after_supervisory, broken, configuration_gone, configuration_second, greeting, found_of, looked, panel_gone, supervisory_second, way_of, with_held, AfterPanel, AfterPoll, AfterLook, AfterUpstream, AfterDownstream, AfterClose, HearsBytes, TakesFound, TakesHeld};
 
+use crate::configuring::refusal_of_second as refusal_of_second_client;
 use crate::hearing::refusal_of_second;
 use crate::held::Finding;
 use crate::run::{Refusal, Run};
 use crate::status::NodeStatus;
-use crate::texts::write_drives;
 use crate::way_state::Wire;
 use line_base::{Memory, Moment, Side};
 use line_outside::{Address, Got, Opened, Sent, Way};
+use machine_log::write_drives;
 use node_core::Input;
 
 impl Run {
@@ -74,6 +75,7 @@ impl Run {
             Way::Upstream => self.after_upstream(got, bytes, moment),
             Way::Downstream => self.after_downstream(got, bytes, moment),
             Way::Supervisory => self.after_supervisory(got, bytes, moment),
+            Way::Configuration => self.after_configuration(got, bytes, moment),
         }
     }
 
@@ -181,6 +183,46 @@ impl Run {
         let text = refusal_of_second(self.alloc, moment)?;
         self.refusal = Some(Refusal {
             way: Way::Supervisory,
+            text,
+        });
+        Ok(())
+    }
+
+    /// A client of the configuration service comes, a second one is refused, and bytes are heard
+    /// message by message.
+    fn after_configuration(&mut self, got: Got, bytes: &[u8], moment: Moment) -> Result<(), Memory>
+        requires few { length bytes.now ≤ 4096 }
+        ensures rules { self.new.rules ≡ self.old.rules }
+        ensures after { OnOk result
+            (self.new
+            ≡ record self.old
+            { state = after_configuration moment (found_of got bytes.now) self.old.state }) }
+    {
+        let wire = self.configuration.wire();
+        match got {
+            Got::Arrived if wire == Wire::Rests => {
+                self.configuration.set_wire(Wire::Stands);
+                self.config.restart();
+            }
+            Got::Second if wire == Wire::Stands => return self.refuse_client(moment),
+            Got::Bytes(_) if wire == Wire::Stands => return self.config.hear(bytes),
+            Got::Closed | Got::Failed if wire == Wire::Stands => {
+                self.configuration.set_wire(Wire::Breaks);
+            }
+            _ => {}
+        }
+        Ok(())
+    }
+
+    fn refuse_client(&mut self, moment: Moment) -> Result<(), Memory>
+        ensures rules { self.new.rules ≡ self.old.rules }
+        ensures refuses { OnOk result
+            (self.new
+            ≡ record self.old { state = configuration_second Wire.Stands moment self.old.state }) }
+    {
+        let text = refusal_of_second_client(self.alloc, moment)?;
+        self.refusal = Some(Refusal {
+            way: Way::Configuration,
             text,
         });
         Ok(())
@@ -389,7 +431,19 @@ impl Run {
                 self.channel.restart();
                 self.end_supervision(moment)
             }
+            Way::Configuration => {
+                self.leave_client();
+                Ok(())
+            }
         }
+    }
+
+    /// What else came of a client goes with its connection.
+    fn leave_client(&mut self)
+        ensures { self.new ≡ record self.old { state = configuration_gone self.old.state } }
+    {
+        self.configuration.rest();
+        self.config.restart();
     }
 
     /// The panel's unfinished line goes with its connection, and so do the lines that follow in

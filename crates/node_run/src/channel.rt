@@ -1,10 +1,13 @@
-//! The supervisor's channel: its bytes, cut into messages, and its session.
+//! The bytes of a way that is heard message by message, cut into messages: the supervisor's with its
+//! session, and those of the configuration service.
 
 ghost use Rattle.std.specs.Prelude.{◌≡◌, ◌≤◌, true, IfErr, IfOk, OnErr, OnOk, None, length};
 ghost use Rattle.hermes_vertical.specs.Parts.{kind_of};
 ghost use Rattle.supervisory_core.specs.Row.{row, supervised_row};
 ghost use Rattle.node_run.specs.Channel.{Finds, HearsNext, IsShort, Means, fed, hears_behind, no_session};
+ghost use Rattle.node_run.specs.Configuring.{FindsConfig, HearsConfig, MeansConfig, hears_config_behind};
 
+use config_service::{ConfigError, ConfigMessage, read_config};
 use hermes_horizontal::MessageError;
 use hermes_stream::{Cut, Cutter};
 use hermes_vertical::{Vertical, VerticalKind, VerticalMessage, read_vertical};
@@ -33,8 +36,29 @@ pub enum Found {
     TooLong,
 }
 
-/// The channel of a supervisor: the bytes that wait for the end of a message, those of the present
-/// answer behind them, of which some were fed, whether these are being heard, and the session.
+/// What a frame means to the configuration service.
+#[derive(Drop)]
+pub enum ConfigWord {
+    /// It spells this message.
+    Says(ConfigMessage),
+    /// It spells none; the breach has this text.
+    Wrong(Text),
+}
+
+/// What stands at the front of the bytes that wait on the configuration way.
+#[derive(Drop)]
+pub enum ConfigFound {
+    /// A frame, that means this.
+    Word(ConfigWord),
+    /// No frame, and room for more bytes.
+    More,
+    /// As many bytes as a message may have, and no end of one.
+    TooLong,
+}
+
+/// The bytes of a way that wait for the end of a message, those of the present answer behind them,
+/// of which some were fed, whether these are being heard, and the session of a supervisor, which
+/// never stands on the configuration way.
 #[derive(Drop)]
 pub struct Channel {
     cutter: Cutter,
@@ -134,6 +158,28 @@ impl Channel {
         Ok(found)
     }
 
+    /// What the bytes that came say next to the configuration service.
+    pub fn next_config(&mut self, alloc: Global) -> Result<ConfigFound, Memory>
+        ensures { IfOk result (λ found. HearsConfig self.old self.new found) }
+    {
+        self.feed();
+        let found = next_config_found(alloc, &mut self.cutter)?;
+        self.note_config(&found);
+        Ok(found)
+    }
+
+    fn note_config(&mut self, found: &ConfigFound)
+        ensures { self.new
+            ≡ record self.old {
+              hears = hears_config_behind found.now self.old.piece self.old.hears;
+            } }
+    {
+        match found {
+            ConfigFound::More => self.hears = !self.rest().is_empty(),
+            ConfigFound::Word(_) | ConfigFound::TooLong => {}
+        }
+    }
+
     /// What was found says whether bytes are heard further.
     fn note(&mut self, found: &Found)
         ensures { self.new
@@ -197,5 +243,33 @@ fn next_found(alloc: Global, cutter: &mut Cutter) -> Result<Found, Memory>
         }
         Cut::NeedMore => Ok(Found::More),
         Cut::TooLong => Ok(Found::TooLong),
+    }
+}
+
+/// What a frame means to the configuration service.
+fn config_word_of(alloc: Global, frame: &[u8]) -> Result<ConfigWord, Memory>
+    ensures { IfOk result (λ word. MeansConfig frame.now word) }
+{
+    match read_config(alloc, frame) {
+        Ok(message) => Ok(ConfigWord::Says(message)),
+        Err(ConfigError::Memory) => Err(Memory),
+        Err(ConfigError::Refused { at, why }) => {
+            let text = why.text(alloc, at)?;
+            Ok(ConfigWord::Wrong(text))
+        }
+    }
+}
+
+/// What stands at the front of the bytes that wait on the configuration way.
+fn next_config_found(alloc: Global, cutter: &mut Cutter) -> Result<ConfigFound, Memory>
+    ensures { IfOk result (λ found. FindsConfig cutter.old cutter.new found) }
+{
+    match cutter.next() {
+        Cut::Frame(frame) => {
+            let word = config_word_of(alloc, frame)?;
+            Ok(ConfigFound::Word(word))
+        }
+        Cut::NeedMore => Ok(ConfigFound::More),
+        Cut::TooLong => Ok(ConfigFound::TooLong),
     }
 }

@@ -1,18 +1,22 @@
 //! What comes next.
 
-ghost use Rattle.std.specs.Prelude.{◌≡◌};
-ghost use Rattle.node_run.specs.Next.{next_of, closes_next, connects_next, lines_next, hears_next, held_next, takes_next, at_place, listens_if, panel_address, polls, is_polled, sends_by, turn_next};
+ghost use Rattle.std.specs.Prelude.{◌≡◌, if◌then◌else◌};
+ghost use Rattle.line_outside.specs.declared.way.Way.TheVariants as ways;
+ghost use Rattle.node_run.specs.Next.{next_of, is_due, closes_next, configures_next, connects_next, lines_next, hears_next, held_next, resets_next, tries_next, takes_next, at_place, listens_if, panel_address, polls, is_polled, sends_by, turn_next};
+ghost use Rattle.node_run.specs.declared.place.Next.TheVariants as nexts;
 
 use crate::place::{Next, Place};
 use crate::run::Run;
 use crate::status::NodeStatus;
 use crate::way_state::WayState;
+use line_base::Side;
 use line_outside::{Address, Way};
 
 impl Run {
-    /// What comes next: the end, a second connection that is to be refused, a way that has to be
-    /// closed, a connection that was asked for, the next of the panel's lines, the next of the
-    /// supervisor's messages, what was found of a neighbour, and then what is done at this place.
+    /// What comes next: the end, a second connection that is to be refused, a side that is reset, a
+    /// way that has to be closed, the port of a Set, a connection that was asked for, the next of the
+    /// panel's lines, of the supervisor's messages and of the configuration service's, what was found
+    /// of a neighbour, and then what is done at this place.
     pub fn next(&self) -> Next
         ensures { result ≡ next_of self.now.rules self.now.state }
     {
@@ -21,6 +25,19 @@ impl Run {
         }
         if let Some(refusal) = &self.refusal {
             return Next::Refuse(refusal.way);
+        }
+        self.next_reset()
+    }
+
+    fn next_reset(&self) -> Next
+        ensures { result
+            ≡ resets_next self.now.state.resets (closes_next self.now.rules self.now.state) }
+    {
+        if self.resets.upstream {
+            return Next::Reset(Side::Entry);
+        }
+        if self.resets.downstream {
+            return Next::Reset(Side::Exit);
         }
         self.next_close()
     }
@@ -37,8 +54,31 @@ impl Run {
         if self.downstream.is_due() {
             return Next::Close(Way::Downstream);
         }
+        self.next_close_served()
+    }
+
+    /// Behind the ways of the panel and of the neighbours, those of who is served message by message.
+    fn next_close_served(&self) -> Next
+        ensures { result
+            ≡ if is_due self.now.state.supervisory then nexts.Close ways.Supervisory else
+            (if is_due self.now.state.configuration then nexts.Close ways.Configuration else
+            tries_next self.now.state.tries (connects_next self.now.rules self.now.state)) }
+    {
         if self.supervisory.is_due() {
             return Next::Close(Way::Supervisory);
+        }
+        if self.configuration.is_due() {
+            return Next::Close(Way::Configuration);
+        }
+        self.next_try()
+    }
+
+    fn next_try(&self) -> Next
+        ensures { result
+            ≡ tries_next self.now.state.tries (connects_next self.now.rules self.now.state) }
+    {
+        if let Some(settings) = self.tries {
+            return Next::Try(settings);
         }
         self.next_connect()
     }
@@ -47,7 +87,7 @@ impl Run {
         ensures { result ≡ connects_next self.now.rules self.now.state }
     {
         if self.asks
-            && let Some(address) = self.rules.connections.upstream
+            && let Some(address) = self.settings.settings().upstream
         {
             return Next::Connect(address);
         }
@@ -68,6 +108,15 @@ impl Run {
     {
         if self.channel.hears() {
             return Next::Hear;
+        }
+        self.next_configure()
+    }
+
+    fn next_configure(&self) -> Next
+        ensures { result ≡ configures_next self.now.rules self.now.state }
+    {
+        if self.config.hears() {
+            return Next::HearConfig;
         }
         self.next_held()
     }
@@ -98,17 +147,24 @@ impl Run {
             Place::ListenPanel => Next::Listen(Way::Panel, self.panel_address()),
             Place::ListenDownstream => Next::Listen(
                 Way::Downstream,
-                Address::at_all(self.rules.connections.downstream_port),
+                Address::at_all(self.settings.settings().port),
             ),
-            Place::ListenSupervisory => next_listen(self.rules.connections.supervisory_port),
+            Place::ListenSupervisory => {
+                next_listen(Way::Supervisory, self.rules.connections.supervisory_port)
+            }
+            Place::ListenConfiguration => {
+                next_listen(Way::Configuration, self.rules.connections.config_port)
+            }
             Place::PollPanel => self.next_poll(Way::Panel),
             Place::PollUpstream => self.next_poll(Way::Upstream),
             Place::PollDownstream => self.next_poll(Way::Downstream),
             Place::PollSupervisory => self.next_poll(Way::Supervisory),
+            Place::PollConfiguration => self.next_poll(Way::Configuration),
             Place::SendPanel => next_send(Way::Panel, &self.panel),
             Place::SendUpstream => next_send(Way::Upstream, &self.upstream),
             Place::SendDownstream => next_send(Way::Downstream, &self.downstream),
             Place::SendSupervisory => next_send(Way::Supervisory, &self.supervisory),
+            Place::SendConfiguration => next_send(Way::Configuration, &self.configuration),
             Place::TurnDone => self.next_turn(),
         }
     }
@@ -140,11 +196,14 @@ impl Run {
         match way {
             Way::Panel => true,
             Way::Upstream => {
-                self.rules.connections.upstream.is_some() && !self.upstream.has_ended()
+                self.settings.settings().upstream.is_some() && !self.upstream.has_ended()
             }
             Way::Downstream => !self.downstream.has_ended(),
             Way::Supervisory => {
                 self.rules.connections.supervisory_port.is_some() && !self.supervisory.has_ended()
+            }
+            Way::Configuration => {
+                self.rules.connections.config_port.is_some() && !self.configuration.has_ended()
             }
         }
     }
@@ -159,12 +218,12 @@ impl Run {
     }
 }
 
-/// The supervisor's port is listened at where it is set.
-fn next_listen(port: Option<u16>) -> Next
-    ensures { result ≡ listens_if port }
+/// A port is listened at where it is set.
+fn next_listen(way: Way, port: Option<u16>) -> Next
+    ensures { result ≡ listens_if way port }
 {
     match port {
-        Some(port) => Next::Listen(Way::Supervisory, Address::at_all(port)),
+        Some(port) => Next::Listen(way, Address::at_all(port)),
         None => Next::Skip,
     }
 }

@@ -5,15 +5,15 @@ ghost use Rattle.node_core.specs.May.{may_of};
 ghost use Rattle.node_run.specs.Lines.{AsksConnect, DoesAsked, DoesInput, DoesLine, Ends, Fronts, Tells, cut_line, input_of, without_return};
 ghost use Rattle.node_run.specs.Cuts.{HasCut, fronted};
 ghost use Rattle.node_panel.specs.Panel.{panel_line_of};
-ghost use Rattle.node_run.specs.Texts.{no_line, refused_line};
+ghost use Rattle.machine_log.specs.Texts.{no_line, refused_line};
 
 use crate::run::Run;
 use crate::status::NodeStatus;
-use crate::texts::{write_no, write_refused};
 use board_record::Sensed;
 use line_base::{Memory, Moment};
 use line_report::Reason;
 use line_script::{LineError, LineWhy, MOST_LINE_BYTES};
+use machine_log::{write_no, write_refused};
 use node_core::{Input, No};
 use node_panel::{PanelLine, read_panel_line};
 use std::mem;
@@ -197,10 +197,10 @@ impl Run {
         requires { self.old.told ≡ [] }
         ensures rules { self.new.rules ≡ self.old.rules }
         ensures asks { OnOk result
-            (AsksConnect self.old.rules.connections.upstream self.old.state self.new.state
+            (AsksConnect self.old.state.settings.upstream self.old.state self.new.state
             self.new.told) }
     {
-        if self.rules.connections.upstream.is_none() {
+        if self.settings.settings().upstream.is_none() {
             return self.tell_no(Reason::NoNeighbour);
         }
         if self.upstream.has_ended() {
@@ -241,6 +241,7 @@ fn input_of(asked: PanelLine) -> Input<'static>
         PanelLine::Remove { id } => Input::Remove(id),
         PanelLine::Replace { id } => Input::Replace(id),
         PanelLine::Mark { id, quality } => Input::Mark(id, quality),
+        PanelLine::Sub { id, pos, barcode } => Input::Sub { id, pos, barcode },
         PanelLine::Hold { side } => Input::Will(side, false),
         PanelLine::Go { side } => Input::Will(side, true),
         PanelLine::Shutdown => Input::Shutdown,

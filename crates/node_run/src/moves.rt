@@ -1,5 +1,6 @@
 //! The moves of a run: one call of the ports with what its answer does, a line of the panel, a
-//! message of the supervisor, or what was found of a neighbour.
+//! message of the supervisor or of the configuration service, the reset of a side, or what was found
+//! of a neighbour.
 
 ghost use Rattle.std.specs.Prelude.{◌≡◌, ◌≤◌, [], false, ℤ, OnOk, OnErr, Option, length};
 ghost use Rattle.line_outside.specs.Given.{got_bytes};
@@ -12,7 +13,8 @@ ghost use Rattle.node_run.specs.declared.place.Next.TheVariants as nexts;
 
 use crate::place::Next;
 use crate::run::Run;
-use line_base::{Memory, Moment};
+use config_service::Settings;
+use line_base::{Memory, Moment, Side};
 use line_outside::{Address, Clock, Got, Ports, Way};
 
 /// Makes the move that comes next.
@@ -46,6 +48,9 @@ pub fn make_move<P: Ports, C: Clock>(
         }
         Next::Line => take_line(run, ports, clock),
         Next::Hear => take_message(run, ports, clock),
+        Next::HearConfig => take_config(run, ports, clock),
+        Next::Try(settings) => try_port(run, settings, ports, clock),
+        Next::Reset(side) => reset_side(run, side, ports, clock),
         Next::Look => look(run, room, ports),
         Next::Take => take_held(run, ports, clock),
         Next::Listen(way, address) => {
@@ -118,6 +123,72 @@ fn take_message<P: Ports, C: Clock>(
 {
     let moment = moment_of(clock);
     run.take_message(moment)
+}
+
+/// Does the next of the configuration service's messages. The ports aren't called.
+fn take_config<P: Ports, C: Clock>(
+    run: &mut Run,
+    ports: &mut P,
+    clock: &mut C,
+) -> Result<(), Memory>
+    requires next { next_of run.old.rules run.old.state ≡ nexts.HearConfig }
+    requires told { run.old.told ≡ [] }
+    requires rest { length run.old.state.rest ≤ 4096 }
+    ensures clock { C.moment clock.new ≡ C.moment clock.old }
+    ensures counted { P.faults ports.old ≤ P.faults ports.new }
+    ensures moves { OnOk result
+        (MovesAs (C.moment clock.old) run.old run.new (P.given ports.old) (P.given ports.new)
+        (P.faults ports.old) (P.faults ports.new)) }
+    ensures misses { OnErr result
+        (MissesMove run.old.rules run.old.state (P.given ports.old) (P.given ports.new)) }
+{
+    let moment = moment_of(clock);
+    run.take_config(moment)
+}
+
+/// Listens at the port of a Set. Where that fails, the run goes on.
+fn try_port<P: Ports, C: Clock>(
+    run: &mut Run,
+    settings: Settings,
+    ports: &mut P,
+    clock: &mut C,
+) -> Result<(), Memory>
+    requires next { next_of run.old.rules run.old.state ≡ nexts.Try settings }
+    requires told { run.old.told ≡ [] }
+    requires rest { length run.old.state.rest ≤ 4096 }
+    ensures clock { C.moment clock.new ≡ C.moment clock.old }
+    ensures counted { P.faults ports.old ≤ P.faults ports.new }
+    ensures moves { OnOk result
+        (MovesAs (C.moment clock.old) run.old run.new (P.given ports.old) (P.given ports.new)
+        (P.faults ports.old) (P.faults ports.new)) }
+    ensures misses { OnErr result
+        (MissesMove run.old.rules run.old.state (P.given ports.old) (P.given ports.new)) }
+{
+    let opened = ports.listen(Way::Downstream, Address::at_all(settings.port));
+    let moment = moment_of(clock);
+    run.after_try(settings, opened, moment)
+}
+
+/// Resets a side whose setting changed. The ports aren't called.
+fn reset_side<P: Ports, C: Clock>(
+    run: &mut Run,
+    side: Side,
+    ports: &mut P,
+    clock: &mut C,
+) -> Result<(), Memory>
+    requires next { next_of run.old.rules run.old.state ≡ nexts.Reset side }
+    requires told { run.old.told ≡ [] }
+    requires rest { length run.old.state.rest ≤ 4096 }
+    ensures clock { C.moment clock.new ≡ C.moment clock.old }
+    ensures counted { P.faults ports.old ≤ P.faults ports.new }
+    ensures moves { OnOk result
+        (MovesAs (C.moment clock.old) run.old run.new (P.given ports.old) (P.given ports.new)
+        (P.faults ports.old) (P.faults ports.new)) }
+    ensures misses { OnErr result
+        (MissesMove run.old.rules run.old.state (P.given ports.old) (P.given ports.new)) }
+{
+    let moment = moment_of(clock);
+    run.reset(side, moment)
 }
 
 fn listen<P: Ports>(run: &mut Run, way: Way, address: Address, ports: &mut P)

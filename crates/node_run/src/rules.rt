@@ -2,7 +2,7 @@ use line_base::Text;
 use node_settings::{Connections, Panel};
 
 /// What a run goes by.
-#[derive(Debug, PartialEq, Eq, Drop)]
+#[derive(Drop)]
 pub struct Rules {
     /// The machine's number in its log.
     pub number: u32,

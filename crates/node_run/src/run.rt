@@ -1,5 +1,5 @@
-ghost use Rattle.std.specs.Prelude.{◌≡◌, [], IfOk, OnOk};
-ghost use Rattle.node_run.specs.Channel.{IsShort};
+ghost use Rattle.std.specs.Prelude.{◌≡◌, [], OnOk};
+ghost use Rattle.node_run.specs.Channel.{IsShort, no_session};
 ghost use Rattle.node_run.specs.Held.{HasFewLooks};
 ghost use Rattle.node_run.specs.State.{RunView, echoed, started, way_at, with_wire, refusal_text};
 ghost use Rattle.node_run.specs.Next.{IsTurnLeft, moved_on};
@@ -7,14 +7,15 @@ ghost use Rattle.node_run.specs.After.{after_send};
 ghost use Rattle.line_outside.specs.declared.ports.Sent.TheVariants as sents;
 
 use crate::channel::Channel;
-use crate::drives::Drives;
 use crate::held::Held;
 use crate::place::Place;
 use crate::rules::Rules;
 use crate::status::NodeStatus;
 use crate::way_state::{WayState, Wire};
+use config_service::{Config, Resets, Settings};
 use line_base::Memory;
 use line_outside::Way;
+use machine_log::Drives;
 use node_core::Node;
 use std::alloc::Global;
 use std::marker::Model;
@@ -36,7 +37,12 @@ pub struct Run {
     pub(crate) upstream: WayState,
     pub(crate) downstream: WayState,
     pub(crate) supervisory: WayState,
+    pub(crate) configuration: WayState,
     pub(crate) channel: Channel,
+    pub(crate) config: Channel,
+    pub(crate) settings: Config,
+    pub(crate) tries: Option<Settings>,
+    pub(crate) resets: Resets,
     pub(crate) drives: Drives,
     pub(crate) line: Vec<u8>,
     pub(crate) drops: bool,
@@ -65,7 +71,12 @@ impl Model for Run {
         upstream = r.upstream;
         downstream = r.downstream;
         supervisory = r.supervisory;
+        configuration = r.configuration;
         channel = r.channel;
+        config = r.config;
+        settings = r.settings;
+        tries = r.tries;
+        resets = r.resets;
         drives = r.drives;
         line =
             r.line.items;
@@ -87,13 +98,21 @@ impl Model for Run {
 }
 
 impl Run {
-    /// A run that is before its first turn. It takes the memory of a cutter.
-    pub fn new(alloc: Global, rules: Rules, node: Node) -> Result<Run, Memory>
-        ensures { IfOk result
-            (λ run. run ≡ record { rules = rules; state = started node; told = [] }) }
+    /// A run that is before its first turn, with a channel for the supervisor and one for the
+    /// configuration service, on which nothing came yet.
+    pub fn new(
+        alloc: Global,
+        rules: Rules,
+        settings: Settings,
+        node: Node,
+        channel: Channel,
+        config: Channel,
+    ) -> Run
+        requires channel { channel ≡ no_session }
+        requires config { config ≡ no_session }
+        ensures { result ≡ record { rules = rules; state = started settings node; told = [] } }
     {
-        let channel = Channel::new(alloc)?;
-        Ok(Run {
+        Run {
             alloc,
             rules,
             node,
@@ -101,7 +120,15 @@ impl Run {
             upstream: WayState::new(alloc),
             downstream: WayState::new(alloc),
             supervisory: WayState::new(alloc),
+            configuration: WayState::new(alloc),
             channel,
+            config,
+            settings: Config::new(settings),
+            tries: None,
+            resets: Resets {
+                upstream: false,
+                downstream: false,
+            },
             drives: Drives::off(),
             line: Vec::new(alloc),
             drops: false,
@@ -114,7 +141,7 @@ impl Run {
             turn: 1,
             ended: None,
             told: Vec::new(alloc),
-        })
+        }
     }
 
     /// The lines of the present move in the log.
@@ -149,6 +176,7 @@ impl Run {
             Way::Upstream => self.upstream.unsent(),
             Way::Downstream => self.downstream.unsent(),
             Way::Supervisory => self.supervisory.unsent(),
+            Way::Configuration => self.configuration.unsent(),
         }
     }
 
@@ -161,6 +189,7 @@ impl Run {
             Way::Upstream => self.upstream.set_wire(wire),
             Way::Downstream => self.downstream.set_wire(wire),
             Way::Supervisory => self.supervisory.set_wire(wire),
+            Way::Configuration => self.configuration.set_wire(wire),
         }
     }
 
@@ -174,6 +203,7 @@ impl Run {
             Way::Upstream => self.upstream.take_front(count),
             Way::Downstream => self.downstream.take_front(count),
             Way::Supervisory => self.supervisory.take_front(count),
+            Way::Configuration => self.configuration.take_front(count),
         }
     }
 
@@ -187,13 +217,15 @@ impl Run {
         }
     }
 
-    /// No more of the supervisor's bytes wait than a message and an answer have, and the panel isn't
-    /// polled without end.
+    /// No more bytes wait to be heard than a message and an answer have, and the panel isn't polled
+    /// without end.
     pub(crate) fn is_short(&self)
         ensures channel { IsShort self.now.state.channel }
+        ensures config { IsShort self.now.state.config }
         ensures held { HasFewLooks self.now.state.held }
     {
         self.channel.is_short();
+        self.config.is_short();
         self.held.has_few_looks();
     }
 

@@ -1,10 +1,11 @@
 ghost use Rattle.std.specs.Prelude.{◌≡◌, ◌≤◌, ◌<◌, ◌^◌, [], None, IfSome, IfOk, length};
 ghost use Rattle.node_run.specs.Runs.{IsRunStatus, RunEnds};
-ghost use Rattle.node_run.specs.Told.{RunEndsTold, HasRunCauses, rules_of, profile_of};
+ghost use Rattle.node_run.specs.Told.{RunEndsTold, HasRunCauses, neighbours_of, rules_of, profile_of};
 ghost use Rattle.node_run.specs.State.{started};
 ghost use Rattle.node_run.specs.Moving.{IsEndCaused, IsRunEnd, IsOnceStatus, DoesOnce};
 ghost use Rattle.node_core.specs.Node.{new_node};
 
+use crate::channel::Channel;
 use crate::moves::make_move;
 use crate::place::Next;
 use crate::rules::Rules;
@@ -74,7 +75,7 @@ fn run_on<P: Ports, C: Clock, K: Sink>(
     }
 }
 
-/// A run with these settings, before its first turn.
+/// A run with these settings, before its first turn. It takes the memory of two cutters.
 fn new_run(alloc: Global, settings: Settings) -> Result<Run, Memory>
     requires least { 1 ≤ settings.places.capacity }
     requires most { settings.places.capacity ≤ 1024 }
@@ -83,10 +84,12 @@ fn new_run(alloc: Global, settings: Settings) -> Result<Run, Memory>
         (λ run. run
         ≡ record {
           rules = rules_of settings;
-          state = started (new_node (profile_of settings));
+          state = started (neighbours_of settings) (new_node (profile_of settings));
           told = [];
         }) }
 {
+    let channel = Channel::new(alloc)?;
+    let config = Channel::new(alloc)?;
     let Settings {
         identity,
         places,
@@ -95,6 +98,10 @@ fn new_run(alloc: Global, settings: Settings) -> Result<Run, Memory>
         turns,
         panel,
     } = settings;
+    let neighbours = config_service::Settings {
+        upstream: connections.upstream,
+        port: connections.downstream_port,
+    };
     let rules = Rules {
         number: identity.number,
         machine_id: identity.machine_id.copy(alloc)?,
@@ -111,7 +118,7 @@ fn new_run(alloc: Global, settings: Settings) -> Result<Run, Memory>
         bridge,
     };
     let node = Node::new(alloc, profile)?;
-    Run::new(alloc, rules, node)
+    Ok(Run::new(alloc, rules, neighbours, node, channel, config))
 }
 
 /// Makes the next move, and writes its lines to the log. Answers how the run ends, if it does.

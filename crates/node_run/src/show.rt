@@ -2,13 +2,13 @@
 
 ghost use Rattle.std.specs.Prelude.{◌≡◌, ◌++◌, [], OnOk, flat_map, option_map};
 ghost use Rattle.node_run.specs.Lines.{Tells, shown};
-ghost use Rattle.node_run.specs.Texts.{kept_line, held_line};
+ghost use Rattle.machine_log.specs.Texts.{kept_line, held_line};
 
 use crate::run::Run;
-use crate::texts::{write_at_gap, written};
 use board_record::Record;
 use line_base::{Memory, Side};
 use line_report::quality_word;
+use machine_log::{write_at_gap, written};
 use std::io::Write;
 
 impl Run {

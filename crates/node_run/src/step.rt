@@ -5,18 +5,17 @@ ghost use Rattle.line_base.specs.declared.states.Side.TheVariants.{Exit};
 ghost use Rattle.node_core.specs.May.{may_of, may_do};
 ghost use Rattle.node_core.specs.declared.act.Act.TheVariants as acts;
 ghost use Rattle.node_core.specs.declared.input.Input.TheVariants as inputs;
-ghost use Rattle.node_run.specs.Texts.{lines_of};
+ghost use Rattle.machine_log.specs.Texts.{lines_of};
 ghost use Rattle.node_run.specs.Steps.{Takes, TakesSecond, TakesStep, MeetsSecond, HasStepped, panel_told, routed, refusing_with, message_for};
 
-use crate::proper::acts_are_proper;
 use crate::run::{Refusal, Run};
-use crate::texts::write_lines;
 use crate::way_state::Wire;
 use board_record::Sensed;
 use hermes_horizontal::write_horizontal;
 use hermes_vertical::VerticalMessage;
 use line_base::{Memory, Moment, Side};
 use line_outside::Way;
+use machine_log::{acts_are_proper, write_lines};
 use node_core::{Act, Input, Outputs};
 
 impl Run {

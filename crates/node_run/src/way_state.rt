@@ -1,15 +1,17 @@
 ghost use Rattle.std.specs.Prelude.{◌≡◌, ◌≤◌, ◌++◌, length, drop, OnOk};
-ghost use Rattle.node_run.specs.Texts.{news_lines};
+ghost use Rattle.machine_log.specs.Texts.{news_lines};
 ghost use Rattle.node_run.specs.State.{WayValue, at_rest};
 ghost use Rattle.hermes_horizontal.specs.Canonical.{canonical};
 ghost use Rattle.hermes_vertical.specs.Canonical.{canonical as vertical_canonical};
+ghost use Rattle.config_service.specs.Canonical.{canonical as config_canonical};
 ghost use Rattle.node_run.specs.Channel.{is_empty};
 ghost use Rattle.node_run.specs.Next.{is_due, has_ended};
 
-use crate::texts::write_news;
+use config_service::{ConfigMessage, write_config};
 use hermes_horizontal::{Message, write_horizontal};
 use hermes_vertical::{VerticalMessage, write_vertical};
 use line_base::Memory;
+use machine_log::write_news;
 use node_core::Act;
 use std::alloc::Global;
 use std::marker::Model;
@@ -130,6 +132,15 @@ impl WayState {
             ≡ record self.old { unsent = self.old.unsent ++ vertical_canonical message.now }) }
     {
         write_vertical(message, &mut self.unsent)
+    }
+
+    /// Adds a message of the configuration service at the end.
+    pub fn append_config(&mut self, message: &ConfigMessage) -> Result<(), Memory>
+        ensures { OnOk result
+            (self.new
+            ≡ record self.old { unsent = self.old.unsent ++ config_canonical message.now }) }
+    {
+        write_config(message, &mut self.unsent)
     }
 
     /// Adds what is news of a step at the end, where the drives are told.

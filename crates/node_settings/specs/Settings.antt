@@ -87,21 +87,27 @@ abbrev pub panel_port_of : Members → Result ℕ Refusal
 panel_port_of ms =
     named keys.PanelPort (required (number_as 1 65535) (get_member (codes "panel_port") ms))
 
+abbrev pub config_port_of : Members → Result (Option ℕ) Refusal
+config_port_of ms =
+    named keys.ConfigPort (optional (number_as 1 65535) (get_member (codes "config_port") ms))
+
 -- the standard's port of a lane is 50,100 and its number
-abbrev pub made_connections : ℕ → Option Address → Option ℕ → Option ℕ → ℕ → Connections
-made_connections lane upstream downstream_port supervisory_port panel_port = record {
+abbrev pub made_connections : ℕ → Option Address → Option ℕ → Option ℕ → ℕ → Option ℕ → Connections
+made_connections lane upstream downstream_port supervisory_port panel_port config_port = record {
   upstream = upstream;
   downstream_port = unwrap_or downstream_port (50100 + lane);
   supervisory_port = supervisory_port;
   panel_port = panel_port;
+  config_port = config_port;
 }
 
 abbrev pub connections_of : ℕ → Members → Result Connections Refusal
 connections_of lane ms =
     then_ok (upstream_of ms) (λ upstream. then_ok (downstream_port_of ms) (λ downstream_port.
     then_ok (supervisory_port_of ms) (λ supervisory_port.
-    mapped_ok (made_connections lane upstream downstream_port supervisory_port)
-    (panel_port_of ms))))
+    then_ok (panel_port_of ms) (λ panel_port.
+    mapped_ok (made_connections lane upstream downstream_port supervisory_port panel_port)
+    (config_port_of ms)))))
 
 abbrev pub turns_of : Members → Result ℕ Refusal
 turns_of ms =
@@ -136,6 +142,7 @@ key_text keys.Upstream = codes "upstream"
 key_text keys.DownstreamPort = codes "downstream_port"
 key_text keys.SupervisoryPort = codes "supervisory_port"
 key_text keys.PanelPort = codes "panel_port"
+key_text keys.ConfigPort = codes "config_port"
 key_text keys.Turns = codes "turns"
 key_text keys.Drives = codes "drives"
 key_text keys.PanelAnywhere = codes "panel_anywhere"
@@ -153,6 +160,7 @@ abbrev pub is_known_of_connections : List ℕ → Bool
 is_known_of_connections key =
     bytes_eq key (codes "upstream") || bytes_eq key (codes "downstream_port")
     || bytes_eq key (codes "supervisory_port") || bytes_eq key (codes "panel_port")
+    || bytes_eq key (codes "config_port")
     || bytes_eq key (codes "turns")
 
 abbrev pub is_known_of_panel : List ℕ → Bool

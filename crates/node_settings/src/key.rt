@@ -1,6 +1,5 @@
 use line_base::Memory;
 use std::fmt;
-use thiserror::Error;
 
 /// What of a settings file is refused: the document as a whole, one of its keys, or a key that is
 /// none of them.
@@ -17,6 +16,7 @@ pub enum ConfigKey {
     DownstreamPort,
     SupervisoryPort,
     PanelPort,
+    ConfigPort,
     Turns,
     Drives,
     PanelAnywhere,
@@ -24,35 +24,27 @@ pub enum ConfigKey {
 }
 
 /// Why it is refused.
-#[derive(Clone, Copy, Debug, PartialEq, Eq, Error)]
+#[derive(Clone, Copy, Debug, PartialEq, Eq)]
 pub enum ConfigWhy {
     /// The document has more than 65,536 bytes.
-    #[error("too large")]
     TooLarge,
     /// The document is no TOML.
-    #[error("no TOML")]
     NotToml,
     /// The key is missing.
-    #[error("missing")]
     Missing,
     /// The value is of another kind.
-    #[error("wrong kind")]
     WrongKind,
     /// The value is of the right kind, but it can't be this.
-    #[error("out of range")]
     OutOfRange,
     /// There is a key of an unknown name.
-    #[error("unknown key")]
     UnknownKey,
 }
 
 /// Why settings could not be read.
-#[derive(Clone, Copy, Debug, PartialEq, Eq, Error)]
+#[derive(Clone, Copy, Debug, PartialEq, Eq)]
 pub enum SettingsError {
     /// This key is refused for this reason.
-    #[error("{0}: {1}")]
     Refused(ConfigKey, ConfigWhy),
-    #[error("out of memory")]
     Memory,
 }
 
@@ -86,6 +78,7 @@ impl fmt::Display for ConfigKey {
             ConfigKey::DownstreamPort => f.write_str("downstream_port"),
             ConfigKey::SupervisoryPort => f.write_str("supervisory_port"),
             ConfigKey::PanelPort => f.write_str("panel_port"),
+            ConfigKey::ConfigPort => f.write_str("config_port"),
             ConfigKey::Turns => f.write_str("turns"),
             ConfigKey::Drives => f.write_str("drives"),
             ConfigKey::PanelAnywhere => f.write_str("panel_anywhere"),

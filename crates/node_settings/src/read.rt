@@ -24,7 +24,7 @@ const FIRST_PORT: u32 = 50_100;
 /// Refuses, in this order: a document of more than 65,536 bytes, or one that is no TOML (numbers
 /// beyond 64 bits and nesting past 80 are none); then the first of the keys `number`,
 /// `machine_id`, `lane`, `capacity`, `used`, `bridge`, `upstream`, `downstream_port`,
-/// `supervisory_port`, `panel_port`, `turns`, `drives`, `panel_anywhere` that is missing but not
+/// `supervisory_port`, `panel_port`, `config_port`, `turns`, `drives`, `panel_anywhere` that is missing but not
 /// optional, of the wrong kind or out of range; and then a key of another name.
 pub fn read_settings(alloc: Global, bytes: &[u8]) -> Result<Settings, SettingsError>
     ensures { Reads (read_of bytes.now) result }
@@ -107,11 +107,13 @@ fn connections_of(table: &Table, lane: u32) -> Result<Connections, SettingsError
         65_535,
     )?;
     let panel_port = number_at(table, "panel_port", ConfigKey::PanelPort, 1, 65_535)?;
+    let config_port = optional_number_at(table, "config_port", ConfigKey::ConfigPort, 1, 65_535)?;
     Ok(Connections {
         upstream,
         downstream_port: port_or(downstream_port, FIRST_PORT + lane),
         supervisory_port: port_of(supervisory_port),
         panel_port: panel_port as u16,
+        config_port: port_of(config_port),
     })
 }
 
@@ -209,5 +211,6 @@ fn is_known_of_connections(key: &str) -> bool
         || key == "downstream_port"
         || key == "supervisory_port"
         || key == "panel_port"
+        || key == "config_port"
         || key == "turns"
 }

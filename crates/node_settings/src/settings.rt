@@ -45,6 +45,8 @@ pub struct Connections {
     pub supervisory_port: Option<u16>,
     /// The port at which it listens for its operator's panel.
     pub panel_port: u16,
+    /// The port at which it listens for who reads and changes its neighbours' addresses, if any may.
+    pub config_port: Option<u16>,
 }
 
 /// What its operator's panel is told, and from where it may connect.

@@ -10,7 +10,7 @@ pub fn told_of(
 ) -> Result<String, AllocError> {
     match read {
         Ok(settings) => told_settings(alloc, settings),
-        Err(SettingsError::Refused(key, why)) => format!(in alloc; "{key}: {why}"),
+        Err(SettingsError::Refused(key, why)) => format!(in alloc; "{key}: {why:?}"),
         Err(SettingsError::Memory) => String::from_str(alloc, "out of memory"),
     }
 }
@@ -26,6 +26,7 @@ fn told_settings(alloc: Global, settings: &Settings) -> Result<String, AllocErro
     let downstream = settings.connections.downstream_port;
     let supervisory = told_port(alloc, settings.connections.supervisory_port)?;
     let panel = settings.connections.panel_port;
+    let config = told_config(alloc, settings.connections.config_port)?;
     let turns = settings.turns;
     let drives = if settings.panel.drives { " drives" } else { "" };
     let anywhere = if settings.panel.anywhere {
@@ -34,7 +35,7 @@ fn told_settings(alloc: Global, settings: &Settings) -> Result<String, AllocErro
         ""
     };
     format!(in alloc;
-        "{number} {id} {lane} {capacity} {used}{body} {upstream} {downstream}{supervisory} {panel} {turns}{drives}{anywhere}"
+        "{number} {id} {lane} {capacity} {used}{body} {upstream} {downstream}{supervisory} {panel}{config} {turns}{drives}{anywhere}"
     )
 }
 
@@ -42,6 +43,14 @@ fn told_settings(alloc: Global, settings: &Settings) -> Result<String, AllocErro
 fn told_port(alloc: Global, port: Option<u16>) -> Result<String, AllocError> {
     match port {
         Some(port) => format!(in alloc; " supervisory {port}"),
+        None => String::from_str(alloc, ""),
+    }
+}
+
+/// The port of the configuration service, with what it is, where it is set.
+fn told_config(alloc: Global, port: Option<u16>) -> Result<String, AllocError> {
+    match port {
+        Some(port) => format!(in alloc; " configuration {port}"),
         None => String::from_str(alloc, ""),
     }
 }

@@ -9,9 +9,9 @@ use Rattle.hermes_element.proofs.Back.{spelled_once}
 use Rattle.hermes_element.proofs.Exact.{never_both}
 use Rattle.hermes_horizontal.specs.Attrs.{attr_text}
 use Rattle.hermes_horizontal.specs.Roots.{children_refusal_by, first_of, refusal_of_result, stamp_in}
-use Rattle.hermes_horizontal.specs.Rows.{columns_of, kind_named}
-use Rattle.hermes_horizontal.specs.Said.{first_named, values_of}
-use Rattle.hermes_horizontal.specs.Spelling.{IsRefused, Says, SaysBody, Spells, body_refusal, refusal_of}
+use Rattle.hermes_horizontal.specs.Rows.{kind_named}
+use Rattle.hermes_horizontal.specs.Said.{first_named}
+use Rattle.hermes_horizontal.specs.Spelling.{IsRefused, Says, SaysBody, Spells, body_refusal, refusal_of, row_refusal}
 use Rattle.hermes_horizontal.specs.Values.{Value, moment, timed}
 use Rattle.hermes_horizontal.specs.declared.attr.Attr.TheVariants as attrs
 use Rattle.hermes_horizontal.specs.declared.fault.Fault.{Fault}
@@ -42,10 +42,10 @@ data IsBody (child : Tree) : Type 0 where
 row_body : (child : Tree) (kind : Kind) → (kind ≡ kinds.Other → ⊥) → kind_named child.name ≡ kind → IsRow kind child.at child.attributes child.children → IsBody child
 row_body child kind other is (said body fits) = body_said body (row_reads child kind (Ok body) other is fits)
 row_body child kind other is (unsaid refusal fails) =
-    body_unsaid refusal (ap (λ (k : Kind). refusal_of_result (values_of child.at child.attributes (columns_of k))) is ∙ ap refusal_of_result fails)
+    body_unsaid refusal (ap (λ (k : Kind). row_refusal k child.at child.attributes child.children) is ∙ fails)
 
 each_body : (child : Tree) (kind : Kind) → kind_named child.name ≡ kind → IsBody child
-each_body child kinds.Other is = body_said (bodies.Other child.name) (record { kind = is; name = refl; values = refl; features = refl })
+each_body child kinds.Other is = body_said (bodies.Other child.name) (record { kind = is; name = refl; values = refl; inner = refl })
 each_body child kind is = row_body child kind (λ other. cc) is (each_row kind child.at child.attributes child.children)
 
 -- ---- the root

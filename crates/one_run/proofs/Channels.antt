@@ -55,18 +55,18 @@ abbrev first_in : List (List ℕ) → List ℕ
 first_in [] = []
 first_in (frame ∷ frames) = frame
 
-one_frame : (waiting a b : List ℕ) → GivesFrame waiting a → GivesFrame waiting b → a ≡ b
+pub one_frame : (waiting a b : List ℕ) → GivesFrame waiting a → GivesFrame waiting b → a ≡ b
 one_frame waiting a b x y = ap (λ (f : Frames). first_in f.messages) (sym (x.frames []) ∙ y.frames [])
 
-gives_of_more : (waiting a : List ℕ) → GivesFrame waiting a → WantsMore waiting → ⊥
+pub gives_of_more : (waiting a : List ℕ) → GivesFrame waiting a → WantsMore waiting → ⊥
 gives_of_more waiting a x y =
     let same = ap (λ (f : Frames). f.messages) (sym (x.frames []) ∙ ap frames_of (append-nil waiting) ∙ y.rest) in cc
 
-gives_of_long : (waiting a : List ℕ) → GivesFrame waiting a → StaysTooLong waiting → ⊥
+pub gives_of_long : (waiting a : List ℕ) → GivesFrame waiting a → StaysTooLong waiting → ⊥
 gives_of_long waiting a x y =
     let same = ap (λ (f : Frames). f.messages) (sym (x.frames []) ∙ y.frames []) in cc
 
-more_of_long : (waiting : List ℕ) → WantsMore waiting → StaysTooLong waiting → ⊥
+pub more_of_long : (waiting : List ℕ) → WantsMore waiting → StaysTooLong waiting → ⊥
 more_of_long waiting x y =
     let same = ap (λ (f : Frames). f.rest) (sym x.rest ∙ sym (ap frames_of (append-nil waiting)) ∙ y.frames []) in cc
 
@@ -88,7 +88,7 @@ finds_once spelled refused waiting left left' founds.TooLong (founds.Word b) x y
 finds_once spelled refused waiting left left' founds.TooLong founds.More x y = absurd (more_of_long waiting y.0 x.0)
 finds_once spelled refused waiting left left' founds.TooLong founds.TooLong x y = record { bytes = y.1 ∙ sym x.1; same = refl }
 
-channel_same : (new new' : ChannelValue) → new'.waiting ≡ new.waiting → new'.piece ≡ new.piece → new'.hears ≡ new.hears → new'.stands ≡ new.stands → new' ≡ new
+pub channel_same : (new new' : ChannelValue) → new'.waiting ≡ new.waiting → new'.piece ≡ new.piece → new'.hears ≡ new.hears → new'.stands ≡ new.stands → new' ≡ new
 channel_same new new' waiting piece hears stands =
     let f : List ℕ → List ℕ → Bool → Bool → ChannelValue = λ w p h b. record { waiting = w; piece = p; hears = h; stands = b } in
     ap (λ (w : List ℕ). f w new'.piece new'.hears new'.stands) waiting ∙ ap (λ (p : List ℕ). f new.waiting p new'.hears new'.stands) piece

@@ -2,6 +2,8 @@
 use Rattle.std.proofs.Common.{◌≡◌, ◌∙◌, ◌++◌, ℕ, ℤ, Bool, true, false, List, [], ◌∷◌, Option, Some, None, refl, sym, ap, subst}
 use Rattle.line_base.specs.declared.states.Side.{Side}
 use Rattle.line_base.specs.declared.states.Side.TheVariants.{Entry, Exit}
+use Rattle.config_service.specs.declared.message.Settings.{Settings}
+use Rattle.line_outside.specs.Listening.{at_all}
 use Rattle.line_outside.specs.Given.{Closes, Connects, Given, Listens, Polls, Refuses, Sends}
 use Rattle.line_outside.specs.declared.answer.GotBytes.{GotBytes}
 use Rattle.line_outside.specs.declared.answer.GotBytes.TheVariants as founds
@@ -17,13 +19,15 @@ use Rattle.node_core.specs.Sides.{is_open}
 use Rattle.node_core.specs.declared.input.Input.TheVariants as inputs
 use Rattle.node_core.specs.declared.lane.Body.{Body}
 use Rattle.line_step.proofs.Once.{OneMeaning}
-use Rattle.node_run.specs.After.{AfterClose, AfterDownstream, AfterLook, AfterPoll, AfterUpstream, TakesFinding, TakesFound, TakesHeld, after_listen, after_send, broken, looked, panel_gone, way_of, with_held}
+use Rattle.node_run.specs.After.{AfterClose, AfterDownstream, AfterLook, AfterPoll, AfterUpstream, TakesFinding, TakesFound, TakesHeld, after_listen, after_send, broken, configuration_gone, looked, panel_gone, way_of, with_held}
 use Rattle.node_run.specs.Channel.{no_session}
+use Rattle.node_run.specs.Configuring.{AfterTry, DoesConfig}
 use Rattle.node_run.specs.Hearing.{DoesHear}
 use Rattle.node_run.specs.Held.{Finding, holds, nothing_held}
 use Rattle.node_run.specs.Lines.{DoesLine}
 use Rattle.node_run.specs.Next.{moved_on, next_of}
-use Rattle.node_run.specs.Runs.{Moves, closes, connects, does_hear, does_line, listens, looks_again, polls, refuses, room_bytes, sends, skips, takes_held}
+use Rattle.node_run.specs.Resetting.{ResetsSide}
+use Rattle.node_run.specs.Runs.{Moves, closes, connects, does_config, does_hear, does_line, listens, looks_again, polls, refuses, resets_side, room_bytes, sends, skips, takes_held, tries_port}
 use Rattle.node_run.specs.State.{Refusal, RunState, at_rest, way_at, with_wire}
 use Rattle.node_run.specs.declared.place.Next.{Next}
 use Rattle.node_run.specs.declared.place.Next.TheVariants as nexts
@@ -32,6 +36,7 @@ use Rattle.node_run.specs.declared.status.NodeStatus.{NodeStatus}
 use Rattle.node_run.specs.declared.way_state.Wire.TheVariants as wires
 use Rattle.one_run.specs.One.{Agree, Answer, answers_of, found, opened, sent}
 use Rattle.one_run.proofs.Channels.{RefusedOnce, SpelledOnce, hear_once, supervisory_once, unsupervised_once}
+use Rattle.one_run.proofs.Configuring.{ConfigRefusedOnce, ConfigSpelledOnce, config_once, configuration_once, reset_once, try_once}
 use Rattle.one_run.proofs.Nodes.{Alike}
 use Rattle.one_run.proofs.Panels.{line_once, panel_once}
 use Rattle.one_run.proofs.States.{Once, Passes, RunsAlike, becomes, like, passed, second_once, takes_bytes, takes_once}
@@ -41,6 +46,8 @@ pub record Laws : Type 0 where
   pub meaning : OneMeaning
   pub spelled : SpelledOnce
   pub refused : RefusedOnce
+  pub config_spelled : ConfigSpelledOnce
+  pub config_refused : ConfigRefusedOnce
 
 -- ---- what polls found
 
@@ -65,6 +72,7 @@ poll_once ways.Panel got rules moment s n t t' log log' alike one two = panel_on
 poll_once ways.Upstream got rules moment s n t t' log log' alike one two = upstream_once got rules moment s n t t' log log' alike one two
 poll_once ways.Downstream got rules moment s n t t' log log' alike one two = downstream_once got rules moment s n t t' log log' alike one two
 poll_once ways.Supervisory got rules moment s n t t' log log' alike one two = supervisory_once got moment s n t t' log log' alike one two
+poll_once ways.Configuration got rules moment s n t t' log log' alike one two = configuration_once got moment s n t t' log log' alike one two
 
 -- ---- what was held
 
@@ -112,6 +120,10 @@ passes_send ways.Supervisory (sents.Took n) = record { same = λ s n. refl; node
 passes_send ways.Supervisory sents.NotYet = record { same = λ s n. refl; node = λ s. refl }
 passes_send ways.Supervisory sents.Closed = record { same = λ s n. refl; node = λ s. refl }
 passes_send ways.Supervisory sents.Failed = record { same = λ s n. refl; node = λ s. refl }
+passes_send ways.Configuration (sents.Took n) = record { same = λ s n. refl; node = λ s. refl }
+passes_send ways.Configuration sents.NotYet = record { same = λ s n. refl; node = λ s. refl }
+passes_send ways.Configuration sents.Closed = record { same = λ s n. refl; node = λ s. refl }
+passes_send ways.Configuration sents.Failed = record { same = λ s n. refl; node = λ s. refl }
 
 close_once : (way : Way) (rules : Rules) (moment : ℤ) (s : RunState) (n : NodeState) (t t' : RunState) (log log' : List ℕ) → Alike s.node n → AfterClose rules moment way s t log → AfterClose rules moment way (like s n) t' log' → Once t t' log log'
 close_once ways.Panel rules moment s n t t' log log' alike one two = becomes (panel_gone s) n [] t t' log log' alike one two
@@ -120,6 +132,7 @@ close_once ways.Upstream rules moment s n t t' log log' alike one two =
 close_once ways.Downstream rules moment s n t t' log log' alike one two =
     let closed = record s { downstream = at_rest } in takes_once rules moment (inputs.Notice Exit) closed closed n t t' log log' tt alike alike one two
 close_once ways.Supervisory rules moment s n t t' log log' alike one two = unsupervised_once rules moment (record s { supervisory = at_rest; channel = no_session }) n t t' log log' alike one two
+close_once ways.Configuration rules moment s n t t' log log' alike one two = becomes (configuration_gone s) n [] t t' log log' alike one two
 
 -- ---- a move, by what comes next
 
@@ -159,10 +172,19 @@ pub record HasLooked (rules : Rules) (s : RunState) (calls : List Given) (t : Ru
   pub called : calls ≡ Polls ways.Panel room_bytes got ∷ []
   pub after : AfterLook rules got s t log
 
+pub record HasTried (settings : Settings) (moment : ℤ) (s : RunState) (calls : List Given) (t : RunState) (log : List ℕ) : Type 0 where
+  pub done : Opened
+  pub called : calls ≡ Listens ways.Downstream (at_all settings.port) done ∷ []
+  pub after : AfterTry done moment settings s t
+  pub quiet : log ≡ []
+
 abbrev pub MovesAt : Next → Rules → ℤ → RunState → List Given → RunState → List ℕ → Type 0
 MovesAt (nexts.End status) rules moment s calls t log = ⊥
 MovesAt nexts.Line rules moment s calls t log = (calls ≡ []) × DoesLine rules moment s t log
 MovesAt nexts.Hear rules moment s calls t log = (calls ≡ []) × DoesHear rules moment s t log
+MovesAt nexts.HearConfig rules moment s calls t log = (calls ≡ []) × DoesConfig moment s t × (log ≡ [])
+MovesAt (nexts.Try settings) rules moment s calls t log = HasTried settings moment s calls t log
+MovesAt (nexts.Reset side) rules moment s calls t log = (calls ≡ []) × ResetsSide rules moment side s t log
 MovesAt nexts.Look rules moment s calls t log = HasLooked rules s calls t log
 MovesAt nexts.Take rules moment s calls t log = (calls ≡ []) × TakesHeld rules moment s t log
 MovesAt nexts.Skip rules moment s calls t log = (calls ≡ []) × (t ≡ moved_on s) × (log ≡ [])
@@ -196,6 +218,10 @@ moves_at rules moment s calls t log (looks_again {got = got} is after) =
 moves_at rules moment s calls t log (takes_held is after) = at nexts.Take (next_of rules s) rules moment s calls t log is (refl, after)
 moves_at rules moment s calls t log (does_line is after) = at nexts.Line (next_of rules s) rules moment s calls t log is (refl, after)
 moves_at rules moment s calls t log (does_hear is after) = at nexts.Hear (next_of rules s) rules moment s calls t log is (refl, after)
+moves_at rules moment s calls t log (does_config is after quiet) = at nexts.HearConfig (next_of rules s) rules moment s calls t log is (refl, after, quiet)
+moves_at rules moment s calls t log (tries_port {settings = settings} {opened = done} is after quiet) =
+    at (nexts.Try settings) (next_of rules s) rules moment s calls t log is (record { done = done; called = refl; after = after; quiet = quiet })
+moves_at rules moment s calls t log (resets_side {side = side} is after) = at (nexts.Reset side) (next_of rules s) rules moment s calls t log is (refl, after)
 
 -- ---- both moves
 
@@ -210,7 +236,7 @@ agreed calls more call other is other_is agree =
     let Q : List Given → Type 0 = λ cs. Agree (answers_of (call ∷ [])) (answers_of cs) in
     subst Q other_is (subst P is agree)
 
-same_opened : (a b : Opened) → opened a ≡ opened b → a ≡ b
+pub same_opened : (a b : Opened) → opened a ≡ opened b → a ≡ b
 same_opened a b is = cc
 
 pub same_found : (a b : GotBytes) → found a ≡ found b → a ≡ b
@@ -227,12 +253,24 @@ unsent_same ways.Panel s n = refl
 unsent_same ways.Upstream s n = refl
 unsent_same ways.Downstream s n = refl
 unsent_same ways.Supervisory s n = refl
+unsent_same ways.Configuration s n = refl
 
 at_once : Laws → (next : Next) (rules : Rules) (moment : ℤ) (s : RunState) (n : NodeState) (calls more : List Given) (t t' : RunState) (log log' : List ℕ) → Alike s.node n → Agree (answers_of calls) (answers_of more)
     → MovesAt next rules moment s calls t log → MovesAt next rules moment (like s n) more t' log' → MovesOnce t t' calls more log log'
 at_once laws (nexts.End status) rules moment s n calls more t t' log log' alike agree one two = absurd one
 at_once laws nexts.Line rules moment s n calls more t t' log log' alike agree one two = record { once = line_once rules moment s n t t' log log' alike one.1 two.1; same_calls = two.0 ∙ sym one.0 }
 at_once laws nexts.Hear rules moment s n calls more t t' log log' alike agree one two = record { once = hear_once laws.spelled laws.refused rules moment s n t t' log log' alike one.1 two.1; same_calls = two.0 ∙ sym one.0 }
+at_once laws nexts.HearConfig rules moment s n calls more t t' log log' alike agree one two =
+    record { once = config_once laws.config_spelled laws.config_refused moment s n t t' log log' alike one.1 two.1 one.2 two.2; same_calls = two.0 ∙ sym one.0 }
+at_once laws (nexts.Reset side) rules moment s n calls more t t' log log' alike agree one two = record { once = reset_once side rules moment s n t t' log log' alike one.1 two.1; same_calls = two.0 ∙ sym one.0 }
+at_once laws (nexts.Try settings) rules moment s n calls more t t' log log' alike agree one two =
+    let call : Opened → Given = λ done. Listens ways.Downstream (at_all settings.port) done in
+    let same = same_opened one.done two.done (agreed calls more (call one.done) (call two.done) one.called two.called agree).0 in
+    let P : Opened → Type 0 = λ done. AfterTry done moment settings (like s n) t' in
+    record {
+      once = try_once one.done moment settings s n t t' log log' alike one.after (subst P (sym same) two.after) one.quiet two.quiet;
+      same_calls = two.called ∙ ap (λ (done : Opened). call done ∷ []) (sym same) ∙ sym one.called;
+    }
 at_once laws nexts.Take rules moment s n calls more t t' log log' alike agree one two = record { once = held_once laws rules moment s n t t' log log' alike one.1 two.1; same_calls = two.0 ∙ sym one.0 }
 at_once laws nexts.Skip rules moment s n calls more t t' log log' alike agree one two = record { once = becomes (moved_on s) n [] t t' log log' alike (one.1, one.2) (two.1, two.2); same_calls = two.0 ∙ sym one.0 }
 at_once laws nexts.Look rules moment s n calls more t t' log log' alike agree one two =

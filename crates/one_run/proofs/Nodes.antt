@@ -59,6 +59,7 @@ may_bare (inputs.Insert barcode) a spent entry exit = refl
 may_bare (inputs.Remove id) a spent entry exit = refl
 may_bare (inputs.Replace id) a spent entry exit = refl
 may_bare (inputs.Mark id quality) a spent entry exit = refl
+may_bare (inputs.Sub id place barcode) a spent entry exit = refl
 may_bare inputs.Forecast a spent entry exit = refl
 may_bare (inputs.Query barcode) a spent entry exit = refl
 may_bare (inputs.Supervise on) a spent entry exit = refl

@@ -24,7 +24,7 @@ use Rattle.node_run.specs.After.{AfterPanel, PanelArrives, greeting, panel_bytes
 use Rattle.node_run.specs.Lines.{AsksConnect, AsksIf, DoesAsked, DoesCut, DoesInput, DoesLine, Ends, Fronts, KeepsFront, cut_line, input_of, is_too_long, may_ask, sensed_of, shown, without_return}
 use Rattle.node_run.specs.Next.{has_ended}
 use Rattle.node_run.specs.State.{RunState, echoed, with_wire}
-use Rattle.node_run.specs.Texts.{no_line, refused_line, show_lines}
+use Rattle.machine_log.specs.Texts.{no_line, refused_line, show_lines}
 use Rattle.node_run.specs.declared.rules.Rules.{Rules}
 use Rattle.node_run.specs.declared.status.NodeStatus.TheVariants as statuses
 use Rattle.node_run.specs.declared.way_state.Wire.{Wire}
@@ -106,11 +106,12 @@ asked_once (Err why) rules moment s n t t' log log' alike one two =
 asked_once (Ok lines.Blank) rules moment s n t t' log log' alike one two = becomes s n [] t t' log log' alike one two
 asked_once (Ok lines.End) rules moment s n t t' log log' alike one two = becomes (record s { ended = Some statuses.Done }) n [] t t' log log' alike one two
 asked_once (Ok lines.Show) rules moment s n t t' log log' alike one two = shows_once rules s n t t' log log' alike one two
-asked_once (Ok lines.Connect) rules moment s n t t' log log' alike one two = connect_once rules.connections.upstream s n t t' log log' alike one two
+asked_once (Ok lines.Connect) rules moment s n t t' log log' alike one two = connect_once s.settings.upstream s n t t' log log' alike one two
 asked_once (Ok (lines.Insert barcode)) rules moment s n t t' log log' alike one two = input_once rules moment [] (inputs.Insert barcode) s n t t' log log' tt alike one two
 asked_once (Ok (lines.Remove id)) rules moment s n t t' log log' alike one two = input_once rules moment [] (inputs.Remove id) s n t t' log log' tt alike one two
 asked_once (Ok (lines.Replace id)) rules moment s n t t' log log' alike one two = input_once rules moment [] (inputs.Replace id) s n t t' log log' tt alike one two
 asked_once (Ok (lines.Mark id quality)) rules moment s n t t' log log' alike one two = input_once rules moment [] (inputs.Mark id quality) s n t t' log log' tt alike one two
+asked_once (Ok (lines.Sub id place barcode)) rules moment s n t t' log log' alike one two = input_once rules moment [] (inputs.Sub id place barcode) s n t t' log log' tt alike one two
 asked_once (Ok (lines.Hold side)) rules moment s n t t' log log' alike one two = input_once rules moment [] (inputs.Will side false) s n t t' log log' tt alike one two
 asked_once (Ok (lines.Go side)) rules moment s n t t' log log' alike one two = input_once rules moment [] (inputs.Will side true) s n t t' log log' tt alike one two
 asked_once (Ok (lines.Signal line on)) rules moment s n t t' log log' alike one two = input_once rules moment [] (inputs.Level line on) s n t t' log log' tt alike one two

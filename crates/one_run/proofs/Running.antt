@@ -1,18 +1,21 @@
 -- A RUN IS ONE, as each of its moves is.
 use Rattle.std.proofs.Common.{◌≡◌, ◌∙◌, ◌++◌, ℕ, ℤ, List, [], ◌∷◌, refl, sym, ap, subst, append_assoc, append-nil}
-use Rattle.line_outside.specs.Given.{Closes, Given, Polls}
+use Rattle.config_service.specs.declared.message.Settings.{Settings}
+use Rattle.line_outside.specs.Given.{Closes, Given, Listens, Polls}
+use Rattle.line_outside.specs.Listening.{at_all}
+use Rattle.line_outside.specs.declared.ports.Opened.{Opened}
 use Rattle.line_outside.specs.declared.answer.GotBytes.{GotBytes}
 use Rattle.line_outside.specs.declared.way.Way.{Way}
 use Rattle.line_outside.specs.declared.way.Way.TheVariants as ways
 use Rattle.node_run.specs.Next.{next_of}
-use Rattle.node_run.specs.Runs.{CallsNext, Moves, Runs, begins, closed, goes_on, no_call, polled, polled_again, room_bytes}
+use Rattle.node_run.specs.Runs.{CallsNext, Moves, Runs, begins, closed, goes_on, no_call, polled, polled_again, room_bytes, tried}
 use Rattle.node_run.specs.State.{RunState}
 use Rattle.node_run.specs.declared.place.Next.{Next}
 use Rattle.node_run.specs.declared.place.Next.TheVariants as nexts
 use Rattle.node_run.specs.declared.rules.Rules.{Rules}
 use Rattle.node_run.specs.declared.status.NodeStatus.{NodeStatus}
 use Rattle.one_run.specs.One.{Agree, Answer, EachPartIsAFront, EachRunIsOne, IsBroken, IsFront, IsWhole, answers_of, found}
-use Rattle.one_run.proofs.Moving.{Laws, MovesAt, move_once, moves_at, none_ends, same_found}
+use Rattle.one_run.proofs.Moving.{Laws, MovesAt, move_once, moves_at, none_ends, same_found, same_opened}
 use Rattle.one_run.proofs.Nodes.{alike_self}
 use Rattle.one_run.proofs.States.{RunsAlike, like}
 
@@ -164,6 +167,15 @@ closed_first rules moment way s t calls later all log next move all_is =
     let closes = subst P next (moves_at rules moment s calls t log move) in
     record { behind = later; parts = all_is ∙ ap (λ (cs : List Given). cs ++ later) closes.called }
 
+tried_first : (rules : Rules) (moment : ℤ) (settings : Settings) (opened : Opened) (s t : RunState) (calls later all : List Given) (log : List ℕ) → next_of rules s ≡ nexts.Try settings → Moves rules moment s calls t log → all ≡ calls ++ later
+    → Agree (answers_of all) (answers_of (Listens ways.Downstream (at_all settings.port) opened ∷ [])) → IsFront (Listens ways.Downstream (at_all settings.port) opened ∷ []) all
+tried_first rules moment settings opened s t calls later all log next move all_is agree =
+    let P : Next → Type 0 = λ n. MovesAt n rules moment s calls t log in
+    let tried = subst P next (moves_at rules moment s calls t log move) in
+    let whole = all_is ∙ ap (λ (cs : List Given). cs ++ later) tried.called in
+    let same = same_opened tried.done opened (agree_by {d = Listens ways.Downstream (at_all settings.port) opened ∷ []} (sym whole) refl agree).0 in
+    record { behind = later; parts = whole ∙ ap (λ (o : Opened). Listens ways.Downstream (at_all settings.port) o ∷ later) same }
+
 not_end : (next : Next) (status : NodeStatus) (A : Type 0) (n : Next) → n ≡ next → n ≡ nexts.End status → (next ≡ nexts.End status → ⊥) → A
 not_end next status A n is ends never = absurd (never (sym is ∙ ends))
 
@@ -182,6 +194,10 @@ last_called rules status reached t reached' later rest last lines same ends agre
     not_end (nexts.Close way) status (IsFront last rest) (next_of rules reached) (sym same ∙ next) ends (λ is. cc)
 last_called rules status reached t reached' later rest last lines same ends agree (steps r moment calls others line texts move behind calls_are text_is) (closed {way = way} next) =
     closed_first rules moment way reached r calls others rest line (sym same ∙ next) move calls_are
+last_called rules status reached t reached' later rest last lines same ends agree stops (tried {settings = settings} next) =
+    not_end (nexts.Try settings) status (IsFront last rest) (next_of rules reached) (sym same ∙ next) ends (λ is. cc)
+last_called rules status reached t reached' later rest last lines same ends agree (steps r moment calls others line texts move behind calls_are text_is) (tried {settings = settings} {opened = opened} next) =
+    tried_first rules moment settings opened reached r calls others rest line (sym same ∙ next) move calls_are agree
 
 front_of_front : {A : Type 0} (front part whole rest : List A) → IsFront front part → whole ≡ part ++ rest → IsFront front whole
 front_of_front front part whole rest is parts =

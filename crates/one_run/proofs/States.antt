@@ -12,7 +12,7 @@ use Rattle.node_core.specs.declared.input.No.{No}
 use Rattle.line_step.proofs.Once.{IsDry, OneMeaning, StepsOnce}
 use Rattle.node_run.specs.State.{RunState}
 use Rattle.node_run.specs.Steps.{MeetsSecond, Takes, TakesSecond, TakesStep, refusing, stepped}
-use Rattle.node_run.specs.Texts.{lines_of}
+use Rattle.machine_log.specs.Texts.{lines_of}
 use Rattle.node_run.specs.declared.rules.Rules.{Rules}
 use Rattle.one_run.proofs.Nodes.{Alike, bytes_once, may_same, node_once, unspent}
 

@@ -11,4 +11,6 @@ pub fn a_run_is_one()
     node_core::laws::one_meaning();
     hermes_vertical::spelled_once();
     hermes_vertical::refused_once();
+    config_service::spelled_once();
+    config_service::refused_once();
 }

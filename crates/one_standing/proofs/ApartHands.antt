@@ -4,6 +4,7 @@ use Rattle.std.specs.List.{AllByRecursion}
 use Rattle.board_record.specs.Maker.{Maker, next_id}
 use Rattle.board_record.specs.Record.{plain_record}
 use Rattle.board_record.specs.declared.maker.IdsUsedUp.{IdsUsedUp}
+use Rattle.board_record.specs.SubBoards.{unknown_sub}
 use Rattle.line_base.specs.declared.states.Quality.{Quality}
 use Rattle.line_world.specs.declared.board.Board.{Board}
 use Rattle.line_world.specs.FloorPlan.{AtMachine, IsWhole, has_id, machine_at, place_of}
@@ -15,10 +16,8 @@ use Rattle.node_core.specs.declared.act.Act.TheVariants as acts
 use Rattle.node_core.specs.declared.input.Input.{Input}
 use Rattle.node_core.specs.declared.input.Input.TheVariants as inputs
 use Rattle.node_core.specs.declared.lane.Body.{Body}
-use Rattle.node_core.specs.declared.word.Word.{Word}
 use Rattle.node_core.specs.Announces.{announces}
-use Rattle.node_core.specs.Boards.{if_kept, is_kept, replaces, with_instead, with_kept, with_mark, without}
-use Rattle.node_core.specs.Desk.{Desk}
+use Rattle.node_core.specs.Boards.{if_kept, is_kept, replaces, takes_sub, with_instead, with_kept, with_mark, with_sub, without}
 use Rattle.node_core.specs.Event.{Insert, Replace, event_did, event_of, maker_after, with_new}
 use Rattle.node_core.specs.Node.{NodeState, desk_of}
 use Rattle.node_core.specs.Reads.{all_read}
@@ -30,9 +29,8 @@ use Rattle.line_step.specs.Reasons.{is_here}
 use Rattle.line_step.specs.State.{LineState, machine_in, with_machine, with_world}
 use Rattle.line_step.specs.Steps.{MachineSteps, is_second, moment_of, read_by, unread_by}
 use Rattle.line_step.specs.World.{WorldParts}
-use Rattle.line_step.proofs.FloorLaws.{Holds}
-use Rattle.line_step.proofs.Hands.{AreQuiet, IsQuiet, announces-quiet, hands_with_tells, met-quiet, quiet-join, read-quiet, signals-quiet}
-use Rattle.step_rules.specs.Acts.{OfEvent}
+use Rattle.line_step.proofs.FloorLaws.{Holds, IsHandless, event-quiet}
+use Rattle.line_step.proofs.Hands.{AreQuiet, announces-quiet, hands_with_tells, quiet-join, read-quiet, signals-quiet}
 use Rattle.line_step.proofs.WithTells.{tells_append}
 use Rattle.node_core.specs.Step.{plain_step}
 use Rattle.node_core.specs.Supervising.{tells_behind, watch_after, watch_behind, watch_of, with_tells}
@@ -149,6 +147,12 @@ marks_told number m x quality s after told steps kept =
     let f : Bool → List Act = λ kept. (if_kept kept (with_kept (with_mark x quality body.kept) body) (acts.Marks x quality) body).acts in
     step_told number m (inputs.Mark x quality) (acts.Marks x quality) s after told steps (ap f kept) (λ w. refl)
 
+pub subs_told : (number m x place : ℕ) (barcode : Option (List ℕ)) (s after : LineState) (told : List Happening) (steps : MachineSteps number m (inputs.Sub x place barcode) s after told) → takes_sub x (unknown_sub place barcode) (body_then number m (inputs.Sub x place barcode) s after told steps).kept ≡ true → IsTold (happenings.Done m (acts.Subs x place)) told
+subs_told number m x place barcode s after told steps takes =
+    let body = body_then number m (inputs.Sub x place barcode) s after told steps in
+    let f : Bool → List Act = λ takes. (if_kept takes (with_kept (with_sub x (unknown_sub place barcode) body.kept) body) (acts.Subs x place) body).acts in
+    step_told number m (inputs.Sub x place barcode) (acts.Subs x place) s after told steps (ap f takes) (λ w. refl)
+
 -- what is done behind another act of the input is told too
 step_told_second : (number m : ℕ) (input : Input) (first act : Act) (s after : LineState) (told : List Happening) (steps : MachineSteps number m input s after told) → hand_then number m input s after told steps ≡ first ∷ act ∷ []
     → ((w : WorldParts) → (act_did (is_second input) m act w).told ≡ happenings.Done m act ∷ [])
@@ -174,27 +178,6 @@ fails_told number m id line on s after told steps found kept =
     step_told_second number m (inputs.Level line on) sets (acts.Marks id qualities.Failed) s after told steps (ap f found ∙ ap g kept) (λ w. refl)
 
 -- ---- a step without a hand
-
--- an input that is not of the hands that put boards in, take them out or change them
-abbrev pub IsHandless : Input → Type 0
-IsHandless (inputs.Insert barcode) = ⊥
-IsHandless (inputs.Remove id) = ⊥
-IsHandless (inputs.Replace id) = ⊥
-IsHandless _ = Unit {0}
-
-handless_event : (desk : Desk) (maker : Maker) (input : Input) (words : List Word)
-    → IsHandless input → OfEvent IsQuiet desk (event_of maker input words)
-handless_event desk maker (inputs.Insert barcode) words handless = absurd handless
-handless_event desk maker (inputs.Remove id) words handless = absurd handless
-handless_event desk maker (inputs.Replace id) words handless = absurd handless
-handless_event desk maker (inputs.Level line on) words handless = (tt, λ id. tt)
-handless_event desk maker _ words handless = tt
-
-event_quiet : (desk : Desk) (maker : Maker) (input : Input) (words : List Word) (body : Body)
-    → IsHandless input → AreQuiet (event_did desk (event_of maker input words) body).acts
-event_quiet desk maker input words body handless =
-    met-quiet desk (event_of maker input words) body
-    (handless_event desk maker input words handless)
 
 same_maker : (input : Input) (maker : Maker) → IsHandless input → maker_after input maker ≡ maker
 same_maker (inputs.Insert barcode) maker handless = absurd handless
@@ -250,7 +233,7 @@ step_still number m input s after told handless h steps =
     (hands_with_tells desk watch (read.acts ++ (event.acts ++ last.acts))
     (quiet-join read.acts (event.acts ++ last.acts) (read-quiet desk (unread_by m s.world) steps.node.lane.body)
     (quiet-join event.acts last.acts
-    (event_quiet desk steps.node.maker input steps.steps.lane.words read.body handless)
+    (event-quiet desk steps.node.maker input steps.steps.lane.words read.body handless)
     (announces-quiet desk event.body))))
     (signals-quiet steps.node.bridge steps.next.lane.body)) in
     let world = read_by m s.world in

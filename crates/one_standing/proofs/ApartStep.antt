@@ -51,7 +51,7 @@ IsNot x ids = AllByRecursion (λ (id : ℕ). x ≢ id) ids
 pub same_count : (x : ℕ) (old new : List Board) → new ≡ old → counted x new ≤ counted x old
 same_count x old new same = rw same (omega arith)
 
-gained_count : (x id : ℕ) (old new : List Board) → LosesBoard new old (record { id = Some id }) → x ≢ id → counted x new ≤ counted x old
+pub gained_count : (x id : ℕ) (old new : List Board) → LosesBoard new old (record { id = Some id }) → x ≢ id → counted x new ≤ counted x old
 gained_count x id old new gain apart =
     let other : has_id x (record { id = Some id }) ≡ false = ne_eqb id x (λ is. apart (sym is)) in
     let more = lost_with x gain.front gain.back (record { id = Some id }) false other in
@@ -63,24 +63,24 @@ bare_count x old new gain =
     let more = lost_with x gain.front gain.back (record { id = None }) false refl in
     rw (gain.before, gain.after) (omega (arith, more))
 
-lost_count : (x : ℕ) (old new : List Board) (board : Board) → LosesBoard old new board → counted x new ≤ counted x old
+pub lost_count : (x : ℕ) (old new : List Board) (board : Board) → LosesBoard old new board → counted x new ≤ counted x old
 lost_count x old new board loss =
     let less = lost_with x loss.front loss.back board (has_id x board) refl in
     rw (loss.before, loss.after) (omega (arith, less))
 
-own_lost_count : (x : ℕ) (old new : List Board) (board : Board) → has_id x board ≡ true → LosesBoard old new board → counted x new + 1 ≤ counted x old
+pub own_lost_count : (x : ℕ) (old new : List Board) (board : Board) → has_id x board ≡ true → LosesBoard old new board → counted x new + 1 ≤ counted x old
 own_lost_count x old new board has loss =
     let less = lost_with x loss.front loss.back board true has in
     rw (loss.before, loss.after) (omega (arith, less))
 
-changed_count : (x was now : ℕ) (old new : List Board) → ChangesId was now old new → x ≢ now → counted x new ≤ counted x old
+pub changed_count : (x was now : ℕ) (old new : List Board) → ChangesId was now old new → x ≢ now → counted x new ≤ counted x old
 changed_count x was now old new change apart =
     let there = change.2 in
     let other : has_id x (record { id = Some now }) ≡ false = ne_eqb now x (λ is. apart (sym is)) in
     let same = changed_with x there.front there.back change.0 (record { id = Some now }) (has_id x change.0) false refl other in
     rw (there.before, there.after) (omega (arith, same))
 
-own_changed_count : (was now : ℕ) (old new : List Board) → ChangesId was now old new → was ≢ now → counted was new + 1 ≤ counted was old
+pub own_changed_count : (was now : ℕ) (old new : List Board) → ChangesId was now old new → was ≢ now → counted was new + 1 ≤ counted was old
 own_changed_count was now old new change apart =
     let there = change.2 in
     let other : has_id was (record { id = Some now }) ≡ false = ne_eqb now was (λ is. apart (sym is)) in
@@ -252,13 +252,13 @@ pub apart_replaced : (t t2 : Trace) (s after : LineState) (told : List Happening
 apart_replaced t t2 s after told m x now p h goes is lies more parted = told_gone t t2 s after told m x p h goes is (replaces_loses m x now) lies more parted
 
 -- or is taken out of a gap
-single_by : (has : Bool) (x : ℕ) (board : Board) → has_id x board ≡ has → 1 ≤ counted x (board ∷ []) → 1 ≤ cond has 1 0
+pub single_by : (has : Bool) (x : ℕ) (board : Board) → has_id x board ≡ has → 1 ≤ counted x (board ∷ []) → 1 ≤ cond has 1 0
 single_by true x board is some = omega arith
 single_by false x board is some =
     let none : 1 ≤ 0 = rw is at some in
     absurd (omega (arith, none))
 
-taken_count : (x : ℕ) (lies old new : List Board) (board : Board) → lies ≡ board ∷ [] → 1 ≤ counted x lies → LosesBoard old new board → counted x new + 1 ≤ counted x old
+pub taken_count : (x : ℕ) (lies old new : List Board) (board : Board) → lies ≡ board ∷ [] → 1 ≤ counted x lies → LosesBoard old new board → counted x new + 1 ≤ counted x old
 taken_count x lies old new board is some loss =
     let own : 1 ≤ counted x (board ∷ []) = rw is at some in
     let less = lost_with x loss.front loss.back board (has_id x board) refl in

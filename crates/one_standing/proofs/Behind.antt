@@ -106,9 +106,9 @@ steps_of j t before after a b gone body d changes is place real = record {
 -- ---- a link that is cut in the midst of the step
 
 pub same_cut : {above : Stand} {d : Scene} (ca cb : Bool) → SameAbove above d → SameAbove above (cut_below cb (cut_above ca d))
-same_cut true true s = record { exit = s.exit; outlet = s.outlet; far = s.far }
-same_cut true false s = record { exit = s.exit; outlet = s.outlet; far = s.far }
-same_cut false true s = record { exit = s.exit; outlet = s.outlet; far = s.far }
+same_cut true true s = record { exit = s.exit; outlet = s.outlet; last = s.last; far = s.far }
+same_cut true false s = record { exit = s.exit; outlet = s.outlet; last = s.last; far = s.far }
+same_cut false true s = record { exit = s.exit; outlet = s.outlet; last = s.last; far = s.far }
 same_cut false false s = s
 
 pub same_cut_below : {below : Stand} {d : Scene} (ca cb : Bool) → SameBelow below d → SameBelow below (cut_below cb (cut_above ca d))

@@ -110,7 +110,7 @@ pong = record { stamp = None; body = message.CheckAlive (Some pings.Answer) None
 pong_fit : IsFit pong
 pong_fit =
     let fit : IsFitSaid (message.CheckAlive (Some pings.Answer) None) = pong_fits None tt in
-    record { proper = record { stamp = tt; name = fit.name; values = fit.values }; writable = record { numbers = fit.numbers; named = fit.named }; short = fit.short }
+    record { proper = record { stamp = tt; name = fit.name; values = fit.values; subs = fit.barcodes }; writable = record { numbers = fit.numbers; subs = fit.subs; named = fit.named }; short = fit.short }
 
 by_scene : (ready : Bool) (sent said_so : List Message) → AreOldest (said sent) (bodies said_so) → (ready ≡ true) ⊎ (has_service (down_words (bodies sent)) ≡ true) → ready_behind Entry ready (bodies said_so) ≡ true
 by_scene ready sent said_so oldest (inl now) = behind_ready Entry ready (bodies said_so) now

@@ -2,6 +2,7 @@
 use Rattle.std.proofs.Common.{Bool, List, None, Option, Some, [], false, refl, subst, sym, true, ℕ, ◌&&◌, ◌++◌, ◌∙◌, ◌∷◌, ◌≡◌, ◌≢◌, ◌⊎◌, inl, inr}
 use Rattle.std.specs.Prelude.{cond}
 use Rattle.std.proofs.lemmas.Bool.{false≢true, and_parts}
+use Rattle.one_standing.proofs.Counting.{across as other}
 use Rattle.line_base.specs.declared.states.Role.{Role}
 use Rattle.line_base.specs.declared.states.Role.TheVariants.{Downstream, Upstream}
 use Rattle.line_base.specs.declared.states.Side.{Side}
@@ -27,12 +28,13 @@ use Rattle.link_messages.specs.Heard.{AreSayable, bodies, more_sayable}
 use Rattle.link_messages.proofs.Fitting.{both_fit}
 use Rattle.line_step.specs.Acts.{act_did, acts_did, answers, counted, is_answer, is_exit, sent_by}
 use Rattle.line_step.specs.World.{WorldParts, end_of, link_at, link_of, with_link}
-use Rattle.line_step.proofs.Numbers.{Written, link_set, link_set_other, nowhere, same_or_not, written}
+use Rattle.line_step.proofs.Numbers.{same_or_not}
+use Rattle.line_step.proofs.LinkRule.{link_keeps}
 use Rattle.one_standing.specs.Links.{IsWholeLink}
 use Rattle.one_standing.proofs.Carrying.{SaysAlone}
 use Rattle.one_standing.proofs.BlameReady.{ready_after}
 use Rattle.one_standing.proofs.FactsBlame.{AreBodiesFrom, AreFrom, Leave, are_mild, is_from, is_mild}
-use Rattle.one_standing.proofs.WholeLinks.{whole_act}
+use Rattle.one_standing.proofs.WholeLinks.{whole_act, AreWhole}
 
 -- ---- who is free to tell of boards
 
@@ -130,11 +132,6 @@ clear_ready now more (clear_over off none) = clear_over off none
 
 -- ---- a link
 
--- which is at the other end
-abbrev pub other : Side → Side
-other Entry = Exit
-other Exit = Entry
-
 -- at whose two sides these bytes wait
 pub record IsClear (Up Down : Type 0) (ready free : Side → Bool) (exit entry : List ℕ) (link : LinkParts) : Type 0 where
   pub up : Clear Up Exit (ready Exit) (free Exit) link.stands exit (coming link.flows.to_upstream)
@@ -229,44 +226,30 @@ are_clear_by {Taint} {ready} {free} {exits} {entries} {exits2} {entries2} world 
 -- one of them changes, and the bytes at its sides
 pub are_clear_set : {Taint : ℕ → Side → Type 0} {ready free : ℕ → Side → Bool} {exits entries exits2 entries2 : ℕ → List ℕ} (link : ℕ) (parts : LinkParts) (world : WorldParts) → ((k : ℕ) → k ≢ link → exits2 k ≡ exits k) → ((k : ℕ) → k ≢ link → entries2 k ≡ entries k)
     → AreClear Taint ready free exits entries world → IsClear (Taint link Exit) (Taint link Entry) (ready link) (free link) (exits2 link) (entries2 link) parts → AreClear Taint ready free exits2 entries2 (with_link link parts world)
-are_clear_set {Taint} {ready} {free} {exits} {entries} {exits2} {entries2} link parts world out into all here = record { at = λ k. by k (same_or_not k link) }
+are_clear_set {Taint} {ready} {free} {exits} {entries} {exits2} {entries2} link parts world out into all here = record {
+  at = λ k. link_keeps (At k) clear_no_link k link parts world (λ is. subst (λ (n : ℕ). At n parts) (sym is) here)
+      (λ apart. subst (λ (w : List ℕ). IsClear (Taint k Exit) (Taint k Entry) (ready k) (free k) w (entries2 k) (link_at k world)) (sym (out k apart))
+      (subst (λ (w : List ℕ). IsClear (Taint k Exit) (Taint k Entry) (ready k) (free k) (exits k) w (link_at k world)) (sym (into k apart)) (all.at k)));
+}
   where
     At : ℕ → LinkParts → Type 0
     At k parts = IsClear (Taint k Exit) (Taint k Entry) (ready k) (free k) (exits2 k) (entries2 k) parts
-
-    own : Written link parts world → At link (link_at link (with_link link parts world))
-    own (written is) = subst (λ (l : LinkParts). At link l) (sym is) here
-    own (nowhere is was) = subst (λ (l : LinkParts). At link l) (sym is) clear_no_link
-
-    by : (k : ℕ) → (k ≡ link) ⊎ (k ≢ link) → At k (link_at k (with_link link parts world))
-    by k (inl is) = subst (λ (n : ℕ). At n (link_at n (with_link link parts world))) (sym is) (own (link_set link parts world))
-    by k (inr apart) =
-        subst (λ (l : LinkParts). At k l) (sym (link_set_other link k parts world apart))
-        (subst (λ (w : List ℕ). IsClear (Taint k Exit) (Taint k Entry) (ready k) (free k) w (entries2 k) (link_at k world)) (sym (out k apart))
-        (subst (λ (w : List ℕ). IsClear (Taint k Exit) (Taint k Entry) (ready k) (free k) (exits k) w (link_at k world)) (sym (into k apart)) (all.at k)))
 
 -- one is connected anew: nobody may tell there of boards, and sides may come to be ready
 pub are_clear_begin : {Taint : ℕ → Side → Type 0} {ready free : ℕ → Side → Bool} {exits entries exits2 entries2 : ℕ → List ℕ} (now : ℕ → Side → Bool) (link : ℕ) (parts : LinkParts) (world : WorldParts) → ((k : ℕ) → k ≢ link → exits2 k ≡ exits k) → ((k : ℕ) → k ≢ link → entries2 k ≡ entries k)
     → ((k : ℕ) → k ≢ link → (side : Side) → ready k side ≡ true → now k side ≡ true) → AreClear Taint ready free exits entries world → IsClear (Taint link Exit) (Taint link Entry) (now link) (none_free link) (exits2 link) (entries2 link) parts
     → AreClear Taint now none_free exits2 entries2 (with_link link parts world)
-are_clear_begin {Taint} {ready} {free} {exits} {entries} {exits2} {entries2} now link parts world out into more all here = record { at = λ k. by k (same_or_not k link) }
+are_clear_begin {Taint} {ready} {free} {exits} {entries} {exits2} {entries2} now link parts world out into more all here = record {
+  at = λ k. link_keeps (At k) clear_no_link k link parts world (λ is. subst (λ (n : ℕ). At n parts) (sym is) here)
+      (λ apart. subst (λ (w : List ℕ). IsClear (Taint k Exit) (Taint k Entry) (now k) (none_free k) w (entries2 k) (link_at k world)) (sym (out k apart))
+      (subst (λ (w : List ℕ). IsClear (Taint k Exit) (Taint k Entry) (now k) (none_free k) (exits k) w (link_at k world)) (sym (into k apart)) (there k apart)));
+}
   where
     At : ℕ → LinkParts → Type 0
     At k parts = IsClear (Taint k Exit) (Taint k Entry) (now k) (none_free k) (exits2 k) (entries2 k) parts
 
-    own : Written link parts world → At link (link_at link (with_link link parts world))
-    own (written is) = subst (λ (l : LinkParts). At link l) (sym is) here
-    own (nowhere is was) = subst (λ (l : LinkParts). At link l) (sym is) clear_no_link
-
     there : (k : ℕ) → k ≢ link → IsClear (Taint k Exit) (Taint k Entry) (now k) (none_free k) (exits k) (entries k) (link_at k world)
     there k apart = record { up = clear_ready (now k Exit) (more k apart Exit) (all.at k).up; down = clear_ready (now k Entry) (more k apart Entry) (all.at k).down }
-
-    by : (k : ℕ) → (k ≡ link) ⊎ (k ≢ link) → At k (link_at k (with_link link parts world))
-    by k (inl is) = subst (λ (n : ℕ). At n (link_at n (with_link link parts world))) (sym is) (own (link_set link parts world))
-    by k (inr apart) =
-        subst (λ (l : LinkParts). At k l) (sym (link_set_other link k parts world apart))
-        (subst (λ (w : List ℕ). IsClear (Taint k Exit) (Taint k Entry) (now k) (none_free k) w (entries2 k) (link_at k world)) (sym (out k apart))
-        (subst (λ (w : List ℕ). IsClear (Taint k Exit) (Taint k Entry) (now k) (none_free k) (exits k) w (link_at k world)) (sym (into k apart)) (there k apart)))
 
 -- or the bytes at its sides alone
 pub are_clear_fix : {Taint : ℕ → Side → Type 0} {ready free : ℕ → Side → Bool} {exits entries exits2 entries2 : ℕ → List ℕ} (link : ℕ) (world : WorldParts) → ((k : ℕ) → k ≢ link → exits2 k ≡ exits k) → ((k : ℕ) → k ≢ link → entries2 k ≡ entries k)
@@ -290,11 +273,8 @@ are_clear_ready now world more all = record { at = λ link. record { up = clear_
 
 -- ---- acts
 
-abbrev AllWhole : WorldParts → Type 0
-AllWhole world = (link : ℕ) → IsWholeLink (link_at link world)
-
 sent_clear : {Taint : ℕ → Side → Type 0} {ready free : ℕ → Side → Bool} {exits entries : ℕ → List ℕ} → SaysAlone → (may : Leave) (test : Bool) (machine : ℕ) (side : Side) (message : Message) (world : WorldParts) → IsFit message → is_mild may (acts.Sends side message) ≡ true
-    → (may.frees side ≡ true → free (link_of machine side) (other side) ≡ true) → (test ≡ true → ((b : Bool) → is_from Entry b message.body ≡ true) × (entries machine ≡ [])) → AllWhole world → AreClear Taint ready free exits entries world → AreClear Taint ready free exits entries (sent_by test machine side message world).world
+    → (may.frees side ≡ true → free (link_of machine side) (other side) ≡ true) → (test ≡ true → ((b : Bool) → is_from Entry b message.body ≡ true) × (entries machine ≡ [])) → AreWhole world → AreClear Taint ready free exits entries world → AreClear Taint ready free exits entries (sent_by test machine side message world).world
 sent_clear alone may true machine side message world fit from frees then whole all =
     are_clear_with machine (after_answer (canonical message) (link_at machine world)) world all (clear_answered alone message (link_at machine world) fit (then refl).0 (then refl).1 (whole machine) (all.at machine))
 sent_clear alone may false machine side message world fit from frees then whole all =
@@ -307,13 +287,7 @@ closed_clear machine side world all = are_clear_with (link_of machine side) (aft
 
 counted_clear : {Taint : ℕ → Side → Type 0} {ready free : ℕ → Side → Bool} {exits entries : ℕ → List ℕ} (deed : Deed) (world : WorldParts) → AreClear Taint ready free exits entries world → AreClear Taint ready free exits entries (counted deed world)
 counted_clear (deeds.Opens id) world all = record { at = all.at }
-counted_clear (deeds.Settles id) world all = record { at = all.at }
-counted_clear (deeds.Refuses id) world all = record { at = all.at }
-counted_clear (deeds.Leaves id) world all = record { at = all.at }
-counted_clear (deeds.Returns id) world all = record { at = all.at }
-counted_clear (deeds.Loses id) world all = record { at = all.at }
-counted_clear (deeds.Starts id) world all = record { at = all.at }
-counted_clear (deeds.Drops id) world all = record { at = all.at }
+counted_clear _ world all = record { at = all.at }
 
 -- the answer to a second connection may come at any time
 answer_from : (what : Horizontal) → is_answer what ≡ true → (b : Bool) → is_from Entry b what ≡ true
@@ -321,7 +295,7 @@ answer_from (message.Notification code severity text) is b = refl
 answer_from _ is b = absurd (false≢true is)
 
 act_clear : {Taint : ℕ → Side → Type 0} {ready free : ℕ → Side → Bool} {exits entries : ℕ → List ℕ} → SaysAlone → (may : Leave) (second : Bool) (machine : ℕ) (act : Act) (world : WorldParts) → IsFitAct act → is_mild may act ≡ true → ((side : Side) → may.frees side ≡ true → free (link_of machine side) (other side) ≡ true) → (second ≡ true → entries machine ≡ [])
-    → AllWhole world → AreClear Taint ready free exits entries world → AreClear Taint ready free exits entries (act_did second machine act world).world
+    → AreWhole world → AreClear Taint ready free exits entries world → AreClear Taint ready free exits entries (act_did second machine act world).world
 act_clear alone may second machine (acts.Sends side message) world fit from frees empty whole all =
     sent_clear alone may (answers second side message) machine side message world fit from (frees side)
     (λ is. (answer_from message.body (and_parts (is_exit side) (is_answer message.body) (and_parts second (is_exit side && is_answer message.body) is).1).1, empty (and_parts second (is_exit side && is_answer message.body) is).0)) whole all
@@ -331,7 +305,7 @@ act_clear alone may second machine (acts.Deed deed) world fit from frees empty w
 act_clear alone may second machine act world fit from frees empty whole all = record { at = all.at }
 
 pub acts_clear : {Taint : ℕ → Side → Type 0} {ready free : ℕ → Side → Bool} {exits entries : ℕ → List ℕ} → SaysAlone → (may : Leave) (second : Bool) (machine : ℕ) (told : List Act) (world : WorldParts) → AreFitActs told → are_mild may told ≡ true → ((side : Side) → may.frees side ≡ true → free (link_of machine side) (other side) ≡ true) → (second ≡ true → entries machine ≡ [])
-    → AllWhole world → AreClear Taint ready free exits entries world → AreClear Taint ready free exits entries (acts_did second machine told world).world
+    → AreWhole world → AreClear Taint ready free exits entries world → AreClear Taint ready free exits entries (acts_did second machine told world).world
 acts_clear alone may second machine [] world none_said from frees empty whole all = all
 acts_clear alone may second machine (act ∷ others) world (more_said fit more) from frees empty whole all =
     acts_clear alone may second machine others (act_did second machine act world).world more (and_parts (is_mild may act) (are_mild may others) from).1 frees empty

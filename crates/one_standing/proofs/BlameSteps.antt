@@ -1,4 +1,4 @@
--- A machine's step: what flows to each side of the line goes on being said by the other end, and which breaches are told.
+-- A machine's step: what flows to each side of the line goes on being said by the across end, and which breaches are told.
 use Rattle.std.proofs.Common.{Bool, Err, List, None, Ok, Result, Some, [], ap, false, inl, inr, is_some, refl, subst, sym, true, ℕ, ◌+◌, ◌∙◌, ◌≡◌, ◌≢◌, ◌≤◌, ◌⊎◌}
 use Rattle.std.specs.Borrow.{Bor}
 use Rattle.std.proofs.lemmas.Bool.{false≢true}
@@ -41,11 +41,11 @@ use Rattle.line_step.proofs.Changing.{step_changes}
 use Rattle.line_step.proofs.Numbers.{machine_within, same_or_not}
 use Rattle.one_standing.specs.Carried.{IsFitMachine}
 use Rattle.one_standing.specs.Links.{AreWholeLinks, IsWholeLink}
-use Rattle.one_standing.proofs.BlameLinks.{AreClear, acts_clear, none_free, other}
+use Rattle.one_standing.proofs.BlameLinks.{AreClear, acts_clear, none_free}
 use Rattle.one_standing.proofs.BlameReady.{MayCall, is_ready, ready_words, step_hears_ready, step_stays}
 use Rattle.one_standing.proofs.BlameWords.{AreSpoken, spoken_none, spoken_said, spoken_wrong}
 use Rattle.one_standing.proofs.Carrying.{SaysAlone}
-use Rattle.one_standing.proofs.Counting.{is_wrong_first, step_hears_all}
+use Rattle.one_standing.proofs.Counting.{is_wrong_first, step_hears_all, across}
 use Rattle.one_standing.proofs.FactsBlame.{IsNoWords, Leave, are_mild, at_none, at_one, heard_step_mild, quiet_step_mild, silent_step_mild, wrong_step_mild}
 use Rattle.one_standing.proofs.Mirroring.{fit_desk}
 use Rattle.one_standing.proofs.MirroringCall.{dry_down, dry_up}
@@ -68,9 +68,9 @@ abbrev pub ready_of : LineState → ℕ → Side → Bool
 ready_of s link Exit = is_ready Exit (node_at s link).lane.body
 ready_of s link Entry = is_ready Entry (node_at s (link + 1)).lane.body
 
--- and so may tell the other one of boards
+-- and so may tell the across one of boards
 abbrev pub free_of : LineState → ℕ → Side → Bool
-free_of s link side = ready_of s link (other side)
+free_of s link side = ready_of s link (across side)
 
 abbrev pub AreClearIn : (ℕ → Side → Type 0) → LineState → Type 0
 AreClearIn Taint s = AreClear Taint (ready_of s) none_free (exits_of s) (entries_of s) s.world
@@ -79,7 +79,7 @@ AreClearIn Taint s = AreClear Taint (ready_of s) none_free (exits_of s) (entries
 abbrev pub frees_by : Body → Side → Bool
 frees_by body side = is_ready side body
 
-pub frees_there : (m : ℕ) (s : LineState) (node : NodeState) → machine_in m s ≡ Some node → (side : Side) → frees_by node.lane.body side ≡ true → free_of s (link_of m side) (other side) ≡ true
+pub frees_there : (m : ℕ) (s : LineState) (node : NodeState) → machine_in m s ≡ Some node → (side : Side) → frees_by node.lane.body side ≡ true → free_of s (link_of m side) (across side) ≡ true
 frees_there m s node there Exit is = ap (λ (n : NodeState). is_ready Exit n.lane.body) (node_there m s node there) ∙ is
 frees_there m s node there Entry is =
     ap (λ (k : ℕ). is_ready Entry (node_at s k).lane.body) (less_one m (machine_within m s node there).0) ∙ ap (λ (n : NodeState). is_ready Entry n.lane.body) (node_there m s node there) ∙ is
@@ -141,7 +141,7 @@ quiet_mild may number m input before after told none free steps =
 -- ---- what flows behind its acts
 
 pub step_clear : {Taint : ℕ → Side → Type 0} {ready free : ℕ → Side → Bool} {exits entries : ℕ → List ℕ} → SaysAlone → (may : Leave) (number m : ℕ) (input : Input) (before after : LineState) (told : List Happening) (steps : MachineSteps number m input before after told)
-    → AreFitActs steps.acts → are_mild may steps.acts ≡ true → ((side : Side) → may.frees side ≡ true → free (link_of m side) (other side) ≡ true) → (is_second input ≡ true → entries m ≡ []) → AreWholeLinks before → AreClear Taint ready free exits entries before.world → AreClear Taint ready free exits entries after.world
+    → AreFitActs steps.acts → are_mild may steps.acts ≡ true → ((side : Side) → may.frees side ≡ true → free (link_of m side) (across side) ≡ true) → (is_second input ≡ true → entries m ≡ []) → AreWholeLinks before → AreClear Taint ready free exits entries before.world → AreClear Taint ready free exits entries after.world
 step_clear {Taint} {ready} {free} {exits} {entries} alone may number m input before after told steps fit mild frees empty whole all =
     subst (λ (s : LineState). AreClear Taint ready free exits entries s.world) (sym steps.after_is)
     (acts_clear alone may (is_second input) m steps.acts (read_by m before.world) fit mild frees empty whole (record { at = all.at }))

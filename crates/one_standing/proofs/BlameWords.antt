@@ -21,8 +21,7 @@ use Rattle.machine_custody.specs.Flight.{AreOldest, oldest_none, oldest_wrong}
 use Rattle.link_messages.specs.Fit.{AreFit, AreFitWords, IsFit, more_fit, none_fit}
 use Rattle.link_messages.specs.Heard.{AreSayable, Heard, HeardSpoiled, bodies, more_sayable, none_sayable}
 use Rattle.link_messages.proofs.Fitting.{both_fit, fit_behind}
-use Rattle.link_messages.proofs.Fronts.{IsFront, front_of}
-use Rattle.link_messages.proofs.Hearing.{no_rest}
+use Rattle.link_messages.proofs.Fronts.{IsFront, front_of, no_end}
 use Rattle.one_standing.specs.Carried.{Carries, carries_over, carries_spoiled, carries_whole}
 use Rattle.one_standing.proofs.BlameLinks.{Clear, clear_over, clear_spoiled, clear_whole, first_frame}
 use Rattle.one_standing.proofs.Carrying.{SaysAlone}
@@ -44,7 +43,7 @@ never_wrong frame text message is spells wrong = absurd (wrong.spells_none messa
 first_said : (frames : List (List ℕ)) (rest : Option (List ℕ)) (heard : List Word) (messages : List Message) (later : List (List ℕ)) (left : List ℕ)
     → AreFirst frames rest heard → texts_of messages ≡ frames ++ later → rest ≡ Some left → AreSayable messages → AreSaid heard
 first_said _ rest _ messages later left first_none are is sayable = tt
-first_said _ _ _ messages later left first_too_long are is sayable = absurd (no_rest is)
+first_said _ _ _ messages later left first_too_long are is sayable = absurd (no_end is)
 first_said (frame ∷ frames) rest (word ∷ others) [] later left (first_more means more) are is none_sayable = absurd (no_first (sym are))
 first_said (frame ∷ frames) rest (words.Says heard ∷ others) (message ∷ messages) later left (first_more means more) are is (more_sayable it sayable) =
     first_said frames rest others messages later left more (texts_behind are) is sayable

@@ -27,7 +27,7 @@ pub record SaysAlone : Type 0 where
   pub fit_words : (old piece coming new : List ℕ) (still : Bool) (words : List Word) (messages : List Message) → AreSayable messages → AreFit messages → Flows old (piece ++ coming) (texts_of messages) → AreWords old piece new still words → AreFitWords words
   pub fit_wrong : (old piece coming new : List ℕ) (still : Bool) (words : List Word) → Spoiled old (piece ++ coming) → AreWords old piece new still words → AreFitWords words
 
-first_frame : (message : Message) (messages : List Message) → AreSayable (message ∷ messages) → IsOneFrame (canonical message)
+pub first_frame : (message : Message) (messages : List Message) → AreSayable (message ∷ messages) → IsOneFrame (canonical message)
 first_frame message messages (more_sayable one others) = one.one
 
 -- ---- a text is sent

@@ -60,15 +60,7 @@ act_like {near = near} {c = c} alone (acts.Removes id) rest fit k =
     record { place = boards_now near.place c.boards (without_board id) k.place; above = joint_on Entry (acts.Removes id) rest refl refl k.above; below = joint_on Exit (acts.Removes id) rest refl refl k.below }
 act_like {near = near} {c = c} alone (acts.Replaces old id) rest fit k =
     record { place = boards_now near.place c.boards (with_new_id old id) k.place; above = joint_on Entry (acts.Replaces old id) rest refl refl k.above; below = joint_on Exit (acts.Replaces old id) rest refl refl k.below }
-act_like alone (acts.Reads at event) rest fit k = like_on (acts.Reads at event) rest k (joint_on Entry (acts.Reads at event) rest refl refl k.above) (joint_on Exit (acts.Reads at event) rest refl refl k.below)
-act_like alone (acts.Breaches at text) rest fit k = like_on (acts.Breaches at text) rest k (joint_on Entry (acts.Breaches at text) rest refl refl k.above) (joint_on Exit (acts.Breaches at text) rest refl refl k.below)
-act_like alone acts.Connects rest fit k = like_on acts.Connects rest k (joint_on Entry acts.Connects rest refl refl k.above) (joint_on Exit acts.Connects rest refl refl k.below)
-act_like alone (acts.Deed deed) rest fit k = like_on (acts.Deed deed) rest k (joint_on Entry (acts.Deed deed) rest refl refl k.above) (joint_on Exit (acts.Deed deed) rest refl refl k.below)
-act_like alone (acts.Marks id quality) rest fit k = like_on (acts.Marks id quality) rest k (joint_on Entry (acts.Marks id quality) rest refl refl k.above) (joint_on Exit (acts.Marks id quality) rest refl refl k.below)
-act_like alone (acts.Signals signal on) rest fit k = like_on (acts.Signals signal on) rest k (joint_on Entry (acts.Signals signal on) rest refl refl k.above) (joint_on Exit (acts.Signals signal on) rest refl refl k.below)
-act_like alone (acts.Tells message) rest fit k = like_on (acts.Tells message) rest k (joint_on Entry (acts.Tells message) rest refl refl k.above) (joint_on Exit (acts.Tells message) rest refl refl k.below)
-act_like alone (acts.Answered query order) rest fit k = like_on (acts.Answered query order) rest k (joint_on Entry (acts.Answered query order) rest refl refl k.above) (joint_on Exit (acts.Answered query order) rest refl refl k.below)
-act_like alone (acts.Sets setting) rest fit k = like_on (acts.Sets setting) rest k (joint_on Entry (acts.Sets setting) rest refl refl k.above) (joint_on Exit (acts.Sets setting) rest refl refl k.below)
+act_like alone act rest fit k = like_on act rest k (joint_on Entry act rest refl refl k.above) (joint_on Exit act rest refl refl k.below)
 
 pub acts_like : {has : Side → Bool} {new_entry new_exit far_above far_below : List ℕ} → SaysAlone → (told : List Act) → AreFitActs told → {near : Near} {c : Scene}
     → IsLike has told new_entry new_exit far_above far_below near c → IsLike has [] new_entry new_exit far_above far_below (nears_did has false told near) (all_met told c)

@@ -121,6 +121,7 @@ act_off alone (acts.Breaches at text) rest fit k = record { place = k.place; abo
 act_off alone acts.Connects rest fit k = record { place = k.place; above = joint_on Entry acts.Connects rest refl refl k.above; there = k.there; off = k.off; below = side_on Exit acts.Connects rest refl refl k.below; linked = k.linked }
 act_off alone (acts.Deed deed) rest fit k = record { place = k.place; above = joint_on Entry (acts.Deed deed) rest refl refl k.above; there = k.there; off = k.off; below = side_on Exit (acts.Deed deed) rest refl refl k.below; linked = k.linked }
 act_off alone (acts.Marks id quality) rest fit k = record { place = k.place; above = joint_on Entry (acts.Marks id quality) rest refl refl k.above; there = k.there; off = k.off; below = side_on Exit (acts.Marks id quality) rest refl refl k.below; linked = k.linked }
+act_off alone (acts.Subs id place) rest fit k = record { place = k.place; above = joint_on Entry (acts.Subs id place) rest refl refl k.above; there = k.there; off = k.off; below = side_on Exit (acts.Subs id place) rest refl refl k.below; linked = k.linked }
 act_off alone (acts.Signals signal on) rest fit k = record { place = k.place; above = joint_on Entry (acts.Signals signal on) rest refl refl k.above; there = k.there; off = k.off; below = side_on Exit (acts.Signals signal on) rest refl refl k.below; linked = k.linked }
 act_off alone (acts.Tells message) rest fit k = record { place = k.place; above = joint_on Entry (acts.Tells message) rest refl refl k.above; there = k.there; off = k.off; below = side_on Exit (acts.Tells message) rest refl refl k.below; linked = k.linked }
 act_off alone (acts.Answered query order) rest fit k = record { place = k.place; above = joint_on Entry (acts.Answered query order) rest refl refl k.above; there = k.there; off = k.off; below = side_on Exit (acts.Answered query order) rest refl refl k.below; linked = k.linked }
@@ -152,7 +153,7 @@ answered_by : {has : Bool} {stands : Bool} {rest : List Act} {new : List ℕ} {g
 answered_by link None text linked there k = absurd (false≢true linked)
 answered_by link (Some n) text linked there k = limited Exit (is_too_much Downstream (texted Downstream text link)) (texted Downstream text link) there k
 
-same_answer : (what : Horizontal) → is_told_answer what ≡ is_answer what
+pub same_answer : (what : Horizontal) → is_told_answer what ≡ is_answer what
 same_answer (message.Notification code severity text) = refl
 same_answer _ = refl
 
@@ -169,9 +170,7 @@ answer_like {has = has} {new_entry = ne} {new_exit = nx} {far_above = fa} {near 
 -- ---- all other acts of the step
 
 near_plain : (has : Side → Bool) (act : Act) (near : Near) → IsNoAnswer act → near_did has true act near ≡ near_did has false act near
-near_plain has (acts.Sends Entry message) near plain = refl
 near_plain has (acts.Sends Exit message) near plain = ap (λ (test : Bool). near_sent test Exit (canonical message) near) (same_answer message.body ∙ plain)
-near_plain has (acts.Drive side on) near plain = refl
 near_plain has _ near plain = refl
 
 nears_plain : (has : Side → Bool) (told : List Act) (near : Near) → AllActs IsNoAnswer told → nears_did has true told near ≡ nears_did has false told near

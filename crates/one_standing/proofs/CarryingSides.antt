@@ -47,7 +47,7 @@ pub home_on : {stands : Bool} {new : List ℕ} {stream : Stream} {messages : Lis
 home_on {stands = stands} {new = new} {stream = stream} {messages = messages} side act rest quiet still (home_hears k) = home_hears (subst (λ (n : ℕ). Carries stands new stream (drop n messages)) quiet k)
 home_on side act rest quiet still (home_closes closes) = home_closes (sym (ap (λ (o : Bool). open_after side o rest) still) ∙ closes)
 
-drop_one : {X : Type 0} (n : ℕ) (xs : List X) → drop (suc n) xs ≡ drop n (drop 1 xs)
+pub drop_one : {X : Type 0} (n : ℕ) (xs : List X) → drop (suc n) xs ≡ drop n (drop 1 xs)
 drop_one zero [] = refl
 drop_one (suc n) [] = refl
 drop_one n (x ∷ xs) = refl

@@ -178,7 +178,7 @@ words_count desk side (Wrong text ∷ others) body on =
     (λ now. closed_on desk side others did.body (breach_closes desk side text body) now)
 
 -- the other side hears nothing
-abbrev across : Side → Side
+abbrev pub across : Side → Side
 across Entry = Exit
 across Exit = Entry
 
@@ -267,7 +267,6 @@ pub input_words : (at : Side) (maker : Maker) (input : Input) (words : List Word
 input_words Entry maker (inputs.Bytes Entry piece) words is = absurd (false≢true (sym is))
 input_words Exit maker (inputs.Bytes Exit piece) words is = absurd (false≢true (sym is))
 input_words Entry maker (inputs.Bytes Exit piece) words is = refl
-input_words Exit maker (inputs.Bytes Entry piece) words is = refl
 input_words Entry maker (inputs.Insert barcode) words is = none_new (next_id maker) (λ id. Insert id barcode) Entry (λ id. refl)
 input_words Exit maker (inputs.Insert barcode) words is = none_new (next_id maker) (λ id. Insert id barcode) Exit (λ id. refl)
 input_words Entry maker (inputs.Replace old) words is = none_new (next_id maker) (Replace old) Entry (λ id. refl)

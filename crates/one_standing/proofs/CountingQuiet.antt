@@ -41,6 +41,8 @@ use Rattle.step_rules.specs.Causes.{
   Tells,
   hand_inserts,
   tells_hearing,
+  hand_changes,
+  changes_quality,
 }
 use Rattle.step_rules.specs.Made.{
   Made,
@@ -127,6 +129,7 @@ act_deaf _ own = tt
 hand_deaf : {desk : Desk} {event : Event} {body : Body} {kept : List Record} {act : Act}
     → ByHand desk event body kept act → IsDeaf act
 hand_deaf hand_inserts = tt
+hand_deaf (hand_changes (changes_quality is)) = tt
 hand_deaf _ = tt
 
 pub deaf_by_pieces : {desk : Desk} {cause : Cause} {body : Body} {d : Done}

@@ -133,6 +133,7 @@ good_at ms bs j k =
       exit_role = own.exit_role;
       away = held_elsewhere ms bs (j + 1) k;
       here = λ x lies gone. k.apart.nowhere (j + 1) x (at_machine (j + 1)) gone (lies_at lies);
+      recent = own.recent;
     }
 
 pub unique_at : (ms : ℕ → Stand) (bs : ℕ → Between) (j : ℕ) → Keeps ms bs → IsApart (afar_at ms bs j) (scene_between (ms j) (bs j) (ms (j + 1)) (bs (j + 1)) (ms (j + 1 + 1)))

@@ -29,7 +29,7 @@ link_there_not s link links (inr (counted, past)) = link_beyond link s.world (om
 pub no_link_at : (s : LineState) (link : ℕ) → length s.world.links ≡ length s.machines - 1 → has_link link s ≡ false → link_at link s.world ≡ no_link
 no_link_at s link links none = link_there_not s link links (where_none link s none)
 
-gap_there_not : (plan : FloorPlan) (gap count : ℕ) → IsWhole plan → length plan.machines ≡ count → (gap ≡ 0) ⊎ ((1 ≤ gap) × (count ≤ gap)) → gap_at plan gap ≡ free_gap
+pub gap_there_not : (plan : FloorPlan) (gap count : ℕ) → IsWhole plan → length plan.machines ≡ count → (gap ≡ 0) ⊎ ((1 ≤ gap) × (count ≤ gap)) → gap_at plan gap ≡ free_gap
 gap_there_not plan gap count whole many (inl none) = rw none refl
 gap_there_not plan gap count whole many (inr (counted, past)) = number_past plan.gaps gap free_gap (omega (arith, whole, many, counted, past))
 

@@ -204,6 +204,8 @@ use Rattle.step_rules.specs.Causes.{
   tells_notice,
   tells_query,
   tells_service,
+  hand_changes,
+  changes_quality,
 }
 use Rattle.step_rules.specs.Made.{
   Made,
@@ -380,6 +382,7 @@ act_mild may _ own = refl
 hand_mild : {desk : Desk} {event : Event} {body : Body} {kept : List Record} {act : Act}
     (may : Leave) → ByHand desk event body kept act → is_mild may act ≡ true
 hand_mild may hand_inserts = refl
+hand_mild may (hand_changes (changes_quality is)) = refl
 hand_mild may _ = refl
 
 mild : {desk : Desk} {cause : Cause} {body : Body} {d : Done} (may : Leave)

@@ -24,7 +24,7 @@ use Rattle.machine_custody.specs.Good.{Afar, Goes, Good}
 use Rattle.machine_custody.specs.Joined.{described_by, with_link}
 use Rattle.machine_custody.specs.Scene.{Scene, all_met}
 use Rattle.machine_custody.proofs.Cutting.{all_met_cut, cut_at, cut_goes}
-use Rattle.machine_custody.proofs.Far.{all_entry_below, all_exit_above, all_far_above, all_far_below, all_intake, all_outlet}
+use Rattle.machine_custody.proofs.Far.{all_entry_below, all_exit_above, all_far_above, all_far_below, all_intake, all_last, all_outlet}
 use Rattle.machine_custody.proofs.Joining.{Calls, first_accepts, first_calls}
 use Rattle.line_step.specs.Numbered.{node_at}
 use Rattle.line_step.specs.Reasons.{has_link}
@@ -77,8 +77,8 @@ exit_closed node may = is_off node.lane.body.exit.session.state (closed (is_open
 
 -- ---- what acts leave of the machines beside
 
-pub scene_same_above : (ca cb : Bool) (told : List Act) (c : Scene) (above : Stand) → c.above.exit ≡ above.body.exit.session.state → c.above.outlet ≡ above.body.outlet → c.above.far ≡ above.place → SameAbove above (scene_behind ca cb told c)
-scene_same_above ca cb told c above exit outlet far = same_cut ca cb (record { exit = all_exit_above told c ∙ exit; outlet = all_outlet told c ∙ outlet; far = all_far_above told c ∙ far })
+pub scene_same_above : (ca cb : Bool) (told : List Act) (c : Scene) (above : Stand) → c.above.exit ≡ above.body.exit.session.state → c.above.outlet ≡ above.body.outlet → c.above.last_offer ≡ above.body.last_offer → c.above.far ≡ above.place → SameAbove above (scene_behind ca cb told c)
+scene_same_above ca cb told c above exit outlet last far = same_cut ca cb (record { exit = all_exit_above told c ∙ exit; outlet = all_outlet told c ∙ outlet; last = all_last told c ∙ last; far = all_far_above told c ∙ far })
 
 pub scene_same_below : (ca cb : Bool) (told : List Act) (c : Scene) (below : Stand) → c.below.entry ≡ below.body.entry.session.state → c.below.intake ≡ below.body.intake → c.below.far ≡ below.place → SameBelow below (scene_behind ca cb told c)
 scene_same_below ca cb told c below entry intake far = same_cut_below ca cb (record { entry = all_entry_below told c ∙ entry; intake = all_intake told c ∙ intake; far = all_far_below told c ∙ far })
@@ -133,7 +133,7 @@ first_first number j t before after st m may =
       start = cut_at Entry c;
       outlet = refl;
       intake = refl;
-      same_above = scene_same_above ca cb told (cut_at Entry c) (stand_of before (j + 1)) refl refl refl;
+      same_above = scene_same_above ca cb told (cut_at Entry c) (stand_of before (j + 1)) refl refl refl refl;
       same_below = scene_same_below ca cb told (cut_at Entry c) (stand_of before (j + 1 + 1 + 1)) refl refl refl;
       goes = goes;
       still = λ none. (let s = still_at_below t before (j + 1) st none in still_below ca cb told (cut_at Entry c) (record { stands = s.stands; up = s.up; down = s.down }));
@@ -192,7 +192,7 @@ first_second number j t before after st m may may_meet together holds many =
       scene = scene_behind meet.cuts_above meet.cuts_below done.acts e;
       reached = meet.reached;
       fit = meet.fit;
-      same_above = scene_same_above meet.cuts_above meet.cuts_below done.acts e (stand_of between j) refl refl refl;
+      same_above = scene_same_above meet.cuts_above meet.cuts_below done.acts e (stand_of between j) refl refl refl refl;
       same_below = scene_same_below meet.cuts_above meet.cuts_below done.acts e (stand_of between (j + 1 + 1)) refl refl refl;
       elsewhere = elsewhere_of (stand_of between (j + 1)).place.boards;
       goes = λ k.

@@ -15,9 +15,9 @@ IsFitRequest (requests.gives machine input) = IsFitInput input
 IsFitRequest _ = Unit {0}
 
 pub fit_request : (line : ScriptLine) → IsFitLine line → IsFitRequest (request_of line)
-fit_request (lines.Insert machine None) fit = tt
 fit_request (lines.Insert machine (Some barcode)) fit = fit
 fit_request (lines.Query machine barcode) fit = fit
+fit_request (lines.Sub machine id place barcode) fit = fit
 fit_request _ fit = tt
 
 -- an input that a line gives is neither of bytes nor of a connection

@@ -9,6 +9,7 @@ use Rattle.line_base.specs.declared.states.Side.{Side}
 use Rattle.board_record.specs.Maker.{Maker, next_id}
 use Rattle.board_record.specs.declared.maker.IdsUsedUp.{IdsUsedUp}
 use Rattle.board_record.specs.declared.sensed.Sensed.{Sensed}
+use Rattle.board_record.specs.SubBoards.{unknown_sub}
 use Rattle.line_world.specs.FloorPlan.{machine_at, with_new_id, without_board}
 use Rattle.line_world.specs.declared.board.Board.{Board}
 use Rattle.handover_in.specs.State.{name_of_phase}
@@ -19,7 +20,7 @@ use Rattle.node_core.specs.Announces.{is_free, is_intake_free}
 use Rattle.node_core.specs.Boards.{is_kept}
 use Rattle.node_core.specs.Desk.{Desk}
 use Rattle.node_core.specs.Done.{Done}
-use Rattle.node_core.specs.Event.{Event, Insert, Mark, Nothing, Remove, Replace, Words, event_of, with_new}
+use Rattle.node_core.specs.Event.{Event, Insert, Mark, Nothing, Remove, Replace, Words, event_of, with_new, Sub}
 use Rattle.node_core.specs.Halves.{OffersFront}
 use Rattle.node_core.specs.May.{may_do, may_of, no_if}
 use Rattle.node_core.specs.Node.{NodeState, desk_of}
@@ -36,7 +37,7 @@ use Rattle.hermes_vertical.specs.declared.message.Question.{Question}
 use Rattle.machine_custody.specs.Good.{GoesBy, Good, Lies, lies_first, lies_later}
 use Rattle.machine_custody.specs.Scene.{Scene}
 use Rattle.machine_custody.specs.Unique.{IsApart}
-use Rattle.machine_custody.proofs.Step.{insert_goes, mark_goes, plain_keeps, remove_goes, replace_goes}
+use Rattle.machine_custody.proofs.Step.{insert_goes, mark_goes, plain_keeps, remove_goes, replace_goes, sub_goes}
 use Rattle.machine_custody.proofs.StillKept.{read_kept}
 use Rattle.line_report.specs.declared.happening.Happening.{Happening}
 use Rattle.line_report.specs.declared.happening.Happening.TheVariants as happenings
@@ -117,7 +118,7 @@ made_there P (told_later {other = other} {told = told} is) all = made_there P is
 abbrev IsNew : LineState → ℕ → Type 0
 IsNew s id = (other : ℕ) → IsOld 1 s.machines other → other ≢ id
 
-lies_last : {x y : ℕ} (boards : List Board) → Lies x (boards ++ record { id = Some y } ∷ []) → Lies x boards ⊎ (x ≡ y)
+pub lies_last : {x y : ℕ} (boards : List Board) → Lies x (boards ++ record { id = Some y } ∷ []) → Lies x boards ⊎ (x ≡ y)
 lies_last [] lies_first = inr refl
 lies_last [] (lies_later lies) = elim lies [ ]
 lies_last (b ∷ boards) lies_first = inl lies_first
@@ -157,7 +158,7 @@ plain_bears number j input t before after told all a steps may connects accepts 
 
 -- ---- a board is put in
 
-free_phase : (phase : In) → is_free (name_of_phase phase) ≡ true → phase ≡ inn.Idle
+pub free_phase : (phase : In) → is_free (name_of_phase phase) ≡ true → phase ≡ inn.Idle
 free_phase inn.Idle is = refl
 free_phase (inn.Taking r own heard) is = absurd (false≢true is)
 free_phase (inn.Stopped r own heard) is = absurd (false≢true is)
@@ -292,28 +293,48 @@ replace_bears number j old t before after told all a more steps may here m =
     let may_own : may_of node (inputs.Replace old) ≡ may_do = ap (λ (n : NodeState). may_of n (inputs.Replace old)) same ∙ may in
     replace_by number j old t before after told all a more steps may here m (passes_first (is_kept old node.lane.body.kept) _ _ may_own) same (next_id node.maker) refl
 
--- ---- a board is marked
+-- ---- a board's record is changed: it is marked, or gets a circuit more
 
-pub passes_second : (one two : Bool) (why other : No) → no_if one why (no_if two other may_do) ≡ may_do → two ≡ false
-passes_second false false why other is = refl
-passes_second false true why other is = cc
-passes_second true two why other is = cc
+pub passes_second : (one two : Bool) (why other : No) (next : Result (Unit {0}) No) → no_if one why (no_if two other next) ≡ may_do → two ≡ false
+passes_second false false why other next is = refl
+passes_second false true why other next is = cc
+passes_second true two why other next is = cc
 
 pub not_touched : (touched : Option ℕ) (id : ℕ) → is_id touched id ≡ false → touched ≡ Some id → ⊥
 not_touched None id other is = cc
 not_touched (Some own) id other is = false≢true (sym other ∙ ap (λ (t : Option ℕ). is_id t id) is ∙ eq-eqb id id refl)
 
-pub mark_bears : (number j id : ℕ) (quality : Quality) (t : Trace) (before after : LineState) (told all : List Happening) → Around t before after all
-    → (steps : MachineSteps number (j + 1) (inputs.Mark id quality) before after told) → may_of steps.node (inputs.Mark id quality) ≡ may_do → Mirrors number j (inputs.Mark id quality) t before after → Bearing after
-mark_bears number j id quality t before after told all a steps may m =
+pub data ChangesOne (id : ℕ) : Input → Type 0 where
+  marks_one : {quality : Quality} → ChangesOne id (inputs.Mark id quality)
+  subs_one : {place : ℕ} {barcode : Option (List ℕ)} → ChangesOne id (inputs.Sub id place barcode)
+
+-- of a board that isn't known downstream
+pub changed_untouched : {id : ℕ} {input : Input} (node : NodeState) → ChangesOne id input → may_of node input ≡ may_do → node.lane.body.outlet.touched ≡ Some id → ⊥
+changed_untouched {id = id} node marks_one may = not_touched node.lane.body.outlet.touched id (passes_second (not (is_kept id node.lane.body.kept)) (is_id node.lane.body.outlet.touched id) _ _ _ may)
+changed_untouched {id = id} node subs_one may = not_touched node.lane.body.outlet.touched id (passes_second (not (is_kept id node.lane.body.kept)) (is_id node.lane.body.outlet.touched id) _ _ _ may)
+
+change_goes : {id : ℕ} {input : Input} (number j : ℕ) (t : Trace) (before : LineState) (node : NodeState) (words : List Word) → ChangesOne id input → Stands t before → node_at before (j + 1) ≡ node → (node.lane.body.outlet.touched ≡ Some id → ⊥)
+    → Steady j t before (t.gone (j + 1)) (machine_step (desk_of node (moment_of number)) (unread_by (j + 1) before.world) (event_of node.maker input words) node.lane.body)
+change_goes {id = id} number j t before node words (marks_one {quality = quality}) st is free =
+    mark_goes (desk_of node (moment_of number)) (unread_by (j + 1) before.world) id quality node.lane.body (scene_at t before j) (good_node j t before node st is) free
+change_goes {id = id} number j t before node words (subs_one {place = place} {barcode = barcode}) st is free =
+    sub_goes (desk_of node (moment_of number)) (unread_by (j + 1) before.world) id (unknown_sub place barcode) node.lane.body (scene_at t before j) (good_node j t before node st is) free
+
+unjoined : {id : ℕ} {input : Input} {P : Type 0} → ChangesOne id input → (input ≡ inputs.Connect) ⊎ (input ≡ inputs.Accepted) → P
+unjoined marks_one (inl is) = cc
+unjoined marks_one (inr is) = cc
+unjoined subs_one (inl is) = cc
+unjoined subs_one (inr is) = cc
+
+pub change_bears : {id : ℕ} {input : Input} (number j : ℕ) (t : Trace) (before after : LineState) (told all : List Happening) → ChangesOne id input → Around t before after all
+    → (steps : MachineSteps number (j + 1) input before after told) → may_of steps.node input ≡ may_do → Mirrors number j input t before after → Bearing after
+change_bears {input = input} number j t before after told all c a steps may m =
     let node : NodeState = m.node in
     let is : node_at before (j + 1) ≡ node = node_there (j + 1) before node m.there in
     let same : node ≡ steps.node = sym is ∙ node_there (j + 1) before steps.node steps.there in
-    let may_own : may_of node (inputs.Mark id quality) ≡ may_do = ap (λ (n : NodeState). may_of n (inputs.Mark id quality)) same ∙ may in
-    let goes : Steady j t before (t.gone (j + 1)) (machine_step (desk_of node (moment_of number)) (unread_by (j + 1) before.world) (Mark id quality) node.lane.body) =
-    mark_goes (desk_of node (moment_of number)) (unread_by (j + 1) before.world) id quality node.lane.body (scene_at t before j) (good_node j t before node a.st is)
-    (not_touched node.lane.body.outlet.touched id (passes_second (not (is_kept id node.lane.body.kept)) (is_id node.lane.body.outlet.touched id) _ _ may_own)) in
-    step_bears number j (inputs.Mark id quality) t before after told a.st steps may a.together a.goes.holds (λ no. cc) (λ no. cc) m goes
+    let may_own : may_of node input ≡ may_do = ap (λ (n : NodeState). may_of n input) same ∙ may in
+    let goes = change_goes number j t before node m.words c a.st is (changed_untouched node c may_own) in
+    step_bears number j input t before after told a.st steps may a.together a.goes.holds (λ no. unjoined c (inl no)) (λ no. unjoined c (inr no)) m goes
     (λ t2 same. apart_stays t t2 before after all a.goes (λ k y. same k y ∙ same_gone j t k y (same_or_not k (j + 1))) (record { apart = a.st.keeps.apart; olds = a.st.olds }))
 
 -- ---- which inputs are plain

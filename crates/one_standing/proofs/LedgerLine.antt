@@ -1,5 +1,5 @@
 -- THE LEDGER FOLLOWS EACH LINE of a script.
-use Rattle.std.proofs.Common.{Bool, Err, List, None, Ok, Option, Result, Some, [], ap, append-nil, arith, false, inl, inr, leb-false, length, nat_le, refl, subst, suc, sym, true, zero, ℕ, ◌++◌, ◌+◌, ◌-◌, ◌<◌, ◌∙◌, ◌∷◌, ◌≡◌, ◌≢◌, ◌≤◌, ◌⊎◌}
+use Rattle.std.proofs.Common.{Bool, Err, List, None, Ok, Option, Result, Some, [], ap, append-nil, arith, inl, inr, length, nat_le, refl, subst, suc, sym, true, zero, ℕ, ◌++◌, ◌+◌, ◌-◌, ◌<◌, ◌∙◌, ◌∷◌, ◌≡◌, ◌≢◌, ◌≤◌, ◌⊎◌}
 use Rattle.std.specs.Prelude.{slice_get, slice_index_or, slice_set}
 use Rattle.one_standing.proofs.RestLine.{node_there}
 use Rattle.line_base.specs.declared.states.Side.{Side}
@@ -30,7 +30,7 @@ use Rattle.line_step.specs.State.{LineState, machine_in, one_more, profile_of, o
 use Rattle.line_step.specs.Steps.{MachineSteps, is_second, moment_of, read_by, unread_by}
 use Rattle.line_step.specs.World.{link_at}
 use Rattle.line_step.proofs.Changing.{more_changes, step_changes}
-use Rattle.line_step.proofs.FloorLaws.{steps-goes}
+use Rattle.line_step.proofs.FloorLaws.{steps-goes, plain_of, IsNew, new_by}
 use Rattle.line_step.proofs.Makers.{AreNumbered, IsOld, numbered-at, old-apart, old-new}
 use Rattle.line_step.proofs.Numbers.{machine_set_own, machine_within, same_or_not}
 use Rattle.one_standing.specs.Carried.{Trace}
@@ -93,26 +93,19 @@ own_nodes s t is machine = ap owned_by (same_nodes s t is machine)
 -- ---- a machine's step
 
 -- the ids that an input makes
-abbrev IsNewInput : (ℕ → Type 0) → Input → Maker → Type 0
+abbrev pub IsNewInput : (ℕ → Type 0) → Input → Maker → Type 0
 IsNewInput New (inputs.Insert barcode) maker = (id : ℕ) → next_id maker ≡ Ok id → New id
 IsNewInput New (inputs.Replace old) maker = (id : ℕ) → next_id maker ≡ Ok id → New id
 IsNewInput New _ maker = Unit {0}
 
-new_with : (New : ℕ → Type 0) (found : Result ℕ IdsUsedUp) (event : ℕ → Event) → ((id : ℕ) → found ≡ Ok id → IsNewFor New (event id)) → IsNewFor New (with_new found event)
+pub new_with : (New : ℕ → Type 0) (found : Result ℕ IdsUsedUp) (event : ℕ → Event) → ((id : ℕ) → found ≡ Ok id → IsNewFor New (event id)) → IsNewFor New (with_new found event)
 new_with New (Ok id) event new = new id refl
 new_with New (Err why) event new = tt
 
-new_event : (New : ℕ → Type 0) (maker : Maker) (input : Input) (words : List Word) → IsNewInput New input maker → IsNewFor New (event_of maker input words)
+pub new_event : (New : ℕ → Type 0) (maker : Maker) (input : Input) (words : List Word) → IsNewInput New input maker → IsNewFor New (event_of maker input words)
 new_event New maker (inputs.Insert barcode) words new = new_with New (next_id maker) (λ id. Insert id barcode) (λ id is. new id is)
 new_event New maker (inputs.Replace old) words new = new_with New (next_id maker) (Replace old) (λ id is. new id is)
 new_event New maker _ words new = tt
-
--- what a step does but for what it tells its supervisor, and for a bridge's own signals
-abbrev plain_of : (number machine : ℕ) (input : Input) (before after : LineState)
-    (told : List Happening) → MachineSteps number machine input before after told → List Act
-plain_of number machine input before after told steps =
-    (plain_step (desk_of steps.node (moment_of number)) (unread_by machine before.world)
-    (event_of steps.node.maker input steps.steps.lane.words) steps.node.lane.body).acts
 
 step_own : {New : ℕ → Type 0} (number machine : ℕ) (input : Input) (before after : LineState) (told : List Happening) (steps : MachineSteps number machine input before after told) → IsNewInput New input steps.node.maker
     → Did New (own_of steps.node.lane.body) (plain_of number machine input before after told steps)
@@ -195,23 +188,11 @@ machine_led {Older} {Old} number machine input before after told more steps new 
 
 -- ---- a new id
 
-record IsNew (maker : Maker) (id : ℕ) : Type 0 where
-  is : id ≡ made_id maker.machine (maker.used + 1)
-  small : maker.used + 1 < 281474976710656
-  now : (after_next maker).used ≡ maker.used + 1
-
 same_ok : {id other : ℕ} → ◌≡◌ {A = Result ℕ IdsUsedUp} (Ok id) (Ok other) → id ≡ other
 same_ok e = cc
 
 not_err : {id : ℕ} {why : IdsUsedUp} → ◌≡◌ {A = Result ℕ IdsUsedUp} (Err why) (Ok id) → ⊥
 not_err e = cc
-
-new_by : (full : Bool) (maker : Maker) (id : ℕ) → nat_le 281474976710655 maker.used ≡ full → next_id maker ≡ Ok id → IsNew maker id
-new_by true maker id test is = absurd (not_err {id = id} {why = record {}} (sym (rw test refl) ∙ is))
-new_by false maker id test is =
-    let above : maker.used < 281474976710655 = leb-false 281474976710655 maker.used test in
-    let some : next_id maker ≡ Ok (made_id maker.machine (maker.used + 1)) = rw test refl in
-    record { is = same_ok (sym is ∙ some); small = omega (arith, above); now = rw test refl }
 
 new_at : (nodes : List NodeState) (place id : ℕ) (node next : NodeState) → AreNumbered 1 nodes → slice_get nodes place ≡ Some node → next.maker ≡ after_next node.maker → next_id node.maker ≡ Ok id → IsMadeNow (IsOld 1 nodes) (IsOld 1 (slice_set nodes place next)) id
 new_at nodes place id node next own found made is =

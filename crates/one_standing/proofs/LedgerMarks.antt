@@ -32,7 +32,8 @@ use Rattle.one_standing.proofs.LedgerSteps.{all_of, both_not}
 use Rattle.one_standing.proofs.LedgerTurns.{different_first, different_rest, entry_at, has_first}
 use Rattle.one_standing.proofs.MarksOf.{HasMark, has_among, has_intake, has_kept, has_outlet, id_held, id_kept, mark_stands, owned_is}
 use Rattle.one_standing.proofs.MarksPlace.{IsAt, Position, is_between, is_gone, is_listed, kept_unheld, part_lies_at, once_rest, once_behind, map_lies}
-use Rattle.one_standing.proofs.OneStand.{at_link, has_end, same_link}
+use Rattle.one_standing.proofs.OneStand.{at_link, has_end, same_link, ByNumbers, by_numbers}
+use Rattle.one_standing.specs.Relation.{Between}
 
 -- ---- each id with a mark is old
 
@@ -45,7 +46,7 @@ position_old st (is_between {k = k} l) = spot_old (in_gap k) st (lies_in l)
 position_old {x = x} st (is_gone {k = k} gone) = st.olds k x gone
 
 pub mark_old : {t : Trace} {s : LineState} {x : ℕ} {mark : Mark} → Stands t s → HasMark (stand_of s) x mark → IsOld 1 s.machines x
-mark_old st has = position_old st (at_link st has).is
+mark_old st has = position_old st (at_link (by_numbers st) has).is
 
 pub taken_old : {t : Trace} {s : LineState} (machine id : ℕ) → Stands t s → (own_of (node_at s machine).lane.body).taking ≡ Some id → IsOld 1 s.machines id
 taken_old {s = s} machine id st is =
@@ -54,82 +55,85 @@ taken_old {s = s} machine id st is =
 
 -- ---- the ids of a machine differ
 
-not_in : (x : ℕ) (ids : List ℕ) → (has_id x ids ≡ true → ⊥) → has_id x ids ≡ false
+pub not_in : (x : ℕ) (ids : List ℕ) → (has_id x ids ≡ true → ⊥) → has_id x ids ≡ false
 not_in x ids none = not_by (has_id x ids) refl where
   not_by : (b : Bool) → has_id x ids ≡ b → b ≡ false
   not_by false is = refl
   not_by true is = absurd (none is)
 
-different_join : (xs ys : List ℕ) → are_different xs ≡ true → are_different ys ≡ true → ((x : ℕ) → has_id x xs ≡ true → has_id x ys ≡ true → ⊥) → are_different (xs ++ ys) ≡ true
+pub different_join : (xs ys : List ℕ) → are_different xs ≡ true → are_different ys ≡ true → ((x : ℕ) → has_id x xs ≡ true → has_id x ys ≡ true → ⊥) → are_different (xs ++ ys) ≡ true
 different_join [] ys one two apart = two
 different_join (x ∷ xs) ys one two apart =
     both_not (has_id x (xs ++ ys)) (are_different (xs ++ ys))
     (list_any-append (λ (other : ℕ). other == x) xs ys ∙ rw (different_first x xs one, not_in x ys (apart x (has_first x xs))) refl)
     (different_join xs ys (different_rest x xs one) two (λ y there. apart y (or_right (x == y) (has_id y xs) there)))
 
-one_different : (h : Option ℕ) → are_different (one_of h) ≡ true
+pub one_different : (h : Option ℕ) → are_different (one_of h) ≡ true
 one_different None = refl
 one_different (Some id) = refl
 
-held_has : (x : ℕ) (h : Option Record) → has_id x (one_of (id_of h)) ≡ true → is_held x (id_of h) ≡ true
+pub held_has : (x : ℕ) (h : Option Record) → has_id x (one_of (id_of h)) ≡ true → is_held x (id_of h) ≡ true
 held_has x None is = is
 held_has x (Some r) is = held_by (r.id == x) is where
   held_by : (b : Bool) → (b || false) ≡ true → b ≡ true
   held_by true is = refl
   held_by false is = is
 
-held_is : (x : ℕ) (h : Option Record) → has_id x (one_of (id_of h)) ≡ true → (r : Record) × (h ≡ Some r) × (r.id ≡ x)
+pub held_is : (x : ℕ) (h : Option Record) → has_id x (one_of (id_of h)) ≡ true → (r : Record) × (h ≡ Some r) × (r.id ≡ x)
 held_is x h is = id_held x h (held_has x h is)
 
-once_front : (xs ys : List Board) → AreOnce (xs ++ ys) → AreOnce xs
+pub once_front : (xs ys : List Board) → AreOnce (xs ++ ys) → AreOnce xs
 once_front [] ys once = once_none
 once_front (x ∷ xs) ys (once_more here more) = once_more (λ id is l. here id is (lies_before ys l)) (once_front xs ys more) where
   lies_before : {x : ℕ} {xs : List Board} (ys : List Board) → Lies x xs → Lies x (xs ++ ys)
   lies_before ys lies_first = lies_first
   lies_before ys (lies_later l) = lies_later (lies_before ys l)
 
-once_first : (id : ℕ) {boards : List Board} → AreOnce (record { id = Some id } ∷ boards) → Lies id boards → ⊥
+pub once_first : (id : ℕ) {boards : List Board} → AreOnce (record { id = Some id } ∷ boards) → Lies id boards → ⊥
 once_first id (once_more here more) l = here id refl l
 
-kept_different : (rs : List Record) → AreOnce (map board_of rs) → are_different (ids_of rs) ≡ true
+pub kept_different : (rs : List Record) → AreOnce (map board_of rs) → are_different (ids_of rs) ≡ true
 kept_different [] once = refl
 kept_different (r ∷ rs) once = both_not (has_id r.id (ids_of rs)) (are_different (ids_of rs)) (not_in r.id (ids_of rs) (λ has. once_first r.id once (map_lies (id_kept r.id rs has)))) (kept_different rs (once_rest once))
 
-has_either : (x : ℕ) (a b : List ℕ) → has_id x (a ++ b) ≡ true → (has_id x a ≡ true) ⊎ (has_id x b ≡ true)
+pub has_either : (x : ℕ) (a b : List ℕ) → has_id x (a ++ b) ≡ true → (has_id x a ≡ true) ⊎ (has_id x b ≡ true)
 has_either x a b has = either_by (has_id x a) (sym (list_any-append (λ (other : ℕ). other == x) a b) ∙ has) where
   either_by : (c : Bool) → (c || has_id x b) ≡ true → (c ≡ true) ⊎ (has_id x b ≡ true)
   either_by true is = inl refl
   either_by false is = inr is
 
-in_own_gap : (j : ℕ) → j + 1 ≡ j + 1 - 1 → ⊥
+pub in_own_gap : (j : ℕ) → j + 1 ≡ j + 1 - 1 → ⊥
 in_own_gap j e = omega (arith, e)
 
-pub kept_alone : {t : Trace} {s : LineState} {x : ℕ} {r : Record} (j : ℕ) → Stands t s → Kept x (node_at s (j + 1)).lane.body.kept → held_in (node_at s (j + 1)).lane.body.intake.phase ≡ Some r → r.id ≡ x → ⊥
+pub kept_alone : {b : ℕ → Between} {s : LineState} {x : ℕ} {r : Record} (j : ℕ) → ByNumbers b s → Kept x (node_at s (j + 1)).lane.body.kept → held_in (node_at s (j + 1)).lane.body.intake.phase ≡ Some r → r.id ≡ x → ⊥
 kept_alone {s = s} {x = x} j st k e same = in_own_gap j (same_link {mark = marks.Kept (j + 1)} {other = marks.Intake (j + 1)} st (has_kept k) (has_intake e same))
 
-held_alone : {t : Trace} {s : LineState} {x : ℕ} {q r : Record} (j : ℕ) → Stands t s → held_out (node_at s (j + 1)).lane.body.outlet.phase ≡ Some q → q.id ≡ x → held_in (node_at s (j + 1)).lane.body.intake.phase ≡ Some r → r.id ≡ x → ⊥
+held_alone : {b : ℕ → Between} {s : LineState} {x : ℕ} {q r : Record} (j : ℕ) → ByNumbers b s → held_out (node_at s (j + 1)).lane.body.outlet.phase ≡ Some q → q.id ≡ x → held_in (node_at s (j + 1)).lane.body.intake.phase ≡ Some r → r.id ≡ x → ⊥
 held_alone {s = s} {x = x} j st f also e same = in_own_gap j (same_link {mark = marks.Outlet (j + 1)} {other = marks.Intake (j + 1)} st (has_outlet f also) (has_intake e same))
 
-differ_at : {t : Trace} {s : LineState} (j : ℕ) → Stands t s → are_different (all_of (own_of (node_at s (j + 1)).lane.body)) ≡ true
-differ_at {t} {s} j st =
+differ_at : {b : ℕ → Between} {s : LineState} (j : ℕ) → ByNumbers b s → are_different (all_of (own_of (node_at s (j + 1)).lane.body)) ≡ true
+differ_at {b} {s} j st =
     let o : Option Record = held_out (node_at s (j + 1)).lane.body.outlet.phase in
     let rs : List Record = (node_at s (j + 1)).lane.body.kept in
     let i : Option Record = held_in (node_at s (j + 1)).lane.body.intake.phase in
-    let up : Bool = is_upstream (t.ghost (j + 1)).place in
-    let inside : Bool = is_inside (t.ghost j).place in
+    let up : Bool = is_upstream (b (j + 1)).ghost.place in
+    let inside : Bool = is_inside (b j).ghost.place in
     let once : AreOnce (map board_of rs) =
     once_front (map board_of rs) (part i inside) (once_behind (part o up) (map board_of rs ++ part i inside) (subst (λ (bs : List Board). AreOnce bs) (st.keeps.machines.at j).boards.same (st.keeps.apart.once (j + 1)))) in
     different_join (one_of (id_of o)) (ids_of rs ++ one_of (id_of i)) (one_different (id_of o))
     (different_join (ids_of rs) (one_of (id_of i)) (kept_different rs once) (one_different (id_of i)) (λ x one two. let into = held_is x i two in kept_alone j st (id_kept x rs one) into.1 into.2))
     (λ x one two. let out = held_is x o one in
     elim (has_either x (ids_of rs) (one_of (id_of i)) two) [
-      | inl here ↦ kept_unheld (j + 1) (j + 1) (has_end t s st) st.keeps (id_kept x rs here) out.1 out.2
+      | inl here ↦ kept_unheld (j + 1) (j + 1) st.ends st.keeps (id_kept x rs here) out.1 out.2
       | inr there ↦ let into = held_is x i there in held_alone j st out.1 out.2 into.1 into.2
     ])
 
+pub differ_by : {b : ℕ → Between} {s : LineState} (machine : ℕ) → ByNumbers b s → are_different (all_of (own_of (node_at s machine).lane.body)) ≡ true
+differ_by zero st = refl
+differ_by {s = s} (suc j) st = let next : j + 1 ≡ suc j = omega arith in subst (λ (m : ℕ). are_different (all_of (own_of (node_at s m).lane.body)) ≡ true) next (differ_at j st)
+
 pub differ_of : {t : Trace} {s : LineState} (machine : ℕ) → Stands t s → are_different (all_of (own_of (node_at s machine).lane.body)) ≡ true
-differ_of zero st = refl
-differ_of {s = s} (suc j) st = let next : j + 1 ≡ suc j = omega arith in subst (λ (m : ℕ). are_different (all_of (own_of (node_at s m).lane.body)) ≡ true) next (differ_at j st)
+differ_of machine st = differ_by machine (by_numbers st)
 
 -- ---- the ledger of a line, place by place
 

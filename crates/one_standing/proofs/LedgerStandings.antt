@@ -27,7 +27,7 @@ among_has {mark = mark} (among_later {other = other} {some = some} there) = or_r
 among_same : {mark : Mark} {some other : List Mark} → AreSame some other → Among mark some → Among mark other
 among_same {mark = mark} {other = other} same there = has_among mark other (sym (same mark) ∙ among_has there)
 
-all_at : {mark : Mark} {some : List Mark} (test : Mark → Bool) → list_all test some ≡ true → Among mark some → test mark ≡ true
+pub all_at : {mark : Mark} {some : List Mark} (test : Mark → Bool) → list_all test some ≡ true → Among mark some → test mark ≡ true
 all_at test all (among_first {mark = mark} {some = some}) = (and_parts (test mark) (list_all test some) all).0
 all_at test all (among_later {other = other} {some = some} there) = all_at test (and_parts (test other) (list_all test some) all).1 there
 

@@ -42,7 +42,6 @@ sent_none false machine side message world = remarks_none _ (cut_remarks (link_o
 act_deeds : (second : Bool) (machine : ℕ) (act : Act) (world : WorldParts) → deeds_of (act_did second machine act world).told ≡ deeds_at machine act
 act_deeds second machine (acts.Sends side message) world = sent_none (second && (is_exit side && is_answer message.body)) machine side message world
 act_deeds second machine (acts.Deed deed) world = append-nil (deeds_at_side machine deed)
-act_deeds second machine (acts.Drive side on) world = refl
 act_deeds second machine act world = refl
 
 pub acts_deeds : (second : Bool) (machine : ℕ) (told : List Act) (world : WorldParts) → deeds_of (acts_did second machine told world).told ≡ deeds_by machine told

@@ -25,10 +25,8 @@ use Rattle.std.proofs.Common.{
 }
 use Rattle.std.specs.Prelude.{slice_get}
 use Rattle.std.proofs.lemmas.Bool.{and_parts}
-use Rattle.node_core.proofs.Sound.{ids_behind}
 use Rattle.line_base.specs.declared.states.Side.{Side}
 use Rattle.line_base.specs.declared.states.Side.TheVariants.{Entry, Exit}
-use Rattle.line_base.specs.declared.states.Quality.{Quality}
 use Rattle.board_record.specs.declared.record.Record.{Record}
 use Rattle.board_record.specs.declared.sensed.Sensed.{Sensed as Seen}
 use Rattle.board_record.specs.Record.{plain_record}
@@ -103,7 +101,7 @@ use Rattle.node_core.specs.Halves.{
   behind_opening,
 }
 use Rattle.node_core.specs.Reads.{all_read}
-use Rattle.node_core.specs.Boards.{without, with_instead, with_kept, with_mark, is_kept, if_kept}
+use Rattle.node_core.specs.Boards.{without, with_instead, with_kept, is_kept, if_kept, with_changed}
 use Rattle.node_core.specs.Announces.{
   revokes_now,
   revoke,
@@ -126,8 +124,9 @@ use Rattle.node_core.proofs.Telling.{tells_pass}
 use Rattle.node_core.specs.Own.{with_id_instead, without_id, Own, own_by, own_of, ids_of, id_of}
 use Rattle.node_core.specs.declared.act.Deed.TheVariants as deeds
 use Rattle.node_core.proofs.HalfRows.{IsNoStart, IsPlain}
+use Rattle.node_core.proofs.KeptIds.{ids_behind, ids_changed, ids_instead, ids_without}
 use Rattle.standings.specs.Marks.{has_id}
-use Rattle.smema_bridge.specs.declared.line.SegmentLine.TheVariants.{Failed, Ready}
+use Rattle.smema_bridge.specs.declared.line.SegmentLine.TheVariants.{Ready}
 use Rattle.line_base.specs.declared.states.Quality.TheVariants as qualities
 use Rattle.step_rules.specs.Causes.{
   Announcing,
@@ -139,9 +138,7 @@ use Rattle.step_rules.specs.Causes.{
   Tells as TellsAct,
   ToIntake,
   ToOutlet,
-  hand_fails,
   hand_inserts as by_insert,
-  hand_marks,
   hand_removes as by_remove,
   hand_replaces as by_replace,
   in_closed,
@@ -156,6 +153,9 @@ use Rattle.step_rules.specs.Causes.{
   tells_notice,
   tells_reading,
   tells_service,
+  Changes,
+  changes_quality,
+  hand_changes,
 }
 use Rattle.step_rules.specs.Made.{
   Made,
@@ -182,6 +182,7 @@ use Rattle.step_rules.proofs.Steps.{
   revoke_made,
   unready_made,
 }
+use Rattle.step_rules.proofs.Changing.{changes_leave}
 
 -- ---- acts that move no record
 
@@ -339,28 +340,6 @@ kept_ids id (board ∷ boards) = kept_by (board.id == id) (kept_ids id boards) w
   kept_by true same = refl
   kept_by false same = same
 
-pub ids_without : (id : ℕ) (kept : List Record) → without_id id (ids_of kept) ≡ ids_of (without id kept)
-ids_without id [] = refl
-ids_without id (board ∷ boards) = without_by (board.id == id) (ids_without id boards) where
-  without_by : (test : Bool) → without_id id (ids_of boards) ≡ ids_of (without id boards) → (if test then ids_of boards else board.id ∷ without_id id (ids_of boards)) ≡ ids_of (if test then boards else board ∷ without id boards)
-  without_by true same = refl
-  without_by false same = ap (λ (ids : List ℕ). board.id ∷ ids) same
-
-pub ids_instead : (id : ℕ) (other : Record) (kept : List Record) → with_id_instead id other.id (ids_of kept) ≡ ids_of (with_instead id other kept)
-ids_instead id other [] = refl
-ids_instead id other (board ∷ boards) = instead_by (board.id == id) (ids_instead id other boards) where
-  instead_by : (test : Bool) → with_id_instead id other.id (ids_of boards) ≡ ids_of (with_instead id other boards)
-      → (if test then other.id ∷ ids_of boards else board.id ∷ with_id_instead id other.id (ids_of boards)) ≡ ids_of (if test then other ∷ boards else board ∷ with_instead id other boards)
-  instead_by true same = refl
-  instead_by false same = ap (λ (ids : List ℕ). board.id ∷ ids) same
-
-pub ids_marked : (id : ℕ) (quality : Quality) (kept : List Record) → ids_of kept ≡ ids_of (with_mark id quality kept)
-ids_marked id quality [] = refl
-ids_marked id quality (board ∷ boards) = marked_by (board.id == id) (ids_marked id quality boards) where
-  marked_by : (test : Bool) → ids_of boards ≡ ids_of (with_mark id quality boards) → board.id ∷ ids_of boards ≡ ids_of (if test then record board { quality = quality } ∷ boards else board ∷ with_mark id quality boards)
-  marked_by true same = refl
-  marked_by false same = ap (λ (ids : List ℕ). board.id ∷ ids) same
-
 hand_kept : {New : ℕ → Type 0} {own : Own} {told : List Act} {ids : List ℕ} (kept : List Record) (mine taking : Option ℕ) → ids ≡ ids_of kept → Hand New own told (own_parts ids mine taking) → Hand New own told (own_parts (ids_of kept) mine taking)
 hand_kept {New = New} {own = own} {told = told} kept mine taking same h = subst (λ (ids : List ℕ). Hand New own told (own_parts ids mine taking)) same h
 
@@ -411,13 +390,21 @@ act_silent : {desk : Desk} {cause : Cause} {body : Body} {act : Act} → TellsAc
 act_silent tells_reading = refl
 act_silent _ = refl
 
-marks_walk : (id : ℕ) (quality : Quality) (body : Body)
-    → Walks body (done (with_kept (with_mark id quality body.kept) body) (acts.Marks id quality ∷ []))
-marks_walk id quality body = record {
+changes_silent : {desk : Desk} {event : Event} {body : Body} {id : ℕ}
+    {change : Record → Record} {act : Act} → Changes desk event body id change act
+    → is_silent act ≡ true
+changes_silent (changes_quality is) = refl
+changes_silent _ = refl
+
+changes_walk : {desk : Desk} {event : Event} {id : ℕ} {change : Record → Record} {act : Act}
+    (body : Body) → Changes desk event body id change act
+    → Walks body (done (with_kept (with_changed id change body.kept) body) (act ∷ []))
+changes_walk {id = id} {change = change} {act = act} body deed = record {
   walk =
-      subst (λ (ids : List ℕ). Walk (own_of body) (acts.Marks id quality ∷ [])
+      subst (λ (ids : List ℕ). Walk (own_of body) (act ∷ [])
       (own_parts ids (id_of (held body.outlet)) (id_of (in_held body.intake))))
-      (ids_marked id quality body.kept) (walk_on refl walk_end);
+      (ids_changed id change body.kept (changes_leave deed))
+      (walk_on (changes_silent deed) walk_end);
 }
 
 hand_walk : {desk : Desk} {event : Event} {body : Body} {kept : List Record} {act : Act}
@@ -426,10 +413,7 @@ hand_walk : {desk : Desk} {event : Event} {body : Body} {kept : List Record} {ac
 hand_walk by_insert moves = absurd moves
 hand_walk (by_remove is) moves = absurd moves
 hand_walk (by_replace is) moves = absurd moves
-hand_walk (hand_marks {id = id} {quality = quality} {body = body} is) moves =
-    marks_walk id quality body
-hand_walk (hand_fails {id = id} {body = body} front is) moves =
-    marks_walk id qualities.Failed body
+hand_walk (hand_changes {body = body} deed) moves = changes_walk body deed
 
 walks : {desk : Desk} {cause : Cause} {body : Body} {d : Done} → Made desk cause body d
     → Moves cause → Walks body d

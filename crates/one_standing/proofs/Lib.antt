@@ -20,9 +20,7 @@ pub mod CountingQuiet
 pub mod Elsewhere
 pub mod Ends
 pub mod FactsBlame
-pub mod FactsContents
 pub mod FactsFlight
-pub mod FactsKeeps
 pub mod FactsOf
 pub mod HandSteps
 pub mod HandsThere

@@ -1,7 +1,6 @@
 -- Each form of a script line keeps the relation of the line.
 use Rattle.std.proofs.Common.{List, Option, Some, ap, false, not, refl, subst, sym, true, ℕ, ◌+◌, ◌-◌, ◌∙◌, ◌∷◌, ◌≡◌, ◌≤◌}
 use Rattle.std.proofs.lemmas.Bool.{false≢true}
-use Rattle.line_base.specs.declared.states.Quality.{Quality}
 use Rattle.line_base.specs.declared.states.Side.{Side}
 use Rattle.board_record.specs.declared.sensed.Sensed.{Sensed}
 use Rattle.line_script.specs.declared.line.ScriptLine.{ScriptLine}
@@ -25,7 +24,7 @@ use Rattle.one_standing.specs.Waits.{AreWaiting}
 use Rattle.one_standing.specs.Told.{IsTold}
 use Rattle.one_standing.proofs.Behind.{Bears}
 use Rattle.one_standing.proofs.Carrying.{SaysAlone}
-use Rattle.one_standing.proofs.HandSteps.{Around, Bearing, IsPlainInput, flow_bears, insert_bears, is_fault, is_notice, is_nothing, is_shutdown, is_tick, is_will, is_level, is_forecast, is_query, is_supervise, is_ask, is_answer, mark_bears, other_bears, remove_bears, replace_bears}
+use Rattle.one_standing.proofs.HandSteps.{Around, Bearing, IsPlainInput, flow_bears, insert_bears, is_fault, is_notice, is_nothing, is_shutdown, is_tick, is_will, is_level, is_forecast, is_query, is_supervise, is_ask, is_answer, other_bears, remove_bears, replace_bears, ChangesOne, change_bears, marks_one, subs_one}
 use Rattle.one_standing.proofs.LineMoves.{moves_bear, less_one}
 use Rattle.one_standing.proofs.MirroringFlow.{mirrors_flow}
 use Rattle.one_standing.proofs.MirroringPlain.{is_plain_input, mirrors_plain}
@@ -87,12 +86,16 @@ replace_line number machine id t before after told all s may steps =
     steps (get_may machine (inputs.Replace id) before steps.node steps.there may)
     (replaces_here machine id before steps.node steps.there may)
 
-mark_line : (number machine id : ℕ) (quality : Quality) (t : Trace) (before after : LineState) (told all : List Happening) → Setting number t before after told all → may_get machine (inputs.Mark id quality) before ≡ may_do
-    → MachineSteps number machine (inputs.Mark id quality) before after told → Bearing after
-mark_line number machine id quality t before after told all s may steps =
-    numbered (λ m. (steps : MachineSteps number m (inputs.Mark id quality) before after told) → own.may_of steps.node (inputs.Mark id quality) ≡ own.may_do → Bearing after) machine before steps.node steps.there
-    (λ j steps may. mark_bears number j id quality t before after told all s.around steps may (mirrors_plain s.alone t number j (inputs.Mark id quality) before after told refl tt s.few s.around.st s.around.st.links steps))
-    steps (get_may machine (inputs.Mark id quality) before steps.node steps.there may)
+changing_plain : {id : ℕ} {input : Input} → ChangesOne id input → is_plain_input input ≡ true
+changing_plain marks_one = refl
+changing_plain subs_one = refl
+
+change_line : {id : ℕ} {input : Input} (number machine : ℕ) (t : Trace) (before after : LineState) (told all : List Happening) → ChangesOne id input → IsFitInput input → Setting number t before after told all → may_get machine input before ≡ may_do
+    → MachineSteps number machine input before after told → Bearing after
+change_line {input = input} number machine t before after told all c fit s may steps =
+    numbered (λ m. (steps : MachineSteps number m input before after told) → own.may_of steps.node input ≡ own.may_do → Bearing after) machine before steps.node steps.there
+    (λ j steps may. change_bears number j t before after told all c s.around steps may (mirrors_plain s.alone t number j input before after told (changing_plain c) fit s.few s.around.st s.around.st.links steps))
+    steps (get_may machine input before steps.node steps.there may)
 
 -- ---- bytes
 
@@ -122,6 +125,7 @@ IsUnhanded (inputs.Insert barcode) = ⊥
 IsUnhanded (inputs.Remove id) = ⊥
 IsUnhanded (inputs.Replace id) = ⊥
 IsUnhanded (inputs.Mark id quality) = ⊥
+IsUnhanded (inputs.Sub id place barcode) = ⊥
 IsUnhanded input = IsGiven input
 
 unhanded : (input : Input) → IsUnhanded input → IsPlainInput input
@@ -143,7 +147,8 @@ given_bears : (number machine : ℕ) (input : Input) (t : Trace) (before next : 
 given_bears number machine (inputs.Insert barcode) t before next told all given fit s may did = insert_line number machine barcode t before next told all fit s may did
 given_bears number machine (inputs.Remove id) t before next told all given fit s may did = remove_line number machine id t before next told all s may did
 given_bears number machine (inputs.Replace id) t before next told all given fit s may did = replace_line number machine id t before next told all s may did
-given_bears number machine (inputs.Mark id quality) t before next told all given fit s may did = mark_line number machine id quality t before next told all s may did
+given_bears number machine (inputs.Mark id quality) t before next told all given fit s may did = change_line number machine t before next told all marks_one fit s may did
+given_bears number machine (inputs.Sub id place barcode) t before next told all given fit s may did = change_line number machine t before next told all subs_one fit s may did
 given_bears number machine input t before next told all given fit s may did =
     input_bears number machine input t before next told all (given_plain input given) fit (unhanded input given) s did (get_may machine input before did.node did.there may)
 

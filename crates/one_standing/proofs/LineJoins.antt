@@ -2,6 +2,7 @@
 use Rattle.std.proofs.Common.{Bool, List, [], ap, arith, false, inl, inr, length, refl, subst, sym, true, ℕ, ◌+◌, ◌-◌, ◌∙◌, ◌≡◌, ◌≢◌, ◌⊎◌}
 use Rattle.std.proofs.lemmas.Bool.{false≢true}
 use Rattle.std.specs.List.{AllByRecursion}
+use Rattle.line_step.proofs.FloorLaws.{IsHandless}
 use Rattle.hermes_horizontal.specs.declared.message.Horizontal.{Horizontal}
 use Rattle.line_link.specs.Link.{LinkParts, after_connect}
 use Rattle.line_world.specs.Boards.{boards_on}
@@ -37,7 +38,7 @@ use Rattle.one_standing.specs.Kept.{Keeps}
 use Rattle.one_standing.specs.Mirrors.{IsReached}
 use Rattle.one_standing.specs.Relation.{scene_between}
 use Rattle.one_standing.specs.Stands.{IsAtRest, Stands}
-use Rattle.one_standing.proofs.ApartHands.{IsHandless, IsStill, apart_still, step_still}
+use Rattle.one_standing.proofs.ApartHands.{IsStill, apart_still, step_still}
 use Rattle.one_standing.proofs.ApartStep.{Parted, apart_stays}
 use Rattle.one_standing.proofs.Behind.{AreReal, carried_behind, carried_same, carries_as, each_fit, each_machine, put_first, put_neither, put_second, same_has, stepped, stepped_same}
 use Rattle.one_standing.proofs.Ends.{no_gap_at, no_link_at}

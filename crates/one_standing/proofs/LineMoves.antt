@@ -81,7 +81,7 @@ move_by i step t s plan gone st moves grow taken parts =
 
 -- ---- what is gone
 
-same_gone : (gap : ℕ) (t : Trace) (k y : ℕ) → (k ≡ gap) ⊎ (k ≢ gap) → put gap (t.gone gap) t.gone k y ≡ t.gone k y
+pub same_gone : (gap : ℕ) (t : Trace) (k y : ℕ) → (k ≡ gap) ⊎ (k ≢ gap) → put gap (t.gone gap) t.gone k y ≡ t.gone k y
 same_gone gap t k y (inl is) = rw is (ap (λ (f : ℕ → Bool). f y) (put_same gap (t.gone gap) t.gone))
 same_gone gap t k y (inr apart) = ap (λ (f : ℕ → Bool). f y) (put_other gap k (t.gone gap) t.gone apart)
 
@@ -92,11 +92,11 @@ more_gone gap id t k y (inr apart) =
 
 -- ---- a hand takes a board
 
-taken_board : {old new : world.Around} {p : Place} {r : Record} → IsMove moves.Take old new → GapAt old.between.lies p r → LiesIn r.id old.between.lies
+pub taken_board : {old new : world.Around} {p : Place} {r : Record} → IsMove moves.Take old new → GapAt old.between.lies p r → LiesIn r.id old.between.lies
 taken_board begun_is_taken gap_begun = lies_begun
 taken_board left_is_taken gap_left = lies_left
 
-one_board : {x y : ℕ} {lies : Gap} → LiesIn x lies → LiesIn y lies → y ≡ x
+pub one_board : {x y : ℕ} {lies : Gap} → LiesIn x lies → LiesIn y lies → y ≡ x
 one_board lies_begun lies_begun = refl
 one_board lies_left lies_left = refl
 

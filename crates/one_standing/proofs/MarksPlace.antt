@@ -12,6 +12,7 @@ use Rattle.custody.specs.Pair.{board_of, part}
 use Rattle.custody.specs.Place.{Across, Fresh, Home, InGap, Inside, Lost, Place, Stolen, is_away, is_inside, is_upstream}
 use Rattle.custody.proofs.Facts.{in_holds, out_holds}
 use Rattle.machine_custody.specs.Good.{Lies, lies_first, lies_later}
+use Rattle.machine_custody.proofs.Holding.{kept_upstream}
 use Rattle.machine_custody.proofs.Keeping.{lies_behind}
 use Rattle.one_standing.specs.Kept.{Keeps}
 use Rattle.one_standing.specs.Places.{LiesIn, at_machine, in_gap, lies_at, lies_begun, lies_in, lies_left}
@@ -245,7 +246,7 @@ kept_or_gone r same (inr gone) = at_none r same gone
 
 upstream_by : {ms : ℕ → Stand} {bs : ℕ → Between} {x k : ℕ} {r : Record} → Neighbours (ms k) (bs k) (ms (k + 1)) → held_in (ms (k + 1)).body.intake.phase ≡ Some r → r.id ≡ x → is_upstream (bs k).ghost.place ≡ true
     → (h : Option Record) → held_out (ms k).body.outlet.phase ≡ h → AtLink ms bs x k true
-upstream_by {r = r} n e same up None free = kept_or_gone r same (n.holds.upstream r e free up)
+upstream_by {r = r} n e same up None free = kept_or_gone r same (kept_upstream n.holds r e free up)
 upstream_by {r = r} n e same up (Some q) held =
     let one : q ≡ r = sym (out_holds n.pair.out held) ∙ in_holds n.pair.in e in
     at_front held (ap (λ (o : Record). o.id) one ∙ same) up

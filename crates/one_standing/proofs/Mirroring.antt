@@ -54,11 +54,11 @@ same_some is = cc
 
 -- ---- its gaps
 
-gap_by : (j n gaps : ℕ) (test : Bool) → nat_lt j n ≡ test → gaps ≡ n - 1 → 1 ≤ n → nat_le j gaps ≡ test
+pub gap_by : (j n gaps : ℕ) (test : Bool) → nat_lt j n ≡ test → gaps ≡ n - 1 → 1 ≤ n → nat_le j gaps ≡ test
 gap_by j n gaps true is many some = grind (arith, is)
 gap_by j n gaps false is many some = grind (arith, is)
 
-gap_test : (j n gaps : ℕ) → gaps ≡ n - 1 → 1 ≤ n → (nat_le 1 j && nat_le j gaps) ≡ (nat_le 1 j && nat_lt j n)
+pub gap_test : (j n gaps : ℕ) → gaps ≡ n - 1 → 1 ≤ n → (nat_le 1 j && nat_le j gaps) ≡ (nat_le 1 j && nat_lt j n)
 gap_test j n gaps many some = ap (λ (test : Bool). nat_le 1 j && test) (gap_by j n gaps (nat_lt j n) refl many some)
 
 abbrev pub links_of : ℕ → LineState → Side → Bool

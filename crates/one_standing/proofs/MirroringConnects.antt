@@ -106,7 +106,7 @@ forget_down {afar = afar} {above = above} {ga = ga} body c g away =
       };
       below_pair = g.below_pair;
       boards = g.boards;
-      above_contents = subst (λ (ws : List DownWord). Contents (gone_by afar.gone_above) c.above.stands above c.above.outlet.touched body.intake.phase body.intake.offer (up_words c.above.up) ws) none g.above_contents;
+      above_contents = subst (λ (ws : List DownWord). Contents (gone_by afar.gone_above) c.above.stands above c.above.outlet.touched c.above.last_offer body.intake.phase body.intake.offer (up_words c.above.up) ws) none g.above_contents;
       below_contents = g.below_contents;
       above_holds = g.above_holds;
       below_holds = g.below_holds;
@@ -114,4 +114,5 @@ forget_down {afar = afar} {above = above} {ga = ga} body c g away =
       exit_role = g.exit_role;
       away = g.away;
       here = g.here;
+      recent = g.recent;
     }

@@ -45,15 +45,10 @@ use Rattle.node_core.specs.Signals.{signalled}
 
 met_off : (act : Act) (c : Scene) → c.above.stands ≡ false → (met act c).above.stands ≡ false
 met_off (acts.Hears Entry message) c off = off
-met_off (acts.Hears Exit message) c off = off
 met_off (acts.Sends Entry message) c off = off
-met_off (acts.Sends Exit message) c off = off
 met_off (acts.Closes Entry) c off = refl
-met_off (acts.Closes Exit) c off = off
 met_off (acts.Notices Entry) c off = refl
-met_off (acts.Notices Exit) c off = off
 met_off (acts.Drive Entry on) c off = off
-met_off (acts.Drive Exit on) c off = off
 met_off _ c off = off
 
 all_off : (told : List Act) (c : Scene) → c.above.stands ≡ false → (all_met told c).above.stands ≡ false

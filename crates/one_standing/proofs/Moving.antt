@@ -1,5 +1,5 @@
 -- A move on the floor, by numbers.
-use Rattle.std.proofs.Common.{Bool, List, Ok, Some, ap, arith, false, inl, inr, refl, subst, sym, true, ℕ, ◌+◌, ◌∙◌, ◌≡◌, ◌≢◌, ◌⊎◌}
+use Rattle.std.proofs.Common.{Bool, List, Ok, Option, Some, ap, arith, false, inl, inr, refl, subst, sym, true, ℕ, ◌+◌, ◌∙◌, ◌≡◌, ◌≢◌, ◌⊎◌}
 use Rattle.std.proofs.lemmas.Bool.{false≢true}
 use Rattle.line_base.specs.declared.states.SensorEvent.{SensorEvent}
 use Rattle.line_base.specs.declared.states.Side.TheVariants as sides
@@ -65,8 +65,8 @@ AreTaken gone _ lies = Unit {0}
 own_id : (gone : ℕ → Bool) {r q : Record} → r ≡ q → gone r.id ≡ true → gone q.id ≡ true
 own_id gone same is = subst (λ (r : Record). gone r.id ≡ true) same is
 
-holds_moved : {gone gone2 : ℕ → Bool} {kept : List Record} {step : Move} {p p2 : Place} {lies : Gap} {r : Record} {o : Out} {i : In} {ue un : List SensorEvent} {xd ed : Bool}
-    → MovesPlace step p p2 → GapAt lies p r → ExitFloor o ue xd p r → EntryFloor i un ed p r → AreTaken gone2 step lies → Holds gone kept p o i → Holds gone2 kept p2 o i
+holds_moved : {gone gone2 : ℕ → Bool} {kept : List Record} {last : Option ℕ} {step : Move} {p p2 : Place} {lies : Gap} {r : Record} {o : Out} {i : In} {ue un : List SensorEvent} {xd ed : Bool}
+    → MovesPlace step p p2 → GapAt lies p r → ExitFloor o ue xd p r → EntryFloor i un ed p r → AreTaken gone2 step lies → Holds gone kept last p o i → Holds gone2 kept last p2 o i
 holds_moved place.begins gap out within taken h = record { inside = λ q held is. absurd (no_true is); away_out = λ q held is. absurd (no_true is); away_in = λ q held is. absurd (no_true is); upstream = λ q held free is. absurd (no_true is) }
 holds_moved place.leaves gap out within taken h = record { inside = λ q held is. absurd (no_true is); away_out = λ q held is. absurd (no_true is); away_in = λ q held is. absurd (no_true is); upstream = λ q held free is. absurd (no_true is) }
 holds_moved place.enters gap_left out within taken h = record { inside = λ q held is. left_held_downstream gap_left within ∙ ap Some (out_holds out held); away_out = λ q held is. absurd (no_true is); away_in = λ q held is. absurd (no_true is); upstream = λ q held free is. absurd (no_true is) }
@@ -168,8 +168,8 @@ move_keeps step i ms bs ms2 bs2 c gone k done grows taken apart lifted m =
       contents = contents_gone grows old.contents;
       holds = holds_moved lifted.moves old.pair.gap old.pair.out old.pair.in taken old.holds;
     } in
-    let own_up : Owns (bs i) up now = record { boards = lifted.body; entry_role = (k.machines.at i).entry_role; exit_role = (k.machines.at i).exit_role; offers = (k.machines.at i).offers } in
-    let own_down : Owns now down (bs (i + 1 + 1)) = record { boards = lifted.below; entry_role = (k.machines.at (i + 1)).entry_role; exit_role = (k.machines.at (i + 1)).exit_role; offers = (k.machines.at (i + 1)).offers } in
+    let own_up : Owns (bs i) up now = record { boards = lifted.body; entry_role = (k.machines.at i).entry_role; exit_role = (k.machines.at i).exit_role; offers = (k.machines.at i).offers; recent = (k.machines.at i).recent } in
+    let own_down : Owns now down (bs (i + 1 + 1)) = record { boards = lifted.below; entry_role = (k.machines.at (i + 1)).entry_role; exit_role = (k.machines.at (i + 1)).exit_role; offers = (k.machines.at (i + 1)).offers; recent = (k.machines.at (i + 1)).recent } in
     record {
       neighbours = each_around Neighbours (i + 1) ms bs ms2 bs2 m.changes k.neighbours
           (subst (λ (x : Stand). Neighbours (ms2 (i + 1)) (bs2 (i + 1)) x) (sym m.down) (subst (λ (x : Between). Neighbours (ms2 (i + 1)) x down) (sym m.between) (subst (λ (x : Stand). Neighbours x now down) (sym m.up) here)))

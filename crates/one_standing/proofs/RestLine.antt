@@ -29,12 +29,12 @@ IsNoCall Entry inputs.Connect = ⊥
 IsNoCall Exit inputs.Accepted = ⊥
 IsNoCall _ _ = Unit {0}
 
-new_opens : (at : Side) (found : Result ℕ IdsUsedUp) (event : ℕ → Event) → ((id : ℕ) → IsNoOpening at (event id)) → IsNoOpening at (with_new found event)
+pub new_opens : (at : Side) (found : Result ℕ IdsUsedUp) (event : ℕ → Event) → ((id : ℕ) → IsNoOpening at (event id)) → IsNoOpening at (with_new found event)
 new_opens at (Ok id) event none = none id
 new_opens Entry (Err why) event none = tt
 new_opens Exit (Err why) event none = tt
 
-event_opens : (at : Side) (maker : Maker) (input : Input) (words : List Word) → IsNoCall at input → IsNoOpening at (event_of maker input words)
+pub event_opens : (at : Side) (maker : Maker) (input : Input) (words : List Word) → IsNoCall at input → IsNoOpening at (event_of maker input words)
 event_opens Entry maker (inputs.Insert barcode) words plain = new_opens Entry (next_id maker) (λ (id : ℕ). Insert id barcode) (λ id. tt)
 event_opens Exit maker (inputs.Insert barcode) words plain = new_opens Exit (next_id maker) (λ (id : ℕ). Insert id barcode) (λ id. tt)
 event_opens Entry maker (inputs.Replace id) words plain = new_opens Entry (next_id maker) (λ (new : ℕ). Replace id new) (λ new. tt)

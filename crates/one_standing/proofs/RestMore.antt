@@ -86,27 +86,27 @@ same_keeps ms ms2 bs bs2 stands betweens keeps =
     subst (λ (n : ℕ → Stand). Keeps n bs2) (sym m) (subst (λ (c : ℕ → Between). Keeps ms c) (sym b) keeps)
 
 -- the will doesn't count
-neighbours_aside : {a c : Stand} {b : Between} → Neighbours a b c → Neighbours (stand_aside a) b (stand_aside c)
+pub neighbours_aside : {a c : Stand} {b : Between} → Neighbours a b c → Neighbours (stand_aside a) b (stand_aside c)
 neighbours_aside n = record { pair = n.pair; contents = n.contents; holds = n.holds }
 
-neighbours_seen : (a c : Stand) (b : Between) → Neighbours (stand_aside a) b (stand_aside c) → Neighbours a b c
+pub neighbours_seen : (a c : Stand) (b : Between) → Neighbours (stand_aside a) b (stand_aside c) → Neighbours a b c
 neighbours_seen a c b n = record { pair = n.pair; contents = n.contents; holds = n.holds }
 
-owns_aside : {a b : Between} {m : Stand} → Owns a m b → Owns a (stand_aside m) b
-owns_aside o = record { boards = o.boards; entry_role = o.entry_role; exit_role = o.exit_role; offers = o.offers }
+pub owns_aside : {a b : Between} {m : Stand} → Owns a m b → Owns a (stand_aside m) b
+owns_aside o = record { boards = o.boards; entry_role = o.entry_role; exit_role = o.exit_role; offers = o.offers; recent = o.recent }
 
-owns_seen : (a b : Between) (m : Stand) → Owns a (stand_aside m) b → Owns a m b
-owns_seen a b m o = record { boards = o.boards; entry_role = o.entry_role; exit_role = o.exit_role; offers = o.offers }
+pub owns_seen : (a b : Between) (m : Stand) → Owns a (stand_aside m) b → Owns a m b
+owns_seen a b m o = record { boards = o.boards; entry_role = o.entry_role; exit_role = o.exit_role; offers = o.offers; recent = o.recent }
 
-lies_aside : (ms : ℕ → Stand) (bs : ℕ → Between) {x : ℕ} {p : Spot} → LiesAt ms bs x p → LiesAt (λ k. stand_aside (ms k)) bs x p
+pub lies_aside : (ms : ℕ → Stand) (bs : ℕ → Between) {x : ℕ} {p : Spot} → LiesAt ms bs x p → LiesAt (λ k. stand_aside (ms k)) bs x p
 lies_aside ms bs (lies_at is) = lies_at is
 lies_aside ms bs (lies_in is) = lies_in is
 
-lies_seen : (ms : ℕ → Stand) (bs : ℕ → Between) {x : ℕ} {p : Spot} → LiesAt (λ k. stand_aside (ms k)) bs x p → LiesAt ms bs x p
+pub lies_seen : (ms : ℕ → Stand) (bs : ℕ → Between) {x : ℕ} {p : Spot} → LiesAt (λ k. stand_aside (ms k)) bs x p → LiesAt ms bs x p
 lies_seen ms bs (lies_at is) = lies_at is
 lies_seen ms bs (lies_in is) = lies_in is
 
-keeps_aside : (ms : ℕ → Stand) (bs : ℕ → Between) → Keeps ms bs → Keeps (λ k. stand_aside (ms k)) bs
+pub keeps_aside : (ms : ℕ → Stand) (bs : ℕ → Between) → Keeps ms bs → Keeps (λ k. stand_aside (ms k)) bs
 keeps_aside ms bs keeps = record {
   neighbours = record { at = λ k. neighbours_aside (keeps.neighbours.at k) };
   machines = record { at = λ k. owns_aside (keeps.machines.at k) };
@@ -118,7 +118,7 @@ keeps_aside ms bs keeps = record {
   };
 }
 
-keeps_seen : (ms : ℕ → Stand) (bs : ℕ → Between) → Keeps (λ k. stand_aside (ms k)) bs → Keeps ms bs
+pub keeps_seen : (ms : ℕ → Stand) (bs : ℕ → Between) → Keeps (λ k. stand_aside (ms k)) bs → Keeps ms bs
 keeps_seen ms bs keeps = record {
   neighbours = record { at = λ k. neighbours_seen (ms k) (ms (k + 1)) (bs k) (keeps.neighbours.at k) };
   machines = record { at = λ k. owns_seen (bs k) (bs (k + 1)) (ms (k + 1)) (keeps.machines.at k) };
@@ -246,11 +246,11 @@ new_fits [] new (suc place) P fit fits = fits zero
 new_fits (n ∷ nodes) new zero P fit fits = fits zero
 new_fits (n ∷ nodes) new (suc place) P fit fits = new_fits nodes new place P fit (λ other. fits (suc other))
 
-record IsFitNode (node : NodeState) : Type 0 where
-  body : IsFitBody node.lane.body
-  maker : IsFitMaker node.maker
-  name : IsText node.name
-  lane : node.number ≤ 999_999_999
+pub record IsFitNode (node : NodeState) : Type 0 where
+  pub body : IsFitBody node.lane.body
+  pub maker : IsFitMaker node.maker
+  pub name : IsText node.name
+  pub lane : node.number ≤ 999_999_999
 
 few_numbers : (machines count : ℕ) → machines ≡ count + 1 → machines ≤ 64 → (count + 1 ≤ 65) × (count + 1 < 2 ^ 32)
 few_numbers machines count is few = (omega arith, omega arith)
@@ -258,10 +258,10 @@ few_numbers machines count is few = (omega arith, omega arith)
 new_node_fits : (is_bridge : Bool) (capacity used number : ℕ) → number ≤ 65 → number < 2 ^ 32 → IsFitNode (new_node (profile_of is_bridge number capacity used))
 new_node_fits is_bridge capacity used number few small = record { body = first_body_fits is_bridge; maker = record { small = small }; name = machine_is_text number few; lane = omega arith }
 
-as_node : (s : LineState) (machine : ℕ) → IsFitMachine s machine → IsFitNode (node_at s machine)
+pub as_node : (s : LineState) (machine : ℕ) → IsFitMachine s machine → IsFitNode (node_at s machine)
 as_node s machine k = record { body = k.body; maker = k.maker; name = k.name; lane = k.lane }
 
-as_machine : (s : LineState) (machine : ℕ) → IsFitNode (node_at s machine) → IsFitMachine s machine
+pub as_machine : (s : LineState) (machine : ℕ) → IsFitNode (node_at s machine) → IsFitMachine s machine
 as_machine s machine k = record { body = k.body; maker = k.maker; name = k.name; lane = k.lane }
 
 more_fit : (is_bridge : Bool) (capacity used : ℕ) (s : LineState) → IsLineTogether (one_more is_bridge capacity used s) → ((machine : ℕ) → IsFitMachine s machine) → (machine : ℕ) → IsFitMachine (one_more is_bridge capacity used s) machine

@@ -48,7 +48,7 @@ pub node_none : (machine : ℕ) → node_at no_line machine ≡ no_node
 node_none zero = refl
 node_none (suc place) = refl
 
-either_way : {X : Type 0} (test : Bool) (x : X) → cond test x x ≡ x
+pub either_way : {X : Type 0} (test : Bool) (x : X) → cond test x x ≡ x
 either_way true x = refl
 either_way false x = refl
 
@@ -83,7 +83,7 @@ none_neighbours = record {
 }
 
 none_owns : Owns nothing_between nothing_at nothing_between
-none_owns = record { boards = record { same = refl }; entry_role = refl; exit_role = refl; offers = tt }
+none_owns = record { boards = record { same = refl }; entry_role = refl; exit_role = refl; offers = tt; recent = record { offered = λ id is. cc; held = λ r is. cc } }
 
 no_gap : {x : ℕ} → LiesIn x gaps.Free → ⊥
 no_gap lies = elim lies [ ]

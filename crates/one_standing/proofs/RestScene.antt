@@ -42,29 +42,13 @@ vanishes what stands flow off none = ap (λ (on : Bool). sent (what ∷ []) on f
 
 met_below : (act : Act) (c : Scene) → IsStillBelow c → IsStillBelow (met act c)
 met_below (acts.Reads Entry event) c k = record { stands = k.stands; up = k.up; down = k.down }
-met_below (acts.Reads Exit event) c k = record { stands = k.stands; up = k.up; down = k.down }
-met_below (acts.Hears Entry message) c k = record { stands = k.stands; up = k.up; down = k.down }
 met_below (acts.Hears Exit message) c k = record { stands = k.stands; up = ap (λ (ms : List Horizontal). drop 1 ms) k.up; down = k.down }
 met_below (acts.Breaches Entry text) c k = record { stands = k.stands; up = k.up; down = k.down }
-met_below (acts.Breaches Exit text) c k = record { stands = k.stands; up = k.up; down = k.down }
-met_below (acts.Sends Entry message) c k = record { stands = k.stands; up = k.up; down = k.down }
 met_below (acts.Sends Exit message) c k = record { stands = k.stands; up = k.up; down = vanishes message.body c.below.stands c.below.down k.stands k.down }
-met_below (acts.Closes Entry) c k = record { stands = k.stands; up = k.up; down = k.down }
 met_below (acts.Closes Exit) c k = record { stands = refl; up = refl; down = k.down }
-met_below (acts.Notices Entry) c k = record { stands = k.stands; up = k.up; down = k.down }
 met_below (acts.Notices Exit) c k = record { stands = refl; up = refl; down = k.down }
-met_below acts.Connects c k = record { stands = k.stands; up = k.up; down = k.down }
-met_below (acts.Deed deed) c k = record { stands = k.stands; up = k.up; down = k.down }
 met_below (acts.Drive Entry on) c k = record { stands = k.stands; up = k.up; down = k.down }
-met_below (acts.Drive Exit on) c k = record { stands = k.stands; up = k.up; down = k.down }
-met_below (acts.Marks id quality) c k = record { stands = k.stands; up = k.up; down = k.down }
-met_below (acts.Inserts id) c k = record { stands = k.stands; up = k.up; down = k.down }
-met_below (acts.Removes id) c k = record { stands = k.stands; up = k.up; down = k.down }
-met_below (acts.Replaces old new) c k = record { stands = k.stands; up = k.up; down = k.down }
-met_below (acts.Signals signal on) c k = record { stands = k.stands; up = k.up; down = k.down }
-met_below (acts.Tells message) c k = record { stands = k.stands; up = k.up; down = k.down }
-met_below (acts.Answered query order) c k = record { stands = k.stands; up = k.up; down = k.down }
-met_below (acts.Sets setting) c k = record { stands = k.stands; up = k.up; down = k.down }
+met_below _ c k = record { stands = k.stands; up = k.up; down = k.down }
 
 pub all_below : (done : List Act) (c : Scene) → IsStillBelow c → IsStillBelow (all_met done c)
 all_below [] c k = k
@@ -72,29 +56,13 @@ all_below (act ∷ others) c k = all_below others (met act c) (met_below act c k
 
 met_above : (act : Act) (c : Scene) → IsStillAbove c → IsStillAbove (met act c)
 met_above (acts.Reads Entry event) c k = record { stands = k.stands; up = k.up; down = k.down }
-met_above (acts.Reads Exit event) c k = record { stands = k.stands; up = k.up; down = k.down }
 met_above (acts.Hears Entry message) c k = record { stands = k.stands; up = k.up; down = ap (λ (ms : List Horizontal). drop 1 ms) k.down }
-met_above (acts.Hears Exit message) c k = record { stands = k.stands; up = k.up; down = k.down }
 met_above (acts.Breaches Entry text) c k = record { stands = k.stands; up = k.up; down = k.down }
-met_above (acts.Breaches Exit text) c k = record { stands = k.stands; up = k.up; down = k.down }
 met_above (acts.Sends Entry message) c k = record { stands = k.stands; up = vanishes message.body c.above.stands c.above.up k.stands k.up; down = k.down }
-met_above (acts.Sends Exit message) c k = record { stands = k.stands; up = k.up; down = k.down }
 met_above (acts.Closes Entry) c k = record { stands = refl; up = k.up; down = refl }
-met_above (acts.Closes Exit) c k = record { stands = k.stands; up = k.up; down = k.down }
 met_above (acts.Notices Entry) c k = record { stands = refl; up = k.up; down = refl }
-met_above (acts.Notices Exit) c k = record { stands = k.stands; up = k.up; down = k.down }
-met_above acts.Connects c k = record { stands = k.stands; up = k.up; down = k.down }
-met_above (acts.Deed deed) c k = record { stands = k.stands; up = k.up; down = k.down }
 met_above (acts.Drive Entry on) c k = record { stands = k.stands; up = k.up; down = k.down }
-met_above (acts.Drive Exit on) c k = record { stands = k.stands; up = k.up; down = k.down }
-met_above (acts.Marks id quality) c k = record { stands = k.stands; up = k.up; down = k.down }
-met_above (acts.Inserts id) c k = record { stands = k.stands; up = k.up; down = k.down }
-met_above (acts.Removes id) c k = record { stands = k.stands; up = k.up; down = k.down }
-met_above (acts.Replaces old new) c k = record { stands = k.stands; up = k.up; down = k.down }
-met_above (acts.Signals signal on) c k = record { stands = k.stands; up = k.up; down = k.down }
-met_above (acts.Tells message) c k = record { stands = k.stands; up = k.up; down = k.down }
-met_above (acts.Answered query order) c k = record { stands = k.stands; up = k.up; down = k.down }
-met_above (acts.Sets setting) c k = record { stands = k.stands; up = k.up; down = k.down }
+met_above _ c k = record { stands = k.stands; up = k.up; down = k.down }
 
 pub all_above : (done : List Act) (c : Scene) → IsStillAbove c → IsStillAbove (all_met done c)
 all_above [] c k = k
@@ -104,29 +72,13 @@ all_above (act ∷ others) c k = all_above others (met act c) (met_above act c k
 
 met_far_drive_below : (act : Act) (c : Scene) → (met act c).below.gap.entry_drive ≡ c.below.gap.entry_drive
 met_far_drive_below (acts.Reads Entry event) c = refl
-met_far_drive_below (acts.Reads Exit event) c = refl
 met_far_drive_below (acts.Hears Entry message) c = refl
-met_far_drive_below (acts.Hears Exit message) c = refl
 met_far_drive_below (acts.Breaches Entry text) c = refl
-met_far_drive_below (acts.Breaches Exit text) c = refl
 met_far_drive_below (acts.Sends Entry message) c = refl
-met_far_drive_below (acts.Sends Exit message) c = refl
 met_far_drive_below (acts.Closes Entry) c = refl
-met_far_drive_below (acts.Closes Exit) c = refl
 met_far_drive_below (acts.Notices Entry) c = refl
-met_far_drive_below (acts.Notices Exit) c = refl
-met_far_drive_below acts.Connects c = refl
-met_far_drive_below (acts.Deed deed) c = refl
 met_far_drive_below (acts.Drive Entry on) c = refl
-met_far_drive_below (acts.Drive Exit on) c = refl
-met_far_drive_below (acts.Marks id quality) c = refl
-met_far_drive_below (acts.Inserts id) c = refl
-met_far_drive_below (acts.Removes id) c = refl
-met_far_drive_below (acts.Replaces old new) c = refl
-met_far_drive_below (acts.Signals signal on) c = refl
-met_far_drive_below (acts.Tells message) c = refl
-met_far_drive_below (acts.Answered query order) c = refl
-met_far_drive_below (acts.Sets setting) c = refl
+met_far_drive_below _ c = refl
 
 pub all_far_drive_below : (done : List Act) (c : Scene) → (all_met done c).below.gap.entry_drive ≡ c.below.gap.entry_drive
 all_far_drive_below [] c = refl
@@ -134,29 +86,13 @@ all_far_drive_below (act ∷ others) c = all_far_drive_below others (met act c) 
 
 met_far_drive_above : (act : Act) (c : Scene) → (met act c).above.gap.exit_drive ≡ c.above.gap.exit_drive
 met_far_drive_above (acts.Reads Entry event) c = refl
-met_far_drive_above (acts.Reads Exit event) c = refl
 met_far_drive_above (acts.Hears Entry message) c = refl
-met_far_drive_above (acts.Hears Exit message) c = refl
 met_far_drive_above (acts.Breaches Entry text) c = refl
-met_far_drive_above (acts.Breaches Exit text) c = refl
 met_far_drive_above (acts.Sends Entry message) c = refl
-met_far_drive_above (acts.Sends Exit message) c = refl
 met_far_drive_above (acts.Closes Entry) c = refl
-met_far_drive_above (acts.Closes Exit) c = refl
 met_far_drive_above (acts.Notices Entry) c = refl
-met_far_drive_above (acts.Notices Exit) c = refl
-met_far_drive_above acts.Connects c = refl
-met_far_drive_above (acts.Deed deed) c = refl
 met_far_drive_above (acts.Drive Entry on) c = refl
-met_far_drive_above (acts.Drive Exit on) c = refl
-met_far_drive_above (acts.Marks id quality) c = refl
-met_far_drive_above (acts.Inserts id) c = refl
-met_far_drive_above (acts.Removes id) c = refl
-met_far_drive_above (acts.Replaces old new) c = refl
-met_far_drive_above (acts.Signals signal on) c = refl
-met_far_drive_above (acts.Tells message) c = refl
-met_far_drive_above (acts.Answered query order) c = refl
-met_far_drive_above (acts.Sets setting) c = refl
+met_far_drive_above _ c = refl
 
 pub all_far_drive_above : (done : List Act) (c : Scene) → (all_met done c).above.gap.exit_drive ≡ c.above.gap.exit_drive
 all_far_drive_above [] c = refl
@@ -178,13 +114,13 @@ exit_drive_off g unread body d pair idle = exit_off pair.out idle
 pub entry_drive_off : (g : Ghost) (unread : List Sensed) (body : Machine) (d : Scene) → Pair g (link_above unread body d) → body.intake.phase ≡ inn.Idle → d.above.gap.entry_drive ≡ false
 entry_drive_off g unread body d pair idle = entry_off pair.in idle
 
-abbrev gap_of : Gap → Bool → Bool → AtGap
+abbrev pub gap_of : Gap → Bool → Bool → AtGap
 gap_of lies exit entry = record { lies = lies; exit_drive = exit; entry_drive = entry }
 
-same_parts : (a b : Gap) (c d e f : Bool) → a ≡ b → c ≡ d → e ≡ f → gap_of a c e ≡ gap_of b d f
+pub same_parts : (a b : Gap) (c d e f : Bool) → a ≡ b → c ≡ d → e ≡ f → gap_of a c e ≡ gap_of b d f
 same_parts a b c d e f x y z = cc
 
-same_gap : (x y : AtGap) → x.lies ≡ y.lies → x.exit_drive ≡ y.exit_drive → x.entry_drive ≡ y.entry_drive → x ≡ y
+pub same_gap : (x y : AtGap) → x.lies ≡ y.lies → x.exit_drive ≡ y.exit_drive → x.entry_drive ≡ y.entry_drive → x ≡ y
 same_gap x y lies exit entry = same_parts x.lies y.lies x.exit_drive y.exit_drive x.entry_drive y.entry_drive lies exit entry
 
 -- ---- so the gap behind the acts is the gap before them: links may be cut in their midst
@@ -243,29 +179,14 @@ answered_above false what c = refl
 
 second_met : (act : Act) (c e : Scene) → c.above ≡ e.above → (met_second act c).above ≡ (met act e).above
 second_met (acts.Reads Entry event) c e is = is
-second_met (acts.Reads Exit event) c e is = is
 second_met (acts.Hears Entry message) c e is = ap (λ (u : Above). record u { down = drop 1 u.down }) is
-second_met (acts.Hears Exit message) c e is = is
 second_met (acts.Breaches Entry text) c e is = is
-second_met (acts.Breaches Exit text) c e is = is
 second_met (acts.Sends Entry message) c e is = ap (λ (u : Above). record u { up = sent (message.body ∷ []) u.stands u.up }) is
 second_met (acts.Sends Exit message) c e is = answered_above (is_answer message.body) message.body c ∙ is
 second_met (acts.Closes Entry) c e is = ap (λ (u : Above). record u { stands = false; down = [] }) is
-second_met (acts.Closes Exit) c e is = is
 second_met (acts.Notices Entry) c e is = ap (λ (u : Above). record u { stands = false; down = [] }) is
-second_met (acts.Notices Exit) c e is = is
-second_met acts.Connects c e is = is
-second_met (acts.Deed deed) c e is = is
 second_met (acts.Drive Entry on) c e is = ap (λ (u : Above). record u { gap = with_drive u.gap Entry on }) is
-second_met (acts.Drive Exit on) c e is = is
-second_met (acts.Marks id quality) c e is = is
-second_met (acts.Inserts id) c e is = is
-second_met (acts.Removes id) c e is = is
-second_met (acts.Replaces old new) c e is = is
-second_met (acts.Signals signal on) c e is = is
-second_met (acts.Tells message) c e is = is
-second_met (acts.Answered query order) c e is = is
-second_met (acts.Sets setting) c e is = is
+second_met _ c e is = is
 
 second_by : (done : List Act) (c e : Scene) → c.above ≡ e.above → (all_met_second done c).above ≡ (all_met done e).above
 second_by [] c e is = is

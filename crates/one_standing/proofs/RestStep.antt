@@ -3,6 +3,7 @@
 use Rattle.std.proofs.Common.{◌≡◌, ◌∙◌, true, List, refl, sym, ap}
 use Rattle.std.specs.Prelude.{◌&&◌, is_some}
 use Rattle.std.proofs.lemmas.Bool.{false≢true}
+use Rattle.node_core.proofs.HalfRows.{IsNoStart as IsNoBid}
 use Rattle.line_base.specs.declared.states.Side.{Side}
 use Rattle.line_base.specs.declared.states.Side.TheVariants.{Entry, Exit}
 use Rattle.board_record.specs.declared.sensed.Sensed.{Sensed as Seen}
@@ -82,10 +83,6 @@ out_row : {s : OutState} {input : OutInput} {row : OutRow} → IsOutletRow s inp
 out_row (opens _) plain is = absurd plain
 out_row (refuses _) plain is = absurd plain
 out_row _ plain is = cc
-
-abbrev IsNoBid : InInput → Type 0
-IsNoBid in_input.Start = ⊥
-IsNoBid _ = Unit {0}
 
 in_row : {s : InState} {input : InInput} {row : InRow} → IsIntakeRow s input row → IsNoBid input
     → s.phase ≡ inn.Idle → row.after.phase ≡ inn.Idle

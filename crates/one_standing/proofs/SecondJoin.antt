@@ -81,7 +81,7 @@ second_first number j t before after st m may off =
       start = c;
       outlet = refl;
       intake = refl;
-      same_above = scene_same_above ca cb told c (stand_of before (j + 1)) refl refl refl;
+      same_above = scene_same_above ca cb told c (stand_of before (j + 1)) refl refl refl refl;
       same_below = scene_same_below ca cb told c (stand_of before (j + 1 + 1 + 1)) refl refl refl;
       goes = goes;
       still = λ none. (let s = still_at_below t before (j + 1) st none in still_below ca cb told c (record { stands = s.stands; up = s.up; down = s.down }));
@@ -105,15 +105,10 @@ said_there side what false c = record { entry = refl; intake = refl; far = refl 
 
 second_there : (act : Act) (c : Scene) → SameThere c (met_second act c)
 second_there (acts.Sends Exit message) c = said_there Exit message.body (is_answer message.body) c
-second_there (acts.Sends Entry message) c = record { entry = refl; intake = refl; far = refl }
 second_there (acts.Hears Entry message) c = record { entry = refl; intake = refl; far = refl }
-second_there (acts.Hears Exit message) c = record { entry = refl; intake = refl; far = refl }
 second_there (acts.Closes Entry) c = record { entry = refl; intake = refl; far = refl }
-second_there (acts.Closes Exit) c = record { entry = refl; intake = refl; far = refl }
 second_there (acts.Notices Entry) c = record { entry = refl; intake = refl; far = refl }
-second_there (acts.Notices Exit) c = record { entry = refl; intake = refl; far = refl }
 second_there (acts.Drive Entry on) c = record { entry = refl; intake = refl; far = refl }
-second_there (acts.Drive Exit on) c = record { entry = refl; intake = refl; far = refl }
 second_there _ c = record { entry = refl; intake = refl; far = refl }
 
 all_there : (told : List Act) (c : Scene) → SameThere c (all_met_second told c)
@@ -157,14 +152,14 @@ second_second number j t before after st m may off together holds many =
     let down : t1.down (j + 1) ≡ f.scene.above.down = put_first (j + 1) f.scene.above.down f.scene.below.down t.down in
     let is : node_at between (j + 1) ≡ meet.node = node_there (j + 1) between meet.node meet.there in
     let same : e ≡ MetIn j on t1 between = met_in j on t t1 between called.above.stands called.above.up called.above.down ups downs ∙ met_is j on t1 between f.scene.above.up f.scene.above.down up down in
-    let plain_above : SameAbove (stand_of between j) plain = scene_same_above ca cb done.acts e (stand_of between j) refl refl refl in
+    let plain_above : SameAbove (stand_of between j) plain = scene_same_above ca cb done.acts e (stand_of between j) refl refl refl refl in
     record {
       body = done.body;
       is = meet.body;
       scene = d;
       reached = meet.reached;
       fit = meet.fit;
-      same_above = record { exit = ap (λ (a : Above). a.exit) aboves ∙ plain_above.exit; outlet = ap (λ (a : Above). a.outlet) aboves ∙ plain_above.outlet; far = ap (λ (a : Above). a.far) aboves ∙ plain_above.far };
+      same_above = record { exit = ap (λ (a : Above). a.exit) aboves ∙ plain_above.exit; outlet = ap (λ (a : Above). a.outlet) aboves ∙ plain_above.outlet; last = ap (λ (a : Above). a.last_offer) aboves ∙ plain_above.last; far = ap (λ (a : Above). a.far) aboves ∙ plain_above.far };
       same_below = same_cut_below ca cb (record { entry = there.entry; intake = there.intake; far = there.far });
       elsewhere = elsewhere_of (stand_of between (j + 1)).place.boards;
       goes = λ k.

@@ -65,7 +65,7 @@ apart_same ms ms2 bs bs2 stands gaps gones a = record {
 -- and each machine has its boards
 owns_same : {above above2 below below2 : Between} {me me2 : Stand} → me2 ≡ me → above2.ghost ≡ above.ghost → below2.ghost ≡ below.ghost → Owns above me below → Owns above2 me2 below2
 owns_same {above} {above2} {below} {below2} {me} same up down o =
-    subst (λ (m : Stand). Owns above2 m below2) (sym same) (record { boards = rw (up, down) o.boards; entry_role = o.entry_role; exit_role = o.exit_role; offers = o.offers })
+    subst (λ (m : Stand). Owns above2 m below2) (sym same) (record { boards = rw (up, down) o.boards; entry_role = o.entry_role; exit_role = o.exit_role; offers = o.offers; recent = o.recent })
 
 -- the relation goes on where it does at that link
 keeps_between : (link : ℕ) (t t2 : Trace) (s s2 : LineState) → ChangesLink link s s2 → ((k : ℕ) → k ≢ link → SameTrace t t2 k) → ((k : ℕ) → t2.ghost k ≡ t.ghost k) → ((k : ℕ) → t2.gone k ≡ t.gone k)

@@ -77,7 +77,6 @@ was_open side false told is = absurd (false≢true (sym (closed-stays side told)
 
 lane_waits : (input : Input) (old new : Lane) (words : List Word) → Brings input old new words → ((side : Side) → is_open side new.body ≡ true → opened_by input side (is_open side old.body) ≡ true) → Waits old → Waits new
 lane_waits (inputs.Bytes Entry piece) old new words brings opens waits Entry there = rest_needs (old.entry_bytes ++ piece.now) new.entry_bytes (all_rest (brings.0.all there))
-lane_waits (inputs.Bytes Entry piece) old new words brings opens waits Exit there = ap answer_of brings.1 ∙ waits Exit (opens Exit there)
 lane_waits (inputs.Bytes Exit piece) old new words brings opens waits Entry there = ap answer_of brings.1 ∙ waits Entry (opens Entry there)
 lane_waits (inputs.Bytes Exit piece) old new words brings opens waits Exit there = rest_needs (old.exit_bytes ++ piece.now) new.exit_bytes (all_rest (brings.0.all there))
 lane_waits inputs.Connect old new words brings opens waits Entry there = ap answer_of brings.0 ∙ needs_none

@@ -1,5 +1,5 @@
 -- A machine of the line makes a step.
-use Rattle.std.proofs.Common.{Bool, List, [], arith, refl, subst, sym, ℕ, ◌+◌, ◌≡◌}
+use Rattle.std.proofs.Common.{Bool, List, Option, [], arith, refl, subst, sym, ℕ, ◌+◌, ◌≡◌}
 use Rattle.board_record.specs.declared.record.Record.{Record}
 use Rattle.session_core.specs.declared.state.SessionState.{SessionState}
 use Rattle.line_world.specs.FloorPlan.{AtMachine}
@@ -12,7 +12,7 @@ use Rattle.custody.specs.Events.{IsContent, gone_by}
 use Rattle.custody.specs.Pair.{Body, Ghost, Pair}
 use Rattle.machine_custody.specs.Good.{Afar, Goes, Good, Holds, ListsAbove, ListsBelow}
 use Rattle.machine_custody.specs.Scene.{Scene, all_met, link_above, link_below}
-use Rattle.machine_custody.proofs.Far.{all_entry_below, all_exit_above, all_far_above, all_far_below, all_intake, all_outlet}
+use Rattle.machine_custody.proofs.Far.{all_entry_below, all_exit_above, all_far_above, all_far_below, all_intake, all_last, all_outlet}
 use Rattle.line_step.specs.Numbered.{Changes}
 use Rattle.line_step.proofs.Changing.{body_step, each_step}
 use Rattle.one_standing.specs.Relation.{Between, Neighbours, Owns, Stand, scene_between}
@@ -39,6 +39,7 @@ below_then b gone d = record { ghost = b; stands = d.below.stands; gap = d.below
 pub record SameAbove (above : Stand) (d : Scene) : Type 0 where
   pub exit : d.above.exit ≡ above.body.exit.session.state
   pub outlet : d.above.outlet ≡ above.body.outlet
+  pub last : d.above.last_offer ≡ above.body.last_offer
   pub far : d.above.far ≡ above.place
 
 pub record SameBelow (below : Stand) (d : Scene) : Type 0 where
@@ -50,6 +51,7 @@ pub acts_same_above : (above : Stand) (ba : Between) (me : Stand) (bb : Between)
 acts_same_above above ba me bb below done = record {
   exit = all_exit_above done (scene_between above ba me bb below);
   outlet = all_outlet done (scene_between above ba me bb below);
+  last = all_last done (scene_between above ba me bb below);
   far = all_far_above done (scene_between above ba me bb below);
 }
 
@@ -64,11 +66,14 @@ pub above_after : {elsewhere gone : ℕ → Bool} (above : Stand) (ba : Between)
     → Neighbours above (above_then a ba d) (me_then body d)
 above_after above ba a b body d same g =
     record {
-      pair = subst (λ (x : AtMachine). Pair a (link_above [] body (record d { above = record d.above { exit = above.body.exit.session.state; outlet = above.body.outlet; far = x } }))) same.far
+      pair = subst (λ (x : AtMachine). Pair a (link_above [] body (record d { above = record d.above { exit = above.body.exit.session.state; outlet = above.body.outlet; last_offer = above.body.last_offer; far = x } }))) same.far
+          (subst (λ (z : Option ℕ). Pair a (link_above [] body (record d { above = record d.above { exit = above.body.exit.session.state; outlet = above.body.outlet; last_offer = z } }))) same.last
           (subst (λ (o : OutState). Pair a (link_above [] body (record d { above = record d.above { exit = above.body.exit.session.state; outlet = o } }))) same.outlet
-          (subst (λ (s : SessionState). Pair a (link_above [] body (record d { above = record d.above { exit = s } }))) same.exit g.above_pair));
-      contents = subst (λ (o : OutState). IsContent (gone_by ba.gone) (link_above [] body (record d { above = record d.above { outlet = o } })) above.body.kept) same.outlet g.above_contents;
-      holds = subst (λ (o : OutState). Holds ba.gone above.body.kept a.place o.phase body.intake.phase) same.outlet g.above_holds;
+          (subst (λ (s : SessionState). Pair a (link_above [] body (record d { above = record d.above { exit = s } }))) same.exit g.above_pair)));
+      contents = subst (λ (z : Option ℕ). IsContent (gone_by ba.gone) (link_above [] body (record d { above = record d.above { outlet = above.body.outlet; last_offer = z } })) above.body.kept) same.last
+          (subst (λ (o : OutState). IsContent (gone_by ba.gone) (link_above [] body (record d { above = record d.above { outlet = o } })) above.body.kept) same.outlet g.above_contents);
+      holds = subst (λ (z : Option ℕ). Holds ba.gone above.body.kept z a.place above.body.outlet.phase body.intake.phase) same.last
+          (subst (λ (o : OutState). Holds ba.gone above.body.kept d.above.last_offer a.place o.phase body.intake.phase) same.outlet g.above_holds);
     }
 
 pub below_after : {elsewhere gone : ℕ → Bool} {kept : List Record} (below : Stand) (ba : Between) (a b : Ghost) (body : Machine) (d : Scene) → SameBelow below d → Good (afar_of elsewhere ba gone) kept [] a b body d
@@ -78,16 +83,16 @@ below_after {gone = gone} below ba a b body d same g = record {
       (subst (λ (i : InState). Pair b (link_below [] body (record d { below = record d.below { entry = below.body.entry.session.state; intake = i } }))) same.intake
       (subst (λ (s : SessionState). Pair b (link_below [] body (record d { below = record d.below { entry = s } }))) same.entry g.below_pair));
   contents = subst (λ (i : InState). IsContent (gone_by gone) (link_below [] body (record d { below = record d.below { intake = i } })) body.kept) same.intake g.below_contents;
-  holds = subst (λ (i : InState). Holds gone body.kept b.place body.outlet.phase i.phase) same.intake g.below_holds;
+  holds = subst (λ (i : InState). Holds gone body.kept body.last_offer b.place body.outlet.phase i.phase) same.intake g.below_holds;
 }
 
 -- the machine's own boards
 pub owns_after : {elsewhere gone : ℕ → Bool} {kept : List Record} (ba : Between) (a b : Ghost) (body : Machine) (d : Scene) → Good (afar_of elsewhere ba gone) kept [] a b body d → OffersFront body
     → Owns (above_then a ba d) (me_then body d) (below_then b gone d)
-owns_after ba a b body d g offers = record { boards = g.boards; entry_role = g.entry_role; exit_role = g.exit_role; offers = offers }
+owns_after ba a b body d g offers = record { boards = g.boards; entry_role = g.entry_role; exit_role = g.exit_role; offers = offers; recent = g.recent }
 
 -- the boards of the machines on both sides are listed as the ghosts say
-lists_above : (over : Between) (above : Stand) (ba : Between) (a : Ghost) (d : Scene) → SameAbove above d → ListsAbove above.body.outlet.phase ba.ghost d.above.outlet.phase a → Owns over above ba
+pub lists_above : (over : Between) (above : Stand) (ba : Between) (a : Ghost) (d : Scene) → SameAbove above d → ListsAbove above.body.outlet.phase ba.ghost d.above.outlet.phase a → Owns over above ba
     → Owns over above (above_then a ba d)
 lists_above over above ba a d same lists own = record {
   boards = subst (λ (o : OutState). Body o.phase a.place above.body.kept above.body.intake.phase over.ghost.place above.place.boards) same.outlet
@@ -95,9 +100,10 @@ lists_above over above ba a d same lists own = record {
   entry_role = own.entry_role;
   exit_role = own.exit_role;
   offers = own.offers;
+  recent = own.recent;
 }
 
-lists_below : {gone : ℕ → Bool} (below : Stand) (bb : Between) (under : Between) (b : Ghost) (d : Scene) → SameBelow below d → ListsBelow below.body.intake.phase bb.ghost d.below.intake.phase b → Owns bb below under
+pub lists_below : {gone : ℕ → Bool} (below : Stand) (bb : Between) (under : Between) (b : Ghost) (d : Scene) → SameBelow below d → ListsBelow below.body.intake.phase bb.ghost d.below.intake.phase b → Owns bb below under
     → Owns (below_then b gone d) below under
 lists_below below bb under b d same lists own = record {
   boards = subst (λ (i : InState). Body below.body.outlet.phase under.ghost.place below.body.kept i.phase b.place below.place.boards) same.intake
@@ -105,6 +111,7 @@ lists_below below bb under b d same lists own = record {
   entry_role = own.entry_role;
   exit_role = own.exit_role;
   offers = own.offers;
+  recent = own.recent;
 }
 
 -- ---- along the line
@@ -116,10 +123,10 @@ pub record Steps (j : ℕ) (ms : ℕ → Stand) (bs : ℕ → Between) (ms2 : �
   pub above : bs2 j ≡ above_then a (bs j) d
   pub below : bs2 (j + 1) ≡ below_then b gone d
 
-same_number : (i j : ℕ) → i + 1 ≡ j + 1 → j ≡ i
+pub same_number : (i j : ℕ) → i + 1 ≡ j + 1 → j ≡ i
 same_number i j is = omega (arith, is)
 
-next_number : (i j : ℕ) → i + 2 ≡ j + 1 → i + 1 ≡ j
+pub next_number : (i j : ℕ) → i + 2 ≡ j + 1 → i + 1 ≡ j
 next_number i j is = omega (arith, is)
 
 -- a machine makes a step in a scene with the outlet above it and the intake below it: the relation of the line goes on

@@ -1,5 +1,5 @@
 -- What stands together in each link still does after a line of the script.
-use Rattle.std.proofs.Common.{Bool, List, None, Option, Some, [], ap, arith, false, inl, inr, length, lt-ltb, ltb-true, refl, subst, sym, true, ℕ, ◌&&◌, ◌+◌, ◌-◌, ◌<◌, ◌∷◌, ◌≡◌, ◌≢◌, ◌⊎◌}
+use Rattle.std.proofs.Common.{Bool, List, None, Option, Some, [], ap, arith, false, length, lt-ltb, ltb-true, refl, subst, sym, true, ℕ, ◌&&◌, ◌+◌, ◌-◌, ◌<◌, ◌∷◌, ◌≡◌, ◌≢◌, ◌⊎◌}
 use Rattle.std.specs.Prelude.{cond, drop, is_some, not, suc, take, zero}
 use Rattle.std.proofs.lemmas.Bool.{eq-eqb}
 use Rattle.std.proofs.lemmas.List.{length-append, length-take-le}
@@ -9,7 +9,6 @@ use Rattle.line_base.specs.declared.states.Role.{Role}
 use Rattle.line_base.specs.declared.states.Role.TheVariants.{Downstream, Upstream}
 use Rattle.line_base.specs.declared.states.Side.{Side}
 use Rattle.hermes_horizontal.specs.Canonical.{canonical}
-use Rattle.hermes_horizontal.specs.declared.message.Message.{Message}
 use Rattle.line_link.specs.Flow.{Stream, dry, flowing, is_begun, nul_put, with_arrival, with_nul, with_text}
 use Rattle.line_link.specs.Link.{LinkParts, across, after_answer, after_close, after_connect, after_flow, after_send, after_spoil, answer_of, are_joined, connected, connected_of, cut, flow_to, is_dry_without, is_too_much, next_number, no_link, number_of, texted, with_flow_to, within_limit}
 use Rattle.line_link.specs.Texts.{with_byte_at}
@@ -20,12 +19,10 @@ use Rattle.line_script.specs.declared.line.ScriptLine.{ScriptLine}
 use Rattle.node_core.specs.Node.{NodeState}
 use Rattle.node_core.specs.declared.act.Act.{Act}
 use Rattle.node_core.specs.declared.act.Act.TheVariants as acts
-use Rattle.node_core.specs.declared.act.Deed.{Deed}
-use Rattle.node_core.specs.declared.act.Deed.TheVariants as deeds
 use Rattle.node_core.specs.declared.input.Input.{Input}
 use Rattle.node_core.specs.declared.input.Input.TheVariants as inputs
 use Rattle.node_core.specs.declared.input.No.TheVariants as nos
-use Rattle.line_step.specs.Acts.{act_did, acts_did, counted, is_answer, is_exit, sent_by}
+use Rattle.line_step.specs.Acts.{act_did, acts_did, answers}
 use Rattle.line_step.specs.Lines.{Connects, Flows, LineDoes, arrived, connecting, met}
 use Rattle.line_step.specs.Together.{is_linked}
 use Rattle.line_step.specs.Reasons.{has_neighbour, if_there, link_stands, may_do, may_spoil, no_if}
@@ -33,11 +30,12 @@ use Rattle.line_step.specs.State.{LineState, machine_in, no_line, one_more}
 use Rattle.line_step.specs.Steps.{MachineSteps, is_second, read_by}
 use Rattle.line_step.specs.World.{WorldParts, end_of, link_at, link_of, with_link}
 use Rattle.line_step.proofs.Keeps.{more_at}
-use Rattle.line_step.proofs.Numbers.{Written, link_beyond, link_set, link_set_other, nowhere, same_or_not, written}
+use Rattle.line_step.proofs.Numbers.{link_beyond}
 use Rattle.one_standing.specs.Links.{AreWholeLinks, IsWholeLink}
 use Rattle.line_step.proofs.Requests.{Request, request_of}
 use Rattle.line_step.proofs.Effects.{Effect, becomes_by, line_effect}
 use Rattle.line_step.proofs.Effects as effects
+use Rattle.line_step.proofs.LinkRule.{ActKeeps, SentKeeps, act_keeps, link_keeps}
 
 -- ---- what flows
 
@@ -140,47 +138,30 @@ whole_spoil to link stands whole =
 
 -- ---- the links of a world
 
-abbrev AreWhole : WorldParts → Type 0
+abbrev pub AreWhole : WorldParts → Type 0
 AreWhole world = (link : ℕ) → IsWholeLink (link_at link world)
 
 pub whole_links : (link : ℕ) (parts : LinkParts) (world : WorldParts) → ((k : ℕ) → IsWholeLink (link_at k world)) → IsWholeLink parts → (k : ℕ) → IsWholeLink (link_at k (with_link link parts world))
-whole_links link parts world all whole k = by (same_or_not k link)
-  where
-    own : Written link parts world → IsWholeLink (link_at link (with_link link parts world))
-    own (written is) = subst IsWholeLink (sym is) whole
-    own (nowhere is was) = subst IsWholeLink (sym is) whole_none
-
-    by : (k ≡ link) ⊎ (k ≢ link) → IsWholeLink (link_at k (with_link link parts world))
-    by (inl is) = subst (λ (n : ℕ). IsWholeLink (link_at n (with_link link parts world))) (sym is) (own (link_set link parts world))
-    by (inr apart) = subst IsWholeLink (sym (link_set_other link k parts world apart)) (all k)
+whole_links link parts world all whole k = link_keeps IsWholeLink whole_none k link parts world (λ is. whole) (λ apart. all k)
 
 -- ---- acts
 
-whole_sent : (second : Bool) (machine : ℕ) (side : Side) (message : Message) (world : WorldParts) → AreWhole world → AreWhole (sent_by second machine side message world).world
-whole_sent true machine side message world all = whole_links machine (after_answer (canonical message) (link_at machine world)) world all (whole_answer (canonical message) (link_at machine world) (all machine))
-whole_sent false machine side message world all =
-    let link = link_of machine side in
-    whole_links link (after_send (end_of side) (canonical message) (link_at link world)) world all (whole_send (end_of side) (canonical message) (link_at link world) (all link))
+whole_rule : (k : ℕ) (second : Bool) (machine : ℕ) (act : Act) → ActKeeps IsWholeLink IsWholeLink k second machine act
+whole_rule k second machine (acts.Sends side message) = by (answers second side message)
+  where
+    by : (test : Bool) → SentKeeps IsWholeLink IsWholeLink k test machine side message
+    by true = λ is link whole also. whole_answer (canonical message) link whole
+    by false = λ is link whole also. whole_send (end_of side) (canonical message) link whole
+whole_rule k second machine (acts.Closes side) = λ is link whole. whole_close (end_of side) link whole
+whole_rule k second machine (acts.Notices side) = λ is link whole. whole_close (end_of side) link whole
+whole_rule k second machine _ = tt
 
-whole_closed : (machine : ℕ) (side : Side) (world : WorldParts) → AreWhole world → AreWhole (with_link (link_of machine side) (after_close (end_of side) (link_at (link_of machine side) world)) world)
-whole_closed machine side world all = let link = link_of machine side in whole_links link (after_close (end_of side) (link_at link world)) world all (whole_close (end_of side) (link_at link world) (all link))
-
-whole_counted : (deed : Deed) (world : WorldParts) → AreWhole world → AreWhole (counted deed world)
-whole_counted (deeds.Opens id) world all = all
-whole_counted (deeds.Settles id) world all = all
-whole_counted (deeds.Refuses id) world all = all
-whole_counted (deeds.Leaves id) world all = all
-whole_counted (deeds.Returns id) world all = all
-whole_counted (deeds.Loses id) world all = all
-whole_counted (deeds.Starts id) world all = all
-whole_counted (deeds.Drops id) world all = all
+-- of one link, and of all
+pub whole_at : (k : ℕ) (second : Bool) (machine : ℕ) (act : Act) (world : WorldParts) → IsWholeLink (link_at k world) → IsWholeLink (link_at k (act_did second machine act world).world)
+whole_at k second machine act world whole = act_keeps IsWholeLink IsWholeLink whole_none k second machine act world (whole_rule k second machine act) whole whole
 
 pub whole_act : (second : Bool) (machine : ℕ) (act : Act) (world : WorldParts) → AreWhole world → AreWhole (act_did second machine act world).world
-whole_act second machine (acts.Sends side message) world all = whole_sent (second && (is_exit side && is_answer message.body)) machine side message world all
-whole_act second machine (acts.Closes side) world all = whole_closed machine side world all
-whole_act second machine (acts.Notices side) world all = whole_closed machine side world all
-whole_act second machine (acts.Deed deed) world all = whole_counted deed world all
-whole_act second machine act world all = all
+whole_act second machine act world all k = whole_at k second machine act world (all k)
 
 pub whole_acts : (second : Bool) (machine : ℕ) (told : List Act) (world : WorldParts) → AreWhole world → AreWhole (acts_did second machine told world).world
 whole_acts second machine [] world all = all

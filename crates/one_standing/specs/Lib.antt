@@ -11,5 +11,4 @@ pub mod Facts
 pub mod Replay
 pub mod Reached
 pub mod Waits
-pub mod Contents
 pub mod Blame

@@ -7,6 +7,7 @@ use Rattle.line_world.specs.FloorPlan.{AtMachine}
 use Rattle.line_world.specs.declared.gap.AtGap.{AtGap}
 use Rattle.node_core.specs.Halves.{OffersFront}
 use Rattle.node_core.specs.declared.lane.Body.{Body as Machine}
+use Rattle.custody.specs.Contents.{IsRecent}
 use Rattle.custody.specs.Events.{IsContent, gone_by}
 use Rattle.custody.specs.Pair.{Body, Ghost, LinkState, Pair}
 use Rattle.machine_custody.specs.Good.{Holds}
@@ -32,6 +33,7 @@ abbrev pub link_between : Stand → Between → Stand → LinkState
 link_between above b below = record {
   exit = above.body.exit.session.state;
   outlet = above.body.outlet;
+  last_offer = above.body.last_offer;
   entry = below.body.entry.session.state;
   intake = below.body.intake;
   stands = b.stands;
@@ -47,6 +49,7 @@ scene_between above ba me bb below = record {
   above = record {
     exit = above.body.exit.session.state;
     outlet = above.body.outlet;
+    last_offer = above.body.last_offer;
     stands = ba.stands;
     gap = ba.gap;
     far = above.place;
@@ -68,14 +71,15 @@ scene_between above ba me bb below = record {
 pub record Neighbours (above : Stand) (b : Between) (below : Stand) : Type 0 where
   pub pair : Pair b.ghost (link_between above b below)
   pub contents : IsContent (gone_by b.gone) (link_between above b below) above.body.kept
-  pub holds : Holds b.gone above.body.kept b.ghost.place above.body.outlet.phase
-      below.body.intake.phase
+  pub holds : Holds b.gone above.body.kept above.body.last_offer b.ghost.place
+      above.body.outlet.phase below.body.intake.phase
 
--- a machine: its boards are those of its outlet, those that it keeps and that of its intake, and
--- it offers the front one
+-- a machine: its boards are those of its outlet, those that it keeps and that of its intake, it
+-- offers the front one, and what it offers and what its outlet holds was offered last
 pub record Owns (above : Between) (me : Stand) (below : Between) : Type 0 where
   pub boards : Body me.body.outlet.phase below.ghost.place me.body.kept me.body.intake.phase
       above.ghost.place me.place.boards
   pub entry_role : me.body.entry.session.role ≡ Downstream
   pub exit_role : me.body.exit.session.role ≡ Upstream
   pub offers : OffersFront me.body
+  pub recent : IsRecent me.body.last_offer me.body.outlet

@@ -16,6 +16,7 @@ use Rattle.line_step.specs.Numbered.{node_at}
 use Rattle.line_step.specs.Runs.{IsRun, Point}
 use Rattle.line_step.specs.State.{LineState, marks_in, no_line, owned_by}
 use Rattle.machine_custody.specs.Good.{Lies}
+use Rattle.link_messages.specs.Fit.{IsTextIf}
 
 -- no id lies twice in a list
 pub data AreOnce : List Board → Type 0 where
@@ -64,10 +65,12 @@ pub record HasOneStanding (s : LineState) : Type 0 where
   pub alone : (gap id other : ℕ) → HasStanding (marks_in s id) (Between gap)
       → HasStanding (marks_in s other) (Between gap) → id ≡ other
 
--- the barcode of a line is a text, as that of every line which is read is
+-- the barcode of a line is a text, and a place on a panel has at most nine digits, as in every line
+-- which is read
 abbrev pub IsFitLine : ScriptLine → Type 0
 IsFitLine (lines.Insert machine (Some barcode)) = IsText barcode
 IsFitLine (lines.Query machine barcode) = IsText barcode
+IsFitLine (lines.Sub machine id place barcode) = (place ≤ 999_999_999) × IsTextIf barcode
 IsFitLine _ = Unit {0}
 
 -- THE LAW: it holds after each line of every script, up to the first one that told what was not

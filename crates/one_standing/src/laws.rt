@@ -2,7 +2,6 @@
 //! the definitions of specs/.
 
 ghost use Rattle.one_standing.specs.Blame.{NoFalseBlame};
-ghost use Rattle.one_standing.specs.Contents.{ContentsAreKept};
 ghost use Rattle.one_standing.specs.Facts.{CustodyFacts};
 ghost use Rattle.one_standing.specs.Reached.{CustodyAlong, IdsAlong, LedgerAlong, StandsAlong};
 ghost use Rattle.one_standing.specs.Replay.{LedgerFollows};
@@ -45,18 +44,6 @@ pub fn the_custody_facts_hold_after_each_line()
 /// those of the machines.
 pub fn the_ledger_follows_the_report()
     ensures { LedgerFollows }
-{
-    link_messages::laws::the_words_of_a_piece_are_the_oldest_messages();
-    link_messages::laws::a_frame_with_a_nul_is_a_wrong_word();
-    link_messages::laws::fit_messages_are_sayable();
-    link_messages::laws::the_words_of_fit_messages_are_fit();
-    link_messages::laws::the_words_behind_a_nul_are_fit();
-}
-
-/// Contents are kept: over each of the same lines, a record that a machine keeps before the line
-/// and behind it is the same, unless the line tells that the machine marked that board.
-pub fn contents_are_kept_over_each_line()
-    ensures { ContentsAreKept }
 {
     link_messages::laws::the_words_of_a_piece_are_the_oldest_messages();
     link_messages::laws::a_frame_with_a_nul_is_a_wrong_word();

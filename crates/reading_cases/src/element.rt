@@ -5,7 +5,7 @@
 use crate::nested::nested;
 use crate::told::within;
 use case_text::spell;
-use hermes_element::{Element, ElementError, read_element, write_element};
+use hermes_element::{ChildError, Element, ElementError, read_element, write_element};
 use std::alloc::Global;
 use std::io;
 use std::io::{ErrorKind, Write};
@@ -25,7 +25,7 @@ fn tell_spelled(alloc: Global, text: &str, to: &mut Vec<u8>) -> io::Result<()> {
     match read_element(alloc, bytes.as_slice()) {
         Ok(element) => tell_made(element, to),
         Err(ElementError::Memory) => Err(io::Error::from(ErrorKind::OutOfMemory)),
-        Err(error) => write!(to, "refused: {error}"),
+        Err(ElementError::Refused { at, why }) => write!(to, "refused: {why} at {at}"),
     }
 }
 
@@ -33,7 +33,8 @@ fn tell_spelled(alloc: Global, text: &str, to: &mut Vec<u8>) -> io::Result<()> {
 fn tell_nested(alloc: Global, levels: &str, to: &mut Vec<u8>) -> io::Result<()> {
     match nested(alloc, levels.parse().unwrap_or(0)) {
         Ok(element) => tell_made(element, to),
-        Err(error) => write!(to, "refused: {error}"),
+        Err(ChildError::Deep) => write!(to, "refused: too deep"),
+        Err(ChildError::Memory) => Err(io::Error::from(ErrorKind::OutOfMemory)),
     }
 }
 

@@ -58,6 +58,18 @@ fn tell_event(line: &ScriptLine, to: &mut Vec<u8>) -> io::Result<()> {
             let quality = quality_word(*quality);
             write!(to, "mark {machine} {id} {quality}")
         }
+        ScriptLine::Sub {
+            machine,
+            id,
+            pos,
+            barcode,
+        } => {
+            write!(to, "sub {machine} {id} {pos}")?;
+            match barcode {
+                Some(text) => tell_barcode(text.bytes(), to),
+                None => Ok(()),
+            }
+        }
         ScriptLine::Hold { machine, side } => tell_side("hold", *machine, *side, to),
         ScriptLine::Go { machine, side } => tell_side("go", *machine, *side, to),
         ScriptLine::Shutdown { machine } => write!(to, "shutdown {machine}"),

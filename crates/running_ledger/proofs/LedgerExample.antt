@@ -1,43 +1,14 @@
 -- What a run tells, computed: of two new machines the upstream one keeps a board, and they connect.
-use Rattle.std.proofs.Common.{List, None, Option, Some, [], false, map, refl, slice_get, subst, suc, zero, ℕ, ◌++◌, ◌∷◌, ◌≡◌}
-use Rattle.line_base.specs.declared.states.Side.TheVariants.{Entry}
-use Rattle.node_core.specs.Node.{NodeState, new_node}
+use Rattle.std.proofs.Common.{None, [], refl, ◌++◌, ◌∷◌, ◌≡◌}
 use Rattle.node_core.specs.declared.input.Input.TheVariants as inputs
-use Rattle.running_line.specs.Begins.{new_pair, profile_as}
+use Rattle.running_line.specs.Begins.{new_pair}
 use Rattle.running_line.specs.Reading.{Strictly}
-use Rattle.running_line.specs.Running.{Running, with_wires}
-use Rattle.running_line.specs.RunSteps.{asks, at_rest, given_up, goes_on, turns}
-use Rattle.running_line.specs.Wire.{Wire, asked_for, has}
-use Rattle.running_line.proofs.Doubled.{To, has_above, next_by, turn_by, turned}
-use Rattle.std.specs.Prelude.{codes}
+use Rattle.running_line.specs.RunSteps.{asks, at_rest, goes_on, turns}
+use Rattle.running_line.proofs.Doubled.{To, turn_by}
+use Rattle.running_line.proofs.Begins.{loader, printer, loader_keeps, asked, come, taken, one_above}
 use Rattle.running_ledger.specs.Example.{TellsAnInsertion}
 
 -- ---- the states
-
-abbrev loader : NodeState
-loader = new_node (profile_as 1 (codes "loader"))
-
-abbrev printer : NodeState
-printer = new_node (profile_as 2 (codes "printer"))
-
-abbrev loader_keeps : NodeState
-loader_keeps = next_by loader [] (inputs.Insert None) []
-
-abbrev kept : Running
-kept = turned 1 loader [] [] (inputs.Insert None) [] 0 new_pair
-
-abbrev asked : Running
-asked = with_wires 1 (λ (wires : List Wire). map (given_up Entry) wires ++ asked_for ∷ []) kept
-
-abbrev come : Running
-come = turned 2 printer [] [] inputs.Connect [] 0 asked
-
-abbrev pub taken : Running
-taken = turned 1 loader_keeps [] [] inputs.Accepted [] 0 come
-
-pub one_above : (w : Wire) → has w.above ≡ false → (place : ℕ) (wire : Wire) → slice_get (w ∷ []) place ≡ Some wire → has wire.above ≡ false
-one_above w first zero wire is = subst (λ (o : Option Wire). has_above o ≡ false) is first
-one_above w first (suc place) wire is = cc
 
 -- ---- the run
 

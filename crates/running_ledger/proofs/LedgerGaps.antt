@@ -103,7 +103,6 @@ less machine some apart = omega arith
 
 far_gap : (machine : ℕ) (act : Act) → 1 ≤ machine - 1 → AtGap machine act
 far_gap machine (acts.Deed (own_deeds.Opens id)) far = (tt, tt)
-far_gap machine (acts.Deed (own_deeds.Refuses id)) far = tt
 far_gap machine (acts.Deed (own_deeds.Leaves id)) far = (tt, tt)
 far_gap machine (acts.Deed (own_deeds.Returns id)) far = (tt, tt)
 far_gap machine (acts.Deed (own_deeds.Loses id)) far = (tt, tt)

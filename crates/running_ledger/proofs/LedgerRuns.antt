@@ -20,7 +20,8 @@ use Rattle.running_line.specs.Running.{Running, node_of, with_floor}
 use Rattle.running_line.specs.RunSteps.{RunSteps, RunsTo, asks, at_rest, goes_on, lets_be, lets_go, moves, turns}
 use Rattle.running_line.specs.Stands.{AreInRelation, IsMade, line_of, node_in}
 use Rattle.running_line.proofs.FloorMoves.{moved_stand}
-use Rattle.running_line.proofs.NewMachines.{new_stand}
+use Rattle.running_line.specs.Timed.{AreRelated}
+use Rattle.running_line.proofs.BehindRuns.{new_related}
 use Rattle.running_line.proofs.RunsOn.{TurnGoes, step_stands}
 use Rattle.running_line.proofs.OneStand.{one_standing_of}
 use Rattle.running_ledger.specs.Told.{Follows, IsAtGap, LedgerFollows, RelationGoesOn, StandsAlong, StandsAt, acts_along, deeds_at, point_of, points_of}
@@ -75,6 +76,9 @@ step_gaps (lets_go {gap} {moment} {before} {after} {told} gone) was now = turn_g
 
 -- ---- A RUN
 
+in_relation : {reading : Reading} {s : Running} → AreRelated reading s → AreInRelation s
+in_relation r = record { trace = r.trace; stands = r.stands }
+
 after_is : {reading : Reading} {before after : Running} {acts : List Act} (step : RunSteps reading before acts after) → (point_of step).after ≡ after
 after_is (turns turn) = refl
 after_is (asks asked) = refl
@@ -82,24 +86,24 @@ after_is (lets_be left) = refl
 after_is (moves moved) = refl
 after_is (lets_go gone) = refl
 
-pub run_follows : {reading : Reading} → RelationGoesOn reading → {s u : Running} {acts : List Act} (run : RunsTo reading s acts u) → AreInRelation s → (ledger : Ledger) → FitsLine (IsMade s) (line_of s) ledger → Follows ledger (points_of run)
+pub run_follows : {reading : Reading} → RelationGoesOn reading → {s u : Running} {acts : List Act} (run : RunsTo reading s acts u) → AreRelated reading s → (ledger : Ledger) → FitsLine (IsMade s) (line_of s) ledger → Follows ledger (points_of run)
 run_follows goes at_rest was ledger fits = tt
-run_follows goes (goes_on {s} {t} {u} {first} {later} step run) was ledger fits =
-    let now : AreInRelation t = goes s t first step was in
-    let led : Led (point_of step).after ledger (deeds_at (point_of step)) = subst (λ (x : Running). Led x ledger (deeds_at (point_of step))) (sym (after_is step)) (step_led step was now ledger fits) in
+run_follows {reading} goes (goes_on {s} {t} {u} {first} {later} step run) was ledger fits =
+    let now : AreRelated reading t = goes s t first step was in
+    let led : Led (point_of step).after ledger (deeds_at (point_of step)) = subst (λ (x : Running). Led x ledger (deeds_at (point_of step))) (sym (after_is step)) (step_led step (in_relation was) (in_relation now) ledger fits) in
     let behind : Ledger = ledger_after_all ledger (deeds_at (point_of step)) in
     let there : FitsLine (IsMade t) (line_of t) behind = subst (λ (x : Running). FitsLine (IsMade x) (line_of x) behind) (after_is step) led.fits in
     (led.legal, ledger_of (line_of (point_of step).after) behind led.fits, standing_told behind (line_of (point_of step).after) (ledger_of (line_of (point_of step).after) behind led.fits), run_follows goes run now behind there)
 
 -- ---- one standing behind each step
 
-pub stands_run : {reading : Reading} → RelationGoesOn reading → {s u : Running} {acts : List Act} (run : RunsTo reading s acts u) → AreInRelation s → AllByRecursion StandsAt (points_of run)
+pub stands_run : {reading : Reading} → RelationGoesOn reading → {s u : Running} {acts : List Act} (run : RunsTo reading s acts u) → AreRelated reading s → AllByRecursion StandsAt (points_of run)
 stands_run goes at_rest was = tt
-stands_run goes (goes_on {s} {t} {u} {first} {later} step run) was =
-    let now : AreInRelation t = goes s t first step was in (
+stands_run {reading} goes (goes_on {s} {t} {u} {first} {later} step run) was =
+    let now : AreRelated reading t = goes s t first step was in (
       record {
         standing = subst (λ (x : Running). HasOneStanding (line_of x)) (sym (after_is step)) (one_standing_of now.trace t now.stands);
-        gaps = step_gaps step was now;
+        gaps = step_gaps step (in_relation was) (in_relation now);
       },
       stands_run goes run now,
     )
@@ -133,13 +137,13 @@ none_fits s new = record { past = []; is = refl; all = λ place machine x. sym (
 -- ---- THE LAWS
 
 pub ledger_follows : (reading : Reading) → RelationGoesOn reading → LedgerFollows reading
-ledger_follows reading goes s u acts new differ run = run_follows goes run (new_stand s new differ) empty_ledger (none_fits s new)
+ledger_follows reading goes s u acts new differ run = run_follows goes run (new_related reading s new differ) empty_ledger (none_fits s new)
 
 pub stands_along : (reading : Reading) → RelationGoesOn reading → StandsAlong reading
-stands_along reading goes s u acts new differ run = stands_run goes run (new_stand s new differ)
+stands_along reading goes s u acts new differ run = stands_run goes run (new_related reading s new differ)
 
 pub strictly_goes : TurnGoes → RelationGoesOn Strictly
-strictly_goes goes before after acts step was = step_stands goes step was
+strictly_goes goes before after acts step was = (let now : AreInRelation after = step_stands goes step (in_relation was) in record { trace = now.trace; stands = now.stands; kept = tt })
 
 pub acts_told : {reading : Reading} {s u : Running} {acts : List Act} (run : RunsTo reading s acts u) → acts_along (points_of run) ≡ acts
 acts_told at_rest = refl

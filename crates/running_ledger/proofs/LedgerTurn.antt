@@ -1,12 +1,13 @@
 -- THE LEDGER FOLLOWS A TURN: the deeds of its acts are legal in a ledger that has the marks of the machines, and leave it
 -- with those behind the turn.
-use Rattle.std.proofs.Common.{Bool, List, Ok, Err, Result, false, true, [], ap, arith, inl, inr, map, refl, subst, sym, ℕ, ℤ, ◌++◌, ◌+◌, ◌-◌, ◌<◌, ◌∙◌, ◌∷◌, ◌≡◌, ◌≢◌, ◌≤◌, ◌⊎◌}
+use Rattle.std.proofs.Common.{Bool, List, Ok, Err, false, true, [], ap, arith, inl, inr, map, refl, subst, sym, ℕ, ℤ, ◌++◌, ◌+◌, ◌-◌, ◌<◌, ◌∙◌, ◌∷◌, ◌≡◌, ◌≢◌, ◌≤◌, ◌⊎◌}
 use Rattle.std.specs.Prelude.{nat_le}
 use Rattle.std.proofs.lemmas.Bool.{leb-false}
+use Rattle.line_step.proofs.FloorLaws.{ok-same}
+use Rattle.one_standing.proofs.LedgerLine.{IsNewInput, new_event}
 use Rattle.board_record.specs.Maker.{Maker, after_next, made_id, next_id}
-use Rattle.board_record.specs.declared.maker.IdsUsedUp.{IdsUsedUp}
 use Rattle.line_report.specs.declared.happening.Happening.TheVariants as happenings
-use Rattle.node_core.specs.Event.{Event, Insert, Replace, event_of, with_new}
+use Rattle.node_core.specs.Event.{Insert, Replace}
 use Rattle.node_core.specs.Node.{NodeState, desk_of}
 use Rattle.node_core.specs.Own.{own_of}
 use Rattle.node_core.specs.Signals.{signalled}
@@ -16,7 +17,6 @@ use Rattle.node_core.specs.declared.act.Act.{Act}
 use Rattle.node_core.specs.declared.input.Input.{Input}
 use Rattle.node_core.specs.declared.input.Input.TheVariants as inputs
 use Rattle.node_core.specs.declared.lane.Body.{Body}
-use Rattle.node_core.specs.declared.word.Word.{Word}
 use Rattle.standings.specs.Ledger.{AreLegal, Ledger, has_entry, ledger_after_all}
 use Rattle.standings.specs.Marks.{Where, has_at}
 use Rattle.standings.specs.declared.deed.Deed.{Deed}
@@ -27,15 +27,15 @@ use Rattle.one_standing.specs.Carried.{Trace}
 use Rattle.one_standing.proofs.LedgerMarks.{FitsLine}
 use Rattle.one_standing.proofs.LedgerSteps.{IsMadeNow, deeds_by, did_goes, silent_behind, tells_deeds}
 use Rattle.one_standing.proofs.LedgerTurns.{Fits, Follows, entry_at}
-use Rattle.one_standing.proofs.LedgerWalk.{Did, IsNewFor, step_did}
+use Rattle.one_standing.proofs.LedgerWalk.{Did, step_did}
 use Rattle.one_standing.proofs.Signalled.{signals_silent}
 use Rattle.running_line.specs.Reading.{Reading}
 use Rattle.running_line.specs.Running.{Running}
 use Rattle.running_line.specs.Stands.{AreInRelation, IsMade, Stands, line_of, node_in}
 use Rattle.running_line.specs.Turns.{Turns}
-use Rattle.running_line.proofs.TurnHands.{fresh}
+use Rattle.running_line.proofs.TurnHands.{fresh, next_made}
 use Rattle.running_line.proofs.TurnLeaves.{event_in}
-use Rattle.running_line.proofs.TurnShape.{made_then, next_in, next_there, other_nodes, own_node}
+use Rattle.running_line.proofs.TurnShape.{made_then, next_there, other_nodes, own_node}
 use Rattle.running_ledger.proofs.LedgerMarks.{differ_of, taken_made}
 
 -- the deeds of what is told of a machine's acts are those of the acts
@@ -50,46 +50,14 @@ record IsNext (maker : Maker) (id : ℕ) : Type 0 where
   small : maker.used + 1 < 281474976710656
   now : after_next maker ≡ record maker { used = maker.used + 1 }
 
-ok_same : (id other : ℕ) (answer : Result ℕ IdsUsedUp) → answer ≡ Ok id → answer ≡ Ok other → id ≡ other
-ok_same id other answer one two = cc
-
 next_by : (full : Bool) (maker : Maker) (id : ℕ) → nat_le 281474976710655 maker.used ≡ full → next_id maker ≡ Ok id → IsNext maker id
 next_by true maker id test is = let none : next_id maker ≡ Err (record {}) = rw test refl in cc
 next_by false maker id test is =
     let some : next_id maker ≡ Ok (made_id maker.machine (maker.used + 1)) = rw test refl in
     let above : maker.used < 281474976710655 = leb-false 281474976710655 maker.used test in
-    record { is = ok_same id (made_id maker.machine (maker.used + 1)) (next_id maker) is some; small = omega (arith, above); now = rw test refl }
-
-next_made : {reading : Reading} {machine : ℕ} {input : Input} {moment : ℤ} {before after : Running} {told : List Act} (turn : Turns reading machine input moment before after told) (id : ℕ) → next_id turn.node.maker ≡ Ok id → turn.next.maker ≡ after_next turn.node.maker → IsMade after id
-next_made {machine = machine} turn id is made =
-    let n : IsNext turn.node.maker id = next_by (nat_le 281474976710655 turn.node.maker.used) turn.node.maker id refl is in
-    let now : turn.next.maker ≡ record turn.node.maker { used = turn.node.maker.used + 1 } = made ∙ n.now in
-    let used : turn.next.maker.used ≡ turn.node.maker.used + 1 = ap (λ (m : Maker). m.used) now in
-    record {
-      machine = machine;
-      node = turn.next;
-      there = next_in turn;
-      count = turn.node.maker.used + 1;
-      used = omega (arith, used);
-      small = n.small;
-      is = n.is ∙ ap (λ (m : Maker). made_id m.machine (turn.node.maker.used + 1)) (sym now);
-    }
+    record { is = ok-same id (made_id maker.machine (maker.used + 1)) (next_id maker) is some; small = omega (arith, above); now = rw test refl }
 
 -- ---- the ids that an input makes
-
-abbrev IsNewInput : (ℕ → Type 0) → Input → Maker → Type 0
-IsNewInput New (inputs.Insert barcode) maker = (id : ℕ) → next_id maker ≡ Ok id → New id
-IsNewInput New (inputs.Replace old) maker = (id : ℕ) → next_id maker ≡ Ok id → New id
-IsNewInput New _ maker = Unit {0}
-
-new_with : (New : ℕ → Type 0) (found : Result ℕ IdsUsedUp) (event : ℕ → Event) → ((id : ℕ) → found ≡ Ok id → IsNewFor New (event id)) → IsNewFor New (with_new found event)
-new_with New (Ok id) event new = new id refl
-new_with New (Err why) event new = tt
-
-new_event : (New : ℕ → Type 0) (maker : Maker) (input : Input) (words : List Word) → IsNewInput New input maker → IsNewFor New (event_of maker input words)
-new_event New maker (inputs.Insert barcode) words new = new_with New (next_id maker) (λ id. Insert id barcode) (λ id is. new id is)
-new_event New maker (inputs.Replace old) words new = new_with New (next_id maker) (Replace old) (λ id is. new id is)
-new_event New maker _ words new = tt
 
 pub input_new : {t : Trace} {reading : Reading} {machine : ℕ} {moment : ℤ} {before after : Running} {told : List Act} (input : Input) (turn : Turns reading machine input moment before after told) → Stands t before → IsNewInput (IsMadeNow (IsMade before) (IsMade after)) input turn.node.maker
 input_new {machine = machine} {before = before} (inputs.Insert barcode) turn st = λ id is. record {

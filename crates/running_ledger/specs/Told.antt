@@ -14,7 +14,8 @@ use Rattle.running_line.specs.New.{IsNew, NumbersDiffer}
 use Rattle.running_line.specs.Reading.{Reading}
 use Rattle.running_line.specs.Running.{Running}
 use Rattle.running_line.specs.RunSteps.{RunSteps, RunsTo, asks, at_rest, goes_on, lets_be, lets_go, moves, turns}
-use Rattle.running_line.specs.Stands.{AreInRelation, line_of}
+use Rattle.running_line.specs.Stands.{line_of}
+use Rattle.running_line.specs.Timed.{AreRelated}
 
 -- ---- the steps of a run
 
@@ -89,11 +90,11 @@ pub record StandsAt (point : RunPoint) : Type 0 where
 
 -- ---- THE LAW
 
--- the relation of running machines goes on in each step, under a reading
+-- the relation of running machines, and what goes on beside it under a reading, go on in each step
 abbrev pub RelationGoesOn : Reading → Type 0
 RelationGoesOn reading =
     (before after : Running) (acts : List Act) → RunSteps reading before acts after
-    → AreInRelation before → AreInRelation after
+    → AreRelated reading before → AreRelated reading after
 
 -- what is told of a run from new machines whose numbers differ, under a reading
 abbrev pub LedgerFollows : Reading → Type 0

@@ -2,7 +2,7 @@
 
 ghost use Rattle.std.specs.Prelude.{◌≡◌, List};
 ghost use Rattle.node_core.specs.declared.act.Act.{Act};
-ghost use Rattle.running_line.specs.Reading.{Reading, Strictly};
+ghost use Rattle.running_line.specs.Reading.{Behind, Reading, Strictly};
 ghost use Rattle.running_line.specs.Running.{Running};
 ghost use Rattle.running_line.specs.RunSteps.{RunsTo};
 ghost use Rattle.running_ledger.specs.Example.{TellsAnInsertion};
@@ -26,6 +26,16 @@ pub fn the_ledger_follows_each_run_that_reads_first()
     ensures stands { StandsAlong Strictly }
 {
     running_line::laws::the_relation_goes_on_in_a_turn();
+}
+
+/// And so it is in each run in which a message is heard once all is read that its receiver's sensors
+/// had seen before it was said, and each board is let go behind the reading.
+pub fn the_ledger_follows_each_run_behind_the_reading()
+    ensures goes_on { RelationGoesOn Behind }
+    ensures follows { LedgerFollows Behind }
+    ensures stands { StandsAlong Behind }
+{
+    running_line::laws::the_relation_goes_on_behind_the_reading();
 }
 
 /// The acts of the points of a run are all that is done in it, in its order.

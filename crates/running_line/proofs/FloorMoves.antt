@@ -1,6 +1,6 @@
 -- A board moves at a gap: the relation of running machines goes on.
-use Rattle.std.proofs.Common.{Bool, List, None, Ok, Option, [], ap, arith, eqb-true, false, inl, inr, refl, subst, sym, true, ℕ, ◌+◌, ◌-◌, ◌∙◌, ◌∷◌, ◌≡◌, ◌≢◌, ◌≤◌, ◌||◌, ◌⊎◌}
-use Rattle.std.specs.Prelude.{cond, nat_eq}
+use Rattle.std.proofs.Common.{Bool, List, None, Ok, Option, ap, arith, eqb-true, false, inl, inr, refl, subst, sym, true, ℕ, ◌+◌, ◌-◌, ◌∙◌, ◌∷◌, ◌≡◌, ◌≢◌, ◌≤◌, ◌||◌, ◌⊎◌}
+use Rattle.std.specs.Prelude.{nat_eq}
 use Rattle.std.proofs.lemmas.Bool.{or_cases, or_left, or_right, eq-eqb}
 use Rattle.line_base.specs.declared.states.SensorEvent.{SensorEvent}
 use Rattle.line_base.specs.declared.states.Side.TheVariants.{Entry}
@@ -11,7 +11,7 @@ use Rattle.handover_out.specs.State.{board_of_phase as held_out}
 use Rattle.handover_out.specs.declared.phase.Phase.{Phase as Out}
 use Rattle.handover_in.specs.declared.phase.Phase.{Phase as In}
 use Rattle.handover_in.specs.declared.phase.Phase.TheVariants as inn
-use Rattle.line_world.specs.Boards.{KeepsBoards, LosesBoard, boards_in, boards_on}
+use Rattle.line_world.specs.Boards.{KeepsBoards, boards_in, boards_on}
 use Rattle.line_world.specs.FloorPlan.{AtMachine, FloorPlan, IsGap, IsWhole, gap_at, has_id, machine_at}
 use Rattle.line_world.specs.Ids.{IdsDiffer}
 use Rattle.line_world.specs.Moved.{IsMove, begins, begun_is_taken, enters, goes_back, is_handed_in, leaves, left_is_taken}
@@ -30,7 +30,7 @@ use Rattle.node_core.specs.declared.lane.Body.{Body as Machine}
 use Rattle.custody.specs.Apart as ends
 use Rattle.custody.specs.Floor.{EntryFloor, ExitFloor, GapAt, gap_begun, gap_fresh, gap_home, gap_inside, gap_left, gap_lost, gap_stolen, in_free, out_ended, out_idle}
 use Rattle.custody.specs.Pair.{Ghost, LinkState, Pair}
-use Rattle.custody.specs.Place.{NotAcross, NotBegun, Place}
+use Rattle.custody.specs.Place.{MovesPlace, NotAcross, NotBegun, Place}
 use Rattle.custody.specs.Shape.{Shape, intake_done, no_handover}
 use Rattle.custody.specs.Talks as talks
 use Rattle.custody.specs.Words.{DownWord, UpWord, events_at}
@@ -39,13 +39,13 @@ use Rattle.machine_custody.specs.Ahead.{IsFreeRead}
 use Rattle.machine_custody.specs.ByHand.{Grows}
 use Rattle.line_step.proofs.Numbers.{none_or_one, same_or_not}
 use Rattle.one_standing.specs.Carried.{Trace, between_of as line_between, stand_of}
-use Rattle.one_standing.specs.Places.{AreApart, LiesAt, LiesIn, Spot, lies_at, lies_begun, lies_in, lies_left}
+use Rattle.one_standing.specs.Places.{AreApart, LiesAt, LiesIn, Spot, lies_at, lies_in}
 use Rattle.one_standing.specs.Relation.{Stand, link_between}
 use Rattle.one_standing.proofs.ApartFloor.{counted, floor_lies, lies_counted, lies_in_gap, lies_on_floor, list_once, one_place_of}
-use Rattle.one_standing.proofs.LineMoves.{less_one, moved_trace}
+use Rattle.one_standing.proofs.LineMoves.{less_one, moved_trace, same_gone, taken_board, one_board}
 use Rattle.one_standing.proofs.Moving.{AreTaken, IsMoved, LiftedAt, lifted_at, move_keeps}
 use Rattle.one_standing.proofs.Traces.{put, put_other, put_same}
-use Rattle.one_standing.proofs.ApartStep.{same_count}
+use Rattle.one_standing.proofs.ApartStep.{same_count, taken_count}
 use Rattle.running_line.specs.RunSteps.{Moves}
 use Rattle.running_line.specs.Reading.{Reading}
 use Rattle.running_line.specs.Running.{Running, unread_by, with_floor}
@@ -113,7 +113,7 @@ none_moves g l step new pair stands idle move =
     no_move move (gap_is_free pair.gap off.1 (entry_not pair.in idle)) off.0
 
 -- and the machine above sees nothing at its entry
-entry_stays : {step : Move} {old new : world.Around} → IsMove step old new → events_at Entry new.up.unread ≡ events_at Entry old.up.unread
+pub entry_stays : {step : Move} {old new : world.Around} → IsMove step old new → events_at Entry new.up.unread ≡ events_at Entry old.up.unread
 entry_stays (begins {seen = seen}) = entry_other seen _
 entry_stays (leaves {seen = seen}) = entry_other seen _
 entry_stays enters = refl
@@ -233,15 +233,25 @@ still_read i step t s plan k st done (inr apart) (inr other) = record {
 
 -- ---- A MOVE THAT IS DONE
 
+-- what it leaves: the board of the gap's handover is where the move brings it
+pub record MovedTo (gap : ℕ) (step : Move) (t : Trace) (s : Running) (plan : FloorPlan) : Type 0 where
+  pub trace : Trace
+  pub stands : Stands trace (with_floor plan s)
+  pub moved : MovesPlace step (t.ghost gap).place (trace.ghost gap).place
+  pub others : (k : ℕ) → k ≢ gap → trace.ghost k ≡ t.ghost k
+
 move_stands : (i : ℕ) (step : Move) (t : Trace) (s : Running) (plan : FloorPlan) (gone : ℕ → Bool) → Stands t s → floor_move (i + 1) step s.floor ≡ Ok plan → Grows (t.gone (i + 1)) gone → AreTaken gone step (gap_at s.floor (i + 1)).lies
-    → ((k x : ℕ) → put (i + 1) gone t.gone k x ≡ true → (t.gone k x ≡ true) ⊎ ((k ≡ i + 1) × WentNow s plan x)) → AreInRelation (with_floor plan s)
+    → ((k x : ℕ) → put (i + 1) gone t.gone k x ≡ true → (t.gone k x ≡ true) ⊎ ((k ≡ i + 1) × WentNow s plan x)) → MovedTo (i + 1) step t s plan
 move_stands i step t s plan gone st is_done grow taken each =
     let done : Done (i + 1) step s.floor plan = done_of (i + 1) step s.floor plan is_done in
     let lifted : LiftedAt step i (stand_of (line_of s)) (between_of t s) done.around = lifted_at step i (stand_of (line_of s)) (between_of t s) done.around st.keeps done.row in
     let t2 : Trace = moved_trace t (i + 1) lifted.place gone in
     let now : Running = with_floor plan s in
+    let ghost : Ghost = record { place = lifted.place; board = (t.ghost (i + 1)).board } in
     record {
       trace = t2;
+      moved = subst (λ (g : Ghost). MovesPlace step (t.ghost (i + 1)).place g.place) (sym (put_same (i + 1) ghost t.ghost)) lifted.moves;
+      others = λ k apart. put_other (i + 1) k ghost t.ghost apart;
       stands = record {
         keeps = move_keeps step i (stand_of (line_of s)) (between_of t s) (stand_of (line_of now)) (between_of t2 now) done.around gone st.keeps done.row grow taken
             (moved_apart t t2 s plan (i + 1) step st is_done each) lifted (is_moved i step t s plan lifted.place gone st done);
@@ -272,34 +282,10 @@ move_stands i step t s plan gone st is_done grow taken each =
 
 -- ---- all but a hand leave what is gone
 
-pub same_gone : (gap : ℕ) (t : Trace) (k x : ℕ) → (k ≡ gap) ⊎ (k ≢ gap) → put gap (t.gone gap) t.gone k x ≡ t.gone k x
-same_gone gap t k x (inl is) = rw is (ap (λ (f : ℕ → Bool). f x) (put_same gap (t.gone gap) t.gone))
-same_gone gap t k x (inr apart) = ap (λ (f : ℕ → Bool). f x) (put_other gap k (t.gone gap) t.gone apart)
-
-other_stands : (i : ℕ) (step : Move) (t : Trace) (s : Running) (plan : FloorPlan) → Stands t s → AreTaken (t.gone (i + 1)) step (gap_at s.floor (i + 1)).lies → floor_move (i + 1) step s.floor ≡ Ok plan → AreInRelation (with_floor plan s)
+other_stands : (i : ℕ) (step : Move) (t : Trace) (s : Running) (plan : FloorPlan) → Stands t s → AreTaken (t.gone (i + 1)) step (gap_at s.floor (i + 1)).lies → floor_move (i + 1) step s.floor ≡ Ok plan → MovedTo (i + 1) step t s plan
 other_stands i step t s plan st none is_done = move_stands i step t s plan (t.gone (i + 1)) st is_done (λ x is. is) none (λ k x gone. inl (sym (same_gone (i + 1) t k x (same_or_not k (i + 1))) ∙ gone))
 
 -- ---- a hand takes a board from the gap
-
-taken_board : {old new : world.Around} {p : Place} {r : Record} → IsMove moves.Take old new → GapAt old.between.lies p r → LiesIn r.id old.between.lies
-taken_board begun_is_taken gap_begun = lies_begun
-taken_board left_is_taken gap_left = lies_left
-
-one_board : {x y : ℕ} {lies : Gap} → LiesIn x lies → LiesIn y lies → y ≡ x
-one_board lies_begun lies_begun = refl
-one_board lies_left lies_left = refl
-
-single_by : (has : Bool) (x : ℕ) (board : Board) → has_id x board ≡ has → 1 ≤ counted x (board ∷ []) → 1 ≤ cond has 1 0
-single_by true x board is some = omega arith
-single_by false x board is some =
-    let none : 1 ≤ 0 = rw is at some in
-    absurd (omega (arith, none))
-
-taken_count : (x : ℕ) (lies old new : List Board) (board : Board) → lies ≡ board ∷ [] → 1 ≤ counted x lies → LosesBoard old new board → counted x new + 1 ≤ counted x old
-taken_count x lies old new board is some loss =
-    let own : 1 ≤ counted x (board ∷ []) = rw is at some in
-    let less = lost_with x loss.front loss.back board (has_id x board) refl in
-    rw (loss.before, loss.after) (omega (arith, less, single_by (has_id x board) x board refl own))
 
 -- what is gone then
 abbrev pub with_gone : (ℕ → Bool) → ℕ → ℕ → Bool
@@ -312,7 +298,7 @@ taken_gone gap x t k y (inl is) gone =
     elim (or_cases (t.gone gap y) (nat_eq y x) own) [ inl was ↦ inl (subst (λ (n : ℕ). t.gone n y ≡ true) (sym is) was) | inr same ↦ inr (is, eqb-true y x same) ]
 taken_gone gap x t k y (inr apart) gone = inl (sym (ap (λ (f : ℕ → Bool). f y) (put_other gap k (with_gone (t.gone gap) x) t.gone apart)) ∙ gone)
 
-take_stands : (i : ℕ) (t : Trace) (s : Running) (plan : FloorPlan) → Stands t s → floor_move (i + 1) moves.Take s.floor ≡ Ok plan → AreInRelation (with_floor plan s)
+take_stands : (i : ℕ) (t : Trace) (s : Running) (plan : FloorPlan) → Stands t s → floor_move (i + 1) moves.Take s.floor ≡ Ok plan → MovedTo (i + 1) moves.Take t s plan
 take_stands i t s plan st is_done =
     let done : Done (i + 1) moves.Take s.floor plan = done_of (i + 1) moves.Take s.floor plan is_done in
     let x : ℕ = (t.ghost (i + 1)).board.id in
@@ -327,7 +313,7 @@ take_stands i t s plan st is_done =
 
 -- ---- THE MOVES
 
-each_stands : (i : ℕ) (step : Move) (t : Trace) (s : Running) (plan : FloorPlan) → Stands t s → floor_move (i + 1) step s.floor ≡ Ok plan → AreInRelation (with_floor plan s)
+each_stands : (i : ℕ) (step : Move) (t : Trace) (s : Running) (plan : FloorPlan) → Stands t s → floor_move (i + 1) step s.floor ≡ Ok plan → MovedTo (i + 1) step t s plan
 each_stands i moves.Take t s plan st is_done = take_stands i t s plan st is_done
 each_stands i moves.Begin t s plan st is_done = other_stands i moves.Begin t s plan st tt is_done
 each_stands i moves.Left t s plan st is_done = other_stands i moves.Left t s plan st tt is_done
@@ -335,11 +321,14 @@ each_stands i moves.Enter t s plan st is_done = other_stands i moves.Enter t s p
 each_stands i moves.Back t s plan st is_done = other_stands i moves.Back t s plan st tt is_done
 each_stands i moves.HandIn t s plan st is_done = other_stands i moves.HandIn t s plan st tt is_done
 
-pub moved_stand : (gap : ℕ) (step : Move) (t : Trace) (s : Running) (plan : FloorPlan) → Stands t s → floor_move gap step s.floor ≡ Ok plan → AreInRelation (with_floor plan s)
-moved_stand gap step t s plan st moved =
+pub moved_to : (gap : ℕ) (step : Move) (t : Trace) (s : Running) (plan : FloorPlan) → Stands t s → floor_move gap step s.floor ≡ Ok plan → MovedTo gap step t s plan
+moved_to gap step t s plan st moved =
     let done : Done gap step s.floor plan = done_of gap step s.floor plan moved in
     let same : gap - 1 + 1 ≡ gap = less_one gap (is_gap_of s.floor gap done.there).counted in
-    each_stands (gap - 1) step t s plan st (subst (λ (n : ℕ). floor_move n step s.floor ≡ Ok plan) (sym same) moved)
+    subst (λ (n : ℕ). MovedTo n step t s plan) same (each_stands (gap - 1) step t s plan st (subst (λ (n : ℕ). floor_move n step s.floor ≡ Ok plan) (sym same) moved))
+
+pub moved_stand : (gap : ℕ) (step : Move) (t : Trace) (s : Running) (plan : FloorPlan) → Stands t s → floor_move gap step s.floor ≡ Ok plan → AreInRelation (with_floor plan s)
+moved_stand gap step t s plan st moved = let m = moved_to gap step t s plan st moved in record { trace = m.trace; stands = m.stands }
 
 pub moves_stand : {reading : Reading} {gap : ℕ} {step : Move} {before after : Running} (t : Trace) → Stands t before → Moves reading gap step before after → AreInRelation after
 moves_stand {gap = gap} {step = step} {before = before} t st m = subst AreInRelation (sym m.after_is) (moved_stand gap step t before m.floor st m.moved)

@@ -37,3 +37,10 @@ pub mod WiresWhole
 pub mod UniqueIds
 pub mod TurnWhole
 pub mod Begins
+pub mod TimedBytes
+pub mod TimedWalk
+pub mod TimedTurn
+pub mod TimedSides
+pub mod BehindTurn
+pub mod BehindMoves
+pub mod BehindRuns

@@ -1,9 +1,9 @@
 -- New machines stand in the relation of running machines, with a trace of nothing.
-use Rattle.std.proofs.Common.{Bool, List, [], ap, arith, false, length, length-append, refl, subst, suc, sym, true, zero, ℕ, ◌++◌, ◌+◌, ◌-◌, ◌∙◌, ◌∷◌, ◌≡◌, ◌≤◌}
-use Rattle.std.specs.Prelude.{cond, filter, nat_lt, slice_index_or}
+use Rattle.std.proofs.Common.{Bool, List, [], ap, arith, false, length, length-append, refl, subst, suc, sym, zero, ℕ, ◌++◌, ◌+◌, ◌-◌, ◌∙◌, ◌∷◌, ◌≡◌, ◌≤◌}
+use Rattle.std.specs.Prelude.{filter, nat_lt, slice_index_or}
 use Rattle.std.specs.List.{AllByRecursion, list_any}
 use Rattle.std.proofs.lemmas.Bool.{false≢true}
-use Rattle.line_base.specs.Text.{IsText}
+use Rattle.line_step.proofs.Keeps.{more_gaps as more_whole}
 use Rattle.line_base.specs.declared.states.Side.TheVariants.{Entry, Exit}
 use Rattle.line_link.specs.Link.{LinkParts, no_link}
 use Rattle.line_world.specs.Boards.{boards_along, boards_on}
@@ -16,19 +16,17 @@ use Rattle.node_core.specs.Sides.{is_open}
 use Rattle.node_core.specs.Sound.{IsSound}
 use Rattle.node_core.specs.declared.lane.Lane.{Lane}
 use Rattle.custody.specs.Words.{events_at}
-use Rattle.link_messages.specs.Fit.{IsFitBody, IsFitMaker}
 use Rattle.link_messages.proofs.Eventing.{first_body_fits}
 use Rattle.line_step.specs.Numbered.{no_node, node_at}
-use Rattle.line_step.specs.State.{LineState, no_line}
+use Rattle.line_step.specs.State.{no_line}
 use Rattle.line_step.specs.World.{link_at, no_world}
 use Rattle.line_step.proofs.Changing.{more_gaps}
 use Rattle.line_step.proofs.Numbers.{number_more}
 use Rattle.one_standing.specs.Carried.{IsFitMachine, between_of as line_between, stand_of}
-use Rattle.one_standing.specs.Places.{LiesAt, Spot, lies_at, lies_in}
-use Rattle.one_standing.specs.Relation.{Between, Neighbours, Owns, Stand}
+use Rattle.one_standing.specs.Relation.{Between, Stand}
 use Rattle.one_standing.specs.Kept.{Keeps}
-use Rattle.one_standing.proofs.RestMore.{lane_aside, same_keeps, stand_aside}
-use Rattle.one_standing.proofs.RestNone.{no_trace, node_none, none_stands}
+use Rattle.one_standing.proofs.RestMore.{lane_aside, same_keeps, stand_aside, IsFitNode, keeps_aside, keeps_seen, as_node, as_machine}
+use Rattle.one_standing.proofs.RestNone.{no_trace, node_none, none_stands, either_way}
 use Rattle.running_line.specs.New.{IsNew, IsNewNode, NumbersDiffer, new_floor}
 use Rattle.running_line.specs.Running.{Running, unread_by}
 use Rattle.running_line.specs.Stands.{AreInRelation, Carried, IsAtRest, between_of, is_joined, line_of, node_in}
@@ -37,55 +35,7 @@ use Rattle.running_line.specs.Wire.{Wire}
 
 -- ---- what a machine is willing to do doesn't count
 
-neighbours_aside : {a c : Stand} {b : Between} → Neighbours a b c → Neighbours (stand_aside a) b (stand_aside c)
-neighbours_aside n = record { pair = n.pair; contents = n.contents; holds = n.holds }
-
-neighbours_seen : (a c : Stand) (b : Between) → Neighbours (stand_aside a) b (stand_aside c) → Neighbours a b c
-neighbours_seen a c b n = record { pair = n.pair; contents = n.contents; holds = n.holds }
-
-owns_aside : {a b : Between} {m : Stand} → Owns a m b → Owns a (stand_aside m) b
-owns_aside o = record { boards = o.boards; entry_role = o.entry_role; exit_role = o.exit_role; offers = o.offers }
-
-owns_seen : (a b : Between) (m : Stand) → Owns a (stand_aside m) b → Owns a m b
-owns_seen a b m o = record { boards = o.boards; entry_role = o.entry_role; exit_role = o.exit_role; offers = o.offers }
-
-lies_aside : (ms : ℕ → Stand) (bs : ℕ → Between) {x : ℕ} {p : Spot} → LiesAt ms bs x p → LiesAt (λ k. stand_aside (ms k)) bs x p
-lies_aside ms bs (lies_at is) = lies_at is
-lies_aside ms bs (lies_in is) = lies_in is
-
-lies_seen : (ms : ℕ → Stand) (bs : ℕ → Between) {x : ℕ} {p : Spot} → LiesAt (λ k. stand_aside (ms k)) bs x p → LiesAt ms bs x p
-lies_seen ms bs (lies_at is) = lies_at is
-lies_seen ms bs (lies_in is) = lies_in is
-
-keeps_aside : (ms : ℕ → Stand) (bs : ℕ → Between) → Keeps ms bs → Keeps (λ k. stand_aside (ms k)) bs
-keeps_aside ms bs keeps = record {
-  neighbours = record { at = λ k. neighbours_aside (keeps.neighbours.at k) };
-  machines = record { at = λ k. owns_aside (keeps.machines.at k) };
-  apart = record {
-    once = keeps.apart.once;
-    one_place = λ x p q one other. keeps.apart.one_place x p q (lies_seen ms bs one) (lies_seen ms bs other);
-    nowhere = λ k x p gone lies. keeps.apart.nowhere k x p gone (lies_seen ms bs lies);
-    gone_once = keeps.apart.gone_once;
-  };
-}
-
-keeps_seen : (ms : ℕ → Stand) (bs : ℕ → Between) → Keeps (λ k. stand_aside (ms k)) bs → Keeps ms bs
-keeps_seen ms bs keeps = record {
-  neighbours = record { at = λ k. neighbours_seen (ms k) (ms (k + 1)) (bs k) (keeps.neighbours.at k) };
-  machines = record { at = λ k. owns_seen (bs k) (bs (k + 1)) (ms (k + 1)) (keeps.machines.at k) };
-  apart = record {
-    once = keeps.apart.once;
-    one_place = λ x p q one other. keeps.apart.one_place x p q (lies_aside ms bs one) (lies_aside ms bs other);
-    nowhere = λ k x p gone lies. keeps.apart.nowhere k x p gone (lies_aside ms bs lies);
-    gone_once = keeps.apart.gone_once;
-  };
-}
-
 -- ---- the floor
-
-either_way : {X : Type 0} (test : Bool) (x : X) → cond test x x ≡ x
-either_way true x = refl
-either_way false x = refl
 
 pub floor_machine : (count machine : ℕ) → machine_at (new_floor count) machine ≡ empty_machine
 floor_machine zero machine = either_way (nat_lt 0 machine) empty_machine
@@ -94,10 +44,6 @@ floor_machine (suc count) machine = number_more (new_floor count).machines machi
 pub floor_gap : (count gap : ℕ) → gap_at (new_floor count) gap ≡ free_gap
 floor_gap zero gap = either_way (nat_lt 0 gap) free_gap
 floor_gap (suc count) gap = more_gaps (new_floor count).machines (new_floor count).gaps gap ∙ floor_gap count gap
-
-more_whole : (machines : List AtMachine) (gaps : List AtGap) → length gaps ≡ length machines - 1 → length (gaps_before machines gaps) ≡ length (machines ++ empty_machine ∷ []) - 1
-more_whole [] gaps h = omega (arith, h)
-more_whole (m ∷ machines) gaps h = omega (arith, h, length-append gaps (free_gap ∷ []), length-append machines (empty_machine ∷ []))
 
 floor_whole : (count : ℕ) → IsWhole (new_floor count)
 floor_whole zero = refl
@@ -133,7 +79,7 @@ lane_new : (s : Running) → IsNew s → (machine : ℕ) → lane_aside (node_in
 lane_new s new zero = refl
 lane_new s new (suc place) = nodes_new s.machines place new.nodes
 
-machine_new : (s : Running) → IsNew s → (machine : ℕ) → machine_at s.floor machine ≡ empty_machine
+pub machine_new : (s : Running) → IsNew s → (machine : ℕ) → machine_at s.floor machine ≡ empty_machine
 machine_new s new machine = ap (λ f. machine_at f machine) new.floor ∙ floor_machine (length s.machines) machine
 
 gap_new : (s : Running) → IsNew s → (gap : ℕ) → gap_at s.floor gap ≡ free_gap
@@ -206,18 +152,6 @@ any_new P new none (node ∷ nodes) (suc place) all = any_new P new none nodes p
 each_new : (P : NodeState → Type 0) → ((node : NodeState) → IsNewNode node → P node) → P no_node → (s : Running) → IsNew s → (machine : ℕ) → P (node_in s machine)
 each_new P new none s is zero = none
 each_new P new none s is (suc place) = any_new P new none s.machines place is.nodes
-
-pub record IsFitNode (node : NodeState) : Type 0 where
-  pub body : IsFitBody node.lane.body
-  pub maker : IsFitMaker node.maker
-  pub name : IsText node.name
-  pub lane : node.number ≤ 999_999_999
-
-pub as_node : (s : LineState) (machine : ℕ) → IsFitMachine s machine → IsFitNode (node_at s machine)
-as_node s machine k = record { body = k.body; maker = k.maker; name = k.name; lane = k.lane }
-
-pub as_machine : (s : LineState) (machine : ℕ) → IsFitNode (node_at s machine) → IsFitMachine s machine
-as_machine s machine k = record { body = k.body; maker = k.maker; name = k.name; lane = k.lane }
 
 node_fits : (node : NodeState) → IsNewNode node → IsFitNode node
 node_fits node new = subst (λ (n : NodeState). IsFitNode n) (sym new.is) (record { body = first_body_fits new.profile.bridge; maker = record { small = new.number }; name = new.name; lane = new.lane })

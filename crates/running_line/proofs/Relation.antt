@@ -4,6 +4,7 @@ use Rattle.std.specs.Prelude.{cond, nat_eq}
 use Rattle.std.specs.List.{list_any}
 use Rattle.std.proofs.lemmas.Bool.{false≢true}
 use Rattle.std.proofs.lemmas.Option.{slice_get_within}
+use Rattle.running_line.proofs.TurnJoined.{placed}
 use Rattle.line_base.specs.declared.states.Side.{Side}
 use Rattle.line_base.specs.declared.states.Side.TheVariants.{Entry, Exit}
 use Rattle.board_record.specs.declared.sensed.Sensed.{Sensed}
@@ -34,7 +35,7 @@ by_test : (P : List Wire → Type 0) (test : Bool) (new old : List Wire) → (te
 by_test P true new old is other = is refl
 by_test P false new old is other = other refl
 
-by_link : (P : ℕ → List Wire → Type 0) (link : ℕ) (change : List Wire → List Wire) (s : Running) → P link (change (s.wires link)) → ((k : ℕ) → P k (s.wires k)) → (k : ℕ) → P k ((with_wires link change s).wires k)
+pub by_link : (P : ℕ → List Wire → Type 0) (link : ℕ) (change : List Wire → List Wire) (s : Running) → P link (change (s.wires link)) → ((k : ℕ) → P k (s.wires k)) → (k : ℕ) → P k ((with_wires link change s).wires k)
 by_link P link change s here each k = by (same_or_not k link)
   where
     by : (k ≡ link) ⊎ (k ≢ link) → P k (cond (nat_eq k link) (change (s.wires k)) (s.wires k))
@@ -98,10 +99,10 @@ link_by false link place t s wire st there is = absurd (no_wire place (s.wires l
 
 -- ---- A CONNECTION IS ASKED FOR
 
-awaits_has : Awaits ≡ Has → ⊥
+pub awaits_has : Awaits ≡ Has → ⊥
 awaits_has is = cc
 
-left_has : Left ≡ Has → ⊥
+pub left_has : Left ≡ Has → ⊥
 left_has is = cc
 
 left_awaits : Left ≡ Awaits → ⊥
@@ -112,12 +113,12 @@ same_joined above Awaits up down = refl
 same_joined above Has up down = refl
 same_joined above Left up down = refl
 
-up_still : (A : List Coming → Type 0) (above below : Hold) (up down : List Coming) → (above ≡ Has → A up) → (given_up Entry (wire_of above below up down)).above ≡ Has → A (given_up Entry (wire_of above below up down)).up
+pub up_still : (A : List Coming → Type 0) (above below : Hold) (up down : List Coming) → (above ≡ Has → A up) → (given_up Entry (wire_of above below up down)).above ≡ Has → A (given_up Entry (wire_of above below up down)).up
 up_still A above Awaits up down p = p
 up_still A above Has up down p = p
 up_still A above Left up down p = p
 
-down_still : (A : List Coming → Type 0) (above below : Hold) (up down : List Coming) → (below ≡ Has → A down) → (given_up Entry (wire_of above below up down)).below ≡ Has → A (given_up Entry (wire_of above below up down)).down
+pub down_still : (A : List Coming → Type 0) (above below : Hold) (up down : List Coming) → (below ≡ Has → A down) → (given_up Entry (wire_of above below up down)).below ≡ Has → A (given_up Entry (wire_of above below up down)).down
 down_still A above Awaits up down p = λ is. absurd (left_has is)
 down_still A above Has up down p = p
 down_still A above Left up down p = p
@@ -147,9 +148,6 @@ asks_stand {machine} {before} t st a =
     (asked_carries (st.carried machine)))
 
 -- ---- AN END THAT AWAITS A CONNECTION LEAVES IT
-
-placed : (place : ℕ) (change : Wire → Wire) (wires : List Wire) (wire : Wire) → slice_get wires place ≡ Some wire → at_place place change wires ≡ slice_set wires place (change wire)
-placed place change wires wire there = rw (there, at_place) refl
 
 loses_joint : (side : Side) (wire : Wire) → end_at side wire ≡ Awaits → is_joined (let_be side wire) ≡ is_joined wire
 loses_joint Exit wire is = ap (λ (h : Hold). has h && has wire.below) (sym is)

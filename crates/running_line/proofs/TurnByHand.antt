@@ -2,18 +2,19 @@
 use Rattle.std.proofs.Common.{Bool, List, None, Option, Result, Ok, Err, Some, [], ap, arith, eq-eqb, eqb-true, false, inl, inr, length, refl, subst, sym, true, ℕ, ℤ, ◌++◌, ◌+◌, ◌∙◌, ◌∷◌, ◌≡◌, ◌≢◌, ◌≤◌, ◌⊎◌}
 use Rattle.std.specs.Prelude.{cond, nat_eq, not}
 use Rattle.std.proofs.lemmas.Bool.{false≢true, or_cases, or_left, or_right}
+use Rattle.one_standing.proofs.LineMoves.{same_gone}
+use Rattle.one_standing.proofs.HandSteps.{lies_last, free_phase}
 use Rattle.board_record.specs.Maker.{Maker, made_id, next_id}
 use Rattle.board_record.specs.declared.maker.IdsUsedUp.{IdsUsedUp}
 use Rattle.board_record.specs.declared.sensed.Sensed.{Sensed}
-use Rattle.handover_in.specs.State.{name_of_phase}
-use Rattle.handover_in.specs.declared.phase.Phase.{Phase as In}
 use Rattle.handover_in.specs.declared.phase.Phase.TheVariants as inn
 use Rattle.line_world.specs.Boards.{boards_on}
 use Rattle.line_world.specs.FloorPlan.{machine_at, with_new_id, without_board}
 use Rattle.line_world.specs.declared.board.Board.{Board}
-use Rattle.node_core.specs.Announces.{is_free, is_intake_free}
+use Rattle.node_core.specs.Announces.{is_intake_free}
 use Rattle.node_core.specs.Boards.{if_kept, is_kept, with_instead, with_kept, without}
 use Rattle.node_core.specs.Desk.{Desk}
+use Rattle.node_core.specs.Done.{Done}
 use Rattle.node_core.specs.Event.{Insert, Replace, event_did, with_new}
 use Rattle.node_core.specs.May.{is_used_up, may_do, no_if}
 use Rattle.node_core.specs.Node.{NodeState, desk_of}
@@ -26,45 +27,45 @@ use Rattle.node_core.specs.declared.input.Input.TheVariants as inputs
 use Rattle.node_core.specs.declared.input.No.{No}
 use Rattle.node_core.specs.declared.lane.Body.{Body}
 use Rattle.board_record.specs.Record.{plain_record}
+use Rattle.machine_custody.specs.Ahead.{GoesAhead}
 use Rattle.machine_custody.specs.ByHand.{AreHere, Grows}
-use Rattle.machine_custody.specs.Good.{Good, Lies, lies_first, lies_later}
-use Rattle.machine_custody.specs.Scene.{Scene, all_met}
-use Rattle.machine_custody.proofs.Step.{insert_goes, remove_goes, replace_goes}
+use Rattle.machine_custody.specs.Good.{Lies}
+use Rattle.machine_custody.specs.Scene.{Scene}
+use Rattle.machine_custody.proofs.Step.{insert_ahead, remove_ahead, replace_ahead}
 use Rattle.machine_custody.proofs.StillKept.{read_kept}
 use Rattle.line_step.proofs.Numbers.{same_or_not}
 use Rattle.one_standing.specs.Carried.{Trace, stand_of}
 use Rattle.one_standing.specs.Places.{at_machine, lies_at}
 use Rattle.one_standing.proofs.ApartFloor.{counted, lies_on_floor}
-use Rattle.one_standing.proofs.Elsewhere.{afar_at, elsewhere_of, unique_at}
+use Rattle.one_standing.proofs.Elsewhere.{elsewhere_of, unique_at}
+use Rattle.one_standing.proofs.Steps.{afar_of}
 use Rattle.one_standing.proofs.HandsThere.{gone_renamed, gone_without, lies_renamed, lies_without}
-use Rattle.running_line.specs.Reading.{Strictly}
+use Rattle.running_line.specs.Reading.{Reading}
 use Rattle.running_line.specs.Running.{Running}
 use Rattle.running_line.specs.Stands.{IsMade, Stands, between_of, line_of, node_in}
 use Rattle.running_line.specs.Steady.{scene_of}
 use Rattle.running_line.specs.Turns.{Turns}
 use Rattle.running_line.specs.Wire.{asked_for}
-use Rattle.running_line.proofs.FloorMoves.{same_gone, taken_gone, to_line, with_gone}
+use Rattle.running_line.proofs.FloorMoves.{taken_gone, to_line, with_gone}
 use Rattle.running_line.proofs.Relation.{within_of}
 use Rattle.running_line.proofs.TurnHands.{Fewer, Hand, fresh, hand_in, hand_of, inserts_fewer, kept_lies, none_gone, one_gone, removes_fewer, replaces_fewer}
-use Rattle.running_line.proofs.TurnInto.{GoesAs, IsNoJoint, IsTaken, front_all, into_by, plain_acts, plain_joins, read_all}
+use Rattle.running_line.proofs.TurnInto.{GoesAs, IsNoJoint, into_by, plain_acts, plain_joins, reads_in}
 use Rattle.running_line.proofs.TurnLeaves.{done_in, fit_then, rests_then}
 use Rattle.running_line.proofs.TurnShape.{made_then, own_node}
 use Rattle.running_line.proofs.TurnStands.{LeavesAll, TurnsInto, own_scene, trace_then}
-use Rattle.running_line.proofs.TurnSteps.{all_before}
 
 -- what a turn comes to, with what is gone then
-pub record ByHand (j : ℕ) {input : Input} {moment : ℤ} {before after : Running} {told : List Act} (t : Trace) (turn : Turns Strictly (j + 1) input moment before after told) : Type 0 where
+pub record ByHand (j : ℕ) {reading : Reading} {input : Input} {moment : ℤ} {before after : Running} {told : List Act} (t : Trace) (turn : Turns reading (j + 1) input moment before after told) : Type 0 where
   pub gone : ℕ → Bool
   pub into : TurnsInto j t asked_for (scene_of t before j) gone turn
   pub leaves : LeavesAll after (trace_then into)
 
-goes_into : {j : ℕ} {input : Input} {moment : ℤ} {before after : Running} {told : List Act} (t : Trace) (elsewhere gone : ℕ → Bool) (turn : Turns Strictly (j + 1) input moment before after told) → IsTaken input → IsNoJoint input
-    → GoesAs t before j elsewhere [] (done_in turn).body (all_met (done_in turn).acts (scene_of t before j)) gone → TurnsInto j t asked_for (scene_of t before j) gone turn
-goes_into {j = j} {input = input} {before = before} t elsewhere gone turn taken plain goes =
-    into_by t asked_for (scene_of t before j) turn (own_scene t before j)
-    (subst (λ (d : Scene). GoesAs t before j elsewhere turn.rest (done_in turn).body d gone) (plain_acts input asked_for (done_in turn).acts (scene_of t before j) plain)
-    (subst (λ (rest : List Sensed). GoesAs t before j elsewhere rest (done_in turn).body (all_met (done_in turn).acts (scene_of t before j)) gone) (sym (read_all turn taken)) goes))
-    (plain_joins t asked_for turn plain)
+goes_into : {j : ℕ} {reading : Reading} {input : Input} {moment : ℤ} {before after : Running} {told : List Act} (t : Trace) (elsewhere gone : ℕ → Bool) (turn : Turns reading (j + 1) input moment before after told) → IsNoJoint input
+    → GoesAhead (afar_of elsewhere (between_of t before j) gone) (node_in before j).lane.body.kept turn.rest (t.ghost j) (t.ghost (j + 1)) (scene_of t before j) (done_in turn) → TurnsInto j t asked_for (scene_of t before j) gone turn
+goes_into {j = j} {input = input} {before = before} t elsewhere gone turn plain ahead =
+    into_by {elsewhere = elsewhere} t asked_for (scene_of t before j) turn (own_scene t before j)
+    (subst (λ (d : Scene). GoesAs t before j elsewhere turn.rest (done_in turn).body d gone) (plain_acts input asked_for (done_in turn).acts (scene_of t before j) plain) ahead.goes)
+    ahead.read (plain_joins t asked_for turn plain)
 
 -- ---- why it may
 
@@ -76,27 +77,17 @@ holds_of : (test : Bool) → not test ≡ false → test ≡ true
 holds_of true is = refl
 holds_of false is = absurd (false≢true (sym is))
 
-free_phase : (phase : In) → is_free (name_of_phase phase) ≡ true → phase ≡ inn.Idle
-free_phase inn.Idle is = refl
-free_phase (inn.Taking r own heard) is = absurd (false≢true is)
-free_phase (inn.Stopped r own heard) is = absurd (false≢true is)
-free_phase (inn.Waiting r own heard) is = absurd (false≢true is)
-
 next_is : (maker : Maker) → is_used_up maker.used ≡ false → next_id maker ≡ Ok (made_id maker.machine (maker.used + 1))
 next_is maker some = ap (λ (test : Bool). cond test (Err (record {})) (Ok (made_id maker.machine (maker.used + 1)))) some
-
--- ---- the machine as the relation has it
-
-abbrev GoodNode : Trace → Running → ℕ → List Sensed → Body → Type 0
-GoodNode t s j read body = Good (afar_at (stand_of (line_of s)) (between_of t s) j) (node_in s j).lane.body.kept read (t.ghost j) (t.ghost (j + 1)) body (scene_of t s j)
-
-good_node : {j : ℕ} {input : Input} {moment : ℤ} {before after : Running} {told : List Act} (t : Trace) → Stands t before → (turn : Turns Strictly (j + 1) input moment before after told) → IsTaken input → GoodNode t before j turn.read turn.node.lane.body
-good_node {j = j} {before = before} t st turn taken = subst (λ (n : NodeState). GoodNode t before j turn.read n.lane.body) (own_node turn) (all_before j turn.read st (front_all turn taken))
 
 abbrev elsewhere_in : Running → ℕ → ℕ → Bool
 elsewhere_in s j = elsewhere_of (machine_at s.floor (j + 1)).boards
 
-within_floor : {machine : ℕ} {input : Input} {moment : ℤ} {before after : Running} {told : List Act} (t : Trace) → Stands t before → (turn : Turns Strictly machine input moment before after told) → machine ≤ length before.floor.machines
+-- the relation goes on to the scene behind a step
+abbrev AheadAs : Trace → Running → ℕ → (ℕ → Bool) → List Sensed → Done → Type 0
+AheadAs t s j gone rest done = GoesAhead (afar_of (elsewhere_in s j) (between_of t s j) gone) (node_in s j).lane.body.kept rest (t.ghost j) (t.ghost (j + 1)) (scene_of t s j) done
+
+within_floor : {machine : ℕ} {input : Input} {reading : Reading} {moment : ℤ} {before after : Running} {told : List Act} (t : Trace) → Stands t before → (turn : Turns reading machine input moment before after told) → machine ≤ length before.floor.machines
 within_floor {machine = machine} {before = before} t st turn =
     let within = (within_of machine before turn.node turn.there).1 in
     let many = st.many in
@@ -118,24 +109,14 @@ lies_counted_there t s m id st lies = lies_on_floor t (line_of s) id (at_machine
 
 -- ---- A BOARD IS PUT IN
 
-lies_last : {x y : ℕ} (boards : List Board) → Lies x (boards ++ record { id = Some y } ∷ []) → Lies x boards ⊎ (x ≡ y)
-lies_last [] lies_first = inr refl
-lies_last [] (lies_later lies) = elim lies [ ]
-lies_last (b ∷ boards) lies_first = inl lies_first
-lies_last (b ∷ boards) (lies_later lies) = later (lies_last boards lies)
-  where
-    later : {x y : ℕ} {b : Board} {bs : List Board} → Lies x bs ⊎ (x ≡ y) → Lies x (b ∷ bs) ⊎ (x ≡ y)
-    later (inl lies) = inl (lies_later lies)
-    later (inr is) = inr is
-
 here_inserted : (j id : ℕ) (t : Trace) (s : Running) → Stands t s → ((x : ℕ) → IsMade s x → x ≢ id) → AreHere (t.gone (j + 1)) ((machine_at s.floor (j + 1)).boards ++ record { id = Some id } ∷ [])
 here_inserted j id t s st new x lies gone = elim (lies_last (machine_at s.floor (j + 1)).boards lies) [
   | inl there ↦ st.keeps.apart.nowhere (j + 1) x (at_machine (j + 1)) gone (lies_at there)
   | inr is ↦ new x (st.olds (j + 1) x gone) is
 ]
 
-pub insert_by_hand : {j : ℕ} {barcode : Option (List ℕ)} {moment : ℤ} {before after : Running} {told : List Act} (t : Trace) → Stands t before → (turn : Turns Strictly (j + 1) (inputs.Insert barcode) moment before after told) → ByHand j t turn
-insert_by_hand {j} {barcode} {moment} {before} {after} t st turn =
+pub insert_by_hand : {j : ℕ} {barcode : Option (List ℕ)} {reading : Reading} {moment : ℤ} {before after : Running} {told : List Act} (t : Trace) → Stands t before → (turn : Turns reading (j + 1) (inputs.Insert barcode) moment before after told) → ByHand j t turn
+insert_by_hand {j} {barcode} {reading} {moment} {before} {after} t st turn =
     let desk : Desk = desk_of turn.node moment in
     let one = passes (not (is_intake_free turn.node.lane.body)) _ _ turn.may in
     let two = passes _ _ _ one.1 in
@@ -144,10 +125,9 @@ insert_by_hand {j} {barcode} {moment} {before} {after} t st turn =
     let id : ℕ = made_id turn.node.maker.machine (turn.node.maker.used + 1) in
     let is : next_id turn.node.maker ≡ Ok id = next_is turn.node.maker three.0 in
     let new : (x : ℕ) → IsMade before x → x ≢ id = λ x made. fresh before (j + 1) turn.node id x st.numbers turn.there is made in
-    let Q : Result ℕ IdsUsedUp → Type 0 = λ answer. GoesAs t before j (elsewhere_in before j) [] (machine_step desk turn.read (with_new answer (λ n. Insert n barcode)) turn.node.lane.body).body
-    (all_met (machine_step desk turn.read (with_new answer (λ n. Insert n barcode)) turn.node.lane.body).acts (scene_of t before j)) (t.gone (j + 1)) in
-    let goes : Q (next_id turn.node.maker) = subst Q (sym is) (insert_goes (t.gone (j + 1)) desk turn.read id barcode turn.node.lane.body (scene_of t before j) (good_node t st turn tt) idle (λ x gone. gone) (here_inserted j id t before st new)) in
-    let into : TurnsInto j t asked_for (scene_of t before j) (t.gone (j + 1)) turn = goes_into t (elsewhere_in before j) (t.gone (j + 1)) turn tt tt goes in
+    let Q : Result ℕ IdsUsedUp → Type 0 = λ answer. AheadAs t before j (t.gone (j + 1)) turn.rest (machine_step desk turn.read (with_new answer (λ n. Insert n barcode)) turn.node.lane.body) in
+    let goes : Q (next_id turn.node.maker) = subst Q (sym is) (insert_ahead (t.gone (j + 1)) desk turn.read id barcode turn.node.lane.body (scene_of t before j) (reads_in t st turn) idle (λ x gone. gone) (here_inserted j id t before st new)) in
+    let into : TurnsInto j t asked_for (scene_of t before j) (t.gone (j + 1)) turn = goes_into t (elsewhere_in before j) (t.gone (j + 1)) turn tt goes in
     let hand : hand_of turn ≡ acts.Inserts id ∷ [] = ap (λ (answer : Result ℕ IdsUsedUp). (event_did desk (with_new answer (λ n. Insert n barcode)) (all_read desk turn.read turn.node.lane.body).body).acts) is in
     let h : Hand (acts.Inserts id) turn = hand_in turn (acts.Inserts id) hand (λ world. refl) (some_machine j) (within_floor t st turn) in
     let f : Fewer before after = inserts_fewer t id turn st h (some_machine j) (within_floor t st turn) is turn.steps.lane.made in
@@ -176,24 +156,24 @@ here_removed j id t s st there x lies gone =
     ]
 
 -- what went was made
-gone_made : (j : ℕ) {input : Input} {moment : ℤ} {before after : Running} {told : List Act} (t t2 : Trace) (id : ℕ) → Stands t before → (turn : Turns Strictly (j + 1) input moment before after told) → 1 ≤ counted id (boards_on before.floor)
+gone_made : (j : ℕ) {input : Input} {reading : Reading} {moment : ℤ} {before after : Running} {told : List Act} (t t2 : Trace) (id : ℕ) → Stands t before → (turn : Turns reading (j + 1) input moment before after told) → 1 ≤ counted id (boards_on before.floor)
     → ((k x : ℕ) → t2.gone k x ≡ true → (t.gone k x ≡ true) ⊎ ((k ≡ j + 1) × (x ≡ id))) → (k x : ℕ) → t2.gone k x ≡ true → IsMade after x
 gone_made j {before = before} {after = after} t t2 id st turn some each k x gone = elim (each k x gone) [
   | inl was ↦ made_then turn x (st.olds k x was)
   | inr own ↦ subst (λ (n : ℕ). IsMade after n) (sym own.1) (made_then turn id (st.made id some))
 ]
 
-pub remove_by_hand : {j id : ℕ} {moment : ℤ} {before after : Running} {told : List Act} (t : Trace) → Stands t before → (turn : Turns Strictly (j + 1) (inputs.Remove id) moment before after told) → ByHand j t turn
-remove_by_hand {j} {id} {moment} {before} {after} t st turn =
+pub remove_by_hand : {j id : ℕ} {reading : Reading} {moment : ℤ} {before after : Running} {told : List Act} (t : Trace) → Stands t before → (turn : Turns reading (j + 1) (inputs.Remove id) moment before after told) → ByHand j t turn
+remove_by_hand {j} {id} {reading} {moment} {before} {after} t st turn =
     let desk : Desk = desk_of turn.node moment in
     let one = passes (not (is_kept id turn.node.lane.body.kept)) _ _ turn.may in
     let kept : is_kept id turn.node.lane.body.kept ≡ true = holds_of (is_kept id turn.node.lane.body.kept) one.0 in
     let lies : Lies id (machine_at before.floor (j + 1)).boards = kept_lies t before (j + 1) id st (ap (λ (n : NodeState). is_kept id n.lane.body.kept) (own_node turn) ∙ kept) in
     let gone : ℕ → Bool = with_gone (t.gone (j + 1)) id in
     let still : is_kept id (all_read desk turn.read turn.node.lane.body).body.kept ≡ true = read_kept id desk turn.read turn.node.lane.body kept in
-    let goes : GoesAs t before j (elsewhere_in before j) [] (done_in turn).body (all_met (done_in turn).acts (scene_of t before j)) gone =
-    remove_goes gone desk turn.read id turn.node.lane.body (scene_of t before j) (good_node t st turn tt) (unique_at (stand_of (line_of before)) (between_of t before) j st.keeps) still (grows_with (t.gone (j + 1)) id) (own_with (t.gone (j + 1)) id) (here_removed j id t before st lies) in
-    let into : TurnsInto j t asked_for (scene_of t before j) gone turn = goes_into t (elsewhere_in before j) gone turn tt tt goes in
+    let goes : AheadAs t before j gone turn.rest (done_in turn) =
+    remove_ahead gone desk turn.read id turn.node.lane.body (scene_of t before j) (reads_in t st turn) (unique_at (stand_of (line_of before)) (between_of t before) j st.keeps) still (grows_with (t.gone (j + 1)) id) (own_with (t.gone (j + 1)) id) (here_removed j id t before st lies) in
+    let into : TurnsInto j t asked_for (scene_of t before j) gone turn = goes_into t (elsewhere_in before j) gone turn tt goes in
     let body : Body = (all_read desk turn.read turn.node.lane.body).body in
     let hand : hand_of turn ≡ acts.Removes id ∷ [] = ap (λ (test : Bool). (if_kept test (with_kept (without id body.kept) body) (acts.Removes id) body).acts) still in
     let h : Hand (acts.Removes id) turn = hand_in turn (acts.Removes id) hand (λ world. refl) (some_machine j) (within_floor t st turn) in
@@ -228,8 +208,8 @@ here_renamed j old new t s st there fresh apart x lies gone =
       | inr own ↦ gone_renamed old new boards there apart (st.keeps.apart.once (j + 1)) (subst (λ (n : ℕ). Lies n (with_new_id old new boards)) (eqb-true x old own) lies)
     ]
 
-pub replace_by_hand : {j old : ℕ} {moment : ℤ} {before after : Running} {told : List Act} (t : Trace) → Stands t before → (turn : Turns Strictly (j + 1) (inputs.Replace old) moment before after told) → ByHand j t turn
-replace_by_hand {j} {old} {moment} {before} {after} t st turn =
+pub replace_by_hand : {j old : ℕ} {reading : Reading} {moment : ℤ} {before after : Running} {told : List Act} (t : Trace) → Stands t before → (turn : Turns reading (j + 1) (inputs.Replace old) moment before after told) → ByHand j t turn
+replace_by_hand {j} {old} {reading} {moment} {before} {after} t st turn =
     let desk : Desk = desk_of turn.node moment in
     let one = passes (not (is_kept old turn.node.lane.body.kept)) _ _ turn.may in
     let two = passes (is_used_up turn.node.maker.used) _ _ one.1 in
@@ -243,12 +223,11 @@ replace_by_hand {j} {old} {moment} {before} {after} t st turn =
     let gone : ℕ → Bool = with_gone (t.gone (j + 1)) old in
     let body : Body = (all_read desk turn.read turn.node.lane.body).body in
     let still : is_kept old body.kept ≡ true = read_kept old desk turn.read turn.node.lane.body kept in
-    let Q : Result ℕ IdsUsedUp → Type 0 = λ answer. GoesAs t before j (elsewhere_in before j) [] (machine_step desk turn.read (with_new answer (Replace old)) turn.node.lane.body).body
-    (all_met (machine_step desk turn.read (with_new answer (Replace old)) turn.node.lane.body).acts (scene_of t before j)) gone in
+    let Q : Result ℕ IdsUsedUp → Type 0 = λ answer. AheadAs t before j gone turn.rest (machine_step desk turn.read (with_new answer (Replace old)) turn.node.lane.body) in
     let goes : Q (next_id turn.node.maker) = subst Q (sym is)
-    (replace_goes gone desk turn.read old id turn.node.lane.body (scene_of t before j) (good_node t st turn tt) (unique_at (stand_of (line_of before)) (between_of t before) j st.keeps) still (grows_with (t.gone (j + 1)) old) (own_with (t.gone (j + 1)) old)
+    (replace_ahead gone desk turn.read old id turn.node.lane.body (scene_of t before j) (reads_in t st turn) (unique_at (stand_of (line_of before)) (between_of t before) j st.keeps) still (grows_with (t.gone (j + 1)) old) (own_with (t.gone (j + 1)) old)
     (here_renamed j old id t before st lies new apart)) in
-    let into : TurnsInto j t asked_for (scene_of t before j) gone turn = goes_into t (elsewhere_in before j) gone turn tt tt goes in
+    let into : TurnsInto j t asked_for (scene_of t before j) gone turn = goes_into t (elsewhere_in before j) gone turn tt goes in
     let hand : hand_of turn ≡ acts.Replaces old id ∷ [] =
     ap (λ (answer : Result ℕ IdsUsedUp). (event_did desk (with_new answer (Replace old)) body).acts) is
     ∙ ap (λ (test : Bool). (if_kept test (with_kept (with_instead old (plain_record id desk.name None) body.kept) body) (acts.Replaces old id) body).acts) still in

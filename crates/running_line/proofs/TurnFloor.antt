@@ -43,7 +43,7 @@ use Rattle.running_line.specs.Wire.{Awaits, Has, Hold, Left, Wire}
 abbrev pub floor_world : FloorPlan → WorldParts
 floor_world plan = record no_world { floor = plan }
 
-sent_still : (answer : Bool) (machine place : ℕ) (side : Side) (message : Message) (s : Running) → (sent_by answer machine place side message s).floor ≡ s.floor
+pub sent_still : (answer : Bool) (machine place : ℕ) (side : Side) (message : Message) (s : Running) → (sent_by answer machine place side message s).floor ≡ s.floor
 sent_still true machine place side message s = refl
 sent_still false machine place side message s = refl
 
@@ -82,16 +82,10 @@ did_nodes second machine place (act ∷ others) s = did_nodes second machine pla
 
 pub met_floor : (machine : ℕ) (input : Input) (place : ℕ) (s : Running) → (met_by machine input place s).floor ≡ s.floor
 met_floor machine (inputs.Bytes side piece) place s = refl
-met_floor machine inputs.Connect place s = refl
-met_floor machine inputs.Accepted place s = refl
-met_floor machine inputs.Second place s = refl
 met_floor machine input place s = refl
 
 pub met_nodes : (machine : ℕ) (input : Input) (place : ℕ) (s : Running) → (met_by machine input place s).machines ≡ s.machines
 met_nodes machine (inputs.Bytes side piece) place s = refl
-met_nodes machine inputs.Connect place s = refl
-met_nodes machine inputs.Accepted place s = refl
-met_nodes machine inputs.Second place s = refl
 met_nodes machine input place s = refl
 
 -- ---- what the acts leave in the scene, but for what is said below

@@ -1,19 +1,20 @@
 -- A turn of each input, as its machine's scene has it.
 use Rattle.std.proofs.Common.{Bool, List, [], refl, subst, sym, ℕ, ℤ, ◌+◌, ◌∙◌, ◌≡◌, ◌≤◌}
+use Rattle.one_standing.proofs.LineMoves.{same_gone}
+use Rattle.line_step.proofs.FloorLaws.{IsHandless}
 use Rattle.hermes_horizontal.specs.declared.message.Message.{Message}
 use Rattle.line_world.specs.declared.board.Board.{Board}
 use Rattle.node_core.specs.declared.act.Act.{Act}
 use Rattle.node_core.specs.declared.input.Input.{Input}
 use Rattle.node_core.specs.declared.input.Input.TheVariants as inputs
 use Rattle.node_core.specs.declared.word.Word.{Word}
-use Rattle.machine_custody.specs.Ahead.{IsFreeRead}
 use Rattle.machine_custody.specs.Flight.{plain_fault, plain_forecast, plain_level, plain_notice, plain_query, plain_shutdown, plain_supervised, plain_tick, plain_will, plain_words}
 use Rattle.machine_custody.specs.Scene.{Scene}
 use Rattle.line_step.proofs.Numbers.{same_or_not}
 use Rattle.one_standing.specs.Carried.{Trace}
 use Rattle.one_standing.specs.Mirrors.{AreHeard}
 use Rattle.one_standing.proofs.ApartFloor.{counted}
-use Rattle.running_line.specs.Reading.{Strictly}
+use Rattle.running_line.specs.Reading.{Reading}
 use Rattle.running_line.specs.Running.{Running}
 use Rattle.running_line.specs.Stands.{Stands}
 use Rattle.running_line.specs.Steady.{scene_of}
@@ -21,10 +22,9 @@ use Rattle.running_line.specs.Turned.{scene_met}
 use Rattle.running_line.specs.Turns.{Meets, Turns}
 use Rattle.running_line.specs.Waits.{Says}
 use Rattle.running_line.specs.Wire.{Wire, asked_for}
-use Rattle.running_line.proofs.FloorMoves.{same_gone}
 use Rattle.running_line.proofs.TurnByHand.{insert_by_hand, remove_by_hand, replace_by_hand}
-use Rattle.running_line.proofs.TurnInto.{accepted_into, all_free, found_into, mark_into, nothing_free, nothing_into, plain_into, read_all, refused_into}
-use Rattle.running_line.proofs.TurnLeaves.{AreHeardFit, IsHandless, IsHeard, boards_stay, differ_then, fit_then, gone_then, rests_then}
+use Rattle.running_line.proofs.TurnInto.{HasRead, accepted_into, found_into, mark_into, nothing_into, plain_into, refused_into, sub_into}
+use Rattle.running_line.proofs.TurnLeaves.{AreHeardFit, IsHeard, boards_stay, differ_then, fit_then, gone_then, rests_then}
 use Rattle.running_line.proofs.TurnShape.{made_then}
 use Rattle.running_line.proofs.TurnStands.{LeavesAll, TurnsInto, trace_then}
 
@@ -38,45 +38,40 @@ IsMet j inputs.Second place s meets wire said = wire ≡ meets.wire
 IsMet j input place s meets wire said = Unit {0}
 
 -- the connection that it meets, if it meets one that the machine has not, and what was said on it
-pub record TurnOf (j : ℕ) {input : Input} {moment : ℤ} {before after : Running} {told : List Act} (t : Trace) (turn : Turns Strictly (j + 1) input moment before after told) : Type 0 where
+pub record TurnOf (j : ℕ) {reading : Reading} {input : Input} {moment : ℤ} {before after : Running} {told : List Act} (t : Trace) (turn : Turns reading (j + 1) input moment before after told) : Type 0 where
   pub wire : Wire
   pub said : List Message
   pub is_met : IsMet j input turn.place before turn.meets wire said
   pub into : TurnsInto j t wire (scene_met input wire said t before j) (t.gone (j + 1)) turn
 
 -- what is plain of inputs: nothing is connected, and no board is marked or changed by hand
-pub turn_of : (j : ℕ) (input : Input) {moment : ℤ} {before after : Running} {told : List Act} (t : Trace) → Stands t before → (turn : Turns Strictly (j + 1) input moment before after told) → IsHandless input
-    → AreHeard input turn.steps.lane.words (scene_of t before j) → TurnOf j t turn
-turn_of j inputs.Nothing t st turn handless heard = record { wire = asked_for; said = []; is_met = tt; into = nothing_into t st turn }
-turn_of j inputs.Connect t st turn handless heard = (let found = found_into t st turn in record { wire = turn.meets.wire; said = found.said; is_met = (refl, found.says); into = found.into })
-turn_of j inputs.Accepted t st turn handless heard = (let accepted = accepted_into t st turn in record { wire = turn.meets.0.wire; said = accepted.said; is_met = (refl, accepted.says); into = accepted.into })
-turn_of j inputs.Second t st turn handless heard = record { wire = turn.meets.wire; said = []; is_met = refl; into = refused_into t st turn }
-turn_of j (inputs.Bytes side piece) t st turn handless heard = record { wire = asked_for; said = []; is_met = tt; into = plain_into t st turn tt tt (plain_words heard) }
-turn_of j (inputs.Notice side) t st turn handless heard = record { wire = asked_for; said = []; is_met = tt; into = plain_into t st turn tt tt plain_notice }
-turn_of j inputs.Tick t st turn handless heard = record { wire = asked_for; said = []; is_met = tt; into = plain_into t st turn tt tt plain_tick }
-turn_of j inputs.Shutdown t st turn handless heard = record { wire = asked_for; said = []; is_met = tt; into = plain_into t st turn tt tt plain_shutdown }
-turn_of j (inputs.Fault side) t st turn handless heard = record { wire = asked_for; said = []; is_met = tt; into = plain_into t st turn tt tt plain_fault }
-turn_of j (inputs.Will side on) t st turn handless heard = record { wire = asked_for; said = []; is_met = tt; into = plain_into t st turn tt tt plain_will }
-turn_of j (inputs.Level line on) t st turn handless heard = record { wire = asked_for; said = []; is_met = tt; into = plain_into t st turn tt tt plain_level }
-turn_of j (inputs.Insert barcode) t st turn handless heard = absurd handless
-turn_of j (inputs.Remove id) t st turn handless heard = absurd handless
-turn_of j (inputs.Replace id) t st turn handless heard = absurd handless
-turn_of j (inputs.Mark id quality) t st turn handless heard = record { wire = asked_for; said = []; is_met = tt; into = mark_into t st turn }
-turn_of j inputs.Forecast t st turn handless heard = record { wire = asked_for; said = []; is_met = tt; into = plain_into t st turn tt tt plain_forecast }
-turn_of j (inputs.Query barcode) t st turn handless heard = record { wire = asked_for; said = []; is_met = tt; into = plain_into t st turn tt tt plain_query }
-turn_of j (inputs.Supervise on) t st turn handless heard = record { wire = asked_for; said = []; is_met = tt; into = plain_into t st turn tt tt plain_supervised }
-turn_of j (inputs.Ask question) t st turn handless heard = record { wire = asked_for; said = []; is_met = tt; into = plain_into t st turn tt tt plain_supervised }
-turn_of j (inputs.Answer query order) t st turn handless heard = record { wire = asked_for; said = []; is_met = tt; into = plain_into t st turn tt tt plain_supervised }
-
--- a free intake has read all behind it
-pub free_then : (j : ℕ) (input : Input) {moment : ℤ} {before after : Running} {told : List Act} (t : Trace) → Stands t before → (turn : Turns Strictly (j + 1) input moment before after told) → IsFreeRead turn.rest turn.next.lane.body
-free_then j inputs.Nothing t st turn = nothing_free j t st turn
-free_then j (inputs.Bytes side piece) t st turn = all_free turn.rest turn.next.lane.body (read_all turn tt)
-free_then j input t st turn = all_free turn.rest turn.next.lane.body (read_all turn tt)
+pub turn_of : (j : ℕ) (input : Input) {reading : Reading} {moment : ℤ} {before after : Running} {told : List Act} (t : Trace) → Stands t before → (turn : Turns reading (j + 1) input moment before after told) → IsHandless input
+    → HasRead j input t turn → AreHeard input turn.steps.lane.words (scene_of t before j) → TurnOf j t turn
+turn_of j inputs.Nothing t st turn handless has heard = record { wire = asked_for; said = []; is_met = tt; into = nothing_into t st turn }
+turn_of j inputs.Connect t st turn handless has heard = (let found = found_into t st turn in record { wire = turn.meets.wire; said = found.said; is_met = (refl, found.says); into = found.into })
+turn_of j inputs.Accepted t st turn handless has heard = (let accepted = accepted_into t st turn in record { wire = turn.meets.0.wire; said = accepted.said; is_met = (refl, accepted.says); into = accepted.into })
+turn_of j inputs.Second t st turn handless has heard = record { wire = turn.meets.wire; said = []; is_met = refl; into = refused_into t st turn }
+turn_of j (inputs.Bytes side piece) t st turn handless has heard = record { wire = asked_for; said = []; is_met = tt; into = plain_into t st turn (has tt) (has tt).in_time tt (plain_words heard) }
+turn_of j (inputs.Notice side) t st turn handless has heard = record { wire = asked_for; said = []; is_met = tt; into = plain_into t st turn (has tt) tt tt plain_notice }
+turn_of j inputs.Tick t st turn handless has heard = record { wire = asked_for; said = []; is_met = tt; into = plain_into t st turn (has tt) tt tt plain_tick }
+turn_of j inputs.Shutdown t st turn handless has heard = record { wire = asked_for; said = []; is_met = tt; into = plain_into t st turn (has tt) tt tt plain_shutdown }
+turn_of j (inputs.Fault side) t st turn handless has heard = record { wire = asked_for; said = []; is_met = tt; into = plain_into t st turn (has tt) tt tt plain_fault }
+turn_of j (inputs.Will side on) t st turn handless has heard = record { wire = asked_for; said = []; is_met = tt; into = plain_into t st turn (has tt) tt tt plain_will }
+turn_of j (inputs.Level line on) t st turn handless has heard = record { wire = asked_for; said = []; is_met = tt; into = plain_into t st turn (has tt) tt tt plain_level }
+turn_of j (inputs.Insert barcode) t st turn handless has heard = absurd handless
+turn_of j (inputs.Remove id) t st turn handless has heard = absurd handless
+turn_of j (inputs.Replace id) t st turn handless has heard = absurd handless
+turn_of j (inputs.Mark id quality) t st turn handless has heard = record { wire = asked_for; said = []; is_met = tt; into = mark_into t st turn }
+turn_of j (inputs.Sub id place barcode) t st turn handless has heard = record { wire = asked_for; said = []; is_met = tt; into = sub_into t st turn }
+turn_of j inputs.Forecast t st turn handless has heard = record { wire = asked_for; said = []; is_met = tt; into = plain_into t st turn (has tt) tt tt plain_forecast }
+turn_of j (inputs.Query barcode) t st turn handless has heard = record { wire = asked_for; said = []; is_met = tt; into = plain_into t st turn (has tt) tt tt plain_query }
+turn_of j (inputs.Supervise on) t st turn handless has heard = record { wire = asked_for; said = []; is_met = tt; into = plain_into t st turn (has tt) tt tt plain_supervised }
+turn_of j (inputs.Ask question) t st turn handless has heard = record { wire = asked_for; said = []; is_met = tt; into = plain_into t st turn (has tt) tt tt plain_supervised }
+turn_of j (inputs.Answer query order) t st turn handless has heard = record { wire = asked_for; said = []; is_met = tt; into = plain_into t st turn (has tt) tt tt plain_supervised }
 
 -- ---- and what it leaves
 
-pub leaves_of : (j : ℕ) (input : Input) {moment : ℤ} {before after : Running} {told : List Act} (t : Trace) → Stands t before → (turn : Turns Strictly (j + 1) input moment before after told) → IsHandless input
+pub leaves_of : (j : ℕ) (input : Input) {reading : Reading} {moment : ℤ} {before after : Running} {told : List Act} (t : Trace) → Stands t before → (turn : Turns reading (j + 1) input moment before after told) → IsHandless input
     → AreHeardFit input turn.steps.lane.words → (of : TurnOf j t turn) → LeavesAll after (trace_then of.into)
 leaves_of j input {before = before} t st turn handless fit of = record {
   differ = differ_then turn handless st.differ;
@@ -97,7 +92,7 @@ pub fit_of : (input : Input) (words : List Word) (c : Scene) → IsHeard input w
 fit_of (inputs.Bytes side piece) words c heard = heard.1
 fit_of input words c heard = tt
 
-pub record TurnAll (j : ℕ) {input : Input} {moment : ℤ} {before after : Running} {told : List Act} (t : Trace) (turn : Turns Strictly (j + 1) input moment before after told) : Type 0 where
+pub record TurnAll (j : ℕ) {reading : Reading} {input : Input} {moment : ℤ} {before after : Running} {told : List Act} (t : Trace) (turn : Turns reading (j + 1) input moment before after told) : Type 0 where
   pub wire : Wire
   pub said : List Message
   pub is_met : IsMet j input turn.place before turn.meets wire said
@@ -105,17 +100,17 @@ pub record TurnAll (j : ℕ) {input : Input} {moment : ℤ} {before after : Runn
   pub into : TurnsInto j t wire (scene_met input wire said t before j) gone turn
   pub leaves : LeavesAll after (trace_then into)
 
-handless_all : (j : ℕ) (input : Input) {moment : ℤ} {before after : Running} {told : List Act} (t : Trace) → Stands t before → (turn : Turns Strictly (j + 1) input moment before after told) → IsHandless input
-    → IsHeard input turn.steps.lane.words (scene_of t before j) → TurnAll j t turn
-handless_all j input {before = before} t st turn handless heard =
+handless_all : (j : ℕ) (input : Input) {reading : Reading} {moment : ℤ} {before after : Running} {told : List Act} (t : Trace) → Stands t before → (turn : Turns reading (j + 1) input moment before after told) → IsHandless input
+    → HasRead j input t turn → IsHeard input turn.steps.lane.words (scene_of t before j) → TurnAll j t turn
+handless_all j input {before = before} t st turn handless has heard =
     let c : Scene = scene_of t before j in
-    let of : TurnOf j t turn = turn_of j input t st turn handless (oldest_of input turn.steps.lane.words c heard) in
+    let of : TurnOf j t turn = turn_of j input t st turn handless has (oldest_of input turn.steps.lane.words c heard) in
     record { wire = of.wire; said = of.said; is_met = of.is_met; gone = t.gone (j + 1); into = of.into; leaves = leaves_of j input t st turn handless (fit_of input turn.steps.lane.words c heard) of }
 
-pub turn_all : (j : ℕ) (input : Input) {moment : ℤ} {before after : Running} {told : List Act} (t : Trace) → Stands t before → (turn : Turns Strictly (j + 1) input moment before after told)
+pub turn_all : (j : ℕ) (input : Input) {reading : Reading} {moment : ℤ} {before after : Running} {told : List Act} (t : Trace) → Stands t before → (turn : Turns reading (j + 1) input moment before after told) → HasRead j input t turn
     → IsHeard input turn.steps.lane.words (scene_of t before j) → TurnAll j t turn
-turn_all j (inputs.Insert barcode) t st turn heard = (let hand = insert_by_hand t st turn in record { wire = asked_for; said = []; is_met = tt; gone = hand.gone; into = hand.into; leaves = hand.leaves })
-turn_all j (inputs.Remove id) t st turn heard = (let hand = remove_by_hand t st turn in record { wire = asked_for; said = []; is_met = tt; gone = hand.gone; into = hand.into; leaves = hand.leaves })
-turn_all j (inputs.Replace id) t st turn heard = (let hand = replace_by_hand t st turn in record { wire = asked_for; said = []; is_met = tt; gone = hand.gone; into = hand.into; leaves = hand.leaves })
-turn_all j inputs.Nothing t st turn heard = handless_all j inputs.Nothing t st turn tt heard
-turn_all j input t st turn heard = handless_all j input t st turn tt heard
+turn_all j (inputs.Insert barcode) t st turn has heard = (let hand = insert_by_hand t st turn in record { wire = asked_for; said = []; is_met = tt; gone = hand.gone; into = hand.into; leaves = hand.leaves })
+turn_all j (inputs.Remove id) t st turn has heard = (let hand = remove_by_hand t st turn in record { wire = asked_for; said = []; is_met = tt; gone = hand.gone; into = hand.into; leaves = hand.leaves })
+turn_all j (inputs.Replace id) t st turn has heard = (let hand = replace_by_hand t st turn in record { wire = asked_for; said = []; is_met = tt; gone = hand.gone; into = hand.into; leaves = hand.leaves })
+turn_all j inputs.Nothing t st turn has heard = handless_all j inputs.Nothing t st turn tt has heard
+turn_all j input t st turn has heard = handless_all j input t st turn tt has heard

@@ -1,20 +1,21 @@
 -- WHAT A HAND CHANGES IN A TURN: a board is put in, taken out or gets another id, and all else on the floor stays.
-use Rattle.std.proofs.Common.{Bool, List, None, Option, Result, Ok, Err, Some, [], ap, append_assoc, arith, eq-eqb, eqb-true, false, get_or, inl, inr, length, ne_eqb, refl, subst, suc, sym, true, ℕ, ℤ, ◌++◌, ◌+◌, ◌<◌, ◌==◌, ◌∙◌, ◌∷◌, ◌≡◌, ◌≢◌, ◌≤◌, ◌⊎◌}
+use Rattle.std.proofs.Common.{Bool, List, None, Option, Ok, Some, [], ap, append_assoc, arith, eq-eqb, eqb-true, false, get_or, inl, inr, length, refl, subst, suc, sym, true, ℕ, ℤ, ◌++◌, ◌+◌, ◌<◌, ◌==◌, ◌∙◌, ◌∷◌, ◌≡◌, ◌≢◌, ◌≤◌, ◌⊎◌}
 use Rattle.std.specs.Prelude.{cond, nat_le, position}
 use Rattle.std.specs.List.{list_any, position_or_len}
-use Rattle.std.proofs.lemmas.Bool.{false≢true, leb-false, or_from, or_right}
+use Rattle.std.proofs.lemmas.Bool.{false≢true, or_from, or_right}
 use Rattle.std.proofs.lemmas.Grind.{common_steps}
 use Rattle.std.proofs.lemmas.List.Sums.{fails_before_first}
+use Rattle.one_standing.proofs.ApartStep.{gained_count, lost_count, own_lost_count, changed_count, own_changed_count}
+use Rattle.line_step.proofs.FloorLaws.{IsNew, new_by}
 use Rattle.board_record.specs.Maker.{Maker, after_next, made_id, next_id}
-use Rattle.board_record.specs.declared.maker.IdsUsedUp.{IdsUsedUp}
 use Rattle.board_record.specs.declared.record.Record.{Record}
-use Rattle.line_world.specs.Boards.{ChangesId, LosesBoard, boards_on}
+use Rattle.line_world.specs.Boards.{LosesBoard, boards_on}
 use Rattle.line_world.specs.FloorPlan.{AtMachine, FloorPlan, has_id, machine_at, place_of, with_unread}
 use Rattle.line_world.specs.Ids.{HasFreshId, IdsDiffer}
 use Rattle.line_world.specs.declared.board.Board.{Board}
 use Rattle.line_world.proofs.Differing.{changes_differ, gains_differ, loses_differ, same_differ}
 use Rattle.line_world.proofs.Keeping.{as_many_machines, boards_unread}
-use Rattle.line_world.proofs.Placing.{changed_with, lost_with, nowhere_of}
+use Rattle.line_world.proofs.Placing.{nowhere_of}
 use Rattle.node_core.specs.Announces.{announces}
 use Rattle.node_core.specs.Boards.{is_kept}
 use Rattle.node_core.specs.Desk.{Desk}
@@ -131,55 +132,10 @@ hand_in {machine = machine} {input = input} {before = before} {after = after} {t
 
 -- ---- boards are counted
 
-gained_count : (x id : ℕ) (old new : List Board) → LosesBoard new old (record { id = Some id }) → x ≢ id → counted x new ≤ counted x old
-gained_count x id old new gain apart =
-    let other : has_id x (record { id = Some id }) ≡ false = ne_eqb id x (λ is. apart (sym is)) in
-    let more = lost_with x gain.front gain.back (record { id = Some id }) false other in
-    rw (gain.before, gain.after) (omega (arith, more))
-
-lost_count : (x : ℕ) (old new : List Board) (board : Board) → LosesBoard old new board → counted x new ≤ counted x old
-lost_count x old new board loss =
-    let less = lost_with x loss.front loss.back board (has_id x board) refl in
-    rw (loss.before, loss.after) (omega (arith, less))
-
-own_lost_count : (x : ℕ) (old new : List Board) (board : Board) → has_id x board ≡ true → LosesBoard old new board → counted x new + 1 ≤ counted x old
-own_lost_count x old new board has loss =
-    let less = lost_with x loss.front loss.back board true has in
-    rw (loss.before, loss.after) (omega (arith, less))
-
-changed_count : (x was now : ℕ) (old new : List Board) → ChangesId was now old new → x ≢ now → counted x new ≤ counted x old
-changed_count x was now old new change apart =
-    let there = change.2 in
-    let other : has_id x (record { id = Some now }) ≡ false = ne_eqb now x (λ is. apart (sym is)) in
-    let same = changed_with x there.front there.back change.0 (record { id = Some now }) (has_id x change.0) false refl other in
-    rw (there.before, there.after) (omega (arith, same))
-
-own_changed_count : (was now : ℕ) (old new : List Board) → ChangesId was now old new → was ≢ now → counted was new + 1 ≤ counted was old
-own_changed_count was now old new change apart =
-    let there = change.2 in
-    let other : has_id was (record { id = Some now }) ≡ false = ne_eqb now was (λ is. apart (sym is)) in
-    let same = changed_with was there.front there.back change.0 (record { id = Some now }) true false change.1 other in
-    rw (there.before, there.after) (omega (arith, same))
-
 -- ---- ids that the machines made
 
-record IsNext (maker : Maker) (id : ℕ) : Type 0 where
-  is : id ≡ made_id maker.machine (maker.used + 1)
-  small : maker.used + 1 < 281474976710656
-  now : (after_next maker).used ≡ maker.used + 1
-
-ok_same : (id other : ℕ) (answer : Result ℕ IdsUsedUp) → answer ≡ Ok id → answer ≡ Ok other → id ≡ other
-ok_same id other answer one two = cc
-
-next_by : (full : Bool) (maker : Maker) (id : ℕ) → nat_le 281474976710655 maker.used ≡ full → next_id maker ≡ Ok id → IsNext maker id
-next_by true maker id test is = let none : next_id maker ≡ Err (record {}) = rw test refl in cc
-next_by false maker id test is =
-    let some : next_id maker ≡ Ok (made_id maker.machine (maker.used + 1)) = rw test refl in
-    let above : maker.used < 281474976710655 = leb-false 281474976710655 maker.used test in
-    record { is = ok_same id (made_id maker.machine (maker.used + 1)) (next_id maker) is some; small = omega (arith, above); now = rw test refl }
-
-next_of : (maker : Maker) (id : ℕ) → next_id maker ≡ Ok id → IsNext maker id
-next_of maker id is = next_by (nat_le 281474976710655 maker.used) maker id refl is
+next_of : (maker : Maker) (id : ℕ) → next_id maker ≡ Ok id → IsNew maker id
+next_of maker id is = new_by (nat_le 281474976710655 maker.used) maker id refl is
 
 -- ids of one number and count are made under it
 same_made : (machine other count more : ℕ) → count < 281474976710656 → more < 281474976710656 → made_id machine count ≡ made_id other more → (machine ≡ other) × (count ≡ more)
@@ -188,7 +144,7 @@ same_made machine other count more small little is = (omega (arith, small, littl
 -- the next id of a machine is none that was made
 pub fresh : (s : Running) (machine : ℕ) (node : NodeState) (id x : ℕ) → NumbersDiffer s → node_of machine s ≡ Some node → next_id node.maker ≡ Ok id → IsMade s x → x ≢ id
 fresh s machine node id x differ there is made same =
-    let n : IsNext node.maker id = next_of node.maker id is in
+    let n : IsNew node.maker id = next_of node.maker id is in
     let e = same_made made.node.maker.machine node.maker.machine made.count (node.maker.used + 1) made.small n.small (sym made.is ∙ same ∙ n.is) in
     let at : made.machine ≡ machine = differ.apart made.machine machine made.node node made.there there e.0 in
     let own : made.node ≡ node = same_some (sym made.there ∙ ap (λ (k : ℕ). node_of k s) at ∙ there) in
@@ -273,10 +229,10 @@ fresh_there t s machine node id plan st there is same other has =
     none_of {other} (inr some) own = absurd (fresh s machine node id other st.numbers there is (st.made other some) (sym own))
 
 -- the next id was made then
-next_made : {reading : Reading} {machine : ℕ} {input : Input} {moment : ℤ} {before after : Running} {told : List Act} (turn : Turns reading machine input moment before after told) (id : ℕ) → next_id turn.node.maker ≡ Ok id → turn.next.maker ≡ after_next turn.node.maker
+pub next_made : {reading : Reading} {machine : ℕ} {input : Input} {moment : ℤ} {before after : Running} {told : List Act} (turn : Turns reading machine input moment before after told) (id : ℕ) → next_id turn.node.maker ≡ Ok id → turn.next.maker ≡ after_next turn.node.maker
     → IsMade after id
 next_made {machine = machine} turn id is made =
-    let n : IsNext turn.node.maker id = next_of turn.node.maker id is in
+    let n : IsNew turn.node.maker id = next_of turn.node.maker id is in
     let used : turn.next.maker.used ≡ turn.node.maker.used + 1 = ap (λ (m : Maker). m.used) made ∙ n.now in
     let number : turn.node.maker.machine ≡ turn.next.maker.machine = sym (number_after turn.node.maker) ∙ ap (λ (m : Maker). m.machine) (sym made) in
     record {

@@ -1,7 +1,8 @@
 -- The words that a turn's bytes bring are the oldest messages on their way to their side.
-use Rattle.std.proofs.Common.{Bool, List, Some, ap, refl, slice_get, subst, sym, ℕ, ℤ, ◌++◌, ◌+◌, ◌∙◌, ◌∷◌, ◌≡◌, [], length}
+use Rattle.std.proofs.Common.{Bool, List, Some, ap, slice_get, subst, sym, ℕ, ℤ, ◌++◌, ◌+◌, ◌∙◌, ◌∷◌, ◌≡◌, length}
 use Rattle.std.specs.Prelude.{drop, take}
 use Rattle.std.proofs.lemmas.List.{take-append-drop}
+use Rattle.running_line.proofs.WiresParts.{bytes_both}
 use Rattle.line_base.specs.declared.states.Side.TheVariants.{Entry, Exit}
 use Rattle.hermes_horizontal.specs.declared.message.Horizontal.{Horizontal}
 use Rattle.node_core.specs.Node.{NodeState}
@@ -28,10 +29,6 @@ use Rattle.running_line.proofs.TurnShape.{own_node}
 use Rattle.running_line.proofs.Waiting.{all_at}
 
 -- ---- a piece is a front of what is on its way
-
-bytes_both : (first last : List Coming) → bytes_of (first ++ last) ≡ bytes_of first ++ bytes_of last
-bytes_both [] last = refl
-bytes_both (c ∷ first) last = ap (λ (bytes : List ℕ). c.byte ∷ bytes) (bytes_both first last)
 
 front_bytes : (n : ℕ) (piece : List ℕ) (coming : List Coming) → piece ≡ bytes_of (take n coming) → bytes_of coming ≡ piece ++ bytes_of (drop n coming)
 front_bytes n piece coming is = ap bytes_of (sym (take-append-drop n coming)) ∙ bytes_both (take n coming) (drop n coming) ∙ ap (λ (front : List ℕ). front ++ bytes_of (drop n coming)) (sym is)

@@ -203,9 +203,7 @@ act_joins j second place (acts.Sends side message) s k = said_as j side message 
 act_joins j second place (acts.Closes side) s k = shut_joins j side s k
 act_joins j second place (acts.Notices side) s k = shut_joins j side s k
 act_joins j second place (acts.Hears Entry message) s k = same_as j refl refl refl refl k
-act_joins j second place (acts.Hears Exit message) s k = same_as j refl refl refl refl k
 act_joins j second place (acts.Drive Entry on) s k = same_as j refl refl refl refl k
-act_joins j second place (acts.Drive Exit on) s k = same_as j refl refl refl refl k
 act_joins j second place act s k = same_as j refl refl refl refl k
 
 pub acts_joins : (j : ℕ) (second : Bool) (place : ℕ) (told : List Act) (s : Running) {c : Scene} → StandsAs j s c → StandsAs j (did second (j + 1) place told s) (all_met told c)

@@ -1,5 +1,5 @@
 -- A machine makes a step that leaves sensor events unread: the relation by numbers goes on.
-use Rattle.std.proofs.Common.{Bool, List, arith, subst, sym, ℕ, ◌+◌, ◌≡◌}
+use Rattle.std.proofs.Common.{Bool, List, Option, subst, sym, ℕ, ◌+◌, ◌≡◌}
 use Rattle.board_record.specs.declared.record.Record.{Record}
 use Rattle.board_record.specs.declared.sensed.Sensed.{Sensed}
 use Rattle.session_core.specs.declared.state.SessionState.{SessionState}
@@ -9,7 +9,7 @@ use Rattle.handover_in.specs.State.{InState}
 use Rattle.node_core.specs.Halves.{OffersFront}
 use Rattle.node_core.specs.declared.lane.Body.{Body as Machine}
 use Rattle.custody.specs.Events.{IsContent, gone_by}
-use Rattle.custody.specs.Pair.{Body, Ghost, Pair}
+use Rattle.custody.specs.Pair.{Ghost, Pair}
 use Rattle.machine_custody.specs.Good.{Goes, Good, Holds, ListsAbove, ListsBelow}
 use Rattle.machine_custody.specs.Scene.{Scene, link_above, link_below}
 use Rattle.line_step.specs.Numbered.{Changes}
@@ -17,7 +17,7 @@ use Rattle.line_step.proofs.Changing.{body_step, each_step}
 use Rattle.one_standing.specs.Kept.{Keeps}
 use Rattle.one_standing.specs.Places.{AreApart}
 use Rattle.one_standing.specs.Relation.{Between, Neighbours, Owns, Stand}
-use Rattle.one_standing.proofs.Steps.{SameAbove, SameBelow, above_then, afar_of, below_then}
+use Rattle.one_standing.proofs.Steps.{SameAbove, SameBelow, above_then, afar_of, below_then, lists_above, lists_below, same_number, next_number}
 
 -- ---- what is there behind the step
 
@@ -28,11 +28,14 @@ above_after : {elsewhere gone : ℕ → Bool} (above : Stand) (ba : Between) (a 
     → Neighbours above (above_then a ba d) (me_left body rest d)
 above_after above ba a b body rest d same g =
     record {
-      pair = subst (λ (x : AtMachine). Pair a (link_above rest body (record d { above = record d.above { exit = above.body.exit.session.state; outlet = above.body.outlet; far = x } }))) same.far
+      pair = subst (λ (x : AtMachine). Pair a (link_above rest body (record d { above = record d.above { exit = above.body.exit.session.state; outlet = above.body.outlet; last_offer = above.body.last_offer; far = x } }))) same.far
+          (subst (λ (z : Option ℕ). Pair a (link_above rest body (record d { above = record d.above { exit = above.body.exit.session.state; outlet = above.body.outlet; last_offer = z } }))) same.last
           (subst (λ (o : OutState). Pair a (link_above rest body (record d { above = record d.above { exit = above.body.exit.session.state; outlet = o } }))) same.outlet
-          (subst (λ (s : SessionState). Pair a (link_above rest body (record d { above = record d.above { exit = s } }))) same.exit g.above_pair));
-      contents = subst (λ (o : OutState). IsContent (gone_by ba.gone) (link_above rest body (record d { above = record d.above { outlet = o } })) above.body.kept) same.outlet g.above_contents;
-      holds = subst (λ (o : OutState). Holds ba.gone above.body.kept a.place o.phase body.intake.phase) same.outlet g.above_holds;
+          (subst (λ (s : SessionState). Pair a (link_above rest body (record d { above = record d.above { exit = s } }))) same.exit g.above_pair)));
+      contents = subst (λ (z : Option ℕ). IsContent (gone_by ba.gone) (link_above rest body (record d { above = record d.above { outlet = above.body.outlet; last_offer = z } })) above.body.kept) same.last
+          (subst (λ (o : OutState). IsContent (gone_by ba.gone) (link_above rest body (record d { above = record d.above { outlet = o } })) above.body.kept) same.outlet g.above_contents);
+      holds = subst (λ (z : Option ℕ). Holds ba.gone above.body.kept z a.place above.body.outlet.phase body.intake.phase) same.last
+          (subst (λ (o : OutState). Holds ba.gone above.body.kept d.above.last_offer a.place o.phase body.intake.phase) same.outlet g.above_holds);
     }
 
 below_after : {elsewhere gone : ℕ → Bool} {kept : List Record} (below : Stand) (ba : Between) (a b : Ghost) (body : Machine) (rest : List Sensed) (d : Scene) → SameBelow below d → Good (afar_of elsewhere ba gone) kept rest a b body d
@@ -42,32 +45,12 @@ below_after {gone = gone} below ba a b body rest d same g = record {
       (subst (λ (i : InState). Pair b (link_below rest body (record d { below = record d.below { entry = below.body.entry.session.state; intake = i } }))) same.intake
       (subst (λ (s : SessionState). Pair b (link_below rest body (record d { below = record d.below { entry = s } }))) same.entry g.below_pair));
   contents = subst (λ (i : InState). IsContent (gone_by gone) (link_below rest body (record d { below = record d.below { intake = i } })) body.kept) same.intake g.below_contents;
-  holds = subst (λ (i : InState). Holds gone body.kept b.place body.outlet.phase i.phase) same.intake g.below_holds;
+  holds = subst (λ (i : InState). Holds gone body.kept body.last_offer b.place body.outlet.phase i.phase) same.intake g.below_holds;
 }
 
 owns_after : {elsewhere gone : ℕ → Bool} {kept : List Record} (ba : Between) (a b : Ghost) (body : Machine) (rest : List Sensed) (d : Scene) → Good (afar_of elsewhere ba gone) kept rest a b body d → OffersFront body
     → Owns (above_then a ba d) (me_left body rest d) (below_then b gone d)
-owns_after ba a b body rest d g offers = record { boards = g.boards; entry_role = g.entry_role; exit_role = g.exit_role; offers = offers }
-
-lists_above : (over : Between) (above : Stand) (ba : Between) (a : Ghost) (d : Scene) → SameAbove above d → ListsAbove above.body.outlet.phase ba.ghost d.above.outlet.phase a → Owns over above ba
-    → Owns over above (above_then a ba d)
-lists_above over above ba a d same lists own = record {
-  boards = subst (λ (o : OutState). Body o.phase a.place above.body.kept above.body.intake.phase over.ghost.place above.place.boards) same.outlet
-      (lists above.body.kept above.body.intake.phase over.ghost.place above.place.boards own.boards);
-  entry_role = own.entry_role;
-  exit_role = own.exit_role;
-  offers = own.offers;
-}
-
-lists_below : {gone : ℕ → Bool} (below : Stand) (bb : Between) (under : Between) (b : Ghost) (d : Scene) → SameBelow below d → ListsBelow below.body.intake.phase bb.ghost d.below.intake.phase b → Owns bb below under
-    → Owns (below_then b gone d) below under
-lists_below below bb under b d same lists own = record {
-  boards = subst (λ (i : InState). Body below.body.outlet.phase under.ghost.place below.body.kept i.phase b.place below.place.boards) same.intake
-      (lists below.body.outlet.phase under.ghost.place below.body.kept below.place.boards own.boards);
-  entry_role = own.entry_role;
-  exit_role = own.exit_role;
-  offers = own.offers;
-}
+owns_after ba a b body rest d g offers = record { boards = g.boards; entry_role = g.entry_role; exit_role = g.exit_role; offers = offers; recent = g.recent }
 
 -- ---- along the line
 
@@ -76,12 +59,6 @@ pub record Steps (j : ℕ) (ms : ℕ → Stand) (bs : ℕ → Between) (ms2 : �
   pub me : ms2 (j + 1) ≡ me_left body rest d
   pub above : bs2 j ≡ above_then a (bs j) d
   pub below : bs2 (j + 1) ≡ below_then b gone d
-
-same_number : (i j : ℕ) → i + 1 ≡ j + 1 → j ≡ i
-same_number i j is = omega (arith, is)
-
-next_number : (i j : ℕ) → i + 2 ≡ j + 1 → i + 1 ≡ j
-next_number i j is = omega (arith, is)
 
 pub step_keeps : {elsewhere gone : ℕ → Bool} (j : ℕ) (ms : ℕ → Stand) (bs : ℕ → Between) (ms2 : ℕ → Stand) (bs2 : ℕ → Between) (body : Machine) (rest : List Sensed) (c d : Scene)
     → c.above.outlet ≡ (ms j).body.outlet → c.below.intake ≡ (ms (j + 1 + 1)).body.intake

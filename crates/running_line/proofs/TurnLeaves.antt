@@ -1,12 +1,12 @@
 -- WHAT ELSE A TURN LEAVES: each machine's records are fit, nothing is handed over where there is no link, and where no hand puts,
 -- takes or changes a board the boards on the floor are the same.
-use Rattle.std.proofs.Common.{List, Result, Ok, Err, [], ap, arith, false, inl, inr, subst, sym, ℕ, ℤ, ◌++◌, ◌+◌, ◌-◌, ◌∙◌, ◌≡◌, ◌≢◌, ◌≤◌, ◌⊎◌}
-use Rattle.std.specs.Prelude.{slice_get}
+use Rattle.std.proofs.Common.{List, [], ap, arith, false, inl, inr, subst, sym, ℕ, ℤ, ◌++◌, ◌+◌, ◌-◌, ◌∙◌, ◌≡◌, ◌≢◌, ◌≤◌, ◌⊎◌}
+use Rattle.one_standing.proofs.RestMore.{IsFitNode, as_machine, as_node}
+use Rattle.line_step.proofs.FloorLaws.{IsHandless, event-quiet}
 use Rattle.line_base.specs.Text.{IsText}
 use Rattle.line_base.specs.declared.states.Side.{Side}
 use Rattle.line_base.specs.declared.states.Side.TheVariants.{Entry, Exit}
-use Rattle.board_record.specs.Maker.{Maker, next_id}
-use Rattle.board_record.specs.declared.maker.IdsUsedUp.{IdsUsedUp}
+use Rattle.board_record.specs.Maker.{Maker}
 use Rattle.board_record.specs.declared.sensed.Sensed.{Sensed}
 use Rattle.line_world.specs.Boards.{boards_on}
 use Rattle.line_world.specs.FloorPlan.{with_unread}
@@ -15,17 +15,15 @@ use Rattle.line_world.specs.declared.board.Board.{Board}
 use Rattle.line_world.proofs.Differing.{same_differ}
 use Rattle.line_world.proofs.Keeping.{boards_unread}
 use Rattle.node_core.specs.Announces.{announces}
-use Rattle.node_core.specs.Boards.{is_kept}
 use Rattle.node_core.specs.Desk.{Desk}
 use Rattle.node_core.specs.Done.{Done}
-use Rattle.node_core.specs.Event.{Event, Insert, Replace, event_did, event_of, with_new}
+use Rattle.node_core.specs.Event.{Event, Insert, Replace, event_did, event_of}
 use Rattle.node_core.specs.Node.{NodeState, desk_of}
 use Rattle.node_core.specs.Reads.{all_read}
 use Rattle.node_core.specs.Signals.{signalled}
 use Rattle.node_core.specs.Step.{machine_step, plain_step}
-use Rattle.node_core.specs.Supervising.{Answer, Ask, Supervise, watch_of}
+use Rattle.node_core.specs.Supervising.{watch_of}
 use Rattle.node_core.specs.declared.act.Act.{Act}
-use Rattle.node_core.specs.declared.act.Act.TheVariants as acts
 use Rattle.node_core.specs.declared.input.Input.{Input}
 use Rattle.node_core.specs.declared.input.Input.TheVariants as inputs
 use Rattle.node_core.specs.declared.lane.Body.{Body}
@@ -38,20 +36,18 @@ use Rattle.machine_custody.specs.Scene.{Scene}
 use Rattle.line_step.specs.Reasons.{has_link}
 use Rattle.line_step.specs.Steps.{is_second}
 use Rattle.line_step.specs.World.{link_of}
-use Rattle.line_step.proofs.Hands.{AreQuiet, IsQuiet, announces-quiet, hands_with_tells, met-quiet, quiet-join, read-quiet, signals-quiet}
-use Rattle.step_rules.specs.Acts.{OfEvent}
+use Rattle.line_step.proofs.Hands.{AreQuiet, announces-quiet, hands_with_tells, quiet-join, read-quiet, signals-quiet}
 use Rattle.line_step.proofs.Numbers.{same_or_not}
 use Rattle.line_step.proofs.OnFloor.{SameBoards, quiet-acts}
 use Rattle.one_standing.specs.Carried.{IsFitMachine, Trace}
 use Rattle.one_standing.proofs.ApartFloor.{counted}
-use Rattle.one_standing.proofs.RestLine.{IsNoCall}
-use Rattle.one_standing.proofs.RestStep.{IsNoOpening, Rests, step_rests}
+use Rattle.one_standing.proofs.RestLine.{IsNoCall, event_opens}
+use Rattle.one_standing.proofs.RestStep.{Rests, step_rests}
 use Rattle.running_line.specs.Reading.{Reading}
 use Rattle.running_line.specs.Running.{Running}
 use Rattle.running_line.specs.Stands.{IsAtRest, Stands, line_of, node_in}
 use Rattle.running_line.specs.Turns.{Meets, Turns}
 use Rattle.running_line.proofs.FloorMoves.{gone_nowhere}
-use Rattle.running_line.proofs.NewMachines.{IsFitNode, as_machine, as_node}
 use Rattle.running_line.proofs.Relation.{no_wire}
 use Rattle.running_line.proofs.TurnFloor.{floor_world}
 use Rattle.running_line.proofs.TurnShape.{floor_is, links_stay, next_there, none_then, other_nodes, own_node}
@@ -64,13 +60,6 @@ event_in {input = input} turn = event_of turn.node.maker input turn.steps.lane.w
 
 abbrev pub done_in : {reading : Reading} {machine : ℕ} {input : Input} {moment : ℤ} {before after : Running} {told : List Act} → Turns reading machine input moment before after told → Done
 done_in {moment = moment} turn = machine_step (desk_of turn.node moment) turn.read (event_in turn) turn.node.lane.body
-
--- no board is put in, taken out or changed by hand
-abbrev pub IsHandless : Input → Type 0
-IsHandless (inputs.Insert barcode) = ⊥
-IsHandless (inputs.Remove id) = ⊥
-IsHandless (inputs.Replace id) = ⊥
-IsHandless _ = Unit {0}
 
 -- the words that bytes bring are the oldest messages on their way to their side, and such as fit
 -- messages come to
@@ -90,6 +79,7 @@ event_fits maker (inputs.Bytes side piece) words m texts heard = heard
 event_fits maker (inputs.Insert barcode) words m texts heard = event_of_fits maker (inputs.Insert barcode) [] m texts none_heard
 event_fits maker (inputs.Replace id) words m texts heard = event_of_fits maker (inputs.Replace id) [] m texts none_heard
 event_fits maker (inputs.Query barcode) words m texts heard = texts
+event_fits maker (inputs.Sub id place barcode) words m texts heard = event_of_fits maker (inputs.Sub id place barcode) [] m texts none_heard
 event_fits maker input words m texts heard = tt
 
 pub step_fit : {reading : Reading} {machine : ℕ} {input : Input} {moment : ℤ} {before after : Running} {told : List Act} (turn : Turns reading machine input moment before after told) → IsFitNode turn.node → AreHeardFit input turn.steps.lane.words → Fits (done_in turn)
@@ -113,21 +103,6 @@ fit_then {before = before} {after = after} turn t st heard k =
     as_machine (line_of after) k (each_node IsFitNode turn (next_fit turn (node_fit turn t st) heard) (λ n. as_node (line_of before) n (st.fit n)) k)
 
 -- ---- where there is no link all rests
-
-new_opens : (at : Side) (found : Result ℕ IdsUsedUp) (event : ℕ → Event) → ((id : ℕ) → IsNoOpening at (event id)) → IsNoOpening at (with_new found event)
-new_opens at (Ok id) event none = none id
-new_opens Entry (Err why) event none = tt
-new_opens Exit (Err why) event none = tt
-
-event_opens : (at : Side) (maker : Maker) (input : Input) (words : List Word) → IsNoCall at input → IsNoOpening at (event_of maker input words)
-event_opens Entry maker (inputs.Insert barcode) words plain = new_opens Entry (next_id maker) (λ (id : ℕ). Insert id barcode) (λ id. tt)
-event_opens Exit maker (inputs.Insert barcode) words plain = new_opens Exit (next_id maker) (λ (id : ℕ). Insert id barcode) (λ id. tt)
-event_opens Entry maker (inputs.Replace id) words plain = new_opens Entry (next_id maker) (λ (new : ℕ). Replace id new) (λ new. tt)
-event_opens Exit maker (inputs.Replace id) words plain = new_opens Exit (next_id maker) (λ (new : ℕ). Replace id new) (λ new. tt)
-event_opens Entry maker inputs.Connect words plain = absurd plain
-event_opens Exit maker inputs.Accepted words plain = absurd plain
-event_opens Entry maker _ words plain = tt
-event_opens Exit maker _ words plain = tt
 
 -- where there are no connections none is found or taken
 no_call : (at : Side) (machine : ℕ) (input : Input) (place : ℕ) (s : Running) → Meets machine input place s → s.wires (link_of machine at) ≡ [] → IsNoCall at input
@@ -164,16 +139,6 @@ rests_then {machine = machine} {before = before} turn t st link never =
 
 -- ---- the boards on the floor
 
-handless_event : (desk : Desk) (maker : Maker) (input : Input) (words : List Word) → IsHandless input → OfEvent IsQuiet desk (event_of maker input words)
-handless_event desk maker (inputs.Insert barcode) words handless = absurd handless
-handless_event desk maker (inputs.Remove id) words handless = absurd handless
-handless_event desk maker (inputs.Replace id) words handless = absurd handless
-handless_event desk maker (inputs.Level line on) words handless = (tt, λ id. tt)
-handless_event desk maker _ words handless = tt
-
-event_quiet : (desk : Desk) (maker : Maker) (input : Input) (words : List Word) (body : Body) → IsHandless input → AreQuiet (event_did desk (event_of maker input words) body).acts
-event_quiet desk maker input words body handless = met-quiet desk (event_of maker input words) body (handless_event desk maker input words handless)
-
 step_quiet : (desk : Desk) (unread : List Sensed) (event : Event) (body : Body) → AreQuiet (event_did desk event (all_read desk unread body).body).acts → AreQuiet (machine_step desk unread event body).acts
 step_quiet desk unread event body quiet =
     let read : Done = all_read desk unread body in
@@ -186,7 +151,7 @@ told_quiet {input = input} {moment = moment} turn handless =
     let desk : Desk = desk_of turn.node moment in
     let made : AreQuiet turn.steps.made =
     subst (λ (done : List Act). AreQuiet done) (sym turn.steps.lane.told)
-    (step_quiet desk turn.read (event_in turn) turn.node.lane.body (event_quiet desk turn.node.maker input turn.steps.lane.words (all_read desk turn.read turn.node.lane.body).body handless)) in
+    (step_quiet desk turn.read (event_in turn) turn.node.lane.body (event-quiet desk turn.node.maker input turn.steps.lane.words (all_read desk turn.read turn.node.lane.body).body handless)) in
     subst (λ (done : List Act). AreQuiet done) (sym turn.steps.told) (quiet-join turn.steps.made (signalled turn.node.bridge turn.next.lane.body) made (signals-quiet turn.node.bridge turn.next.lane.body))
 
 pub boards_stay : {reading : Reading} {machine : ℕ} {input : Input} {moment : ℤ} {before after : Running} {told : List Act} (turn : Turns reading machine input moment before after told) → IsHandless input → boards_on after.floor ≡ boards_on before.floor

@@ -16,12 +16,14 @@ use Rattle.custody.specs.Pair.{Ghost}
 use Rattle.custody.specs.Talks.{call_awaited}
 use Rattle.custody.specs.Words.{down_words, up_words}
 use Rattle.link_messages.specs.Heard.{bodies}
-use Rattle.machine_custody.specs.Good.{Afar, Goes, GoesBy, Good}
+use Rattle.machine_custody.specs.Good.{Afar}
+use Rattle.machine_custody.specs.Ahead.{GoesAhead, GoesTo}
 use Rattle.machine_custody.specs.Joined.{with_link}
 use Rattle.machine_custody.specs.Scene.{Scene, all_met}
-use Rattle.machine_custody.proofs.Answering.{lefts_go, seconds_go}
-use Rattle.machine_custody.proofs.ComingLast.{comes_alone_go, comes_go}
-use Rattle.machine_custody.proofs.TakingAlone.{takes_go}
+use Rattle.machine_custody.proofs.Answering.{lefts_ahead, seconds_ahead}
+use Rattle.machine_custody.proofs.ComingLast.{comes_ahead, comes_alone_ahead}
+use Rattle.machine_custody.proofs.FrontRead.{Reads}
+use Rattle.machine_custody.proofs.TakingAlone.{takes_ahead}
 use Rattle.one_standing.specs.Carried.{Trace, stand_of}
 use Rattle.one_standing.proofs.Elsewhere.{elsewhere_of}
 use Rattle.one_standing.proofs.MirroringEnds.{before_one}
@@ -33,9 +35,9 @@ use Rattle.running_line.specs.Steady.{FindsIt, RefusesIt, TakesIt, scene_of, unl
 use Rattle.running_line.specs.Turns.{HasNone, IsAt}
 use Rattle.running_line.specs.Waits.{AtMostOne, IsUncome, IsUntaken, SaidUp, had_above, had_below, has_come, is_of_below, kept_below, none_passes, not_come, passes_alone, passes_not, was_left}
 use Rattle.running_line.specs.Wire.{Awaits, Has, Hold, Left, Wire, has}
-use Rattle.running_line.proofs.TurnSteps.{all_before}
+use Rattle.running_line.proofs.TurnSteps.{reads_before}
 use Rattle.running_line.proofs.Waiting.{all_at, tested}
-use Rattle.running_line.proofs.WiresTaken.{called_go}
+use Rattle.running_line.proofs.WiresTaken.{called_ahead}
 
 -- ---- which ends have a connection
 
@@ -81,66 +83,68 @@ alone_below (passes_alone {wires = wires} none) (suc place) wire is awaits = abs
 
 -- ---- IT IS TAKEN ABOVE
 
-taken_by : {afar : Afar} {above : List Record} {ga gb : Ghost} {hold : Hold} {said : List Horizontal} (desk : Desk) (read : List Sensed) (body : Machine) (c : Scene) → SaidUp hold said → Good afar above read ga gb body c → body.exit.session.state ≡ NotConnected → c.below.stands ≡ false
-    → (hold ≡ Has → c.below.entry ≡ Handshake)
-    → Goes afar above [] ga gb c (machine_step desk read Accepted body).body (all_met (machine_step desk read Accepted body).acts (with_link Exit (has hold) said (unless_joined hold c.below.down) c))
-taken_by {afar} {above} {ga} {gb} desk read body c not_come good away off shakes =
-    subst (λ (b : Bool). Goes afar above [] ga gb c (machine_step desk read Accepted body).body (all_met (machine_step desk read Accepted body).acts (with_link Exit b [] c.below.down c))) off (takes_go desk read body c [] good away call_awaited)
-taken_by desk read body c (has_come {said = said} says) good away off shakes = called_go desk read body c said says good away (shakes refl)
-taken_by {afar} {above} {ga} {gb} desk read body c (was_left {said = said} call) good away off shakes =
-    subst (λ (b : Bool). Goes afar above [] ga gb c (machine_step desk read Accepted body).body (all_met (machine_step desk read Accepted body).acts (with_link Exit b said c.below.down c))) off (takes_go desk read body c said good away call)
+taken_by : {afar : Afar} {above : List Record} {seen rest : List Sensed} {ga gb : Ghost} {hold : Hold} {said : List Horizontal} (desk : Desk) (read : List Sensed) (body : Machine) (c : Scene) → SaidUp hold said → Reads afar above seen rest ga gb desk read body c
+    → body.exit.session.state ≡ NotConnected → c.below.stands ≡ false → (hold ≡ Has → c.below.entry ≡ Handshake)
+    → GoesTo afar above rest ga gb c (machine_step desk read Accepted body).body (all_met (machine_step desk read Accepted body).acts (with_link Exit (has hold) said (unless_joined hold c.below.down) c))
+taken_by {afar} {above} {seen} {rest} {ga} {gb} desk read body c not_come reads away off shakes =
+    subst (λ (b : Bool). GoesTo afar above rest ga gb c (machine_step desk read Accepted body).body (all_met (machine_step desk read Accepted body).acts (with_link Exit b [] c.below.down c))) off (takes_ahead desk read body c [] reads away call_awaited)
+taken_by desk read body c (has_come {said = said} says) reads away off shakes = called_ahead desk read body c said says reads away (shakes refl)
+taken_by {afar} {above} {seen} {rest} {ga} {gb} desk read body c (was_left {said = said} call) reads away off shakes =
+    subst (λ (b : Bool). GoesTo afar above rest ga gb c (machine_step desk read Accepted body).body (all_met (machine_step desk read Accepted body).acts (with_link Exit b said c.below.down c))) off (takes_ahead desk read body c said reads away call)
 
-pub accepted_steady : (t : Trace) (s : Running) (j : ℕ) (desk : Desk) (read : List Sensed) (place : ℕ) → Stands t s → ReadsFront (unread_by (j + 1) s) read [] → (at : IsAt (j + 1) Exit place Awaits s) → HasNone (j + 1) Exit s
-    → TakesIt t s j at.wire (machine_step desk read Accepted (node_in s (j + 1)).lane.body)
-accepted_steady t s j desk read place st front at none =
+pub accepted_steady : (t : Trace) (s : Running) (j : ℕ) (desk : Desk) (read rest : List Sensed) (place : ℕ) → Stands t s → ReadsFront (unread_by (j + 1) s) read rest → (at : IsAt (j + 1) Exit place Awaits s) → HasNone (j + 1) Exit s
+    → TakesIt t s j rest at.wire (machine_step desk read Accepted (node_in s (j + 1)).lane.body)
+accepted_steady t s j desk read rest place st front at none =
     let wires : List Wire = s.wires (j + 1) in
     let w = st.waits (j + 1) in
     let u : IsUntaken at.wire = all_at _ at.wire wires place at.there w.untaken at.held in
     let no_above : list_any had_above wires ≡ false = none_had wires none in
-    record {
-      elsewhere = elsewhere_of (stand_of (line_of s) (j + 1)).place.boards;
-      said = u.said;
-      says = u.says;
-      goes = taken_by desk read (node_in s (j + 1)).lane.body (scene_of t s j) u.call (all_before j read st front) (is_off _ (sym w.exit_open ∙ no_above))
-          (any_weaker had_above is_joined (λ wire not. and_first (has wire.above) (has wire.below) not) wires no_above) (all_at _ at.wire wires place at.there w.called at.held);
-    }
+    let took = taken_by desk read (node_in s (j + 1)).lane.body (scene_of t s j) u.call (reads_before j desk read rest st front) (is_off _ (sym w.exit_open ∙ no_above))
+    (any_weaker had_above is_joined (λ wire not. and_first (has wire.above) (has wire.below) not) wires no_above) (all_at _ at.wire wires place at.there w.called at.held) in
+    record { elsewhere = elsewhere_of (stand_of (line_of s) (j + 1)).place.boards; said = u.said; says = u.says; free = took.read; goes = took.goes }
 
 -- ---- IT IS FOUND MADE BELOW
 
-found_by : {afar : Afar} {above : List Record} {ga gb : Ghost} (hold : Hold) (down : List Horizontal) (desk : Desk) (read : List Sensed) (body : Machine) (c : Scene) → Good afar above read ga gb body c → body.entry.session.state ≡ NotConnected → may_connect body.intake.phase ≡ true
-    → c.above.stands ≡ false → down_words down ≡ [] → (hold ≡ Has → c.above.exit ≡ Handshake) → (hold ≡ Has → c.above.up ≡ [])
-    → Goes afar above [] ga gb c (machine_step desk read Connect body).body (all_met (machine_step desk read Connect body).acts (with_link Entry (has hold) (unless_joined hold c.above.up) down c))
-found_by Has down desk read body c good away may off quiet shakes none = comes_go desk read body c down good away may (shakes refl) (ap up_words (none refl)) quiet
-found_by {afar} {above} {ga} {gb} Awaits down desk read body c good away may off quiet shakes none =
-    let g : GoesBy afar above [] ga gb (with_link Entry c.above.stands c.above.up down c) (machine_step desk read Connect body) = comes_alone_go desk read body c down good away may quiet in
-    subst (λ (b : Bool). Goes afar above [] ga gb c (machine_step desk read Connect body).body (all_met (machine_step desk read Connect body).acts (with_link Entry b c.above.up down c))) off
-    (record { a = g.a; b = g.b; good = g.good; lists_above = g.lists_above; lists_below = g.lists_below })
-found_by {afar} {above} {ga} {gb} Left down desk read body c good away may off quiet shakes none =
-    let g : GoesBy afar above [] ga gb (with_link Entry c.above.stands c.above.up down c) (machine_step desk read Connect body) = comes_alone_go desk read body c down good away may quiet in
-    subst (λ (b : Bool). Goes afar above [] ga gb c (machine_step desk read Connect body).body (all_met (machine_step desk read Connect body).acts (with_link Entry b c.above.up down c))) off
-    (record { a = g.a; b = g.b; good = g.good; lists_above = g.lists_above; lists_below = g.lists_below })
+-- on one that nobody above has
+found_alone : {afar : Afar} {above : List Record} {seen rest : List Sensed} {ga gb : Ghost} (down : List Horizontal) (desk : Desk) (read : List Sensed) (body : Machine) (c : Scene) → Reads afar above seen rest ga gb desk read body c → body.entry.session.state ≡ NotConnected
+    → may_connect body.intake.phase ≡ true → c.above.stands ≡ false → down_words down ≡ []
+    → GoesTo afar above rest ga gb c (machine_step desk read Connect body).body (all_met (machine_step desk read Connect body).acts (with_link Entry false c.above.up down c))
+found_alone {afar} {above} {seen} {rest} {ga} {gb} down desk read body c reads away may off quiet =
+    let g : GoesAhead afar above rest ga gb (with_link Entry c.above.stands c.above.up down c) (machine_step desk read Connect body) = comes_alone_ahead desk read body c down reads away may quiet in
+    subst (λ (b : Bool). GoesTo afar above rest ga gb c (machine_step desk read Connect body).body (all_met (machine_step desk read Connect body).acts (with_link Entry b c.above.up down c))) off
+    (record {
+      goes = record { a = g.goes.a; b = g.goes.b; good = g.goes.good; lists_above = g.goes.lists_above; lists_below = g.goes.lists_below; still_first = g.goes.still_first; still_over = g.goes.still_over };
+      read = g.read;
+    })
 
-pub found_steady : (t : Trace) (s : Running) (j : ℕ) (desk : Desk) (read : List Sensed) (place : ℕ) → Stands t s → ReadsFront (unread_by (j + 1) s) read [] → (at : IsAt (j + 1) Entry place Awaits s)
-    → FindsIt t s j at.wire (machine_step desk read Connect (node_in s (j + 1)).lane.body)
-found_steady t s j desk read place st front at =
+found_by : {afar : Afar} {above : List Record} {seen rest : List Sensed} {ga gb : Ghost} (hold : Hold) (down : List Horizontal) (desk : Desk) (read : List Sensed) (body : Machine) (c : Scene) → Reads afar above seen rest ga gb desk read body c → body.entry.session.state ≡ NotConnected
+    → may_connect body.intake.phase ≡ true → c.above.stands ≡ false → down_words down ≡ [] → (hold ≡ Has → c.above.exit ≡ Handshake) → (hold ≡ Has → c.above.up ≡ [])
+    → GoesTo afar above rest ga gb c (machine_step desk read Connect body).body (all_met (machine_step desk read Connect body).acts (with_link Entry (has hold) (unless_joined hold c.above.up) down c))
+found_by Has down desk read body c reads away may off quiet shakes none = comes_ahead desk read body c down reads away may (shakes refl) (ap up_words (none refl)) quiet
+found_by Awaits down desk read body c reads away may off quiet shakes none = found_alone down desk read body c reads away may off quiet
+found_by Left down desk read body c reads away may off quiet shakes none = found_alone down desk read body c reads away may off quiet
+
+pub found_steady : (t : Trace) (s : Running) (j : ℕ) (desk : Desk) (read rest : List Sensed) (place : ℕ) → Stands t s → ReadsFront (unread_by (j + 1) s) read rest → (at : IsAt (j + 1) Entry place Awaits s)
+    → FindsIt t s j rest at.wire (machine_step desk read Connect (node_in s (j + 1)).lane.body)
+found_steady t s j desk read rest place st front at =
     let wires : List Wire = s.wires j in
     let w = st.waits j in
     let there : slice_get wires place ≡ Some at.wire = subst (λ (n : ℕ). slice_get (s.wires n) place ≡ Some at.wire) (before_one j) at.there in
     let u : IsUncome at.wire = all_at _ at.wire wires place there w.uncome at.held in
     let no_below : list_any had_below wires ≡ false = alone_below w.one_below place at.wire there at.held in
-    record {
-      elsewhere = elsewhere_of (stand_of (line_of s) (j + 1)).place.boards;
-      said = u.said;
-      says = u.says;
-      goes = found_by at.wire.above (bodies u.said) desk read (node_in s (j + 1)).lane.body (scene_of t s j) (all_before j read st front) (is_off _ (sym w.entry_open ∙ no_below)) (all_at _ at.wire wires place there w.may_come at.held)
-          (any_weaker had_below is_joined (λ wire not. and_second (has wire.above) (has wire.below) not) wires no_below) u.quiet (λ is. all_at _ at.wire wires place there w.taken_first is at.held) (λ is. all_at _ at.wire wires place there (st.carried j).quiet is at.held);
-    }
+    let found = found_by at.wire.above (bodies u.said) desk read (node_in s (j + 1)).lane.body (scene_of t s j) (reads_before j desk read rest st front) (is_off _ (sym w.entry_open ∙ no_below)) (all_at _ at.wire wires place there w.may_come at.held)
+    (any_weaker had_below is_joined (λ wire not. and_second (has wire.above) (has wire.below) not) wires no_below) u.quiet (λ is. all_at _ at.wire wires place there w.taken_first is at.held) (λ is. all_at _ at.wire wires place there (st.carried j).quiet is at.held) in
+    record { elsewhere = elsewhere_of (stand_of (line_of s) (j + 1)).place.boards; said = u.said; says = u.says; free = found.read; goes = found.goes }
 
 -- ---- A SECOND ONE IS REFUSED
 
-pub refused_steady : (t : Trace) (s : Running) (j : ℕ) (desk : Desk) (read : List Sensed) → Stands t s → ReadsFront (unread_by (j + 1) s) read [] → RefusesIt t s j (machine_step desk read Second (node_in s (j + 1)).lane.body)
-refused_steady t s j desk read st front = record {
-  elsewhere = elsewhere_of (stand_of (line_of s) (j + 1)).place.boards;
-  answered = seconds_go desk read (node_in s (j + 1)).lane.body (scene_of t s j) (all_before j read st front);
-  unanswered = lefts_go desk read (node_in s (j + 1)).lane.body (scene_of t s j) (all_before j read st front);
-}
+pub refused_steady : (t : Trace) (s : Running) (j : ℕ) (desk : Desk) (read rest : List Sensed) → Stands t s → ReadsFront (unread_by (j + 1) s) read rest → RefusesIt t s j rest (machine_step desk read Second (node_in s (j + 1)).lane.body)
+refused_steady t s j desk read rest st front =
+    let reads = reads_before j desk read rest st front in
+    let answered = seconds_ahead desk read (node_in s (j + 1)).lane.body (scene_of t s j) reads in
+    record {
+      elsewhere = elsewhere_of (stand_of (line_of s) (j + 1)).place.boards;
+      free = answered.read;
+      answered = answered.goes;
+      unanswered = (lefts_ahead desk read (node_in s (j + 1)).lane.body (scene_of t s j) reads).goes;
+    }

@@ -1,7 +1,7 @@
 -- WHAT A TURN LEAVES, part by part: its machine is as its step left it, the floor as its acts say, and all others as before.
 use Rattle.std.proofs.Common.{Bool, List, Some, [], ap, arith, false, inl, inr, length, length-set, map, refl, slice_get, slice_set, subst, suc, sym, true, zero, ℕ, ℤ, ◌&&◌, ◌+◌, ◌-◌, ◌∙◌, ◌∷◌, ◌≡◌, ◌≢◌, ◌≤◌, ◌⊎◌}
 use Rattle.std.specs.Prelude.{cond, nat_eq, nat_le, nat_lt, slice_index_or}
-use Rattle.std.proofs.lemmas.List.{get_or-set_other}
+use Rattle.line_step.proofs.Changing.{node_other}
 use Rattle.line_base.specs.declared.states.Side.{Side}
 use Rattle.line_base.specs.declared.states.Side.TheVariants.{Entry, Exit}
 use Rattle.board_record.specs.Maker.{Maker, made_id}
@@ -59,12 +59,6 @@ node_by a b is (suc place) = ap (λ (ms : List NodeState). slice_index_or ms pla
 in_by : (a b : LineState) → a.machines ≡ b.machines → (k : ℕ) → machine_in k a ≡ machine_in k b
 in_by a b is zero = refl
 in_by a b is (suc place) = ap (λ (ms : List NodeState). slice_get ms place) is
-
-node_other : (machine : ℕ) (next : NodeState) (s : LineState) (k : ℕ) → 1 ≤ machine → k ≢ machine → node_at (with_machine machine next s) k ≡ node_at s k
-node_other machine next s zero counted apart = refl
-node_other machine next s (suc place) counted apart =
-    let places : place ≢ machine - 1 = omega arith in
-    get_or-set_other s.machines (machine - 1) place next no_node places
 
 abbrev with_next : {reading : Reading} {machine : ℕ} {input : Input} {moment : ℤ} {before after : Running} {told : List Act} → Turns reading machine input moment before after told → LineState
 with_next {machine = machine} {before = before} turn = with_machine machine turn.next (line_of before)

@@ -1,8 +1,9 @@
 -- THE RELATION OF RUNNING MACHINES GOES ON IN A TURN, where the machine's step keeps that of both its links, and what is on their
 -- connections goes along.
 use Rattle.std.proofs.Common.{Bool, List, ap, arith, false, inl, inr, length, refl, subst, sym, true, ℕ, ℤ, ◌&&◌, ◌+◌, ◌-◌, ◌∙◌, ◌≡◌, ◌≢◌, ◌≤◌, ◌⊎◌}
-use Rattle.std.specs.Prelude.{nat_le, nat_lt}
+use Rattle.std.specs.Prelude.{nat_le}
 use Rattle.std.specs.List.{list_any}
+use Rattle.one_standing.proofs.Mirroring.{gap_test}
 use Rattle.line_base.specs.declared.states.Side.{Side}
 use Rattle.line_base.specs.declared.states.Side.TheVariants.{Entry, Exit}
 use Rattle.board_record.specs.declared.sensed.Sensed.{Sensed}
@@ -10,10 +11,9 @@ use Rattle.hermes_horizontal.specs.declared.message.Horizontal.{Horizontal}
 use Rattle.handover_out.specs.declared.phase.Phase.TheVariants as out
 use Rattle.handover_in.specs.declared.phase.Phase.TheVariants as inn
 use Rattle.line_world.specs.Boards.{boards_on}
-use Rattle.line_world.specs.FloorPlan.{AtMachine, FloorPlan, IsWhole, free_gap, gap_at, machine_at}
+use Rattle.line_world.specs.FloorPlan.{AtMachine, IsWhole, free_gap, gap_at, machine_at}
 use Rattle.line_world.specs.Ids.{IdsDiffer}
 use Rattle.line_world.specs.declared.gap.AtGap.{AtGap}
-use Rattle.line_world.specs.declared.gap.Gap.{Gap}
 use Rattle.node_core.specs.Node.{NodeState}
 use Rattle.node_core.specs.Sound.{IsSound}
 use Rattle.node_core.specs.declared.act.Act.{Act}
@@ -21,21 +21,22 @@ use Rattle.node_core.specs.declared.input.Input.{Input}
 use Rattle.node_core.specs.declared.lane.Body.{Body as Machine}
 use Rattle.node_core.proofs.Lasting.{sound_after}
 use Rattle.custody.specs.Pair.{Ghost, Pair}
+use Rattle.machine_custody.specs.Ahead.{IsFreeRead}
 use Rattle.machine_custody.specs.Good.{Goes}
 use Rattle.machine_custody.specs.Scene.{Above, Below, Scene, all_met, link_above, link_below}
-use Rattle.machine_custody.proofs.Far.{all_entry_below, all_exit_above, all_far_above, all_far_below, all_gap_above, all_gap_below, all_intake, all_outlet}
+use Rattle.machine_custody.proofs.Far.{all_entry_below, all_exit_above, all_far_above, all_far_below, all_gap_above, all_gap_below, all_intake, all_last, all_outlet}
 use Rattle.line_step.specs.Reasons.{has_link}
 use Rattle.line_step.specs.Steps.{is_second}
-use Rattle.line_step.proofs.Numbers.{number_past, same_or_not}
+use Rattle.line_step.proofs.Numbers.{same_or_not}
 use Rattle.one_standing.specs.Carried.{IsFitMachine, Trace, stand_of}
 use Rattle.one_standing.specs.Kept.{Keeps}
 use Rattle.one_standing.specs.Places.{AreApart}
 use Rattle.one_standing.proofs.ApartFloor.{counted, lies_on_floor, list_once, one_place_of}
 use Rattle.one_standing.proofs.Behind.{before_apart, between_by, me_by, put_first, put_neither, put_second}
-use Rattle.one_standing.proofs.Ends.{where_none}
+use Rattle.one_standing.proofs.Ends.{where_none, gap_there_not}
 use Rattle.one_standing.proofs.MirroringEnds.{before_one}
 use Rattle.one_standing.proofs.Plain.{either}
-use Rattle.one_standing.proofs.RestScene.{all_far_drive_above, all_far_drive_below, entry_drive_off, exit_drive_off}
+use Rattle.one_standing.proofs.RestScene.{all_far_drive_above, all_far_drive_below, entry_drive_off, exit_drive_off, same_gap}
 use Rattle.one_standing.proofs.Steps.{SameAbove, SameBelow, afar_of}
 use Rattle.one_standing.proofs.Traces.{put_other, put_same}
 use Rattle.running_line.specs.Reading.{Reading}
@@ -55,13 +56,6 @@ use Rattle.running_line.proofs.TurnShape.{floor_is, links_stay, many_nodes, next
 
 -- ---- which gaps there are
 
-gap_by : (j n gaps : ℕ) (test : Bool) → nat_lt j n ≡ test → gaps ≡ n - 1 → 1 ≤ n → nat_le j gaps ≡ test
-gap_by j n gaps true is many some = grind (arith, is)
-gap_by j n gaps false is many some = grind (arith, is)
-
-gap_test : (j n gaps : ℕ) → gaps ≡ n - 1 → 1 ≤ n → (nat_le 1 j && nat_le j gaps) ≡ (nat_le 1 j && nat_lt j n)
-gap_test j n gaps many some = ap (λ (test : Bool). nat_le 1 j && test) (gap_by j n gaps (nat_lt j n) refl many some)
-
 abbrev links_of : ℕ → Running → Side → Bool
 links_of j s Entry = has_link j (line_of s)
 links_of j s Exit = has_link (j + 1) (line_of s)
@@ -70,12 +64,8 @@ gaps_as : (j : ℕ) (s : Running) → length s.floor.gaps ≡ length s.machines 
 gaps_as j s many some Entry = ap (λ (k : ℕ). nat_le 1 k && nat_le k (length s.floor.gaps)) (before_one j) ∙ gap_test j (length s.machines) (length s.floor.gaps) many some
 gaps_as j s many some Exit = gap_test (j + 1) (length s.machines) (length s.floor.gaps) many some
 
-gap_not : (plan : FloorPlan) (gap count : ℕ) → IsWhole plan → length plan.machines ≡ count → (gap ≡ 0) ⊎ ((1 ≤ gap) × (count ≤ gap)) → gap_at plan gap ≡ free_gap
-gap_not plan gap count whole many (inl none) = rw none refl
-gap_not plan gap count whole many (inr (some, past)) = number_past plan.gaps gap free_gap (omega (arith, whole, many, some, past))
-
 no_gap : (s : Running) (link : ℕ) → IsWhole s.floor → length s.floor.machines ≡ length s.machines → has_link link (line_of s) ≡ false → gap_at s.floor link ≡ free_gap
-no_gap s link whole many none = gap_not s.floor link (length s.machines) whole many (where_none link (line_of s) none)
+no_gap s link whole many none = gap_there_not s.floor link (length s.machines) whole many (where_none link (line_of s) none)
 
 -- ---- the scene of a turn has the floor and the neighbours of its machine
 
@@ -86,13 +76,14 @@ pub record IsOwn (t : Trace) (s : Running) (j : ℕ) (c : Scene) : Type 0 where
   pub gap_below : c.below.gap ≡ gap_at s.floor (j + 1)
   pub exit : c.above.exit ≡ (node_in s j).lane.body.exit.session.state
   pub outlet : c.above.outlet ≡ (node_in s j).lane.body.outlet
+  pub last : c.above.last_offer ≡ (node_in s j).lane.body.last_offer
   pub far_above : c.above.far ≡ machine_at s.floor j
   pub entry : c.below.entry ≡ (node_in s (j + 1 + 1)).lane.body.entry.session.state
   pub intake : c.below.intake ≡ (node_in s (j + 1 + 1)).lane.body.intake
   pub far_below : c.below.far ≡ machine_at s.floor (j + 1 + 1)
 
 pub own_scene : (t : Trace) (s : Running) (j : ℕ) → IsOwn t s j (scene_of t s j)
-own_scene t s j = record { boards = refl; gap_above = refl; gap_below = refl; exit = refl; outlet = refl; far_above = refl; entry = refl; intake = refl; far_below = refl }
+own_scene t s j = record { boards = refl; gap_above = refl; gap_below = refl; exit = refl; outlet = refl; last = refl; far_above = refl; entry = refl; intake = refl; far_below = refl }
 
 same_above : {c : Scene} (t : Trace) (s : Running) (j : ℕ) (input : Input) (wire : Wire) (told : List Act) → IsOwn t s j c → SameAbove (stand_of (line_of s) j) (acts_met input wire told c)
 same_above {c = c} t s j input wire told own =
@@ -100,6 +91,7 @@ same_above {c = c} t s j input wire told own =
     record {
       exit = ap (λ (u : Above). u.exit) same.above ∙ all_exit_above told c ∙ own.exit;
       outlet = ap (λ (u : Above). u.outlet) same.above ∙ all_outlet told c ∙ own.outlet;
+      last = ap (λ (u : Above). u.last_offer) same.above ∙ all_last told c ∙ own.last;
       far = ap (λ (u : Above). u.far) same.above ∙ all_far_above told c ∙ own.far_above;
     }
 
@@ -113,15 +105,6 @@ same_below {c = c} t s j input wire told own =
     }
 
 -- ---- where there is no gap the drive is off, before the turn and behind it
-
-abbrev gap_of : Gap → Bool → Bool → AtGap
-gap_of lies exit entry = record { lies = lies; exit_drive = exit; entry_drive = entry }
-
-same_parts : (a b : Gap) (c d e f : Bool) → a ≡ b → c ≡ d → e ≡ f → gap_of a c e ≡ gap_of b d f
-same_parts a b c d e f x y z = cc
-
-same_gap : (x y : AtGap) → x.lies ≡ y.lies → x.exit_drive ≡ y.exit_drive → x.entry_drive ≡ y.entry_drive → x ≡ y
-same_gap x y lies exit entry = same_parts x.lies y.lies x.exit_drive y.exit_drive x.entry_drive y.entry_drive lies exit entry
 
 still_above : {c : Scene} (t : Trace) (s : Running) (j : ℕ) (input : Input) (wire : Wire) (told : List Act) (g : Ghost) (rest : List Sensed) (body : Machine) → IsOwn t s j c → gap_at s.floor j ≡ free_gap
     → Pair g (link_above rest body (acts_met input wire told c)) → body.intake.phase ≡ inn.Idle → (acts_met input wire told c).above.gap ≡ free_gap
@@ -169,6 +152,7 @@ pub record TurnsInto (j : ℕ) {reading : Reading} {input : Input} {moment : ℤ
   pub own : IsOwn t before j c
   pub goes : Goes (afar_of elsewhere (between_of t before j) gone) (node_in before j).lane.body.kept turn.rest (t.ghost j) (t.ghost (j + 1)) (scene_of t before j) turn.next.lane.body (acts_met input wire told c)
   pub joins : StandsAs j after (acts_met input wire told c)
+  pub free : IsFreeRead turn.rest turn.next.lane.body
 
 abbrev pub trace_then : {reading : Reading} {j : ℕ} {input : Input} {moment : ℤ} {before after : Running} {told : List Act} {t : Trace} {wire : Wire} {c : Scene} {gone : ℕ → Bool} {turn : Turns reading (j + 1) input moment before after told} → TurnsInto j t wire c gone turn → Trace
 trace_then {j = j} {input = input} {told = told} {t = t} {wire = wire} {c = c} {gone = gone} into = turned j into.goes.a into.goes.b gone (acts_met input wire told c) t

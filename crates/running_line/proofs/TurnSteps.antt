@@ -1,6 +1,6 @@
 -- The machine's step in a turn keeps the relation of both its links. A machine reads a front of the events of each side: only the events
 -- of each side by themselves count.
-use Rattle.std.proofs.Common.{List, [], append-nil, subst, sym, ℕ, ◌++◌, ◌+◌, ◌∙◌, ◌≡◌}
+use Rattle.std.proofs.Common.{List, subst, sym, ℕ, ◌++◌, ◌+◌, ◌∙◌, ◌≡◌}
 use Rattle.line_base.specs.declared.states.SensorEvent.{SensorEvent}
 use Rattle.line_base.specs.declared.states.Side.TheVariants.{Entry, Exit}
 use Rattle.board_record.specs.declared.record.Record.{Record}
@@ -16,9 +16,11 @@ use Rattle.custody.proofs.Lists.{entry-append, exit-append}
 use Rattle.machine_custody.specs.Ahead.{IsFreeRead}
 use Rattle.machine_custody.specs.Flight.{IsPlain}
 use Rattle.machine_custody.specs.Good.{Afar, Good}
+use Rattle.machine_custody.specs.InTime.{IsMetInTime, IsReadEnough}
 use Rattle.machine_custody.specs.Scene.{Scene}
 use Rattle.machine_custody.proofs.Fronts.{fronts_go}
-use Rattle.machine_custody.proofs.Step.{plain_keeps}
+use Rattle.machine_custody.proofs.FrontRead.{Reads, reads_front}
+use Rattle.machine_custody.proofs.Step.{plain_front}
 use Rattle.one_standing.specs.Carried.{Trace, stand_of}
 use Rattle.one_standing.proofs.Elsewhere.{afar_at, elsewhere_of, good_at}
 use Rattle.running_line.specs.Reading.{ReadsFront}
@@ -52,6 +54,7 @@ good_events {ga = ga} {gb = gb} {body = body} {c = c} unread other exit entry g 
   exit_role = g.exit_role;
   away = g.away;
   here = g.here;
+  recent = g.recent;
 }
 
 -- what is read, and what stays unread behind it, as one list
@@ -72,29 +75,25 @@ free_before j read rest st front = record { read = λ stands idle. front_entry r
 
 -- ---- it reads a front, and takes nothing
 
-pub reads_steady : (t : Trace) (s : Running) (j : ℕ) (desk : Desk) (read rest : List Sensed) → Stands t s → ReadsFront (unread_by (j + 1) s) read rest → IsSteady t s j rest (machine_step desk read Nothing (node_in s (j + 1)).lane.body)
-reads_steady t s j desk read rest st front = record {
-  elsewhere = elsewhere_of (stand_of (line_of s) (j + 1)).place.boards;
-  goes = (fronts_go desk read rest (node_in s (j + 1)).lane.body (scene_of t s j) (front_before j read rest st front) (free_before j read rest st front)).goes;
-}
-
 pub reads_free : (t : Trace) (s : Running) (j : ℕ) (desk : Desk) (read rest : List Sensed) → Stands t s → ReadsFront (unread_by (j + 1) s) read rest → IsFreeRead rest (machine_step desk read Nothing (node_in s (j + 1)).lane.body).body
 reads_free t s j desk read rest st front =
     (fronts_go desk read rest (node_in s (j + 1)).lane.body (scene_of t s j) (front_before j read rest st front) (free_before j read rest st front)).read
 
--- ---- it has read all, and takes an input
-
-exit_all : {unread : List Sensed} (read : List Sensed) → ReadsFront unread read [] → events_at Exit read ≡ events_at Exit unread
-exit_all read front = sym (append-nil (events_at Exit read)) ∙ sym front.exit
-
-entry_all : {unread : List Sensed} (read : List Sensed) → ReadsFront unread read [] → events_at Entry read ≡ events_at Entry unread
-entry_all read front = sym (append-nil (events_at Entry read)) ∙ sym front.entry
-
-pub all_before : {t : Trace} {s : Running} (j : ℕ) (read : List Sensed) → Stands t s → ReadsFront (unread_by (j + 1) s) read [] → GoodBefore t s j read
-all_before {t} {s} j read st front = good_events (unread_by (j + 1) s) read (exit_all read front) (entry_all read front) (good_at (stand_of (line_of s)) (between_of t s) j st.keeps)
-
-pub takes_steady : (t : Trace) (s : Running) (j : ℕ) (desk : Desk) (read : List Sensed) (event : Event) → Stands t s → ReadsFront (unread_by (j + 1) s) read [] → IsPlain event (scene_of t s j) → IsSteady t s j [] (machine_step desk read event (node_in s (j + 1)).lane.body)
-takes_steady t s j desk read event st front plain = record {
+pub reads_steady : (t : Trace) (s : Running) (j : ℕ) (desk : Desk) (read rest : List Sensed) → Stands t s → ReadsFront (unread_by (j + 1) s) read rest → IsSteady t s j rest (machine_step desk read Nothing (node_in s (j + 1)).lane.body)
+reads_steady t s j desk read rest st front = record {
   elsewhere = elsewhere_of (stand_of (line_of s) (j + 1)).place.boards;
-  goes = plain_keeps desk read event (node_in s (j + 1)).lane.body (scene_of t s j) plain (st.keeps.machines.at j).offers (all_before j read st front);
+  free = reads_free t s j desk read rest st front;
+  goes = (fronts_go desk read rest (node_in s (j + 1)).lane.body (scene_of t s j) (front_before j read rest st front) (free_before j read rest st front)).goes;
 }
+
+-- ---- it takes an input, with the rest unread
+
+pub reads_before : {t : Trace} {s : Running} (j : ℕ) (desk : Desk) (read rest : List Sensed) → Stands t s → ReadsFront (unread_by (j + 1) s) read rest
+    → Reads (afar_at (stand_of (line_of s)) (between_of t s) j) (node_in s j).lane.body.kept (read ++ rest) rest (t.ghost j) (t.ghost (j + 1)) desk read (node_in s (j + 1)).lane.body (scene_of t s j)
+reads_before {t} {s} j desk read rest st front = reads_front desk read rest (node_in s (j + 1)).lane.body (scene_of t s j) (front_before j read rest st front) (free_before j read rest st front)
+
+pub takes_steady : (t : Trace) (s : Running) (j : ℕ) (desk : Desk) (read rest : List Sensed) (event : Event) → Stands t s → ReadsFront (unread_by (j + 1) s) read rest → IsPlain event (scene_of t s j) → IsMetInTime event rest → IsReadEnough rest (t.ghost j)
+    → IsSteady t s j rest (machine_step desk read event (node_in s (j + 1)).lane.body)
+takes_steady t s j desk read rest event st front plain in_time enough =
+    let goes = plain_front desk read rest event (node_in s (j + 1)).lane.body (scene_of t s j) plain in_time (st.keeps.machines.at j).offers (front_before j read rest st front) (free_before j read rest st front) enough in
+    record { elsewhere = elsewhere_of (stand_of (line_of s) (j + 1)).place.boards; free = goes.read; goes = goes.goes }

@@ -7,11 +7,12 @@ use Rattle.one_standing.specs.Places.{LiesAt, Spot, at_machine, in_gap, lies_at,
 use Rattle.one_standing.proofs.ApartFloor.{lies_on_floor}
 use Rattle.one_standing.proofs.MarksOf.{HasMark, first_among, mark_stands}
 use Rattle.one_standing.proofs.MarksPlace.{IsAt, Position, is_between, is_gone, is_listed, part_lies_at}
+use Rattle.one_standing.proofs.OneStand.{at_link}
 use Rattle.running_line.specs.Ids.{HasUniqueIds}
 use Rattle.running_line.specs.Running.{Running}
 use Rattle.running_line.specs.Stands.{IsMade, Stands, between_of, line_of}
 use Rattle.running_line.proofs.FloorMoves.{to_line}
-use Rattle.running_line.proofs.OneStand.{at_link, has_end}
+use Rattle.running_line.proofs.OneStand.{has_end, by_numbers}
 
 spot_made : {t : Trace} {s : Running} {x : ℕ} (p : Spot) → Stands t s → LiesAt (stand_of (line_of s)) (between_of t s) x p → IsMade s x
 spot_made {t} {s} {x} p st lies = st.made x (lies_on_floor t (line_of s) x p st.whole (to_line t s lies))
@@ -21,8 +22,8 @@ position_made {t} {s} st (is_listed {m = m} part) = spot_made (at_machine m) st 
 position_made st (is_between {k = k} lies) = spot_made (in_gap k) st (lies_in lies)
 position_made {x = x} st (is_gone {k = k} gone) = st.olds k x gone
 
-mark_made : {t : Trace} {s : Running} {x : ℕ} {mark : Mark} → Stands t s → HasMark (stand_of (line_of s)) x mark → IsMade s x
-mark_made st has = position_made st (at_link st has).is
+pub mark_made : {t : Trace} {s : Running} {x : ℕ} {mark : Mark} → Stands t s → HasMark (stand_of (line_of s)) x mark → IsMade s x
+mark_made st has = position_made st (at_link (by_numbers st) has).is
 
 pub unique_ids_of : (t : Trace) (s : Running) → Stands t s → HasUniqueIds s
 unique_ids_of t s st = record {

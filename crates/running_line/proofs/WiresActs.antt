@@ -1,6 +1,6 @@
 -- ACTS AT ONE SIDE of a machine, and the connections of the link there: what they carry goes along with the messages of the
 -- machine's scene.
-use Rattle.std.proofs.Common.{Bool, List, [], ap, append_assoc, false, map, refl, subst, suc, sym, true, zero, ℕ, ◌++◌, ◌∙◌, ◌∷◌, ◌≡◌}
+use Rattle.std.proofs.Common.{Bool, List, [], ap, append_assoc, false, map, refl, subst, suc, sym, true, ℕ, ◌++◌, ◌∙◌, ◌∷◌, ◌≡◌}
 use Rattle.std.specs.Prelude.{drop}
 use Rattle.std.proofs.lemmas.Bool.{false≢true}
 use Rattle.std.specs.List.{AllByRecursion, list_any}
@@ -9,7 +9,6 @@ use Rattle.line_base.specs.declared.states.Side.TheVariants.{Entry, Exit}
 use Rattle.hermes_horizontal.specs.Canonical.{canonical}
 use Rattle.hermes_horizontal.specs.declared.message.Horizontal.{Horizontal}
 use Rattle.hermes_horizontal.specs.declared.message.Message.{Message}
-use Rattle.hermes_stream.specs.Frames.{IsOneFrame}
 use Rattle.node_core.specs.declared.act.Act.{Act}
 use Rattle.node_core.specs.declared.act.Act.TheVariants as acts
 use Rattle.custody.specs.Bytes.{Flows, texts_of}
@@ -18,12 +17,12 @@ use Rattle.custody.specs.Words.{DownstreamService, UpWord, down_words, sent, up_
 use Rattle.custody.proofs.Lists.{down_words-append, up_words-append}
 use Rattle.custody.proofs.Messages.{sends_a_message}
 use Rattle.link_messages.specs.Fit.{AreFitActs, IsFit, IsFitAct, more_fit, more_said, none_fit, none_said, sent_on}
-use Rattle.link_messages.specs.Heard.{AreSayable, bodies, more_sayable}
+use Rattle.link_messages.specs.Heard.{bodies}
 use Rattle.link_messages.proofs.Fitting.{both_fit}
 use Rattle.machine_custody.specs.Scene.{Scene, all_met, met}
 use Rattle.line_step.specs.Opened.{open_act, open_after}
-use Rattle.one_standing.proofs.Carrying.{SaysAlone, bodies_append}
-use Rattle.one_standing.proofs.CarryingSides.{heard_by, heard_in}
+use Rattle.one_standing.proofs.Carrying.{SaysAlone, bodies_append, first_frame}
+use Rattle.one_standing.proofs.CarryingSides.{heard_by, heard_in, drop_one}
 use Rattle.running_line.specs.Stands.{Carries}
 use Rattle.running_line.specs.Waits.{AtMostOne, Says}
 use Rattle.running_line.specs.Wire.{Awaits, Coming, Has, Hold, Left, Wire, bytes_of, coming_to, end_at, end_beyond, has, left, said, text_behind}
@@ -33,16 +32,13 @@ use Rattle.running_line.proofs.TurnLinks.{any_weaker}
 
 -- ---- a text goes on its way
 
-one_frame : (message : Message) (messages : List Message) → AreSayable (message ∷ messages) → IsOneFrame (canonical message)
-one_frame message messages (more_sayable one others) = one.one
-
 pub flows_said : SaysAlone → (waiting : List ℕ) (from : List Coming) (n : ℕ) (said : List Message) (message : Message) → IsFit message → Flows waiting (bytes_of from) (texts_of said)
     → Flows waiting (bytes_of (from ++ text_behind n (canonical message))) (texts_of (said ++ message ∷ []))
 flows_said alone waiting from n said message fit flows =
     let text : List Coming = text_behind n (canonical message) in
     let bytes : bytes_of (from ++ text) ≡ bytes_of from ++ canonical message = bytes_both from text ∙ ap (λ (b : List ℕ). bytes_of from ++ b) (text_bytes n (canonical message)) in
     subst (λ (b : List ℕ). Flows waiting b (texts_of (said ++ message ∷ []))) (sym bytes)
-    (sends_a_message waiting (bytes_of from) said message (one_frame message [] (alone.sayable (message ∷ []) (more_fit fit none_fit))) flows)
+    (sends_a_message waiting (bytes_of from) said message (first_frame message [] (alone.sayable (message ∷ []) (more_fit fit none_fit))) flows)
 
 pub carries_said : SaysAlone → {waiting : List ℕ} {from : List Coming} {messages : List Horizontal} (n : ℕ) (message : Message) → IsFit message → Carries waiting from messages
     → Carries waiting (from ++ text_behind n (canonical message)) (messages ++ message.body ∷ [])
@@ -66,11 +62,6 @@ pub home_on : {new : List ℕ} {to : List Coming} {messages : List Horizontal} (
     → Home side (act ∷ rest) new to messages → Home side rest new to messages
 home_on {new = new} {to = to} {messages = messages} side act rest quiet still (home_hears k) = home_hears (subst (λ (n : ℕ). Carries new to (drop n messages)) quiet k)
 home_on side act rest quiet still (home_closes closes) = home_closes (sym (ap (λ (o : Bool). open_after side o rest) still) ∙ closes)
-
-drop_one : {X : Type 0} (n : ℕ) (xs : List X) → drop (suc n) xs ≡ drop n (drop 1 xs)
-drop_one zero [] = refl
-drop_one (suc n) [] = refl
-drop_one n (x ∷ xs) = refl
 
 home_heard : {new : List ℕ} {to : List Coming} {messages : List Horizontal} (side : Side) (act : Act) (rest : List Act) → heard_by side act (heard_in side rest) ≡ suc (heard_in side rest) → open_act side true act ≡ true
     → Home side (act ∷ rest) new to messages → Home side rest new to (drop 1 messages)
@@ -348,23 +339,18 @@ pub deals : (side : Side) (act : Act) → Deals side act
 deals Entry (acts.Hears Entry message) = deals_hears message
 deals Exit (acts.Hears Exit message) = deals_hears message
 deals Entry (acts.Hears Exit message) = deals_aside (record { hears = λ n. refl; opens = λ o. refl; says = λ rest. refl; same = λ c. refl; wires = λ n ws. refl })
-deals Exit (acts.Hears Entry message) = deals_aside (record { hears = λ n. refl; opens = λ o. refl; says = λ rest. refl; same = λ c. refl; wires = λ n ws. refl })
 deals Entry (acts.Sends Entry message) = deals_sends message
 deals Exit (acts.Sends Exit message) = deals_sends message
 deals Entry (acts.Sends Exit message) = deals_aside (record { hears = λ n. refl; opens = λ o. refl; says = λ rest. refl; same = λ c. refl; wires = λ n ws. refl })
-deals Exit (acts.Sends Entry message) = deals_aside (record { hears = λ n. refl; opens = λ o. refl; says = λ rest. refl; same = λ c. refl; wires = λ n ws. refl })
 deals Entry (acts.Closes Entry) = deals_closes
 deals Exit (acts.Closes Exit) = deals_closes
 deals Entry (acts.Closes Exit) = deals_aside (record { hears = λ n. refl; opens = λ o. refl; says = λ rest. refl; same = λ c. refl; wires = λ n ws. refl })
-deals Exit (acts.Closes Entry) = deals_aside (record { hears = λ n. refl; opens = λ o. refl; says = λ rest. refl; same = λ c. refl; wires = λ n ws. refl })
 deals Entry (acts.Notices Entry) = deals_notices
 deals Exit (acts.Notices Exit) = deals_notices
 deals Entry (acts.Notices Exit) = deals_aside (record { hears = λ n. refl; opens = λ o. refl; says = λ rest. refl; same = λ c. refl; wires = λ n ws. refl })
-deals Exit (acts.Notices Entry) = deals_aside (record { hears = λ n. refl; opens = λ o. refl; says = λ rest. refl; same = λ c. refl; wires = λ n ws. refl })
 deals Entry (acts.Drive Entry on) = deals_aside (record { hears = λ n. refl; opens = λ o. refl; says = λ rest. refl; same = λ c. refl; wires = λ n ws. refl })
 deals Entry (acts.Drive Exit on) = deals_aside (record { hears = λ n. refl; opens = λ o. refl; says = λ rest. refl; same = λ c. refl; wires = λ n ws. refl })
 deals Exit (acts.Drive Entry on) = deals_aside (record { hears = λ n. refl; opens = λ o. refl; says = λ rest. refl; same = λ c. refl; wires = λ n ws. refl })
-deals Exit (acts.Drive Exit on) = deals_aside (record { hears = λ n. refl; opens = λ o. refl; says = λ rest. refl; same = λ c. refl; wires = λ n ws. refl })
 deals Entry _ = deals_aside (record { hears = λ n. refl; opens = λ o. refl; says = λ rest. refl; same = λ c. refl; wires = λ n ws. refl })
 deals Exit _ = deals_aside (record { hears = λ n. refl; opens = λ o. refl; says = λ rest. refl; same = λ c. refl; wires = λ n ws. refl })
 

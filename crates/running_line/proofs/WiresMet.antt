@@ -56,7 +56,7 @@ at_map change each same zero (wire ∷ wires) = ap (λ (w : Wire). w ∷ map eac
 at_map change each same (suc place) (wire ∷ wires) =
     at_later place change (each wire) (map each wires) ∙ ap (λ (ws : List Wire). each wire ∷ ws) (at_map change each same place wires) ∙ ap (map each) (sym (at_later place change wire wires))
 
-drop_read : (n k : ℕ) (coming : List Coming) → drop n (with_read k coming) ≡ with_read k (drop n coming)
+pub drop_read : (n k : ℕ) (coming : List Coming) → drop n (with_read k coming) ≡ with_read k (drop n coming)
 drop_read zero k coming = refl
 drop_read (suc n) k [] = refl
 drop_read (suc n) k (c ∷ coming) = drop_read n k coming
@@ -71,7 +71,7 @@ given_read_entry n k above Awaits up down = refl
 given_read_entry n k above Has up down = ap (λ (coming : List Coming). wire_of above Has up coming) (drop_read n k down)
 given_read_entry n k above Left up down = refl
 
-given_read : (side : Side) (n k : ℕ) (wire : Wire) → given side n (read_at side k wire) ≡ read_at side k (given side n wire)
+pub given_read : (side : Side) (n k : ℕ) (wire : Wire) → given side n (read_at side k wire) ≡ read_at side k (given side n wire)
 given_read Exit n k wire = given_read_exit n k wire.above wire.below wire.up wire.down
 given_read Entry n k wire = given_read_entry n k wire.above wire.below wire.up wire.down
 

@@ -4,6 +4,7 @@ use Rattle.std.proofs.Common.{Bool, List, Some, [], ap, append-nil, false, map, 
 use Rattle.std.specs.Prelude.{cond}
 use Rattle.std.proofs.lemmas.Bool.{false≢true}
 use Rattle.std.specs.List.{AllByRecursion, list_any}
+use Rattle.one_standing.proofs.CarryingAnswer.{same_answer}
 use Rattle.line_base.specs.declared.states.Side.TheVariants.{Entry, Exit}
 use Rattle.hermes_horizontal.specs.Canonical.{canonical}
 use Rattle.hermes_horizontal.specs.declared.message.Horizontal.{Horizontal}
@@ -70,10 +71,6 @@ pub met_is : (hold : Hold) (told : List Act) (c : Scene) → all_met_by hold tol
 met_is Has told c = by_second told c
 met_is Awaits told c = by_awaits told c
 met_is Left told c = by_left told c
-
-same_answer : (what : Horizontal) → is_told_answer what ≡ is_answer what
-same_answer (message.Notification code severity text) = refl
-same_answer _ = refl
 
 -- ---- the answer is no word
 
@@ -314,7 +311,6 @@ met_plainly : (hold : Hold) (act : Act) (c : Scene) → IsPlainAct act → met_b
 met_plainly hold (acts.Sends Exit m) c plain = said_plain hold m c plain
 met_plainly Has (acts.Sends Entry m) c plain = refl
 met_plainly Awaits (acts.Sends Entry m) c plain = refl
-met_plainly Left (acts.Sends Entry m) c plain = refl
 met_plainly Has _ c plain = refl
 met_plainly Awaits _ c plain = refl
 met_plainly Left _ c plain = refl
@@ -365,22 +361,7 @@ twice_act : SaysAlone → {new far : List ℕ} {own_open far_open : Bool} {wires
     → Twice place hold rest new far (open_act Exit own_open act) far_open (seen Exit (met_by hold act c)) (act_twice place n act wires)
 twice_act alone place n hold (acts.Sends Exit m) rest c fit t = twice_said_by alone place n hold m rest c (is_answer m.body) refl fit t
 twice_act alone place n hold (acts.Sends Entry m) rest c fit t = twice_plain alone place n hold (acts.Sends Entry m) rest c fit tt t
-twice_act alone place n hold (acts.Reads at event) rest c fit t = twice_plain alone place n hold (acts.Reads at event) rest c fit tt t
-twice_act alone place n hold (acts.Hears at m) rest c fit t = twice_plain alone place n hold (acts.Hears at m) rest c fit tt t
-twice_act alone place n hold (acts.Breaches at text) rest c fit t = twice_plain alone place n hold (acts.Breaches at text) rest c fit tt t
-twice_act alone place n hold (acts.Closes at) rest c fit t = twice_plain alone place n hold (acts.Closes at) rest c fit tt t
-twice_act alone place n hold (acts.Notices at) rest c fit t = twice_plain alone place n hold (acts.Notices at) rest c fit tt t
-twice_act alone place n hold acts.Connects rest c fit t = twice_plain alone place n hold acts.Connects rest c fit tt t
-twice_act alone place n hold (acts.Drive at on) rest c fit t = twice_plain alone place n hold (acts.Drive at on) rest c fit tt t
-twice_act alone place n hold (acts.Deed deed) rest c fit t = twice_plain alone place n hold (acts.Deed deed) rest c fit tt t
-twice_act alone place n hold (acts.Inserts id) rest c fit t = twice_plain alone place n hold (acts.Inserts id) rest c fit tt t
-twice_act alone place n hold (acts.Removes id) rest c fit t = twice_plain alone place n hold (acts.Removes id) rest c fit tt t
-twice_act alone place n hold (acts.Replaces old id) rest c fit t = twice_plain alone place n hold (acts.Replaces old id) rest c fit tt t
-twice_act alone place n hold (acts.Marks id quality) rest c fit t = twice_plain alone place n hold (acts.Marks id quality) rest c fit tt t
-twice_act alone place n hold (acts.Signals signal on) rest c fit t = twice_plain alone place n hold (acts.Signals signal on) rest c fit tt t
-twice_act alone place n hold (acts.Tells m) rest c fit t = twice_plain alone place n hold (acts.Tells m) rest c fit tt t
-twice_act alone place n hold (acts.Answered query order) rest c fit t = twice_plain alone place n hold (acts.Answered query order) rest c fit tt t
-twice_act alone place n hold (acts.Sets setting) rest c fit t = twice_plain alone place n hold (acts.Sets setting) rest c fit tt t
+twice_act alone place n hold act rest c fit t = twice_plain alone place n hold act rest c fit tt t
 
 -- ALL ACTS
 acts_twice : SaysAlone → {new far : List ℕ} {own_open far_open : Bool} {wires later : List Wire} (place : ℕ) (hold : Hold) (told : List Act) (c : Scene) → AreFitActs told → WiredTwice place told wires later → Twice place hold told new far own_open far_open (seen Exit c) wires

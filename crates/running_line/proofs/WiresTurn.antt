@@ -103,7 +103,6 @@ pub plain_bytes : (side : Side) (input : Input) → is_plain_at side input ≡ t
 plain_bytes Entry (inputs.Bytes Entry piece) is = absurd (false≢true is)
 plain_bytes Exit (inputs.Bytes Exit piece) is = absurd (false≢true is)
 plain_bytes Entry (inputs.Bytes Exit piece) is = refl
-plain_bytes Exit (inputs.Bytes Entry piece) is = refl
 plain_bytes Entry _ is = refl
 plain_bytes Exit _ is = refl
 
@@ -123,7 +122,6 @@ pub stays_at : (side : Side) (maker : Maker) (input : Input) (words : List Word)
 stays_at Entry maker (inputs.Bytes Entry piece) words none not = absurd (false≢true (sym none))
 stays_at Exit maker (inputs.Bytes Exit piece) words none not = absurd (false≢true (sym none))
 stays_at Entry maker (inputs.Bytes Exit piece) words none not = tt
-stays_at Exit maker (inputs.Bytes Entry piece) words none not = tt
 stays_at Entry maker inputs.Connect words none not = not refl refl
 stays_at Exit maker inputs.Connect words none not = tt
 stays_at Entry maker (inputs.Insert barcode) words none not = new_stays Entry (next_id maker) (λ id. Insert id barcode) (λ id. tt)
@@ -142,7 +140,6 @@ plain_connect Exit input is at same = exit_entry at
 plain_connect Entry input is at same = false≢true (sym (ap (is_plain_at Entry) same) ∙ is)
 
 pub plain_exit_bytes : (input : Input) (old new : Lane) (words : List Word) → is_plain_at Exit input ≡ true → Brings input old new words → new.exit_bytes ≡ old.exit_bytes
-plain_exit_bytes (inputs.Bytes Entry piece) old new words is b = b.1
 plain_exit_bytes (inputs.Bytes Exit piece) old new words is b = absurd (false≢true is)
 plain_exit_bytes inputs.Accepted old new words is b = absurd (false≢true is)
 plain_exit_bytes _ old new words is b = b.1

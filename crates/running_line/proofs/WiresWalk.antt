@@ -1,6 +1,7 @@
 -- THE CONNECTIONS OF A MACHINE'S TWO LINKS behind its acts, as the acts at each side have them.
 use Rattle.std.proofs.Common.{Bool, List, [], ap, arith, eq-eqb, false, map, ne_eqb, refl, subst, true, ℕ, ◌+◌, ◌-◌, ◌∙◌, ◌∷◌, ◌≡◌}
 use Rattle.std.specs.Prelude.{cond, length}
+use Rattle.one_standing.proofs.LedgerMarks.{in_own_gap}
 use Rattle.line_base.specs.declared.states.Side.{Side}
 use Rattle.line_base.specs.declared.states.Side.TheVariants.{Entry, Exit}
 use Rattle.hermes_horizontal.specs.Canonical.{canonical}
@@ -28,10 +29,7 @@ wires_own link change s = ap (λ (test : Bool). cond test (change (s.wires link)
 pub wires_other : (link k : ℕ) (change : List Wire → List Wire) (s : Running) → (k ≡ link → ⊥) → (with_wires link change s).wires k ≡ s.wires k
 wires_other link k change s apart = ap (λ (test : Bool). cond test (change (s.wires k)) (s.wires k)) (ne_eqb k link apart)
 
-apart_below : (j : ℕ) → j + 1 ≡ j + 1 - 1 → ⊥
-apart_below j is = omega (arith, is)
-
-apart_above : (j : ℕ) → j + 1 - 1 ≡ j + 1 → ⊥
+pub apart_above : (j : ℕ) → j + 1 - 1 ≡ j + 1 → ⊥
 apart_above j is = omega (arith, is)
 
 -- each connection of one side of machine j + 1, as a side has it
@@ -39,7 +37,7 @@ pub wires_sided : (j : ℕ) (side at : Side) (change : Wire → Wire) (s : Runni
 wires_sided j Entry Entry change s = wires_own (j + 1 - 1) (map change) s
 wires_sided j Exit Exit change s = wires_own (j + 1) (map change) s
 wires_sided j Entry Exit change s = wires_other (j + 1) (j + 1 - 1) (map change) s (apart_above j)
-wires_sided j Exit Entry change s = wires_other (j + 1 - 1) (j + 1) (map change) s (apart_below j)
+wires_sided j Exit Entry change s = wires_other (j + 1 - 1) (j + 1) (map change) s (in_own_gap j)
 
 -- ---- the acts
 

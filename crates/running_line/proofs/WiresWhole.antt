@@ -37,7 +37,7 @@ use Rattle.running_line.proofs.WiresTurn.{is_plain_at}
 
 -- ---- the machines behind the turn
 
-not_last : (j : ℕ) → j + 1 + 1 ≢ j + 1
+pub not_last : (j : ℕ) → j + 1 + 1 ≢ j + 1
 not_last j is = omega (arith, is)
 
 link_as : {a a2 b b2 : NodeState} {u u2 : List Sensed} {up down : List Horizontal} {wires : List Wire} → a2 ≡ a → b2 ≡ b → u2 ≡ u → IsLink a b u up down wires → IsLink a2 b2 u2 up down wires
@@ -105,26 +105,18 @@ same_second : (act : Act) (c e : Scene) → seen Entry c ≡ seen Entry e → se
 same_second (acts.Sends Exit m) c e is = by_sent (is_answer m.body) m c ∙ is
 same_second (acts.Sends Entry m) c e is = ap (said_seen m.body) is
 same_second (acts.Hears Entry m) c e is = ap heard_seen is
-same_second (acts.Hears Exit m) c e is = is
 same_second (acts.Closes Entry) c e is = ap gone_seen is
-same_second (acts.Closes Exit) c e is = is
 same_second (acts.Notices Entry) c e is = ap gone_seen is
-same_second (acts.Notices Exit) c e is = is
 same_second (acts.Drive Entry on) c e is = is
-same_second (acts.Drive Exit on) c e is = is
 same_second _ c e is = is
 
 same_left : (act : Act) (c e : Scene) → seen Entry c ≡ seen Entry e → seen Entry (met_left act c) ≡ seen Entry (met act e)
 same_left (acts.Sends Exit m) c e is = by_left (is_answer m.body) m c ∙ is
 same_left (acts.Sends Entry m) c e is = ap (said_seen m.body) is
 same_left (acts.Hears Entry m) c e is = ap heard_seen is
-same_left (acts.Hears Exit m) c e is = is
 same_left (acts.Closes Entry) c e is = ap gone_seen is
-same_left (acts.Closes Exit) c e is = is
 same_left (acts.Notices Entry) c e is = ap gone_seen is
-same_left (acts.Notices Exit) c e is = is
 same_left (acts.Drive Entry on) c e is = is
-same_left (acts.Drive Exit on) c e is = is
 same_left _ c e is = is
 
 all_second : (told : List Act) (c e : Scene) → seen Entry c ≡ seen Entry e → seen Entry (all_met_second told c) ≡ seen Entry (all_met told e)

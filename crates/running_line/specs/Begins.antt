@@ -9,7 +9,7 @@ use Rattle.node_core.specs.declared.act.Act.{Act}
 use Rattle.node_core.specs.declared.profile.NodeProfile.{NodeProfile}
 use Rattle.running_line.specs.Doubled.{KeepsAt}
 use Rattle.running_line.specs.New.{IsNew, NumbersDiffer, new_floor}
-use Rattle.running_line.specs.Reading.{Strictly}
+use Rattle.running_line.specs.Reading.{Behind, Strictly}
 use Rattle.running_line.specs.Running.{Running}
 use Rattle.running_line.specs.RunSteps.{RunsTo}
 use Rattle.running_line.specs.Stands.{is_joined}
@@ -32,12 +32,14 @@ new_pair = record {
   wires = λ (link : ℕ). [];
 }
 
--- behind the run the link stands, and the board's record is kept upstream
+-- it is one under either reading; behind the run the link stands, and the board's record is kept upstream
 pub record Begins : Type 0 where
   pub new : IsNew new_pair
   pub differ : NumbersDiffer new_pair
   pub told : List Act
   pub after : Running
   pub run : RunsTo Strictly new_pair told after
+  pub told_behind : List Act
+  pub behind : RunsTo Behind new_pair told_behind after
   pub joined : list_any is_joined (after.wires 1) ≡ true
   pub keeps : KeepsAt 1 (plain_record (made_id 1 1) (codes "loader") None ∷ []) after

@@ -8,6 +8,7 @@ pub mod Waits
 pub mod New
 pub mod Stands
 pub mod Steady
+pub mod Timed
 pub mod Turned
 pub mod Off
 pub mod Ids

@@ -7,12 +7,14 @@ use Rattle.node_core.specs.declared.act.Act.{Act}
 use Rattle.node_core.specs.declared.input.Input.{Input}
 use Rattle.node_core.specs.declared.input.Input.TheVariants as inputs
 use Rattle.custody.specs.Pair.{Ghost}
+use Rattle.custody.specs.Unread.{NotOver}
 use Rattle.link_messages.specs.Heard.{bodies}
+use Rattle.machine_custody.specs.Good.{ReadsFirst}
 use Rattle.machine_custody.specs.Joined.{all_met_left, all_met_second, with_link}
 use Rattle.machine_custody.specs.Scene.{Scene, all_met}
 use Rattle.one_standing.specs.Carried.{Trace}
 use Rattle.one_standing.proofs.Traces.{put}
-use Rattle.running_line.specs.Reading.{Strictly}
+use Rattle.running_line.specs.Reading.{Reading}
 use Rattle.running_line.specs.Running.{Running}
 use Rattle.running_line.specs.Stands.{Stands}
 use Rattle.running_line.specs.Steady.{scene_of, unless_joined}
@@ -61,13 +63,16 @@ turned j a b gone d t = record {
 
 -- ---- WHAT A TURN COMES TO
 
--- the relation, with the trace that the acts turn it into
-pub record TurnsTo (j : ℕ) {input : Input} {moment : ℤ} {before after : Running} {told : List Act}
-    (t : Trace) (turn : Turns Strictly (j + 1) input moment before after told) : Type 0 where
+-- the relation, with the trace that the acts turn it into; what was read first is so still, and a board
+-- below that has not gone across is none that has
+pub record TurnsTo (j : ℕ) {reading : Reading} {input : Input} {moment : ℤ} {before after : Running} {told : List Act}
+    (t : Trace) (turn : Turns reading (j + 1) input moment before after told) : Type 0 where
   pub wire : Wire
   pub said : List Message
   pub a : Ghost
   pub b : Ghost
   pub gone : ℕ → Bool
+  pub first : ReadsFirst turn.rest (t.ghost j) → ReadsFirst turn.rest a
+  pub over : NotOver (t.ghost (j + 1)).place → NotOver b.place
   pub stands : Stands
       (turned j a b gone (scene_behind input wire said told t before j) t) after

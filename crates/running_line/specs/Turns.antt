@@ -118,7 +118,8 @@ did second machine place (act ∷ others) s =
 
 -- ---- THE TURN
 
--- the barcodes of the input are texts, and the moment is of the years 1 to 9999
+-- the barcodes of the input are texts, its place on a panel has at most nine digits, and the moment
+-- is of the years 1 to 9999
 pub record Turns (reading : Reading) (machine : ℕ) (input : Input) (moment : ℤ)
     (before after : Running) (told : List Act) : Type 0 where
   pub node : NodeState

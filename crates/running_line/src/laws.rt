@@ -16,17 +16,19 @@ ghost use Rattle.node_core.specs.declared.input.Input.TheVariants as inputs;
 ghost use Rattle.node_core.specs.declared.lane.Body.{Body as Machine};
 ghost use Rattle.machine_custody.specs.Ahead.{IsFreeRead};
 ghost use Rattle.machine_custody.specs.Flight.{IsPlain};
+ghost use Rattle.machine_custody.specs.InTime.{IsMetInTime, IsReadEnough};
 ghost use Rattle.one_standing.specs.Carried.{Trace};
 ghost use Rattle.one_standing.specs.Standing.{HasOneStanding};
 ghost use Rattle.running_line.specs.Begins.{Begins};
 ghost use Rattle.running_line.specs.Doubled.{IsDoubled, IsHeldBehind};
 ghost use Rattle.running_line.specs.Ids.{HasUniqueIds};
 ghost use Rattle.running_line.specs.New.{IsNew, NumbersDiffer};
-ghost use Rattle.running_line.specs.Reading.{Reading, ReadsFront, Strictly};
+ghost use Rattle.running_line.specs.Reading.{Behind, Reading, ReadsFront, Strictly};
 ghost use Rattle.running_line.specs.Running.{Running, unread_by};
-ghost use Rattle.running_line.specs.RunSteps.{Asks, LetsBe, Moves, RunsTo, given_up, let_be};
+ghost use Rattle.running_line.specs.RunSteps.{Asks, LetsBe, Moves, RunSteps, RunsTo, given_up, let_be};
 ghost use Rattle.running_line.specs.Stands.{AreInRelation, Stands, line_of, node_in};
 ghost use Rattle.running_line.specs.Steady.{FindsIt, IsSteady, RefusesIt, TakesIt, scene_of};
+ghost use Rattle.running_line.specs.Timed.{AreRelated};
 ghost use Rattle.running_line.specs.Turned.{TurnsTo};
 ghost use Rattle.running_line.specs.Turns.{HasNone, IsAt, Turns};
 ghost use Rattle.running_line.specs.Waits.{Waits};
@@ -80,8 +82,8 @@ pub fn running_machines_stay_in_relation()
 /// Among running machines that stand in the relation, the step that a machine makes in a turn keeps
 /// the relation of both its links and of the machine: where it reads a front of the events of each
 /// side and takes nothing, whatever it leaves unread, so that a free intake of a session that stands
-/// has read all still; and where it has read all and takes an input that makes no connection and
-/// changes no board by hand.
+/// has read all still; and where it takes an input that makes no connection and changes no board by
+/// hand, once it has read what its boards did, and each word in time.
 pub fn a_step_in_a_turn_keeps_both_links()
     ensures reads { (t : Trace) (s : Running) (j : ℕ) (desk : Desk) (read rest : List Sight)
         → Stands t s → ReadsFront (unread_by (j + 1) s) read rest
@@ -89,28 +91,28 @@ pub fn a_step_in_a_turn_keeps_both_links()
     ensures free { (t : Trace) (s : Running) (j : ℕ) (desk : Desk) (read rest : List Sight)
         → Stands t s → ReadsFront (unread_by (j + 1) s) read rest
         → IsFreeRead rest (machine_step desk read Nothing (node_in s (j + 1)).lane.body).body }
-    ensures takes { (t : Trace) (s : Running) (j : ℕ) (desk : Desk) (read : List Sight)
-        (event : Event) → Stands t s → ReadsFront (unread_by (j + 1) s) read []
-        → IsPlain event (scene_of t s j)
-        → IsSteady t s j [] (machine_step desk read event (node_in s (j + 1)).lane.body) }
+    ensures takes { (t : Trace) (s : Running) (j : ℕ) (desk : Desk) (read rest : List Sight)
+        (event : Event) → Stands t s → ReadsFront (unread_by (j + 1) s) read rest
+        → IsPlain event (scene_of t s j) → IsMetInTime event rest → IsReadEnough rest (t.ghost j)
+        → IsSteady t s j rest (machine_step desk read event (node_in s (j + 1)).lane.body) }
 {}
 
-/// And so does a step in which a connection is made, where the machine has read all: its exit takes
+/// And so does a step in which a connection is made, whatever it leaves unread: its exit takes
 /// one that it awaits, while it has none; its entry finds one made that it awaits; or its exit
 /// refuses one, while the first goes on. What was said on the connection is on its way from then on,
 /// and the link stands where the other end has that connection too.
 pub fn a_connection_in_a_turn_keeps_both_links()
-    ensures accepted { (t : Trace) (s : Running) (j : ℕ) (desk : Desk) (read : List Sight)
-        (place : ℕ) → Stands t s → ReadsFront (unread_by (j + 1) s) read []
+    ensures accepted { (t : Trace) (s : Running) (j : ℕ) (desk : Desk) (read rest : List Sight)
+        (place : ℕ) → Stands t s → ReadsFront (unread_by (j + 1) s) read rest
         → (at : IsAt (j + 1) Exit place Awaits s) → HasNone (j + 1) Exit s
-        → TakesIt t s j at.wire (machine_step desk read Accepted (node_in s (j + 1)).lane.body) }
-    ensures come { (t : Trace) (s : Running) (j : ℕ) (desk : Desk) (read : List Sight)
-        (place : ℕ) → Stands t s → ReadsFront (unread_by (j + 1) s) read []
+        → TakesIt t s j rest at.wire (machine_step desk read Accepted (node_in s (j + 1)).lane.body) }
+    ensures come { (t : Trace) (s : Running) (j : ℕ) (desk : Desk) (read rest : List Sight)
+        (place : ℕ) → Stands t s → ReadsFront (unread_by (j + 1) s) read rest
         → (at : IsAt (j + 1) Entry place Awaits s)
-        → FindsIt t s j at.wire (machine_step desk read Connect (node_in s (j + 1)).lane.body) }
-    ensures second { (t : Trace) (s : Running) (j : ℕ) (desk : Desk) (read : List Sight)
-        → Stands t s → ReadsFront (unread_by (j + 1) s) read []
-        → RefusesIt t s j (machine_step desk read Second (node_in s (j + 1)).lane.body) }
+        → FindsIt t s j rest at.wire (machine_step desk read Connect (node_in s (j + 1)).lane.body) }
+    ensures second { (t : Trace) (s : Running) (j : ℕ) (desk : Desk) (read rest : List Sight)
+        → Stands t s → ReadsFront (unread_by (j + 1) s) read rest
+        → RefusesIt t s j rest (machine_step desk read Second (node_in s (j + 1)).lane.body) }
 {}
 
 /// The relation goes on in a turn that has read all before it takes an input, whatever the input is,
@@ -137,7 +139,8 @@ pub fn one_standing_in_the_relation()
     ensures { (s : Running) → AreInRelation s → HasOneStanding (line_of s) }
 {}
 
-/// There are such runs: of two new machines the upstream one keeps a board, and they connect.
+/// There are such runs: of two new machines the upstream one keeps a board, and they connect. It is
+/// one behind the reading, too.
 pub fn new_machines_connect_in_a_run_that_reads_first()
     ensures { Begins }
 {}
@@ -152,6 +155,43 @@ pub fn one_standing_in_each_run_that_reads_first()
         → RunsTo Strictly s told u → HasOneStanding (line_of u) }
     ensures ids { (s u : Running) (told : List Act) → IsNew s → NumbersDiffer s
         → RunsTo Strictly s told u → HasUniqueIds u }
+{
+    link_messages::laws::the_words_of_a_piece_are_the_oldest_messages();
+    link_messages::laws::a_frame_with_a_nul_is_a_wrong_word();
+    link_messages::laws::fit_messages_are_sayable();
+    link_messages::laws::the_words_of_fit_messages_are_fit();
+    link_messages::laws::the_words_behind_a_nul_are_fit();
+}
+
+/// Where each board is let go behind the reading, more goes on beside the relation: no board has
+/// begun unread at an exit; a board that has begun unread at an entry hasn't gone across; and each
+/// word on its way waits for no reading, or was said behind all that is unread at its receiver
+/// (`AreRelated`; where no more is asked of the reading, it is the relation alone). New machines have
+/// it, and it goes on in each step of a run: a turn, which takes what was said behind all that it has
+/// read, whatever else it leaves unread; a connection that is asked for, or left; a board that moves,
+/// or is let go.
+pub fn the_relation_goes_on_behind_the_reading()
+    ensures new { (reading : Reading) (s : Running) → IsNew s → NumbersDiffer s
+        → AreRelated reading s }
+    ensures steps { (before after : Running) (told : List Act) → RunSteps Behind before told after
+        → AreRelated Behind before → AreRelated Behind after }
+{
+    link_messages::laws::the_words_of_a_piece_are_the_oldest_messages();
+    link_messages::laws::a_frame_with_a_nul_is_a_wrong_word();
+    link_messages::laws::fit_messages_are_sayable();
+    link_messages::laws::the_words_of_fit_messages_are_fit();
+    link_messages::laws::the_words_behind_a_nul_are_fit();
+}
+
+/// THE LAW OVER RUNS THAT A CONTROL CAN KEEP: from new machines whose numbers differ, behind each run
+/// in which a message is heard once all is read that its receiver's sensors had seen before it was
+/// said, and each board is let go behind the reading, each board's record has one standing; no two
+/// boards share an id; and each id of a board or a record was made by one of the machines.
+pub fn one_standing_in_each_run_that_lets_go_behind_the_reading()
+    ensures standing { (s u : Running) (told : List Act) → IsNew s → NumbersDiffer s
+        → RunsTo Behind s told u → HasOneStanding (line_of u) }
+    ensures ids { (s u : Running) (told : List Act) → IsNew s → NumbersDiffer s
+        → RunsTo Behind s told u → HasUniqueIds u }
 {
     link_messages::laws::the_words_of_a_piece_are_the_oldest_messages();
     link_messages::laws::a_frame_with_a_nul_is_a_wrong_word();

@@ -14,8 +14,8 @@ use Rattle.node_core.specs.declared.act.Deed.TheVariants as own_deeds
 use Rattle.node_core.specs.declared.act.Setting.{Setting}
 use Rattle.node_core.specs.declared.act.Setting.TheVariants as settings
 use Rattle.line_report.specs.Texts.{setting_text, told_text}
-use Rattle.node_run.specs.Account.{IsProperAct, id_of_deed}
-use Rattle.node_run.specs.Texts.{deed_text}
+use Rattle.machine_log.specs.Account.{IsProperAct, id_of_deed}
+use Rattle.machine_log.specs.Texts.{deed_text}
 use Rattle.standings.specs.declared.deed.Deed.{Deed}
 use Rattle.standings.specs.declared.deed.Deed.TheVariants as deeds
 use Rattle.line_check.specs.declared.group.Group.{Group}
@@ -114,19 +114,9 @@ act_reads machine number (acts.Replaces old new) short proper gaps =
     ap (λ (l : List ℕ). does (deed_in kinds.Replaces machine (cut_at_space l))) (regrouped (decimal number) (id_text old) (id_text new))
     ∙ hand_read kinds.Replaces machine number (id_text old ++ codes " " ++ id_text new) short
     ∙ replaces_read machine number old new short proper.0 proper.1
-act_reads machine number (acts.Reads side event) short proper gaps = refl
-act_reads machine number (acts.Hears side message) short proper gaps = refl
-act_reads machine number (acts.Breaches side text) short proper gaps = refl
-act_reads machine number (acts.Sends side message) short proper gaps = refl
-act_reads machine number (acts.Closes side) short proper gaps = refl
-act_reads machine number (acts.Notices side) short proper gaps = refl
-act_reads machine number acts.Connects short proper gaps = refl
-act_reads machine number (acts.Drive side on) short proper gaps = refl
-act_reads machine number (acts.Signals signal on) short proper gaps = refl
-act_reads machine number (acts.Marks id quality) short proper gaps = refl
 act_reads machine number (acts.Tells message) short proper gaps = told_reads machine number message.body
-act_reads machine number (acts.Answered query order) short proper gaps = refl
 act_reads machine number (acts.Sets setting) short proper gaps = setting_reads machine number setting
+act_reads machine number _ short proper gaps = refl
 
 -- ---- THE LINE
 

@@ -1,8 +1,8 @@
 -- The log of two machines that begin, computed.
 use Rattle.std.proofs.Common.{arith, refl}
 use Rattle.running_line.specs.Begins.{new_pair}
-use Rattle.running_line.proofs.Begins.{begins}
-use Rattle.running_ledger.proofs.LedgerExample.{pair_runs, taken}
+use Rattle.running_line.proofs.Begins.{begins, taken}
+use Rattle.running_ledger.proofs.LedgerExample.{pair_runs}
 use Rattle.running_logs.specs.Example.{HasALog}
 use Rattle.running_logs.specs.Merged.{CanBeNamed, beside, no_lines, no_steps, step, told}
 

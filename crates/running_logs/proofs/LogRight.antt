@@ -4,7 +4,7 @@ use Rattle.std.specs.List.{AllByRecursion, list_all}
 use Rattle.std.proofs.lemmas.Bool.{and_from, or_left, or_right}
 use Rattle.node_core.specs.declared.act.Act.{Act}
 use Rattle.node_core.specs.declared.act.Act.TheVariants as acts
-use Rattle.node_run.specs.Texts.{line_of, log_line}
+use Rattle.machine_log.specs.Texts.{line_of, log_line}
 use Rattle.standings.specs.Ledger.{AreLegal, Ledger, has_entry, is_same_entry, ledger_after_all}
 use Rattle.standings.specs.Ledger as ledgers
 use Rattle.standings.specs.Marks.{has_mark}

@@ -118,9 +118,6 @@ said_legal ledger said (deed ∷ []) others is one legal = (
 said_legal ledger said (deed ∷ next ∷ more) others is one legal = absurd (omega (arith, one))
 
 one_deed : (machine : ℕ) (act : Act) → length (deeds_at machine act) ≤ 1
-one_deed machine (acts.Inserts id) = omega arith
-one_deed machine (acts.Removes id) = omega arith
-one_deed machine (acts.Replaces old new) = omega arith
 one_deed machine (acts.Deed deed) = side_deed deed where
   side_deed : (deed : OwnDeed) → length (deeds_at_side machine deed) ≤ 1
   side_deed (own_deeds.Opens id) = omega arith

@@ -4,8 +4,8 @@ use Rattle.line_base.specs.declared.states.Side.{Side}
 use Rattle.node_core.specs.declared.act.Act.{Act}
 use Rattle.node_core.specs.declared.act.Act.TheVariants as acts
 use Rattle.line_report.specs.Texts.{act_text}
-use Rattle.node_run.specs.Account.{IsProperAct}
-use Rattle.node_run.specs.Texts.{deed_text, drive_text}
+use Rattle.machine_log.specs.Account.{IsProperAct}
+use Rattle.machine_log.specs.Texts.{deed_text, drive_text}
 use Rattle.line_check.specs.LogLine.{kind_of}
 use Rattle.line_check.specs.Words.{first_word}
 use Rattle.running_line.specs.Stands.{node_in}

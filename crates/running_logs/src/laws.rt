@@ -2,8 +2,8 @@
 
 ghost use Rattle.std.specs.Prelude.{◌≡◌, ◌++◌, ℕ, codes, decimal, true};
 ghost use Rattle.node_core.specs.declared.act.Act.{Act};
-ghost use Rattle.node_run.specs.Texts.{line_of};
-ghost use Rattle.running_line.specs.Reading.{Reading, Strictly};
+ghost use Rattle.machine_log.specs.Texts.{line_of};
+ghost use Rattle.running_line.specs.Reading.{Behind, Reading, Strictly};
 ghost use Rattle.running_ledger.specs.Told.{RelationGoesOn};
 ghost use Rattle.running_logs.specs.Example.{HasALog};
 ghost use Rattle.running_logs.specs.Merged.{merged_line, text_of};
@@ -26,6 +26,14 @@ pub fn the_merged_log_of_a_run_that_reads_first_is_right()
     ensures some { HasALog }
 {
     running_ledger::ledger::the_ledger_follows_each_run_that_reads_first();
+}
+
+/// And of each run in which a message is heard once all is read that its receiver's sensors had seen
+/// before it was said, and each board is let go behind the reading.
+pub fn the_merged_log_of_a_run_behind_the_reading_is_right()
+    ensures { LogIsRight Behind }
+{
+    running_ledger::ledger::the_ledger_follows_each_run_behind_the_reading();
 }
 
 /// A line of the merged log is the line of the machine's own log with its place in the line in

@@ -1,6 +1,6 @@
 use Rattle.std.specs.Prelude.{Bool, true, false, Option, Some, None}
-use Rattle.hermes_horizontal.specs.Parts.{features_of}
 use Rattle.hermes_horizontal.specs.declared.message.Features.{Features}
+use Rattle.hermes_horizontal.specs.declared.message.Horizontal.TheVariants as bodies
 use Rattle.session_core.specs.declared.actions.Actions.{Actions}
 use Rattle.session_core.specs.declared.actions.Action.{Action}
 use Rattle.session_core.specs.declared.actions.Action.TheVariants as act
@@ -9,7 +9,7 @@ use Rattle.session_core.specs.Input.{Input, heard}
 
 -- the features that the peer lists, where it is a description that is heard
 abbrev pub described : Input → Option Features
-described (heard message _) = features_of message
+described (heard (bodies.ServiceDescription service) _) = Some service.features
 described _ = None
 
 -- a message is heard while the outlet holds a board

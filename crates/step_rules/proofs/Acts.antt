@@ -47,9 +47,7 @@ use Rattle.step_rules.specs.Causes.{
   ByHand,
   Cause,
   Tells,
-  hand_fails,
   hand_inserts,
-  hand_marks,
   hand_removes,
   hand_replaces,
   tells_alive,
@@ -68,6 +66,10 @@ use Rattle.step_rules.specs.Causes.{
   will_available,
   will_itself,
   will_ready,
+  hand_changes,
+  changes_quality,
+  changes_circuits,
+  changes_front,
 }
 use Rattle.step_rules.specs.Made.{
   Made,
@@ -168,8 +170,9 @@ by_hand : {desk : Desk} {event : Event} {body : Body} {kept : List Record} {act 
 by_hand P hand_inserts own = own
 by_hand P (hand_removes is) own = own
 by_hand P (hand_replaces is) own = own
-by_hand P (hand_marks is) own = own
-by_hand P (hand_fails {id = id} front is) own = own.1 id
+by_hand P (hand_changes (changes_quality is)) own = own
+by_hand P (hand_changes (changes_circuits is)) own = own
+by_hand P (hand_changes (changes_front {id = id} front is)) own = own.1 id
 
 -- ---- the pieces, and the step
 

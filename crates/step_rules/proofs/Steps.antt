@@ -78,7 +78,7 @@ use Rattle.node_core.specs.Announces.{
   unready,
   unready_by,
 }
-use Rattle.node_core.specs.Boards.{faults, if_kept, is_kept, with_kept}
+use Rattle.node_core.specs.Boards.{faults, if_kept, is_kept, with_kept, takes_sub}
 use Rattle.node_core.specs.Bridge.{failed_front, fails, sets_level, tells_level}
 use Rattle.node_core.specs.Connect.{if_open, shuts_down, ticks}
 use Rattle.node_core.specs.Desk.{Desk}
@@ -92,6 +92,7 @@ use Rattle.node_core.specs.Event.{
   Insert,
   Level,
   Mark,
+  Sub,
   Nothing,
   Notice,
   Query,
@@ -150,9 +151,7 @@ use Rattle.step_rules.specs.Causes.{
   by_second,
   by_shutdown,
   by_tick,
-  hand_fails,
   hand_inserts,
-  hand_marks,
   hand_removes,
   hand_replaces,
   in_available,
@@ -191,6 +190,10 @@ use Rattle.step_rules.specs.Causes.{
   will_ready,
   word_first,
   word_later,
+  hand_changes,
+  changes_quality,
+  changes_circuits,
+  changes_front,
 }
 use Rattle.step_rules.specs.Made.{
   IsMade,
@@ -494,7 +497,7 @@ fails_made : (desk : Desk) (line : SegmentLine) (on : Bool) (found : Option ℕ)
     → failed_front desk.bridge line on body ≡ found
     → Made desk (Meeting (Level line on)) body (fails found body)
 fails_made desk line on None body is = made_none
-fails_made desk line on (Some id) body is = kept_made (is_kept id body.kept) (hand_fails is)
+fails_made desk line on (Some id) body is = kept_made (is_kept id body.kept) (λ kept. hand_changes (changes_front is kept))
 
 levels_made : (desk : Desk) (line : SegmentLine) (on : Bool) (body : Body)
     → Made desk (Meeting (Level line on)) body (sets_level desk line on body)
@@ -551,7 +554,8 @@ event_made desk (Level line on) body = levels_made desk line on body
 event_made desk (Insert id barcode) body = made_by_hand hand_inserts
 event_made desk (Remove id) body = kept_made (is_kept id body.kept) hand_removes
 event_made desk (Replace old new) body = kept_made (is_kept old body.kept) hand_replaces
-event_made desk (Mark id quality) body = kept_made (is_kept id body.kept) hand_marks
+event_made desk (Mark id quality) body = kept_made (is_kept id body.kept) (λ kept. hand_changes (changes_quality kept))
+event_made desk (Sub id sub) body = kept_made (takes_sub id sub body.kept) (λ takes. hand_changes (changes_circuits takes))
 event_made desk Forecast body = forecasts_made desk (slice_get body.kept 0) body refl
 event_made desk (Query barcode) body = made_act tells_query
 event_made desk (Supervised what) body = supervises_made desk what body

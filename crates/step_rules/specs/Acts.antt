@@ -17,6 +17,7 @@ use Rattle.node_core.specs.Event.{
   Mark,
   Remove,
   Replace,
+  Sub,
   Supervised,
   Will,
 }
@@ -44,6 +45,7 @@ OfEvent P desk (Insert id barcode) = P (acts.Inserts id)
 OfEvent P desk (Remove id) = P (acts.Removes id)
 OfEvent P desk (Replace old new) = P (acts.Replaces old new)
 OfEvent P desk (Mark id quality) = P (acts.Marks id quality)
+OfEvent P desk (Sub id sub) = P (acts.Subs id sub.pos)
 OfEvent P desk (Supervised what) = P (supervision_act desk what)
 OfEvent P desk _ = Unit {0}
 

@@ -23,6 +23,7 @@ use Rattle.line_base.specs.declared.states.Code.{Code}
 use Rattle.line_base.specs.declared.states.Transfer.{Transfer}
 use Rattle.board_record.specs.Record.{plain_record}
 use Rattle.board_record.specs.declared.record.Record.{Record}
+use Rattle.board_record.specs.declared.sub_board.SubBoard.{SubBoard}
 use Rattle.hermes_horizontal.specs.declared.message.Horizontal.{Horizontal}
 use Rattle.hermes_horizontal.specs.declared.message.Horizontal.TheVariants as bodies
 use Rattle.hermes_horizontal.specs.declared.message.Message.{Message}
@@ -50,7 +51,7 @@ use Rattle.node_core.specs.Announces.{
   starts_now,
   unreadies_now,
 }
-use Rattle.node_core.specs.Boards.{is_kept, with_instead, with_mark, without}
+use Rattle.node_core.specs.Boards.{is_kept, takes_sub, with_changed, with_instead, without}
 use Rattle.node_core.specs.Bridge.{failed_front}
 use Rattle.node_core.specs.Desk.{Desk}
 use Rattle.node_core.specs.Event.{
@@ -62,6 +63,7 @@ use Rattle.node_core.specs.Event.{
   Insert,
   Level,
   Mark,
+  Sub,
   Query,
   Remove,
   Replace,
@@ -204,8 +206,21 @@ pub data Tells (desk : Desk) : Cause → Body → Act → Type 0 where
 
 -- ---- what is done by hand
 
--- the records that are kept behind a deed by hand, and its act. A level may say that the front
--- board is a failed one
+-- whose record gets other contents, which, and the act. A level may say that the front board is a
+-- failed one
+pub data Changes (desk : Desk) : Event → Body → ℕ → (Record → Record) → Act → Type 0 where
+  changes_quality : {id : ℕ} {quality : Quality} {body : Body} → is_kept id body.kept ≡ true
+      → Changes desk (Mark id quality) body id (λ board. record board { quality = quality })
+      (acts.Marks id quality)
+  changes_circuits : {id : ℕ} {sub : SubBoard} {body : Body} → takes_sub id sub body.kept ≡ true
+      → Changes desk (Sub id sub) body id (λ board. record board { subs = board.subs ++ sub ∷ [] })
+      (acts.Subs id sub.pos)
+  changes_front : {line : SegmentLine} {on : Bool} {id : ℕ} {body : Body}
+      → failed_front desk.bridge line on body ≡ Some id → is_kept id body.kept ≡ true
+      → Changes desk (Level line on) body id (λ board. record board { quality = qualities.Failed })
+      (acts.Marks id qualities.Failed)
+
+-- the records that are kept behind a deed by hand, and its act
 pub data ByHand (desk : Desk) : Event → Body → List Record → Act → Type 0 where
   hand_inserts : {id : ℕ} {barcode : Option (List ℕ)} {body : Body}
       → ByHand desk (Insert id barcode) body (body.kept ++ plain_record id desk.name barcode ∷ [])
@@ -215,13 +230,9 @@ pub data ByHand (desk : Desk) : Event → Body → List Record → Act → Type 
   hand_replaces : {old new : ℕ} {body : Body} → is_kept old body.kept ≡ true
       → ByHand desk (Replace old new) body
       (with_instead old (plain_record new desk.name None) body.kept) (acts.Replaces old new)
-  hand_marks : {id : ℕ} {quality : Quality} {body : Body} → is_kept id body.kept ≡ true
-      → ByHand desk (Mark id quality) body (with_mark id quality body.kept)
-      (acts.Marks id quality)
-  hand_fails : {line : SegmentLine} {on : Bool} {id : ℕ} {body : Body}
-      → failed_front desk.bridge line on body ≡ Some id → is_kept id body.kept ≡ true
-      → ByHand desk (Level line on) body (with_mark id qualities.Failed body.kept)
-      (acts.Marks id qualities.Failed)
+  hand_changes : {event : Event} {body : Body} {id : ℕ} {change : Record → Record} {act : Act}
+      → Changes desk event body id change act
+      → ByHand desk event body (with_changed id change body.kept) act
 
 -- the will at a side, and what is told of it
 pub data SetsWill : Event → Side → Bool → Setting → Type 0 where

@@ -21,6 +21,7 @@ use Rattle.std.proofs.Common.{
 }
 use Rattle.std.specs.Prelude.{slice_get}
 use Rattle.std.proofs.lemmas.Bool.{false≢true}
+use Rattle.supervisor_replay.proofs.OneEvent.{with_intake}
 use Rattle.line_base.specs.declared.states.Role.{Role}
 use Rattle.line_base.specs.declared.states.Role.TheVariants.{Downstream, Upstream}
 use Rattle.line_base.specs.declared.states.Seen.TheVariants as seen
@@ -45,7 +46,7 @@ use Rattle.handover_in.specs.declared.phase.Phase.{Phase}
 use Rattle.handover_in.specs.declared.phase.Phase.TheVariants.{Idle, Stopped, Taking, Waiting}
 use Rattle.handover_in.specs.Act.{sends}
 use Rattle.handover_in.specs.Row.{only_if, ready_row, row, unready_row}
-use Rattle.handover_in.specs.State.{InState, may_connect}
+use Rattle.handover_in.specs.State.{may_connect}
 use Rattle.handover_in.specs.Table.{state_of}
 use Rattle.node_core.specs.Announces.{
   announces,
@@ -124,10 +125,6 @@ is_settled may (in_waiting {own = seen.NotStarted} s) = absurd (false≢true may
 is_settled may (in_waiting {own = seen.Incomplete} s) = absurd (false≢true may)
 is_settled may (in_waiting {own = seen.Taken} s) = absurd (false≢true may)
 is_settled may in_waiting_on = absurd (false≢true may)
-
--- the machine with this intake
-abbrev with_intake : Machine → InState → Machine
-with_intake body s = record body { intake = s }
 
 abbrev sensed_at : Side → SensorEvent → Sensed
 sensed_at side e = record { side = side; event = e }

@@ -26,13 +26,11 @@ use Rattle.std.proofs.Common.{
 use Rattle.std.specs.Prelude.{slice_get}
 use Rattle.std.specs.List.{list_all}
 use Rattle.std.proofs.lemmas.Bool.{and_parts}
-use Rattle.node_core.proofs.Sound.{ids_behind}
 use Rattle.line_base.specs.declared.states.Seen.{Seen}
 use Rattle.line_base.specs.declared.states.Seen.TheVariants as sees
 use Rattle.line_base.specs.declared.states.Side.{Side}
 use Rattle.line_base.specs.declared.states.Side.TheVariants.{Entry, Exit}
 use Rattle.line_base.specs.declared.states.Severity.TheVariants.{Fatal}
-use Rattle.line_base.specs.declared.states.Quality.{Quality}
 use Rattle.line_base.specs.declared.states.Quality.TheVariants as qualities
 use Rattle.line_base.specs.declared.states.Transfer.{Transfer}
 use Rattle.line_base.specs.declared.states.Transfer.TheVariants as said
@@ -120,7 +118,7 @@ use Rattle.node_core.specs.Halves.{
   opening_board,
   behind_opening,
 }
-use Rattle.node_core.specs.Boards.{without, with_instead, with_mark, is_kept, if_kept, with_kept}
+use Rattle.node_core.specs.Boards.{without, with_instead, is_kept, if_kept, with_kept, with_changed}
 use Rattle.node_core.specs.Announces.{
   revokes_now,
   revoke,
@@ -138,15 +136,13 @@ use Rattle.node_core.specs.Announces.{
 use Rattle.node_core.specs.Event.{Event, Insert, Remove, Replace, event_did, Supervised}
 use Rattle.node_core.specs.Supervising.{Supervision, supervision_act}
 use Rattle.node_core.specs.Own.{with_id_instead, without_id, Own, own_by, own_of, ids_of, id_of}
-use Rattle.smema_bridge.specs.declared.line.SegmentLine.TheVariants.{Failed, Ready}
+use Rattle.node_core.proofs.KeptIds.{ids_behind, ids_changed, ids_instead, ids_without}
+use Rattle.smema_bridge.specs.declared.line.SegmentLine.TheVariants.{Ready}
 use Rattle.standings.specs.Marks.{has_id}
 use Rattle.one_standing.proofs.LedgerWalk.{
   is_silent,
   kept_ids,
   own_parts,
-  ids_without,
-  ids_instead,
-  ids_marked,
   silent_by,
 }
 use Rattle.line_history.proofs.OfferingStep.{IsNoHand}
@@ -163,9 +159,7 @@ use Rattle.step_rules.specs.Causes.{
   Tells as TellsAct,
   ToIntake,
   ToOutlet,
-  hand_fails,
   hand_inserts,
-  hand_marks,
   hand_removes,
   hand_replaces,
   in_closed,
@@ -188,6 +182,9 @@ use Rattle.step_rules.specs.Causes.{
   will_available,
   will_itself,
   will_ready,
+  Changes,
+  changes_quality,
+  hand_changes,
 }
 use Rattle.step_rules.specs.Made.{
   Made,
@@ -207,6 +204,7 @@ use Rattle.step_rules.specs.Made.{
   made_word,
 }
 use Rattle.step_rules.proofs.Steps.{event_made, offer_made, ready_made, revoke_made, unready_made}
+use Rattle.step_rules.proofs.Changing.{changes_leave}
 
 -- ---- acts that move no record, and of which nothing is told
 
@@ -579,15 +577,22 @@ set_aside will_itself = refl
 set_aside will_ready = refl
 set_aside will_available = refl
 
-marks_goes : (id : ℕ) (quality : Quality) (body : Body)
-    → Goes body (done (with_kept (with_mark id quality body.kept) body)
-    (acts.Marks id quality ∷ []))
-marks_goes id quality body = record {
+changes_aside : {desk : Desk} {event : Event} {body : Body} {id : ℕ}
+    {change : Record → Record} {act : Act} → Changes desk event body id change act
+    → is_aside act ≡ true
+changes_aside (changes_quality is) = refl
+changes_aside _ = refl
+
+changes_goes : {desk : Desk} {event : Event} {id : ℕ} {change : Record → Record} {act : Act}
+    (body : Body) → Changes desk event body id change act
+    → Goes body (done (with_kept (with_changed id change body.kept) body) (act ∷ []))
+changes_goes {id = id} {change = change} {act = act} body deed = record {
   turn = record {
     course = subst
-        (λ (ids : List ℕ). Course (seen_of body) (own_of body) (acts.Marks id quality ∷ [])
+        (λ (ids : List ℕ). Course (seen_of body) (own_of body) (act ∷ [])
         (own_parts ids (id_of (held body.outlet)) (id_of (in_held body.intake))))
-        (ids_marked id quality body.kept) (course_on refl course_end);
+        (ids_changed id change body.kept (changes_leave deed))
+        (course_on (changes_aside deed) course_end);
     keeps = seen_same;
   };
 }
@@ -598,9 +603,7 @@ hand_goes : {desk : Desk} {event : Event} {body : Body} {kept : List Record} {ac
 hand_goes hand_inserts met = absurd met
 hand_goes (hand_removes is) met = absurd met
 hand_goes (hand_replaces is) met = absurd met
-hand_goes (hand_marks {id = id} {quality = quality} {body = body} is) met =
-    marks_goes id quality body
-hand_goes (hand_fails {id = id} {body = body} front is) met = marks_goes id qualities.Failed body
+hand_goes (hand_changes {body = body} deed) met = changes_goes body deed
 
 goes : {desk : Desk} {cause : Cause} {body : Body} {d : Done} → Made desk cause body d
     → IsMet cause → Goes body d

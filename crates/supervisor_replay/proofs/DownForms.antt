@@ -6,7 +6,7 @@ use Rattle.std.specs.Prelude.{drop}
 use Rattle.std.specs.List.{list_any}
 use Rattle.std.proofs.lemmas.Bool.{false≢true}
 use Rattle.one_standing.proofs.RestLine.{node_there}
-use Rattle.line_history.proofs.UpForms.{other_done, not_bytes, flow_fits, met_fits}
+use Rattle.line_history.proofs.UpForms.{other_done, not_bytes, flow_fits, met_fits, plain_did, own_plain}
 use Rattle.line_base.specs.declared.states.Role.TheVariants.{Downstream, Upstream}
 use Rattle.line_base.specs.declared.states.Side.{Side}
 use Rattle.line_base.specs.declared.states.Side.TheVariants.{Entry, Exit}
@@ -25,13 +25,12 @@ use Rattle.line_script.specs.declared.line.ScriptLine.{ScriptLine}
 use Rattle.smema_bridge.specs.Levels.{BridgeLevels}
 use Rattle.line_report.specs.declared.happening.Happening.{Happening}
 use Rattle.node_core.specs.Desk.{Desk}
-use Rattle.node_core.specs.Done.{Done}
 use Rattle.node_core.specs.Event.{Event, event_of, with_new}
 use Rattle.node_core.specs.Event as events
 use Rattle.node_core.specs.Node.{NodeState, desk_of}
 use Rattle.node_core.specs.Sides.{is_open}
 use Rattle.node_core.specs.Signals.{signalled}
-use Rattle.node_core.specs.Step.{Brings, plain_step}
+use Rattle.node_core.specs.Step.{Brings}
 use Rattle.node_core.specs.Supervising.{watch_of, with_tells}
 use Rattle.node_core.specs.Words.{AreWords}
 use Rattle.node_core.specs.declared.act.Act.{Act}
@@ -64,7 +63,7 @@ use Rattle.line_step.specs.Steps.{MachineSteps, is_second, moment_of, read_by, u
 use Rattle.line_step.specs.World.{WorldParts, end_of, link_at, link_of, with_link}
 use Rattle.line_step.proofs.Connecting.{free_below}
 use Rattle.line_step.proofs.Keeps.{more_at}
-use Rattle.line_step.proofs.Numbers.{Written, link_set, machine_within, nowhere, same_or_not, written}
+use Rattle.line_step.proofs.Numbers.{machine_within, same_or_not}
 use Rattle.line_step.proofs.Opening.{steps_open}
 use Rattle.one_standing.specs.Carried.{IsFitMachine, Trace}
 use Rattle.one_standing.specs.Links.{AreWholeLinks}
@@ -84,7 +83,7 @@ use Rattle.one_standing.proofs.MirroringFlow.{CanFlow, arrival, can_flow, empty_
 use Rattle.one_standing.proofs.MirroringPlain.{is_plain_input, no_second}
 use Rattle.one_standing.proofs.Plain.{node_next}
 use Rattle.one_standing.proofs.WholeLinks.{steps as whole_steps, whole_arrival, whole_links}
-use Rattle.line_history.proofs.View.{done_append, done_by, own_acts, remarks_none, standings_none, told_of_act, undriven, undriven_signals, undriven_step}
+use Rattle.line_history.proofs.View.{done_append, done_by, remarks_none, standings_none, told_of_act, undriven}
 use Rattle.supervisor_replay.proofs.Bodies.{keeps_it}
 use Rattle.supervisor_replay.proofs.Free.{Down, DownOn, IsFree, IsOther, down_over, down_spoiled, down_whole, entry_words, offers_it, starts_it}
 use Rattle.supervisor_replay.proofs.LinkDown.{acts_down, at_set, on_cut, on_limit}
@@ -95,6 +94,7 @@ use Rattle.line_step.proofs.Requests.{Request, request_of}
 use Rattle.line_step.proofs.Effects.{Effect, added_remarks, becomes_by, line_effect, spoil_remarks}
 use Rattle.one_standing.proofs.FitRequests.{IsFitRequest, fit_request, given_plain}
 use Rattle.line_step.proofs.Effects as effects
+use Rattle.line_step.proofs.LinkRule.{link_keeps}
 
 pub record StaysFree (id k : ℕ) (after : LineState) (told : List Happening) : Type 0 where
   pub starts : list_any (starts_it id) (done_by (k + 1) told) ≡ false
@@ -106,8 +106,6 @@ starts_first : (id : ℕ) (act : Act) (rest : List Act)
     → list_any (starts_it id) (told_of_act act ++ rest)
     ≡ (starts_it id act || list_any (starts_it id) rest)
 starts_first id (acts.Drive side on) rest = refl
-starts_first id (acts.Signals signal on) rest = refl
-starts_first id (acts.Tells message) rest = refl
 starts_first id act rest = refl
 
 starts_undriven : (id : ℕ) (told : List Act)
@@ -136,24 +134,6 @@ offers_tells id desk watch made =
     ap (λ (b : Bool). offers_it id act || b) h) (λ message told. refl) desk watch made
 
 -- ---- a step of a machine
-
--- what it did but for what the supervisor is told
-abbrev plain_did : {number m : ℕ} {input : Input} {start after : LineState} {told : List Happening}
-    → MachineSteps number m input start after told → Done
-plain_did {number = number} {m = m} {input = input} {start = start} steps =
-    plain_step (desk_of steps.node (moment_of number)) (unread_by m start.world)
-    (event_of steps.node.maker input steps.steps.lane.words) steps.node.lane.body
-
-own_plain : (number m : ℕ) (input : Input) (start after : LineState) (told : List Happening)
-    → (steps : MachineSteps number m input start after told)
-    → done_by m told ≡ undriven (plain_did steps).acts
-own_plain number m input start after told steps =
-    ap (done_by m) steps.told_is ∙ own_acts (is_second input) m steps.acts
-    (read_by m start.world) ∙ ap undriven steps.steps.told
-    ∙ undriven_signals steps.steps.made steps.node.bridge steps.next.lane.body ∙ ap undriven
-    steps.steps.lane.told
-    ∙ undriven_step (desk_of steps.node (moment_of number)) (unread_by m start.world)
-    (event_of steps.node.maker input steps.steps.lane.words) steps.node.lane.body
 
 -- a machine that keeps the board no more sends no offer of it
 sends_none : (id number m : ℕ) (input : Input) (start after : LineState) (told : List Happening)
@@ -232,13 +212,9 @@ free_same {id} {k} s now machines link =
 set_own : {id : ℕ} {passes : Bool} {waiting : List ℕ} (link : ℕ) (parts : LinkParts)
     (world : WorldParts) → DownOn id passes waiting parts
     → DownOn id passes waiting (link_at link (with_link link parts world))
-set_own {id} {passes} {waiting} link parts world down = by (link_set link parts world)
-  where
-    by : Written link parts world
-        → DownOn id passes waiting (link_at link (with_link link parts world))
-    by (written now) = subst (λ (l : LinkParts). DownOn id passes waiting l) (sym now) down
-    by (nowhere now then) =
-        subst (λ (l : LinkParts). DownOn id passes waiting l) (sym now) (down_over refl refl)
+set_own {id} {passes} {waiting} link parts world down =
+    link_keeps (λ (l : LinkParts). DownOn id passes waiting l) (down_over refl refl) link link parts
+    world (λ is. down) (λ apart. absurd (apart refl))
 
 set_free : (id k link : ℕ) (parts : LinkParts) (before : LineState)
     → (k ≡ link → is_open Entry (node_at before (k + 1)).lane.body ≡ true → (passes : Bool)
@@ -441,7 +417,6 @@ new_none (Err why) event all = refl
 still_words : (maker : Maker) (input : Input) (words : List Word) → still_entry input ≡ true
     → entry_words (event_of maker input words) ≡ []
 still_words maker (inputs.Bytes Entry piece) words still = absurd (false≢true still)
-still_words maker (inputs.Bytes Exit piece) words still = refl
 still_words maker (inputs.Insert barcode) words still =
     new_none (next_id maker) (λ id. events.Insert id barcode) (λ id. refl)
 still_words maker (inputs.Replace old) words still =
@@ -462,9 +437,7 @@ still_opened _ opened still = refl
 
 shut_act : (act : Act) → open_act Entry false act ≡ false
 shut_act (acts.Closes Entry) = refl
-shut_act (acts.Closes Exit) = refl
 shut_act (acts.Notices Entry) = refl
-shut_act (acts.Notices Exit) = refl
 shut_act _ = refl
 
 shut_stays : (told : List Act) → open_after Entry false told ≡ false

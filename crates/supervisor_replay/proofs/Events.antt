@@ -2,6 +2,7 @@
 use Rattle.std.proofs.Common.{
   refl,
   ◌≡◌,
+  ℕ,
   Bool,
   true,
   false,
@@ -24,7 +25,7 @@ use Rattle.board_record.specs.declared.record.Record.{Record}
 use Rattle.handover_out.specs.declared.act.OutSend.{OutSend}
 use Rattle.handover_out.specs.declared.input.OutInput.TheVariants as out_input
 use Rattle.handover_out.specs.Act.{leaves, loses, nothing as out_nothing, returns}
-use Rattle.handover_out.specs.Row.{OutRow, outlet_row}
+use Rattle.handover_out.specs.Row.{OutRow, last_by, outlet_row}
 use Rattle.handover_out.specs.State.{OutState, held as held_out}
 use Rattle.handover_out.specs.Table.{
   IsOutletRow,
@@ -213,6 +214,10 @@ entry_turn (Waiting mine own heard) e es place board later = floor_turn (later r
 
 -- ---- the exit
 
+-- what is sent offers nothing
+abbrev pub OffersNot : Option OutSend → Type 0
+OffersNot send = (offered last : Option ℕ) → last_by send offered last ≡ last
+
 -- an event there: the outlet holds what it held, or its board leaves, is given back, or is lost
 
 pub data ExitTurn : SensorEvent → OutState → Option OutRow → Type 0 where
@@ -220,28 +225,28 @@ pub data ExitTurn : SensorEvent → OutState → Option OutRow → Type 0 where
   exit_stays : {e : SensorEvent} {s after : OutState} → held_out after ≡ held_out s
       → ExitTurn e s (Some (out_to after out_nothing))
   exit_leaves : {s after : OutState} {mine : Record} {send : Option OutSend} {drive : Option Bool}
-      → held_out s ≡ Some mine → held_out after ≡ None
+      → held_out s ≡ Some mine → held_out after ≡ None → OffersNot send
       → ExitTurn event.Left s (Some (out_to after (leaves mine send drive)))
   exit_returns : {s after : OutState} {mine : Record} {send : Option OutSend} {drive : Option Bool}
-      → held_out s ≡ Some mine → held_out after ≡ None
+      → held_out s ≡ Some mine → held_out after ≡ None → OffersNot send
       → ExitTurn event.Back s (Some (out_to after (returns mine send drive)))
   exit_loses : {s after : OutState} {mine : Record} {send : Option OutSend} {drive : Option Bool}
-      → held_out s ≡ Some mine → held_out after ≡ None
+      → held_out s ≡ Some mine → held_out after ≡ None → OffersNot send
       → ExitTurn event.Taken s (Some (out_to after (loses mine send drive)))
 
 exit_row : {e : SensorEvent} {s : OutState} {row : OutRow} → IsOutletRow s (out_input.Sensed e) row
     → ExitTurn e s (Some row)
-exit_row left_moving = exit_leaves refl refl
-exit_row left_stuck = exit_leaves refl refl
-exit_row left_stopped = exit_leaves refl refl
-exit_row left_unlinked = exit_leaves refl refl
-exit_row back_stuck = exit_returns refl refl
-exit_row back_stopped = exit_returns refl refl
-exit_row back_unlinked = exit_returns refl refl
-exit_row taken_moving = exit_loses refl refl
-exit_row taken_stuck = exit_loses refl refl
-exit_row taken_stopped = exit_loses refl refl
-exit_row taken_unlinked = exit_loses refl refl
+exit_row left_moving = exit_leaves refl refl (λ offered last. refl)
+exit_row left_stuck = exit_leaves refl refl (λ offered last. refl)
+exit_row left_stopped = exit_leaves refl refl (λ offered last. refl)
+exit_row left_unlinked = exit_leaves refl refl (λ offered last. refl)
+exit_row back_stuck = exit_returns refl refl (λ offered last. refl)
+exit_row back_stopped = exit_returns refl refl (λ offered last. refl)
+exit_row back_unlinked = exit_returns refl refl (λ offered last. refl)
+exit_row taken_moving = exit_loses refl refl (λ offered last. refl)
+exit_row taken_stuck = exit_loses refl refl (λ offered last. refl)
+exit_row taken_stopped = exit_loses refl refl (λ offered last. refl)
+exit_row taken_unlinked = exit_loses refl refl (λ offered last. refl)
 exit_row _ = exit_stays refl
 
 pub exit_turn : (e : SensorEvent) (s : OutState) (found : Option OutRow)

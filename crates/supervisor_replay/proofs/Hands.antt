@@ -24,6 +24,7 @@ use Rattle.std.proofs.Common.{
 use Rattle.std.specs.List.{AllByRecursion, flat_map, list_any}
 use Rattle.std.proofs.lemmas.Bool.{false≢true}
 use Rattle.std.proofs.lemmas.List.Folds.{list_any-append}
+use Rattle.line_step.proofs.FloorLaws.{plain_of}
 use Rattle.line_base.specs.declared.states.Side.{Side}
 use Rattle.board_record.specs.declared.sensed.Sensed.{Sensed}
 use Rattle.hermes_horizontal.specs.Canonical.{canonical}
@@ -44,7 +45,6 @@ use Rattle.node_core.specs.Event.{
   Replace,
   Supervised,
   event_did,
-  event_of,
 }
 use Rattle.node_core.specs.Reads.{all_read}
 use Rattle.node_core.specs.Step.{plain_step}
@@ -66,7 +66,7 @@ use Rattle.line_step.specs.Acts.{act_did, acts_did, answers, cut_told, sent_by}
 use Rattle.line_step.specs.FloorIds.{made_by, made_in}
 use Rattle.line_step.specs.Shown.{ascending, ids_marked, standing_told, standings_told}
 use Rattle.line_step.specs.State.{LineState, marks_in}
-use Rattle.line_step.specs.Steps.{MachineSteps, is_second, moment_of, read_by, unread_by}
+use Rattle.line_step.specs.Steps.{MachineSteps, is_second, moment_of, read_by}
 use Rattle.line_step.specs.World.{WorldParts, end_of, link_at, link_of}
 use Rattle.line_step.proofs.Hands.{
   AreQuiet,
@@ -275,13 +275,6 @@ looks_brought id = record { each = brought; cuts = λ link. refl; drives = λ si
   brought machine (acts.Inserts other) = refl
   brought machine (acts.Replaces old new) = refl
   brought machine act = refl
-
--- the acts of a machine's step, as its events have them
-abbrev pub plain_of : (number machine : ℕ) (input : Input) (before after : LineState) (told : List Happening)
-    → MachineSteps number machine input before after told → List Act
-plain_of number machine input before after told steps =
-    (plain_step (desk_of steps.node (moment_of number)) (unread_by machine before.world)
-    (event_of steps.node.maker input steps.steps.lane.words) steps.node.lane.body).acts
 
 any_plain : (f : Act → Bool) → ((message : VerticalMessage) → f (acts.Tells message) ≡ false)
     → ((signal : Signal) (on : Bool) → f (acts.Signals signal on) ≡ false)

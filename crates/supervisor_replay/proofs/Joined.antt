@@ -1,6 +1,7 @@
 -- A line in which a connection is made: both its machines make a step.
 use Rattle.std.proofs.Common.{◌≡◌, ◌≢◌, ◌<◌, ◌∙◌, ◌⊎◌, ◌++◌, ◌+◌, ◌-◌, ◌==◌, ℕ, Bool, true, false, List, Option, Some, None, inl, inr, refl, sym, ap, subst, arith, not, ltb-true}
 use Rattle.std.proofs.lemmas.Bool.{false≢true}
+use Rattle.line_step.proofs.FloorLaws.{IsHandless, met-handless}
 use Rattle.one_standing.proofs.Connected.{less_two}
 use Rattle.line_base.specs.declared.states.Side.TheVariants.{Entry}
 use Rattle.line_world.specs.declared.board.Board.{Board}
@@ -31,7 +32,7 @@ use Rattle.one_standing.specs.Carried.{Trace}
 use Rattle.one_standing.specs.Stands.{Stands}
 use Rattle.one_standing.specs.Standing.{HasOneStanding}
 use Rattle.one_standing.proofs.ApartFloor.{counted}
-use Rattle.one_standing.proofs.ApartHands.{IsHandless, step_still}
+use Rattle.one_standing.proofs.ApartHands.{step_still}
 use Rattle.one_standing.proofs.FirstJoin.{entry_closed, intake_may}
 use Rattle.line_step.proofs.Getting.{own_first, passed, there_may}
 use Rattle.one_standing.proofs.LineJoins.{still_connecting}
@@ -258,10 +259,6 @@ joined_by id number j input t t2 before between next done past earlier later c f
 
 -- ---- by the machine's number
 
-met_handless : (on : Connected) → IsHandless (met on)
-met_handless connections.Accepted = tt
-met_handless connections.Second = tt
-
 one_less : (j : ℕ) → j + 1 + 1 - 1 ≡ j + 1
 one_less j = omega arith
 
@@ -289,7 +286,7 @@ connect_at id number j t t2 before next done past p may twice =
           (there_may (machine_in (j + 1 + 1) before) twice.first.node (λ n.
           no_if (not (has_neighbour (j + 1 + 1) Entry before)) reasons.NoNeighbour
           (behind_own (own.may_of n inputs.Connect) may_do)) twice.first.there may));
-    }) (met_handless on) second twice.told_is
+    }) (met-handless on) second twice.told_is
 
 neighbour_there : (machine : ℕ) (before : LineState) (found : Option NodeState) (test : Bool)
     → not (has_neighbour machine Entry before) ≡ test

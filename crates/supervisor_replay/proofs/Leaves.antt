@@ -67,13 +67,6 @@ neither id a b one two =
 
 quiet_act : (id : ℕ) (act : Act) → is_quiet act ≡ true → leaves_act id act ≡ false
 quiet_act id (acts.Deed (deeds.Leaves other)) is = absurd (false≢true is)
-quiet_act id (acts.Deed (deeds.Opens other)) is = refl
-quiet_act id (acts.Deed (deeds.Refuses other)) is = refl
-quiet_act id (acts.Deed (deeds.Returns other)) is = refl
-quiet_act id (acts.Deed (deeds.Loses other)) is = refl
-quiet_act id (acts.Deed (deeds.Starts other)) is = refl
-quiet_act id (acts.Deed (deeds.Settles other)) is = refl
-quiet_act id (acts.Deed (deeds.Drops other)) is = refl
 quiet_act id _ is = refl
 
 aside_act : (id : ℕ) (act : Act) → is_aside act ≡ true → leaves_act id act ≡ false
@@ -192,7 +185,7 @@ exit_leaving {s = s} id desk body (exit_stays {after = after} same) is = record 
       → holds_it id (record body { outlet = after }) ≡ true → holds_it id body ≡ true
   by_same same has = subst (λ (o : Option Record). is_held id (id_of o) ≡ true) same has
 exit_leaving id desk body
-    (exit_leaves {after = after} {mine = mine} {send = send} {drive = drive} held none) is =
+    (exit_leaves {after = after} {mine = mine} {send = send} {drive = drive} held none _) is =
     record {
       held = λ told. is_held_by id mine body (ap held_of is ∙ held) (first told);
       still = λ has. not_held id (record body { outlet = after }) none has;
@@ -210,13 +203,13 @@ exit_leaving id desk body
         by_one true told = refl
         by_one false told = vacuous (sends_none id desk body.kept send drive) told
 exit_leaving id desk body
-    (exit_returns {after = after} {mine = mine} {send = send} {drive = drive} held none) is =
+    (exit_returns {after = after} {mine = mine} {send = send} {drive = drive} held none _) is =
     record {
       held = λ told. vacuous (sends_none id desk body.kept send drive) told;
       still = λ has. not_held id (record body { outlet = after }) none has;
     }
 exit_leaving id desk body
-    (exit_loses {after = after} {mine = mine} {send = send} {drive = drive} held none) is =
+    (exit_loses {after = after} {mine = mine} {send = send} {drive = drive} held none _) is =
     record {
       held = λ told. vacuous (sends_none id desk body.kept send drive) told;
       still = λ has. not_held id (record body { outlet = after }) none has;

@@ -20,14 +20,13 @@ use Rattle.line_step.specs.Numbered.{Stand, node_at, stand_at}
 use Rattle.line_step.specs.Shown.{standings_told}
 use Rattle.line_step.specs.State.{LineState, machine_in}
 use Rattle.line_step.specs.Steps.{MachineSteps, moment_of, unread_by}
-use Rattle.line_step.proofs.FloorLaws.{Goes}
+use Rattle.line_step.proofs.FloorLaws.{Goes, IsHandless, plain_of}
 use Rattle.line_step.proofs.Makers.{IsOld}
 use Rattle.one_standing.specs.Carried.{Trace}
 use Rattle.one_standing.specs.Facts.{HasCustodyFacts, is_taken_at}
 use Rattle.one_standing.specs.Stands.{Stands}
 use Rattle.one_standing.specs.Standing.{HasOneStanding, is_held_at, is_kept_at}
 use Rattle.one_standing.proofs.ApartFloor.{counted}
-use Rattle.one_standing.proofs.ApartHands.{IsHandless}
 use Rattle.one_standing.proofs.LedgerMarks.{mark_old}
 use Rattle.one_standing.proofs.MarksOf.{has_intake, has_kept, has_outlet, id_held, id_kept}
 use Rattle.supervisor_replay.specs.Replay.{IsWatched, Told, nothing_told, told_after, told_of}
@@ -42,7 +41,7 @@ use Rattle.supervisor_replay.proofs.Bodies.{
   will_leave,
 }
 use Rattle.supervisor_replay.proofs.Faring.{holds_as, moving}
-use Rattle.supervisor_replay.proofs.Hands.{BringsIn, TakesOut, ins_are, outs_are, plain_of, step_ins, step_outs}
+use Rattle.supervisor_replay.proofs.Hands.{BringsIn, TakesOut, ins_are, outs_are, step_ins, step_outs}
 use Rattle.supervisor_replay.proofs.Sights.{
   alone_of,
   has_on,
@@ -221,25 +220,7 @@ still_supervised _ was is = refl
 
 told_or_not : (input : Input) → ((on : Bool) × (input ≡ inputs.Supervise on)) ⊎ IsTold input
 told_or_not (inputs.Supervise on) = inl (on, refl)
-told_or_not inputs.Nothing = inr tt
-told_or_not inputs.Connect = inr tt
-told_or_not inputs.Accepted = inr tt
-told_or_not inputs.Second = inr tt
-told_or_not (inputs.Bytes side piece) = inr tt
-told_or_not (inputs.Notice side) = inr tt
-told_or_not inputs.Tick = inr tt
-told_or_not inputs.Shutdown = inr tt
-told_or_not (inputs.Fault side) = inr tt
-told_or_not (inputs.Will side on) = inr tt
-told_or_not (inputs.Level line on) = inr tt
-told_or_not (inputs.Insert barcode) = inr tt
-told_or_not (inputs.Remove id) = inr tt
-told_or_not (inputs.Replace id) = inr tt
-told_or_not (inputs.Mark id quality) = inr tt
-told_or_not inputs.Forecast = inr tt
-told_or_not (inputs.Query barcode) = inr tt
-told_or_not (inputs.Ask question) = inr tt
-told_or_not (inputs.Answer query order) = inr tt
+told_or_not _ = inr tt
 
 -- ---- one step of a machine, of the line `start` that has the floor and the machines of the line before
 
@@ -327,26 +308,10 @@ last_around id number j input t t2 before start next done told left st st2 one2 
 -- a step that no hand has a part in
 handless_event : (id : ℕ) (maker : Maker) (input : Input) (words : List Word) → IsHandless input
     → (TakesOut id (event_of maker input words) → ⊥) × (BringsIn id (event_of maker input words) → ⊥)
-handless_event id maker inputs.Nothing words free = (λ is. elim is [ ], λ is. elim is [ ])
-handless_event id maker inputs.Connect words free = (λ is. elim is [ ], λ is. elim is [ ])
-handless_event id maker inputs.Accepted words free = (λ is. elim is [ ], λ is. elim is [ ])
-handless_event id maker inputs.Second words free = (λ is. elim is [ ], λ is. elim is [ ])
-handless_event id maker (inputs.Bytes side piece) words free = (λ is. elim is [ ], λ is. elim is [ ])
-handless_event id maker (inputs.Notice side) words free = (λ is. elim is [ ], λ is. elim is [ ])
-handless_event id maker inputs.Tick words free = (λ is. elim is [ ], λ is. elim is [ ])
-handless_event id maker inputs.Shutdown words free = (λ is. elim is [ ], λ is. elim is [ ])
-handless_event id maker (inputs.Fault side) words free = (λ is. elim is [ ], λ is. elim is [ ])
-handless_event id maker (inputs.Will side on) words free = (λ is. elim is [ ], λ is. elim is [ ])
-handless_event id maker (inputs.Level line on) words free = (λ is. elim is [ ], λ is. elim is [ ])
 handless_event id maker (inputs.Insert barcode) words free = absurd free
 handless_event id maker (inputs.Remove other) words free = absurd free
 handless_event id maker (inputs.Replace other) words free = absurd free
-handless_event id maker (inputs.Mark other quality) words free = (λ is. elim is [ ], λ is. elim is [ ])
-handless_event id maker inputs.Forecast words free = (λ is. elim is [ ], λ is. elim is [ ])
-handless_event id maker (inputs.Query barcode) words free = (λ is. elim is [ ], λ is. elim is [ ])
-handless_event id maker (inputs.Supervise on) words free = (λ is. elim is [ ], λ is. elim is [ ])
-handless_event id maker (inputs.Ask question) words free = (λ is. elim is [ ], λ is. elim is [ ])
-handless_event id maker (inputs.Answer query order) words free = (λ is. elim is [ ], λ is. elim is [ ])
+handless_event id maker _ words free = (λ is. elim is [ ], λ is. elim is [ ])
 
 pub handless_acts : (id number j : ℕ) (input : Input) (start next : LineState) (done : List Happening)
     → (steps : MachineSteps number (j + 1) input start next done) → IsHandless input

@@ -18,8 +18,6 @@ use Rattle.line_link.specs.Link.{LinkParts, after_answer, after_close, after_con
 use Rattle.line_link.proofs.Coming.{coming_of_nul, coming_of_text}
 use Rattle.node_core.specs.declared.act.Act.{Act}
 use Rattle.node_core.specs.declared.act.Act.TheVariants as acts
-use Rattle.node_core.specs.declared.act.Deed.{Deed}
-use Rattle.node_core.specs.declared.act.Deed.TheVariants as deeds
 use Rattle.link_messages.specs.Fit.{AreFit, AreFitActs, IsFit, IsFitAct, more_fit, more_said, none_fit, none_said}
 use Rattle.link_messages.specs.Heard.{bodies}
 use Rattle.link_messages.proofs.Fitting.{both_fit}
@@ -30,13 +28,13 @@ use Rattle.custody.proofs.Lists.{down_words-append}
 use Rattle.custody.proofs.Messages.{sends_a_message}
 use Rattle.custody.proofs.Spoils.{nul_stays, puts_a_nul}
 use Rattle.custody.proofs.Texts.{nothing_flows}
-use Rattle.line_step.specs.Acts.{act_did, acts_did, answers, counted, sent_by}
-use Rattle.line_step.specs.World.{WorldParts, end_of, link_at, link_of, with_link}
-use Rattle.line_step.proofs.Numbers.{Written, link_set, link_set_other, nowhere, same_or_not, written}
+use Rattle.line_step.specs.Acts.{acts_did, answers}
+use Rattle.line_step.specs.World.{WorldParts, end_of, link_at, with_link}
+use Rattle.line_step.proofs.LinkRule.{ActKeeps, ActsKeep, SentKeeps, acts_keep, link_keeps}
 use Rattle.one_standing.specs.Links.{IsWholeLink}
 use Rattle.one_standing.proofs.Carrying.{SaysAlone, bodies_append}
 use Rattle.one_standing.proofs.MirroringCall.{dry_down}
-use Rattle.one_standing.proofs.WholeLinks.{whole_act}
+use Rattle.one_standing.proofs.WholeLinks.{whole_at}
 use Rattle.supervisor_replay.proofs.Free.{Down, DownOn, IsOther, down_over, down_spoiled, down_whole, is_offer_of, offers_it}
 
 -- ---- where the link stands no more
@@ -213,78 +211,11 @@ pub at_set : {id : ℕ} {passes : Bool} {waiting : List ℕ} (k link : ℕ) (par
     (world : WorldParts) → (k ≡ link → DownOn id passes waiting parts)
     → DownOn id passes waiting (link_at k world)
     → DownOn id passes waiting (link_at k (with_link link parts world))
-at_set {id} {passes} {waiting} k link parts world here was = by (same_or_not k link)
-  where
-    own : k ≡ link → Written link parts world
-        → DownOn id passes waiting (link_at link (with_link link parts world))
-    own is (written now) =
-        subst (λ (l : LinkParts). DownOn id passes waiting l) (sym now) (here is)
-    own is (nowhere now then) =
-        subst (λ (l : LinkParts). DownOn id passes waiting l) (sym now) (down_over refl refl)
-
-    by : (k ≡ link) ⊎ (k ≢ link)
-        → DownOn id passes waiting (link_at k (with_link link parts world))
-    by (inl is) =
-        subst (λ (n : ℕ). DownOn id passes waiting (link_at n (with_link link parts world)))
-        (sym is) (own is (link_set link parts world))
-    by (inr apart) =
-        subst (λ (l : LinkParts). DownOn id passes waiting l)
-        (sym (link_set_other link k parts world apart)) was
+at_set {id} {passes} {waiting} k link parts world here was =
+    link_keeps (λ (l : LinkParts). DownOn id passes waiting l) (down_over refl refl) k link parts
+    world here (λ apart. was)
 
 -- ---- acts
-
--- what the machine above the link sends is no offer of the board; where it answers a second
--- connection, nothing waits below
-record IsSent (id k : ℕ) (waiting : List ℕ) (test : Bool) (machine : ℕ) (side : Side)
-    (message : Message) : Type 0 where
-  pub exit : test ≡ true → side ≡ Exit
-  pub other : k ≡ machine → offers_it id (acts.Sends side message) ≡ false
-  pub empty : test ≡ true → k ≡ machine → waiting ≡ []
-
-sent_down : {id : ℕ} {passes : Bool} {waiting : List ℕ} → SaysAlone
-    → (k : ℕ) (test : Bool) (machine : ℕ) (side : Side) (message : Message) (world : WorldParts)
-    → IsFit message → IsSent id k waiting test machine side message
-    → ((link : ℕ) → IsWholeLink (link_at link world)) → DownOn id passes waiting (link_at k world)
-    → DownOn id passes waiting (link_at k (sent_by test machine side message world).world)
-sent_down {id} {passes} {waiting} alone k true machine side message world fit one whole was =
-    at_set k machine (after_answer (canonical message) (link_at machine world)) world
-    (λ is. on_answer alone message (link_at machine world) fit
-    (subst (λ (s : Side). offers_it id (acts.Sends s message) ≡ false) (one.exit refl)
-    (one.other is)) (whole machine) (one.empty refl is)
-    (subst (λ (n : ℕ). DownOn id passes waiting (link_at n world)) is was)) was
-sent_down {id} {passes} {waiting} alone k false machine Exit message world fit one whole was =
-    at_set k machine (after_send Upstream (canonical message) (link_at machine world)) world
-    (λ is. on_send_down alone message (link_at machine world) fit (one.other is) (whole machine)
-    (subst (λ (n : ℕ). DownOn id passes waiting (link_at n world)) is was)) was
-sent_down {id} {passes} {waiting} alone k false machine Entry message world fit one whole was =
-    at_set k (machine - 1)
-    (after_send Downstream (canonical message) (link_at (machine - 1) world)) world (λ is.
-    on_send_up (canonical message) (link_at (machine - 1) world)
-    (subst (λ (n : ℕ). DownOn id passes waiting (link_at n world)) is was)) was
-
-closed_down : {id : ℕ} {passes : Bool} {waiting : List ℕ} (k machine : ℕ) (side : Side)
-    (world : WorldParts) → DownOn id passes waiting (link_at k world)
-    → DownOn id passes waiting
-    (link_at k
-    (with_link (link_of machine side)
-    (after_close (end_of side) (link_at (link_of machine side) world)) world))
-closed_down {id} {passes} {waiting} k machine side world was =
-    at_set k (link_of machine side)
-    (after_close (end_of side) (link_at (link_of machine side) world)) world
-    (λ is. on_close side (link_at (link_of machine side) world)
-    (subst (λ (n : ℕ). DownOn id passes waiting (link_at n world)) is was)) was
-
-counted_down : {id : ℕ} {passes : Bool} {waiting : List ℕ} (k : ℕ) (deed : Deed)
-    (world : WorldParts) → DownOn id passes waiting (link_at k world)
-    → DownOn id passes waiting (link_at k (counted deed world))
-counted_down k (deeds.Opens id) world was = was
-counted_down k (deeds.Settles id) world was = was
-counted_down k (deeds.Refuses id) world was = was
-counted_down k (deeds.Leaves id) world was = was
-counted_down k (deeds.Returns id) world was = was
-counted_down k (deeds.Loses id) world was = was
-counted_down k (deeds.Starts id) world was = was
-counted_down k (deeds.Drops id) world was = was
 
 -- an answer to a second connection is sent in a step of one, at the exit
 answers_second : (second : Bool) (side : Side) (message : Message)
@@ -298,26 +229,45 @@ answers_exit second Exit message is = refl
 answers_exit true Entry message is = absurd (false≢true is)
 answers_exit false Entry message is = absurd (false≢true is)
 
-act_down : {id : ℕ} {passes : Bool} {waiting : List ℕ} → SaysAlone
-    → (k : ℕ) (second : Bool) (machine : ℕ) (act : Act) (world : WorldParts) → IsFitAct act
+-- what the machine above the link sends is no offer of the board; where it answers a second
+-- connection, nothing waits below
+down_rule : (id : ℕ) (passes : Bool) (waiting : List ℕ) → SaysAlone
+    → (k : ℕ) (second : Bool) (machine : ℕ) (act : Act) → IsFitAct act
     → (k ≡ machine → offers_it id act ≡ false) → (second ≡ true → k ≡ machine → waiting ≡ [])
-    → ((link : ℕ) → IsWholeLink (link_at link world)) → DownOn id passes waiting (link_at k world)
-    → DownOn id passes waiting (link_at k (act_did second machine act world).world)
-act_down alone k second machine (acts.Sends side message) world fit other empty whole was =
-    sent_down alone k (answers second side message) machine side message world fit
-    (record {
-      exit = answers_exit second side message;
-      other = other;
-      empty = λ is.
-          empty (answers_second second side message is);
-    }) whole was
-act_down alone k second machine (acts.Closes side) world fit other empty whole was =
-    closed_down k machine side world was
-act_down alone k second machine (acts.Notices side) world fit other empty whole was =
-    closed_down k machine side world was
-act_down alone k second machine (acts.Deed deed) world fit other empty whole was =
-    counted_down k deed world was
-act_down alone k second machine act world fit other empty whole was = was
+    → ActKeeps IsWholeLink (λ (l : LinkParts). DownOn id passes waiting l) k second machine act
+down_rule id passes waiting alone k second machine (acts.Sends side message) fit other empty =
+    by side (answers second side message) other (answers_exit second side message)
+    (λ is. empty (answers_second second side message is))
+  where
+    by : (side : Side) (test : Bool) → (k ≡ machine → offers_it id (acts.Sends side message) ≡ false)
+        → (test ≡ true → side ≡ Exit) → (test ≡ true → k ≡ machine → waiting ≡ [])
+        → SentKeeps IsWholeLink (λ (l : LinkParts). DownOn id passes waiting l) k test machine side
+        message
+    by Exit true other exit empty = λ is link whole down.
+        on_answer alone message link fit (other is) whole (empty refl is) down
+    by Entry true other exit empty = absurd (let no : Entry ≡ Exit = exit refl in cc)
+    by Exit false other exit empty = λ is link whole down.
+        on_send_down alone message link fit (other is) whole down
+    by Entry false other exit empty = λ is link whole down.
+        on_send_up (canonical message) link down
+down_rule id passes waiting alone k second machine (acts.Closes side) fit other empty = λ is link down.
+    on_close side link down
+down_rule id passes waiting alone k second machine (acts.Notices side) fit other empty = λ is link down.
+    on_close side link down
+down_rule id passes waiting alone k second machine _ fit other empty = tt
+
+down_rules : (id : ℕ) (passes : Bool) (waiting : List ℕ) → SaysAlone
+    → (k : ℕ) (second : Bool) (machine : ℕ) (told : List Act) → AreFitActs told
+    → (k ≡ machine → list_any (offers_it id) told ≡ false)
+    → (second ≡ true → k ≡ machine → waiting ≡ [])
+    → ActsKeep IsWholeLink (λ (l : LinkParts). DownOn id passes waiting l) k second machine told
+down_rules id passes waiting alone k second machine [] none_said other empty = tt
+down_rules id passes waiting alone k second machine (act ∷ told) (more_said fit more) other empty = (
+  down_rule id passes waiting alone k second machine act fit (λ is.
+      (or_parts (offers_it id act) (list_any (offers_it id) told) (other is)).0) empty,
+  down_rules id passes waiting alone k second machine told more (λ is.
+      (or_parts (offers_it id act) (list_any (offers_it id) told) (other is)).1) empty,
+)
 
 -- the acts of a machine, of which the one above the link sends no offer of the board; where it
 -- answers a second connection, nothing waits at the entry below
@@ -328,11 +278,7 @@ pub acts_down : {id : ℕ} {passes : Bool} {waiting : List ℕ} → SaysAlone
     → ((link : ℕ) → IsWholeLink (link_at link world))
     → DownOn id passes waiting (link_at k world)
     → DownOn id passes waiting (link_at k (acts_did second machine told world).world)
-acts_down alone k second machine [] world none_said other empty whole was = was
-acts_down {id} alone k second machine (act ∷ told) world
-    (more_said fit more) other empty whole was =
-    acts_down alone k second machine told (act_did second machine act world).world more (λ is.
-    (or_parts (offers_it id act) (list_any (offers_it id) told) (other is)).1) empty
-    (whole_act second machine act world whole)
-    (act_down alone k second machine act world fit (λ is.
-    (or_parts (offers_it id act) (list_any (offers_it id) told) (other is)).0) empty whole was)
+acts_down {id} {passes} {waiting} alone k second machine told world fit other empty whole was =
+    acts_keep IsWholeLink (λ (l : LinkParts). DownOn id passes waiting l) (down_over refl refl) k
+    second machine (λ act w one. whole_at k second machine act w one) told world
+    (down_rules id passes waiting alone k second machine told fit other empty) (whole k) was

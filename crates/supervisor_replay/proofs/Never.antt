@@ -46,13 +46,6 @@ one_leaves gap id machine (acts.Deed (deeds.Loses other)) true is = refl
 one_leaves gap id machine (acts.Deed (deeds.Starts other)) true is = refl
 one_leaves gap id machine (acts.Deed (deeds.Settles other)) true is = refl
 one_leaves gap id machine (acts.Deed (deeds.Drops other)) true is = refl
-one_leaves gap id machine (acts.Deed (deeds.Opens other)) false is = refl
-one_leaves gap id machine (acts.Deed (deeds.Refuses other)) false is = refl
-one_leaves gap id machine (acts.Deed (deeds.Returns other)) false is = refl
-one_leaves gap id machine (acts.Deed (deeds.Loses other)) false is = refl
-one_leaves gap id machine (acts.Deed (deeds.Starts other)) false is = refl
-one_leaves gap id machine (acts.Deed (deeds.Settles other)) false is = refl
-one_leaves gap id machine (acts.Deed (deeds.Drops other)) false is = refl
 one_leaves gap id machine (acts.Drive side on) true is = refl
 one_leaves gap id machine (acts.Signals signal on) true is = refl
 one_leaves gap id machine (acts.Tells message) true is = refl
@@ -128,13 +121,6 @@ with_one : (gap id : ℕ) (happening : Happening) (left : Bool)
     → since_with gap id happening left ≡ (leaves_at gap id happening || left)
 with_one gap id (happenings.Done machine (acts.Deed (deeds.Starts other))) left none =
     start_not (machine == gap + 1) (machine == gap + 1) other id left refl none
-with_one gap id (happenings.Done machine (acts.Deed (deeds.Leaves other))) left none = refl
-with_one gap id (happenings.Done machine (acts.Deed (deeds.Opens other))) left none = refl
-with_one gap id (happenings.Done machine (acts.Deed (deeds.Refuses other))) left none = refl
-with_one gap id (happenings.Done machine (acts.Deed (deeds.Returns other))) left none = refl
-with_one gap id (happenings.Done machine (acts.Deed (deeds.Loses other))) left none = refl
-with_one gap id (happenings.Done machine (acts.Deed (deeds.Settles other))) left none = refl
-with_one gap id (happenings.Done machine (acts.Deed (deeds.Drops other))) left none = refl
 with_one gap id _ left none = refl
 
 unstarted : (gap id : ℕ) (told : List Happening) (left : Bool)
@@ -159,13 +145,6 @@ less_one gap id (happenings.Done machine (acts.Deed (deeds.Starts other))) left 
       by_test : (test : Bool) → (if test then false else left) ≡ true → left ≡ true
       by_test true is = absurd (false≢true is)
       by_test false is = is
-less_one gap id (happenings.Done machine (acts.Deed (deeds.Leaves other))) left is = is
-less_one gap id (happenings.Done machine (acts.Deed (deeds.Opens other))) left is = is
-less_one gap id (happenings.Done machine (acts.Deed (deeds.Refuses other))) left is = is
-less_one gap id (happenings.Done machine (acts.Deed (deeds.Returns other))) left is = is
-less_one gap id (happenings.Done machine (acts.Deed (deeds.Loses other))) left is = is
-less_one gap id (happenings.Done machine (acts.Deed (deeds.Settles other))) left is = is
-less_one gap id (happenings.Done machine (acts.Deed (deeds.Drops other))) left is = is
 less_one gap id _ left is = is
 
 either_true : {X : Type 0} (a b : Bool) → (a ≡ true → X) → (b ≡ true → X) → (a || b) ≡ true → X

@@ -178,7 +178,7 @@ abbrev entry_more : Desk → Option InSend → Option Bool → List Act
 entry_more desk send drive = in_sends desk send ++ drives Entry drive
 
 -- the machine with this intake, and with a record at the back
-abbrev with_intake : Machine → InState → Machine
+abbrev pub with_intake : Machine → InState → Machine
 with_intake body s = record body { intake = s }
 
 abbrev with_settled : Machine → InState → Record → Machine
@@ -509,6 +509,20 @@ gone_went id j desk unread body kept deed more quiet same none later different f
       held = λ h. none_held id none h;
     }
 
+-- and nothing was offered
+still_went : {s after : OutState} {e : SensorEvent} {es : List SensorEvent} {place : Place}
+    {board : Record} {last : Option ℕ} (id j : ℕ) (desk : Desk) (body : Machine)
+    (kept : List Record) (told : List Act) → last ≡ body.last_offer
+    → Went id j desk (record { side = Exit; event = e } ∷ []) es place board (with_outlet body s)
+    (done (record body { outlet = after; kept = kept }) told)
+    → Went id j desk (record { side = Exit; event = e } ∷ []) es place board (with_outlet body s)
+    (done (record body { outlet = after; kept = kept; last_offer = last }) told)
+still_went {s = s} {after = after} {e = e} {es = es} {place = place} {board = board} id j desk body
+    kept told same went =
+    subst (λ (z : Option ℕ). Went id j desk (record { side = Exit; event = e } ∷ []) es place board
+    (with_outlet body s) (done (record body { outlet = after; kept = kept; last_offer = z }) told))
+    (sym same) went
+
 exit_went : {s : OutState} {found : Option OutRow} {e : SensorEvent} {es : List SensorEvent}
     {place : Place} {board : Record} (id j : ℕ) (desk : Desk) (body : Machine) → ExitTurn e s found
     → are_different (all_of (own_by body.kept s body.intake)) ≡ true
@@ -520,32 +534,38 @@ exit_went id j desk body (exit_none {s = s}) different later =
 exit_went id j desk body (exit_stays {s = s} {after = after} same) different later =
     same_went {s = s} {after = after} id j desk _ body same later different
 exit_went id j desk body
-    (exit_leaves {s = s} {after = after} {mine = mine} {send = send} {drive = drive} same none)
+    (exit_leaves {s = s} {after = after} {mine = mine} {send = send} {drive = drive} same none still)
     different later =
     let more : List Act = exit_more desk body.kept send drive in
     let quiet : list_all is_quiet more ≡ true = exit_quiet desk body.kept send drive in
-    gone_went {s = s} {after = after} id j desk _ body body.kept (deeds.Leaves mine.id) more quiet
+    still_went {s = s} {after = after} id j desk body body.kept _
+    (still after.offered body.last_offer)
+    (gone_went {s = s} {after = after} id j desk _ body body.kept (deeds.Leaves mine.id) more quiet
     (λ w. refl) none later (gone_different (ids_behind body) same none different)
     (leaves_fares {s = s} {after = after} id j desk (own_of_phase body.intake.phase) body more
-    (mine.id == id) quiet same none (apart id (with_outlet body s) different) refl)
+    (mine.id == id) quiet same none (apart id (with_outlet body s) different) refl))
 exit_went {e = e} id j desk body
-    (exit_returns {s = s} {after = after} {mine = mine} {send = send} {drive = drive} same none)
+    (exit_returns {s = s} {after = after} {mine = mine} {send = send} {drive = drive} same none still)
     different later =
     let more : List Act = exit_more desk body.kept send drive in
     let quiet : list_all is_quiet more ≡ true = exit_quiet desk body.kept send drive in
-    gone_went {s = s} {after = after} id j desk _ body (mine ∷ body.kept) (deeds.Returns mine.id)
+    still_went {s = s} {after = after} id j desk body (mine ∷ body.kept) _
+    (still after.offered body.last_offer)
+    (gone_went {s = s} {after = after} id j desk _ body (mine ∷ body.kept) (deeds.Returns mine.id)
     more quiet (λ w. refl) none later (back_different (ids_behind body) same none different)
     (returns_fares {s = s} {after = after} id j desk (own_of_phase body.intake.phase) body more _ e
-    (mine.id == id) quiet same none refl)
+    (mine.id == id) quiet same none refl))
 exit_went {e = e} id j desk body
-    (exit_loses {s = s} {after = after} {mine = mine} {send = send} {drive = drive} same none)
+    (exit_loses {s = s} {after = after} {mine = mine} {send = send} {drive = drive} same none still)
     different later =
     let more : List Act = exit_more desk body.kept send drive in
     let quiet : list_all is_quiet more ≡ true = exit_quiet desk body.kept send drive in
-    gone_went {s = s} {after = after} id j desk _ body body.kept (deeds.Loses mine.id) more quiet
+    still_went {s = s} {after = after} id j desk body body.kept _
+    (still after.offered body.last_offer)
+    (gone_went {s = s} {after = after} id j desk _ body body.kept (deeds.Loses mine.id) more quiet
     (λ w. refl) none later (gone_different (ids_behind body) same none different)
     (loses_fares {s = s} {after = after} id j desk (own_of_phase body.intake.phase) body more _ e
-    (mine.id == id) quiet same none (apart id (with_outlet body s) different) refl)
+    (mine.id == id) quiet same none (apart id (with_outlet body s) different) refl))
 
 -- ---- one event, at either side
 

@@ -42,12 +42,12 @@ use Rattle.handover_in.specs.State.{InState, passes_offers_over}
 use Rattle.handover_in.specs.Table.{IsIntakeRow, available_heard, available_idle, available_stopped, closed_between, closed_gone, closed_home, closed_idle, closed_inside, closed_stopped_between, closed_stopped_gone, closed_stopped_home, closed_stopped_inside, closed_waiting, fault_taking, hears_drop, hears_keep, hears_left, hears_wait, passed_revoked_taking, passed_revoked_unheard, passed_taking, passed_unheard, revoked_heard, revoked_idle, revoked_stopped, running_drop, running_keep, running_wait, starts_transport}
 use Rattle.handover_in.proofs.Rows.{row_is as in_row_is}
 use Rattle.node_core.specs.Announces.{announces, offer, offer_by, offers_now, readies_now, ready, ready_by, revoke, revoke_by, revokes_now, start, start_by, starts_now, unreadies_now, unready, unready_by}
-use Rattle.node_core.specs.Boards.{if_kept, is_kept, wills, with_kept}
+use Rattle.node_core.specs.Boards.{if_kept, is_kept, wills, with_kept, takes_sub}
 use Rattle.node_core.specs.Bridge.{failed_front, fails, sets_level, tells_level}
 use Rattle.node_core.specs.Connect.{if_open, opens, shuts_down, ticks}
 use Rattle.node_core.specs.Desk.{Desk}
 use Rattle.node_core.specs.Done.{Done, and_then, behind, done, stays}
-use Rattle.node_core.specs.Event.{Accepted, Connect, Event, Fault, Forecast, Insert, Level, Mark, Nothing, Notice, Query, Remove, Replace, Second, Shutdown, Supervised, Tick, Will, Words, event_did}
+use Rattle.node_core.specs.Event.{Accepted, Connect, Event, Fault, Forecast, Insert, Level, Mark, Sub, Nothing, Notice, Query, Remove, Replace, Second, Shutdown, Supervised, Tick, Will, Words, event_did}
 use Rattle.node_core.specs.Halves.{behind_opening, ended, half_closed, intake_row_did, opening_board, outlet_row_did}
 use Rattle.node_core.specs.Hears.{exit_took, exit_word, hears, intake_took, outlet_took, passed, rowed, taken}
 use Rattle.node_core.specs.Information.{forecasts}
@@ -943,9 +943,6 @@ event_goes id desk (Will Exit on) body messages oldest o all =
     goes_calm body (wills Exit on body) (calm_aside body (wills Exit on body) refl refl refl) o all
 event_goes id desk (Level line on) body messages oldest o all =
     goes_calm body (sets_level desk line on body) (sets_calm desk line on body) o all
-event_goes id desk (Insert new barcode) body messages oldest o all =
-    goes_calm body (event_did desk (Insert new barcode) body)
-    (calm_aside body (event_did desk (Insert new barcode) body) refl refl refl) o all
 event_goes id desk (Remove old) body messages oldest o all =
     goes_calm body (event_did desk (Remove old) body)
     (hand_calm (is_kept old body.kept) body _ (acts.Removes old) refl) o all
@@ -955,14 +952,17 @@ event_goes id desk (Replace old new) body messages oldest o all =
 event_goes id desk (Mark old quality) body messages oldest o all =
     goes_calm body (event_did desk (Mark old quality) body)
     (hand_calm (is_kept old body.kept) body _ (acts.Marks old quality) refl) o all
+event_goes id desk (Sub old sub) body messages oldest o all =
+    goes_calm body (event_did desk (Sub old sub) body)
+    (hand_calm (takes_sub old sub body.kept) body _ (acts.Subs old sub.pos) refl) o all
 event_goes id desk Forecast body messages oldest o all =
     goes_calm body (event_did desk Forecast body)
     (forecasts_calm desk (slice_get body.kept 0) body) o all
-event_goes id desk (Query barcode) body messages oldest o all =
-    goes_calm body (event_did desk (Query barcode) body)
-    (calm_aside body (event_did desk (Query barcode) body) refl refl refl) o all
 event_goes id desk (Supervised what) body messages oldest o all =
     goes_calm body (supervises desk what body) (supervised_calm desk what body) o all
+event_goes id desk event body messages oldest o all =
+    goes_calm body (event_did desk event body)
+    (calm_aside body (event_did desk event body) refl refl refl) o all
 
 -- ---- THE STEP
 

@@ -23,6 +23,7 @@ use Rattle.std.proofs.Common.{
 use Rattle.std.specs.List.{list_any}
 use Rattle.std.proofs.lemmas.Bool.{false≢true, or_from, or_parts}
 use Rattle.std.proofs.lemmas.List.Folds.{list_any-append}
+use Rattle.line_history.proofs.Offering.{says_offer}
 use Rattle.custody.proofs.Open.{stale_open}
 use Rattle.line_base.specs.declared.states.Side.{Side}
 use Rattle.line_base.specs.declared.states.Side.TheVariants.{Entry, Exit}
@@ -124,6 +125,8 @@ use Rattle.step_rules.specs.Causes.{
   tells_alive,
   tells_notice,
   tells_service,
+  hand_changes,
+  changes_quality,
 }
 use Rattle.step_rules.specs.Made.{
   Made,
@@ -155,10 +158,6 @@ both id a b one two =
     (list_any (offers_it id) b) one two
 
 -- ---- the outlet, but for an offer
-
-abbrev says_offer : Option OutSend → Bool
-says_offer (Some out_send.BoardAvailable) = true
-says_offer _ = false
 
 abbrev IsNoOffer : OutInput → Type 0
 IsNoOffer (out_input.Offer id) = ⊥
@@ -233,6 +232,7 @@ act_quiet id _ = refl
 hand_quiet : {desk : Desk} {event : Event} {body : Machine} {kept : List Record} {act : Act}
     (id : ℕ) → ByHand desk event body kept act → offers_it id act ≡ false
 hand_quiet id hand_inserts = refl
+hand_quiet id (hand_changes (changes_quality is)) = refl
 hand_quiet id _ = refl
 
 quiet_by : {desk : Desk} {cause : Cause} {body : Machine} {d : Done} (id : ℕ)

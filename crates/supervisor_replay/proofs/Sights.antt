@@ -47,7 +47,6 @@ use Rattle.custody.specs.Contents.{Kept}
 use Rattle.custody.specs.Floor.{
   EntryFloor,
   ExitFloor,
-  GapAt,
   Run,
   Sees,
   at_start,
@@ -55,8 +54,6 @@ use Rattle.custody.specs.Floor.{
   begun_unread,
   both_gone,
   both_unread,
-  gap_begun,
-  gap_left,
   in_free,
   in_stopped,
   in_taken_in,
@@ -108,6 +105,7 @@ use Rattle.custody.specs.Place.{
 use Rattle.custody.proofs.Facts.{in_holds, out_holds}
 use Rattle.custody.proofs.Promised.{board_across}
 use Rattle.machine_custody.specs.Good.{Lies}
+use Rattle.machine_custody.proofs.Holding.{kept_upstream}
 use Rattle.standings.specs.Ledger.{are_different}
 use Rattle.standings.specs.declared.mark.Mark.{Mark}
 use Rattle.standings.specs.declared.mark.Mark.TheVariants as marks
@@ -146,7 +144,7 @@ use Rattle.one_standing.proofs.MarksOf.{
   kept_id,
 }
 use Rattle.one_standing.proofs.MarksPlace.{in_front, in_middle, part_lies_at}
-use Rattle.one_standing.proofs.OneStand.{has_end, link_of, same_link}
+use Rattle.one_standing.proofs.OneStand.{has_end, link_of, same_link, by_numbers}
 use Rattle.line_history.specs.LetGo.{held_above, taken_below}
 use Rattle.line_history.proofs.Stepping.{IsJustStarted}
 use Rattle.supervisor_replay.proofs.Bodies.{
@@ -215,7 +213,7 @@ below_of : {t : Trace} {s : LineState} {id : ℕ} {mark : Mark} (j : ℕ) → St
     → j ≡ link_of mark + 1
 below_of {s = s} {id = id} j st has taken =
     sym (taken_counted s id j taken)
-    ∙ ap (λ (n : ℕ). n + 1) (same_link st (taken_mark s id j taken) has)
+    ∙ ap (λ (n : ℕ). n + 1) (same_link (by_numbers st) (taken_mark s id j taken) has)
 
 -- the marks of an id have one standing
 pub sole_of : (t : Trace) (s : LineState) (id : ℕ) → Stands t s → HasOneStanding s
@@ -237,9 +235,9 @@ none_above : {t : Trace} {s : LineState} {id : ℕ} {mark : Mark} (j : ℕ) → 
     → (keeps_it id (node_at s j).lane.body ≡ false) × (holds_it id (node_at s j).lane.body ≡ false)
 none_above {s = s} {id = id} j st has at = (
   false_from_ne_true (keeps_it id (node_at s j).lane.body)
-      (λ is. next_apart j (same_link st (kept_mark s id j is) has ∙ at)),
+      (λ is. next_apart j (same_link (by_numbers st) (kept_mark s id j is) has ∙ at)),
   false_from_ne_true (holds_it id (node_at s j).lane.body)
-      (λ is. next_apart j (same_link st (held_mark s id j is) has ∙ at)),
+      (λ is. next_apart j (same_link (by_numbers st) (held_mark s id j is) has ∙ at)),
 )
 
 -- a machine above and one below have not both the board, but in their handover
@@ -479,7 +477,7 @@ upstream_of t s id j st place taken =
         (λ held. false_from_ne_true ((view_of id s).leaving j)
             (λ leaving. no_leaving (gone_beyond t s id j st held leaving) place)),
         (λ none on. kept_or_off t s id j own.0 st own.2 on
-            (n.holds.upstream own.0 own.1
+            (kept_upstream n.holds own.0 own.1
             (held_or_none t s id j st taken none (held_above s j) refl) place)),
       ),
     )

@@ -36,7 +36,7 @@ use Rattle.board_record.specs.declared.sensed.Sensed.{Sensed}
 use Rattle.handover_out.specs.declared.act.OutAct.{OutAct}
 use Rattle.handover_out.specs.declared.input.OutInput.TheVariants as out_input
 use Rattle.handover_out.specs.Act.{nothing as out_nothing}
-use Rattle.handover_out.specs.Row.{OutRow, outlet_row}
+use Rattle.handover_out.specs.Row.{OutRow, last_by, outlet_row}
 use Rattle.handover_out.specs.State.{OutState, held}
 use Rattle.handover_out.specs.Table.{
   IsOutletRow,
@@ -158,7 +158,11 @@ out_stays desk body e None is none = refl
 out_stays desk body e (Some r) is none =
     let idle = idle_out (row_is body.outlet (out_input.Sensed e) r is) none in
     ap (λ (act : OutAct). done
-    (record body { outlet = r.after; kept = given_back act.back body.kept })
+    (record body {
+      outlet = r.after;
+      kept = given_back act.back body.kept;
+      last_offer = last_by act.send r.after.offered body.last_offer;
+    })
     (out_told desk body.kept act)) idle.0
     ∙ ap (λ (s : OutState). done (record body { outlet = s }) []) idle.1
 

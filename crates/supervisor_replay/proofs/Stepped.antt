@@ -1,6 +1,7 @@
 -- A step of a machine of the line keeps what was told of an id right.
 use Rattle.std.proofs.Common.{◌≡◌, ◌≢◌, ◌∙◌, ◌⊎◌, ◌+◌, ℕ, Bool, true, false, List, [], ◌∷◌, inl, inr, refl, sym, ap, subst, eq-eqb, ne_eqb}
 use Rattle.std.specs.List.{list_any}
+use Rattle.line_step.proofs.FloorLaws.{plain_of}
 use Rattle.one_standing.proofs.RestLine.{node_there}
 use mathlib.Core.Bool.{or-false}
 use Rattle.line_base.specs.declared.states.Side.TheVariants.{Entry}
@@ -57,7 +58,6 @@ use Rattle.supervisor_replay.proofs.Faring.{
   sole_behind,
   starting,
 }
-use Rattle.supervisor_replay.proofs.Hands.{plain_of}
 use Rattle.supervisor_replay.proofs.Happenings.{acts_left, acts_told}
 use Rattle.supervisor_replay.proofs.Sights.{away_of, different_of, upstream_of, view_of}
 use Rattle.supervisor_replay.proofs.Steps.{StepFares, step_fares, step_silent, view_then}

@@ -247,18 +247,12 @@ dropped_left gap id machine other desk false left = refl
 
 one_told : (id machine : ℕ) (desk : Desk) (seen : Option Seen) (deed : Deed) (told : Told)
     → told_acts id machine (tells_deed desk seen deed) told ≡ told_deed id machine seen deed told
-one_told id machine desk seen (deeds.Settles other) told = refl
-one_told id machine desk seen (deeds.Leaves other) told = refl
-one_told id machine desk seen (deeds.Loses other) told = refl
 one_told id machine desk seen (deeds.Drops other) told =
     dropped_told id machine other desk (saw_taken seen) told
 one_told id machine desk seen _ told = refl
 
 one_left : (gap id machine : ℕ) (desk : Desk) (seen : Option Seen) (deed : Deed) (left : Bool)
     → left_acts gap id machine (tells_deed desk seen deed) left ≡ left
-one_left gap id machine desk seen (deeds.Settles other) left = refl
-one_left gap id machine desk seen (deeds.Leaves other) left = refl
-one_left gap id machine desk seen (deeds.Loses other) left = refl
 one_left gap id machine desk seen (deeds.Drops other) left =
     dropped_left gap id machine other desk (saw_taken seen) left
 one_left gap id machine desk seen _ left = refl

@@ -26,13 +26,13 @@ use Rattle.line_report.specs.declared.happening.Reason.TheVariants as reasons
 use Rattle.line_step.specs.Shown.{standings_told}
 use Rattle.line_step.specs.State.{LineState, machine_in}
 use Rattle.line_step.specs.Steps.{MachineSteps, moment_of, unread_by}
-use Rattle.line_step.proofs.FloorLaws.{Holds as FloorHolds}
+use Rattle.line_step.proofs.FloorLaws.{Holds as FloorHolds, IsHandless, plain_of}
 use Rattle.line_step.proofs.Makers.{IsOld}
 use Rattle.line_step.proofs.Numbers.{machine_set_own}
 use Rattle.one_standing.specs.Carried.{Trace}
 use Rattle.one_standing.specs.Places.{at_machine, lies_at}
 use Rattle.one_standing.proofs.ApartFloor.{counted}
-use Rattle.one_standing.proofs.ApartHands.{IsHandless, step_still}
+use Rattle.one_standing.proofs.ApartHands.{step_still}
 use Rattle.one_standing.proofs.ApartStep.{
   Parted,
   apart_removed,
@@ -47,7 +47,7 @@ use Rattle.supervisor_replay.specs.Replay.{IsWatched, Told, nothing_told, told_o
 use Rattle.supervisor_replay.proofs.Since.{left_since}
 use Rattle.supervisor_replay.proofs.Bodies.{brings_in, holds_it, keeps_it, takes_it, takes_out}
 use Rattle.supervisor_replay.proofs.Floors.{comes_not, may_bring, may_lose, stays_there}
-use Rattle.supervisor_replay.proofs.Hands.{BringsIn, TakesOut, brings_none, in_inserted, ins_are, is_removed, is_replaced, looks_brought, looks_lost, loses_none, made_first, out_before, out_removed, out_replaced, outs_are, plain_of, step_any, step_ins, step_makes, step_out, step_outs, with_standings}
+use Rattle.supervisor_replay.proofs.Hands.{BringsIn, TakesOut, brings_none, in_inserted, ins_are, is_removed, is_replaced, looks_brought, looks_lost, loses_none, made_first, out_before, out_removed, out_replaced, outs_are, step_any, step_ins, step_makes, step_out, step_outs, with_standings}
 use Rattle.supervisor_replay.proofs.Inserted.{inserted_kept}
 use Rattle.supervisor_replay.proofs.Lines.{
   Agreed,

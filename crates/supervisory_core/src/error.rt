@@ -3,27 +3,22 @@ ghost use Rattle.line_base.specs.PlainText.{is_plain_text};
 ghost use Rattle.supervisory_core.specs.Told.{answer_error_text};
 
 use line_base::{Code, Severity};
-use thiserror::Error;
 
 /// Why no question was taken.
-#[derive(Clone, Copy, Debug, PartialEq, Eq, Error)]
+#[derive(Clone, Copy, Debug, PartialEq, Eq)]
 pub enum AskError {
     /// 256 questions have no answer yet, or the numbers are used up.
-    #[error("queries full")]
     QueriesFull,
     /// Memory was wanting.
-    #[error("out of memory")]
     Memory,
 }
 
 /// Why no answer was taken.
-#[derive(Clone, Copy, Debug, PartialEq, Eq, Error)]
+#[derive(Clone, Copy, Debug, PartialEq, Eq)]
 pub enum AnswerError {
     /// No question of this number was asked.
-    #[error("unknown query")]
     Unknown(u64),
     /// The question of this number was answered before.
-    #[error("answered")]
     Answered(u64),
 }
 

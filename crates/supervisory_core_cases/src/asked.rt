@@ -77,7 +77,8 @@ fn question_of(alloc: Global, word: &str) -> Option<Question> {
 fn said(answer: Result<u64, AskError>, to: &mut Vec<u8>) -> io::Result<()> {
     match answer {
         Ok(number) => write!(to, "asks {number}"),
-        Err(error) => write!(to, "no: {error}"),
+        Err(AskError::QueriesFull) => write!(to, "no: queries full"),
+        Err(AskError::Memory) => write!(to, "out of memory"),
     }
 }
 

@@ -1,6 +1,7 @@
 -- What the events of one side of a machine leave of the half at its other side.
 use Rattle.std.proofs.Common.{Bool, List, None, Option, Some, [], ap, append-nil, false, refl, true, ℕ, ◌++◌, ◌∙◌, ◌∷◌, ◌≡◌}
 use Rattle.std.specs.Prelude.{is_some, slice_get}
+use Rattle.one_standing.proofs.Counting.{across}
 use Rattle.line_base.specs.declared.states.Role.TheVariants.{Upstream}
 use Rattle.line_base.specs.declared.states.Side.{Side}
 use Rattle.line_base.specs.declared.states.Side.TheVariants.{Entry, Exit}
@@ -117,10 +118,6 @@ pub none_reach : (side : Side) (a b : List Act) → reaches side a ≡ [] → re
 none_reach side a b first last = reaches_append side a b ∙ ap (λ xs. xs ++ reaches side b) first ∙ last
 
 -- ---- the half at the other side
-
-abbrev pub across : Side → Side
-across Entry = Exit
-across Exit = Entry
 
 -- the first of the kept records
 pub record IsFirst (r : Record) (kept : List Record) : Type 0 where

@@ -259,8 +259,6 @@ asked_elsewhere k _ e = e
 not_of_link : (k : ℕ) (s : LineState) (line : ScriptLine) → NamesElsewhere k line → is_of_link k s line ≡ false
 not_of_link k s (lines.Flow m Exit None) e = ne_eqb m k e.not_above
 not_of_link k s (lines.Flow m Entry None) e = ne_eqb m (k + 1) e.not_below
-not_of_link k s (lines.Flow m Exit (Some count)) e = refl
-not_of_link k s (lines.Flow m Entry (Some count)) e = refl
 not_of_link k s (lines.Begin gap) e = ne_eqb gap k e
 not_of_link k s (lines.Left gap) e = ne_eqb gap k e
 not_of_link k s (lines.Enter gap) e = ne_eqb gap k e

@@ -13,7 +13,7 @@ use Rattle.line_step.specs.Steps.{moment_of}
 use Rattle.one_standing.proofs.Carrying.{SaysAlone}
 use Rattle.one_standing.proofs.RestMore.{machine_is_text}
 use Rattle.link_messages.specs.Fit.{AreFitActs, IsFit, IsFitDesk, IsFitRecord, more_said}
-use Rattle.link_messages.proofs.SayingWhat.{IsFitSaid, available_fits, sent}
+use Rattle.link_messages.proofs.SayingWhat.{IsFitSaid, available_fits, no_subs, sent}
 use Rattle.twelve_steps.specs.Announced.{AreTextsOf, IsAnnounced, in_flight, more_texts, no_texts}
 use Rattle.twelve_steps.specs.Example.{announced_line, board_offered, first_board, first_record, machine_above, machine_below, place_told}
 use Rattle.one_standing.proofs.Mirroring.{moment_fits}
@@ -35,13 +35,13 @@ small : first_record.id < 2 ^ 128
 small = omega arith
 
 record_fits : IsFitRecord first_record
-record_fits = record { values = (small, (above_fits.name, (tt, (tt, (tt, (tt, (tt, (tt, (tt, (tt, (tt, (tt, (tt, (tt, (tt, (tt, tt)))))))))))))))) }
+record_fits = record { values = (small, (above_fits.name, (tt, (tt, (tt, (tt, (tt, (tt, (tt, (tt, (tt, (tt, (tt, (tt, (tt, (tt, tt)))))))))))))))); subs = no_subs; barcodes = tt }
 
 pub offer_one : IsFit board_offered
 offer_one = said_fits (desk_of machine_above (moment_of 6)) (bodies.BoardAvailable first_record) above_fits (available_fits first_record record_fits)
 
 pub place_one : IsFit place_told
-place_one = said_fits (desk_of machine_below (moment_of 5)) (bodies.MachineReady quality.Unknown) below_fits (record { name = refl; values = (tt, tt); numbers = tt; named = refl; short = tt })
+place_one = said_fits (desk_of machine_below (moment_of 5)) (bodies.MachineReady quality.Unknown) below_fits (record { name = refl; values = (tt, tt); numbers = tt; named = refl; short = tt; subs = tt; barcodes = tt })
 
 text_of : SaysAlone → (message : Message) → IsFit message → AreTextsOf (message ∷ []) (canonical message ∷ [])
 text_of alone message fit =

@@ -36,6 +36,7 @@ elsewhere_hand k (lines.Insert machine barcode) e here = e.not_below (sym here)
 elsewhere_hand k (lines.Remove machine id) e here = e.not_below (sym here)
 elsewhere_hand k (lines.Replace machine id) e here = e.not_below (sym here)
 elsewhere_hand k (lines.Mark machine id quality) e here = e.not_below (sym here)
+elsewhere_hand k (lines.Sub machine id place barcode) e here = e.not_below (sym here)
 elsewhere_hand k (lines.Signal machine line on) e here = e.not_below (sym here)
 elsewhere_hand k _ e here = absurd here
 

@@ -76,7 +76,6 @@ act_settles answering k id (acts.Sends Entry message) told world more (has_later
 act_settles answering k id (acts.Closes Entry) told world more (has_later h) = behind_act answering k id (acts.Closes Entry) told world (more h)
 act_settles answering k id (acts.Notices Entry) told world more (has_later h) = behind_act answering k id (acts.Notices Entry) told world (more h)
 act_settles answering k id (acts.Drive Entry on) told world more (has_later h) = more h
-act_settles answering k id (acts.Sends Exit message) told world more h = behind_act answering k id (acts.Sends Exit message) told world (more h)
 act_settles answering k id act told world more h = behind_act answering k id act told world (more h)
 
 -- of the acts of the machine below

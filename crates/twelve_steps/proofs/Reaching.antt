@@ -44,21 +44,10 @@ driven_below false on near = refl
 
 exit_act : (has : Side → Bool) (act : Act) (near : Near) → has Exit ≡ true → (near_did has false act near).below ≡ all_between Exit (reach Exit act) near.below
 exit_act has (acts.Sends Entry message) near there = refl
-exit_act has (acts.Sends Exit message) near there = refl
 exit_act has (acts.Closes Entry) near there = refl
-exit_act has (acts.Closes Exit) near there = refl
 exit_act has (acts.Notices Entry) near there = refl
-exit_act has (acts.Notices Exit) near there = refl
 exit_act has (acts.Drive Entry on) near there = driven_below (has Entry) on near
 exit_act has (acts.Drive Exit on) near there = driven_exit (has Exit) on near there
-exit_act has (acts.Deed deed) near there = refl
-exit_act has (acts.Inserts id) near there = refl
-exit_act has (acts.Removes id) near there = refl
-exit_act has (acts.Replaces old new) near there = refl
-exit_act has (acts.Reads side event) near there = refl
-exit_act has (acts.Hears side message) near there = refl
-exit_act has (acts.Breaches side text) near there = refl
-exit_act has (acts.Connects) near there = refl
 exit_act has _ near there = refl
 
 pub below_of : (has : Side → Bool) (told : List Act) (near : Near) → has Exit ≡ true → (nears_did has false told near).below ≡ all_between Exit (reaches Exit told) near.below
@@ -86,30 +75,16 @@ driven_above false on near = refl
 
 deed_act : (has : Side → Bool) (second : Bool) (deed : Deed) (near : Near) → near.above ≡ all_between Entry (reach Entry (acts.Deed deed)) near.above
 deed_act has second (deeds.Settles id) near = refl
-deed_act has second (deeds.Opens id) near = refl
-deed_act has second (deeds.Refuses id) near = refl
-deed_act has second (deeds.Leaves id) near = refl
-deed_act has second (deeds.Returns id) near = refl
-deed_act has second (deeds.Loses id) near = refl
-deed_act has second (deeds.Starts id) near = refl
-deed_act has second (deeds.Drops id) near = refl
+deed_act has second _ near = refl
 
 entry_act : (has : Side → Bool) (second : Bool) (act : Act) (near : Near) → has Entry ≡ true → (near_did has second act near).above ≡ all_between Entry (reach Entry act) near.above
 entry_act has second (acts.Sends Entry message) near there = sent_entry second message near
 entry_act has second (acts.Sends Exit message) near there = sent_above (answers second Exit message) (canonical message) near
 entry_act has second (acts.Closes Entry) near there = refl
-entry_act has second (acts.Closes Exit) near there = refl
 entry_act has second (acts.Notices Entry) near there = refl
-entry_act has second (acts.Notices Exit) near there = refl
 entry_act has second (acts.Drive Entry on) near there = driven_entry (has Entry) on near there
 entry_act has second (acts.Drive Exit on) near there = driven_above (has Exit) on near
 entry_act has second (acts.Deed deed) near there = deed_act has second deed near
-entry_act has second (acts.Inserts id) near there = refl
-entry_act has second (acts.Removes id) near there = refl
-entry_act has second (acts.Replaces old new) near there = refl
-entry_act has second (acts.Reads side event) near there = refl
-entry_act has second (acts.Hears side message) near there = refl
-entry_act has second (acts.Breaches side text) near there = refl
 entry_act has second _ near there = refl
 
 pub above_of : (has : Side → Bool) (second : Bool) (told : List Act) (near : Near) → has Entry ≡ true → (nears_did has second told near).above ≡ all_between Entry (reaches Entry told) near.above
@@ -132,13 +107,8 @@ driven_unread false on side near = refl
 unread_act : (has : Side → Bool) (second : Bool) (act : Act) (near : Near) → (near_did has second act near).place.unread ≡ near.place.unread
 unread_act has second (acts.Sends side message) near = sent_unread (answers second side message) side (canonical message) near
 unread_act has second (acts.Closes Entry) near = refl
-unread_act has second (acts.Closes Exit) near = refl
 unread_act has second (acts.Notices Entry) near = refl
-unread_act has second (acts.Notices Exit) near = refl
 unread_act has second (acts.Drive side on) near = driven_unread (has side) on side near
-unread_act has second (acts.Inserts id) near = refl
-unread_act has second (acts.Removes id) near = refl
-unread_act has second (acts.Replaces old new) near = refl
 unread_act has second _ near = refl
 
 pub unread_of : (has : Side → Bool) (second : Bool) (told : List Act) (near : Near) → (nears_did has second told near).place.unread ≡ near.place.unread

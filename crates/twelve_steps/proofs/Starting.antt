@@ -160,7 +160,7 @@ first_open : {Q : Record → Type 0} {passed : Bool} {b : Record} {ws : List Dow
 first_open is (open_new q rest) = q
 first_open is (open_passed rest) = absurd (cc)
 
-named_by : {Gone : ℕ → Type 0} {on : Bool} {kept : List Record} {touched : Option ℕ} {b : Record} (a : Record) (others : List Record) → kept ≡ a ∷ others → on ≡ true → (Gone b.id → ⊥) → Named Gone on kept touched b → b ≡ a
+named_by : {Gone : ℕ → Type 0} {on : Bool} {kept : List Record} {touched last : Option ℕ} {b : Record} (a : Record) (others : List Record) → kept ≡ a ∷ others → on ≡ true → (Gone b.id → ⊥) → Named Gone on kept touched last b → b ≡ a
 named_by a others is on not_gone named_front = cc
 named_by a others is on not_gone (named_gone gone) = absurd (not_gone gone)
 named_by a others is on not_gone (named_kept kept) = absurd (cc)
@@ -169,7 +169,7 @@ kept_first_of : (a : Record) (kept others : List Record) (n : ℕ) → kept ≡ 
 kept_first_of a kept others n is same = subst (λ (ks : List Record). Kept n ks) (sym is) (subst (λ (m : ℕ). Kept m (a ∷ others)) (sym same) kept_first)
 
 named_front_is : (k : ℕ) (s : LineState) (stood : Stood s) (a b : Record) → IsFirst a (node_at s k).lane.body.kept → b.id ≡ a.id → has_link k s ≡ true → (link_at k s.world).stands ≡ true
-    → Named (gone_by (stood.trace.gone k)) (link_at k s.world).stands (node_at s k).lane.body.kept (node_at s k).lane.body.outlet.touched b → b ≡ a
+    → Named (gone_by (stood.trace.gone k)) (link_at k s.world).stands (node_at s k).lane.body.kept (node_at s k).lane.body.outlet.touched (node_at s k).lane.body.last_offer b → b ≡ a
 named_front_is k s stood a b first same linked on named =
     let one = (counted k s linked).0 in
     let less : k - 1 + 1 ≡ k = omega (arith, one) in
@@ -211,7 +211,7 @@ announced_stage {k = k} {id = id} {s = s} alone stood heeds is =
     let offers_as = is.offered ∙ ap (λ (n : ℕ). Some n) (sym front.2) in
     let says_down : ◌≡◌ {A = List Horizontal} (message.BoardAvailable b ∷ []) (down.real.body ∷ []) = ap (λ (m : Horizontal). m ∷ []) (sym (down.says ∙ is.board.says)) in
     let contents = (stood.stands.keeps.neighbours.at k).contents in
-    let same_record : b ≡ a = named_front_is k s stood a b front.1 same linked is.stands (first_open (is_idle_in (node_at s (k + 1)).lane.body.intake.phase is.intake) (subst (λ (ws : List DownWord). OpenAll (Named (gone_by (stood.trace.gone k)) (link_at k s.world).stands (node_at s k).lane.body.kept (node_at s k).lane.body.outlet.touched) (passes_offers_over (node_at s (k + 1)).lane.body.intake.phase) ws) down_is contents.offers)) in
+    let same_record : b ≡ a = named_front_is k s stood a b front.1 same linked is.stands (first_open (is_idle_in (node_at s (k + 1)).lane.body.intake.phase is.intake) (subst (λ (ws : List DownWord). OpenAll (Named (gone_by (stood.trace.gone k)) (link_at k s.world).stands (node_at s k).lane.body.kept (node_at s k).lane.body.outlet.touched (node_at s k).lane.body.last_offer) (passes_offers_over (node_at s (k + 1)).lane.body.intake.phase) ws) down_is contents.offers)) in
     let stage_of : (rd : Bool) (up : List Message) → (node_at s k).lane.body.outlet.ready ≡ rd → Flying (node_at s k).lane.exit_bytes (link_at k s.world).flows.to_upstream up → Joint a b fresh (offers rd) [] readies [] (bodies up) (message.BoardAvailable b ∷ []) → left_of fresh (offers rd) readies ≤ 12 → Stage k a 12 false s =
     λ rd up ready upward joint few. record {
       a = a;

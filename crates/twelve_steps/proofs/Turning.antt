@@ -97,7 +97,7 @@ pub above_read_fits : (desk : Desk) {r : Record} {u v : Upper} {seen : List Sens
 above_read_fits desk fit id upper.reads_none = none_fit_said
 above_read_fits desk fit id (upper.reads_begun rs) = above_read_fits desk fit id rs
 above_read_fits desk {r = r} fit id (upper.reads_left rs) =
-    both_fit_said (sent desk Exit (message.TransportFinished transfer.Complete r.id) fit (record { name = refl; values = (tt, (id, tt)); numbers = tt; named = refl; short = tt })) (more_fit_said tt (above_read_fits desk fit id rs))
+    both_fit_said (sent desk Exit (message.TransportFinished transfer.Complete r.id) fit (record { name = refl; values = (tt, (id, tt)); numbers = tt; named = refl; short = tt; subs = tt; barcodes = tt })) (more_fit_said tt (above_read_fits desk fit id rs))
 
 pub above_said_fits : {u next : Upper} {told : List Act} (desk : Desk) → IsFitDesk desk → ((board : Record) → next ≡ over (Some board) → IsFitRecord board) → upper.Follows desk u next told → AreFitActs told
 above_said_fits desk fit board upper.follows_none = none_fit_said
@@ -188,7 +188,7 @@ below_hearing desk same j =
 
 -- what it says is fit
 stop_fits : (desk : Desk) (id : ℕ) → IsFitDesk desk → IsFitId id → AreFitActs (acts.Sends Entry (record { stamp = Some desk.moment; body = message.StopTransport transfer.Complete id }) ∷ [])
-stop_fits desk id fit short = sent desk Entry (message.StopTransport transfer.Complete id) fit (record { name = refl; values = (tt, (short, tt)); numbers = tt; named = refl; short = tt })
+stop_fits desk id fit short = sent desk Entry (message.StopTransport transfer.Complete id) fit (record { name = refl; values = (tt, (short, tt)); numbers = tt; named = refl; short = tt; subs = tt; barcodes = tt })
 
 pub below_read_fits : (desk : Desk) {r : Record} {l m : Lower} {seen : List SensorEvent} {told : List Act} → IsFitDesk desk → IsFitId r.id → lower.Reads desk r l seen m told → AreFitActs told
 below_read_fits desk fit id lower.reads_none = none_fit_said
@@ -198,8 +198,8 @@ below_read_fits desk {r = r} fit id (lower.reads_full_heard rs) = more_fit_said 
 
 pub below_said_fits : (desk : Desk) {r : Record} {l next : Lower} {told : List Act} → IsFitDesk desk → IsFitId r.id → lower.Follows desk r l next told → AreFitActs told
 below_said_fits desk fit id lower.follows_none = none_fit_said
-below_said_fits desk {r = r} fit id lower.follows_start = both_fit_said (sent desk Entry (message.StartTransport r.id) fit (record { name = refl; values = (id, tt); numbers = tt; named = refl; short = tt })) (more_fit_said tt none_fit_said)
-below_said_fits desk fit id lower.follows_ready = sent desk Entry (message.MachineReady quality.Unknown) fit (record { name = refl; values = (tt, tt); numbers = tt; named = refl; short = tt })
+below_said_fits desk {r = r} fit id lower.follows_start = both_fit_said (sent desk Entry (message.StartTransport r.id) fit (record { name = refl; values = (id, tt); numbers = tt; named = refl; short = tt; subs = tt; barcodes = tt })) (more_fit_said tt none_fit_said)
+below_said_fits desk fit id lower.follows_ready = sent desk Entry (message.MachineReady quality.Unknown) fit (record { name = refl; values = (tt, tt); numbers = tt; named = refl; short = tt; subs = tt; barcodes = tt })
 
 -- ---- where the board settles it is told
 

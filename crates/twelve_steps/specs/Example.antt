@@ -69,6 +69,7 @@ machine_above = record {
       kept = first_record ∷ [];
       outlet = record outlet.at_rest { offered = Some first_board; touched = Some first_board };
       exit = record { session = described (at_rest Upstream); willing = true };
+      last_offer = Some first_board;
     };
     entry_bytes = [];
     exit_bytes = [];

@@ -81,6 +81,7 @@ NamesElsewhere k (lines.Insert machine barcode) = IsElsewhere k machine
 NamesElsewhere k (lines.Remove machine id) = IsElsewhere k machine
 NamesElsewhere k (lines.Replace machine id) = IsElsewhere k machine
 NamesElsewhere k (lines.Mark machine id quality) = IsElsewhere k machine
+NamesElsewhere k (lines.Sub machine id place barcode) = IsElsewhere k machine
 NamesElsewhere k (lines.Hold machine side) = IsElsewhere k machine
 NamesElsewhere k (lines.Go machine side) = IsElsewhere k machine
 NamesElsewhere k (lines.Signal machine line on) = IsElsewhere k machine

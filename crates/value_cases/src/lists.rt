@@ -1,4 +1,4 @@
-use board_record::{BoardId, Kept, Record};
+use board_record::{BoardId, Kept, Record, SubBoard};
 use line_base::{Memory, Quality, Text};
 use std::alloc::{AllocError, Global};
 use std::str;
@@ -26,9 +26,13 @@ fn listed(alloc: Global, said: &str, boards: &[Record]) -> Result<String, AllocE
     Ok(text)
 }
 
-/// A board by the number of its id, with a mark where it failed.
+/// A board by the number of its id, with how many sub boards it has, or a mark where it failed.
 fn told(alloc: Global, board: &Record) -> Result<String, AllocError> {
     let number = board.id.number();
+    let subs = board.subs.list().len();
+    if subs > 0 {
+        return format!(in alloc; "{number}+{subs}");
+    }
     if board.quality == Quality::Failed {
         return format!(in alloc; "{number}!");
     }
@@ -101,7 +105,26 @@ fn placed(alloc: Global, kept: &mut Kept, what: &str, place: usize) -> Result<St
         kept.set_quality(place, Quality::Failed);
         return String::from_str(alloc, "failed");
     }
+    if what == "sub" {
+        return given_sub(alloc, kept, place);
+    }
     copied(alloc, &kept.list()[place])
+}
+
+/// Gives the board at a place one sub board more.
+fn given_sub(alloc: Global, kept: &mut Kept, place: usize) -> Result<String, AllocError> {
+    if place >= kept.list().len() {
+        return String::from_str(alloc, "no place");
+    }
+    let sub = SubBoard {
+        pos: 7,
+        barcode: None,
+        state: Quality::Failed,
+    };
+    match kept.push_sub(place, sub) {
+        Ok(()) => String::from_str(alloc, "given"),
+        Err(_) => Err(AllocError),
+    }
 }
 
 fn pushed_back(alloc: Global, kept: &mut Kept, number: u128) -> Result<String, AllocError> {

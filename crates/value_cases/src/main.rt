@@ -1,10 +1,11 @@
-//! The cases of values, ids and kept lists, a line each: a word for what is done, a space, and what
+//! The cases of values, ids, sub boards and kept lists, a line each: a word for what is done, a space, and what
 //! it is done with. Writes each line again with its answer.
 #![tactic(auto)]
 
 mod ids;
 mod lists;
 mod spelled;
+mod subs;
 mod values;
 
 use spelled::Spelled;
@@ -24,6 +25,7 @@ fn main(rt: HostRuntime) -> io::Result<()> {
 fn answer(alloc: Global, line: &str) -> Result<String, AllocError> {
     match line.split_once(' ') {
         Some(("kept", words)) => lists::answer(alloc, words),
+        Some(("subs", words)) => subs::answer(alloc, words),
         Some((what @ ("id" | "written" | "made"), words)) => ids::answer(alloc, what, words),
         Some((what, spelled)) => answer_to(alloc, what, spelled),
         None => String::from_str(alloc, "no case"),

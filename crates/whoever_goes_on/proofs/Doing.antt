@@ -68,6 +68,7 @@ calm_line k s _ is = absurd cc
 fit_line : (k : ℕ) (s : LineState) (line : ScriptLine) → is_of_link k s line ≡ true → IsFitLine line
 fit_line k s (lines.Insert machine barcode) is = absurd cc
 fit_line k s (lines.Query machine barcode) is = absurd cc
+fit_line k s (lines.Sub machine id place barcode) is = absurd cc
 fit_line k s _ is = tt
 
 -- ---- a play

@@ -5,7 +5,7 @@ ghost use Rattle.line_world.specs.FloorPlan.{IsGap, IsMachine};
 use crate::floor::told;
 use board_record::{BoardId, Sensed};
 use line_base::{Memory, SensorEvent, Side};
-use line_world::{Board, Floor, Move};
+use line_world::{Board, Floor, Move, MoveError};
 use std::io;
 use std::io::Write;
 
@@ -23,7 +23,8 @@ pub fn answer(floor: &mut Floor, word: &str, to: &mut Vec<u8>) -> io::Result<()>
     if let Some(step) = move_of(what) {
         return match floor.apply(number, step) {
             Ok(()) => write!(to, "done"),
-            Err(error) => write!(to, "{error}"),
+            Err(MoveError::No(why)) => write!(to, "{why}"),
+            Err(MoveError::Memory) => write!(to, "out of memory"),
         };
     }
     if let Some(side) = side_of(what) {

@@ -1,4 +1,4 @@
-use Rattle.custody.proofs.HandsContents.{contents_gone, contents_inserted, contents_marked, contents_removed, contents_replaced, contents_settled}
+use Rattle.custody.proofs.HandsContents.{contents_given, contents_gone, contents_inserted, contents_marked, contents_removed, contents_replaced, contents_settled}
 use Rattle.custody.proofs.keeps.offers_outlive_changes_by_hand.Goals as goal
 
 pub returns-clause-inserted : goal.returns-clause-inserted
@@ -18,3 +18,6 @@ returns-clause-settled c = λ gone l q kept h. contents_settled q h
 
 pub returns-clause-marked : goal.returns-clause-marked
 returns-clause-marked c = λ gone l q n ks js e free t h. contents_marked e free t h
+
+pub returns-clause-given : goal.returns-clause-given
+returns-clause-given c = λ gone l q ks js other t h. contents_given other t h

@@ -6,6 +6,10 @@ use Rattle.hermes_horizontal.specs.declared.attr.Attr.TheVariants as attrs
 use Rattle.hermes_horizontal.proofs.Writing.{board_written}
 use Rattle.hermes_horizontal.proofs.board.append_board.Goals as goal
 
+pub returns-in_err-append_optional_text-2-clause-kept : goal.returns-in_err-append_optional_text-2-clause-kept
+returns-in_err-append_optional_text-2-clause-kept c =
+    stands-then (stands-then (stands-then (stands-then c.append_optional_id.ensures.kept c.append_optional_text.ensures.kept) c.append_optional_number.ensures.kept) c.append_optional_number-2.ensures.kept) c.append_optional_text-2.ensures.kept
+
 pub returns-in_err-append_optional_text-3-clause-kept : goal.returns-in_err-append_optional_text-3-clause-kept
 returns-in_err-append_optional_text-3-clause-kept c =
     stands-then (stands-then (stands-then (stands-then (stands-then c.append_optional_id.ensures.kept c.append_optional_text.ensures.kept) c.append_optional_number.ensures.kept) c.append_optional_number-2.ensures.kept) c.append_optional_text-2.ensures.kept) c.append_optional_text-3.ensures.kept

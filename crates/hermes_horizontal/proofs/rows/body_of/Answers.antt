@@ -28,7 +28,7 @@ pub returns-in-BoardAvailable : goal.returns-in-BoardAvailable
 returns-in-BoardAvailable c =
     let inside : Tree = record { name = c.child.inside.name; at = c.child.inside.at; attributes = c.child.inside.attributes; children = c.child.inside.children } in
     let kind : kind_named inside.name ≡ kinds.BoardAvailable = cc (c.kind_named.ensures, c.bytes.ensures.bytes, c.in-BoardAvailable.is) in
-    subst (λ (child : Tree). ReadsBody child c.board_available.result) c.child.view_is (row_reads inside kinds.BoardAvailable c.board_available.result (λ e. cc) kind (c.board_available.ensures inside.children))
+    subst (λ (child : Tree). ReadsBody child c.board_available.result) c.child.view_is (row_reads inside kinds.BoardAvailable c.board_available.result (λ e. cc) kind c.board_available.ensures)
 
 pub returns-in-MachineReady : goal.returns-in-MachineReady
 returns-in-MachineReady c =
@@ -64,7 +64,7 @@ pub returns-in-SendBoardInfo : goal.returns-in-SendBoardInfo
 returns-in-SendBoardInfo c =
     let inside : Tree = record { name = c.child.inside.name; at = c.child.inside.at; attributes = c.child.inside.attributes; children = c.child.inside.children } in
     let kind : kind_named inside.name ≡ kinds.SendBoardInfo = cc (c.kind_named.ensures, c.bytes.ensures.bytes, c.in-SendBoardInfo.is) in
-    subst (λ (child : Tree). ReadsBody child c.send_board_info.result) c.child.view_is (row_reads inside kinds.SendBoardInfo c.send_board_info.result (λ e. cc) kind (c.send_board_info.ensures inside.children))
+    subst (λ (child : Tree). ReadsBody child c.send_board_info.result) c.child.view_is (row_reads inside kinds.SendBoardInfo c.send_board_info.result (λ e. cc) kind c.send_board_info.ensures)
 
 pub returns-in-QueryBoardInfo : goal.returns-in-QueryBoardInfo
 returns-in-QueryBoardInfo c =

@@ -8,15 +8,15 @@ use Rattle.hermes_horizontal.specs.Spelling.{values_of}
 use Rattle.hermes_horizontal.proofs.Joining.{head_refused, sizes_refused, clearances_refused, head_told, info_refused, board_said, two_ok, three_ok}
 use Rattle.hermes_horizontal.proofs.rows.info_in.Goals as goal
 
-pub returns-in_err-head : goal.returns-in_err-head
-returns-in_err-head c attributes found =
+pub returns-in_err-head-clause-told : goal.returns-in_err-head-clause-told
+returns-in_err-head-clause-told c attributes found =
     let p = err_from_is_err_and c.from_residual.result c.from_residual.ensures.1 in
     let refused = rw found at c.in_err-head.ensures in
     info_refused (values_of c.args.at attributes (board_columns c.args.required)) c.in_err-head.field-0.0 p.0 c.from_residual.result p.1 p.2
     (head_refused c.args.at attributes c.args.required c.in_err-head.field-0.0 refused)
 
-pub returns-in_err-sizes : goal.returns-in_err-sizes
-returns-in_err-sizes c attributes found =
+pub returns-in_err-sizes-clause-told : goal.returns-in_err-sizes-clause-told
+returns-in_err-sizes-clause-told c attributes found =
     let created_by = found_of attributes attrs.BoardIdCreatedBy in
     let p = err_from_is_err_and c.from_residual-in_err-sizes.result c.from_residual-in_err-sizes.ensures.1 in
     let head = rw found at c.in_ok-head.ensures in
@@ -24,8 +24,8 @@ returns-in_err-sizes c attributes found =
     info_refused (values_of c.args.at attributes (board_columns c.args.required)) c.in_err-sizes.field-0.0 p.0 c.from_residual-in_err-sizes.result p.1 p.2
     (sizes_refused c.args.at attributes c.args.required (head_parts created_by c.in_ok-head.head) c.in_err-sizes.field-0.0 head refused)
 
-pub returns-in_err-clearances : goal.returns-in_err-clearances
-returns-in_err-clearances c attributes found =
+pub returns-in_err-clearances-clause-told : goal.returns-in_err-clearances-clause-told
+returns-in_err-clearances-clause-told c attributes found =
     let created_by = found_of attributes attrs.BoardIdCreatedBy in
     let p = err_from_is_err_and c.from_residual-in_err-clearances.result c.from_residual-in_err-clearances.ensures.1 in
     let head = rw found at c.in_ok-head.ensures in
@@ -34,8 +34,8 @@ returns-in_err-clearances c attributes found =
     info_refused (values_of c.args.at attributes (board_columns c.args.required)) c.in_err-clearances.field-0.0 p.0 c.from_residual-in_err-clearances.result p.1 p.2
     (clearances_refused c.args.at attributes c.args.required (head_parts created_by c.in_ok-head.head) (sizes_parts c.in_ok-sizes.sizes) c.in_err-clearances.field-0.0 head sizes refused)
 
-pub returns : goal.returns
-returns c attributes found =
+pub returns-clause-told : goal.returns-clause-told
+returns-clause-told c attributes found =
     let at = c.args.at in
     let head = rw found at c.in_ok-head.ensures in
     let sizes = rw found at (c.in_ok-sizes.ensures at) in

@@ -4,6 +4,7 @@ use Rattle.line_cli.specs.Making.{made_number}
 use Rattle.line_cli.proofs.AnsweredOnce.{answers_so}
 use Rattle.line_cli.proofs.FitScript.{scripts_are_fit}
 use Rattle.line_cli.proofs.Fronts.{has_one_report}
+use Rattle.line_cli.proofs.LedgerTold.{reports_stand, reports_start, reports_tell}
 use Rattle.line_cli.proofs.MadeOnce.{has_one_make_text}
 use Rattle.line_cli.proofs.ReadFronts.{has_one_read_text}
 use Rattle.line_cli.proofs.command.line_main.Goals as goal
@@ -31,6 +32,15 @@ returns-clause-custody g c = c.the_custody_facts_hold_after_each_line.ensures
 
 pub returns-clause-ledger : goal.returns-clause-ledger
 returns-clause-ledger g c = c.the_ledger_follows_the_report.ensures
+
+pub returns-clause-tells : goal.returns-clause-tells
+returns-clause-tells g c = reports_tell c.a_report_tells_its_ledger.ensures
+
+pub returns-clause-told : goal.returns-clause-told
+returns-clause-told g c = reports_stand c.a_report_tells_its_standings.ensures
+
+pub returns-clause-starts : goal.returns-clause-starts
+returns-clause-starts g c = reports_start c.a_report_tells_its_starts.ensures
 
 pub returns-clause-order : goal.returns-clause-order
 returns-clause-order g c = c.boards_go_in_the_order_in_which_they_came.ensures
@@ -85,3 +95,6 @@ returns-clause-complete g c =
 
 pub returns-clause-determined : goal.returns-clause-determined
 returns-clause-determined g c = c.each_input_has_one_answer.ensures
+
+pub returns-clause-announced : goal.returns-clause-announced
+returns-clause-announced g c = c.an_announced_state_is_reached.ensures

@@ -1,18 +1,21 @@
-use Rattle.std.proofs.Common.{◌≡◌, length, take, refl, arith}
+use Rattle.std.proofs.Common.{◌≡◌, ◌≤◌, length, take, refl, arith}
 use Rattle.std.proofs.lemmas.List.{length-take-le}
+use Rattle.line_cli.proofs.LinesLemmas.{HasNoEnd-nil}
 use Rattle.line_cli.proofs.Going.{goes-first, goes-piece, goes-pushed, runs-part, runs-read_fault, runs-refused, runs-end_refused, runs-whole, causes-refused, causes-whole, causes-write_fault, causes-read_fault}
 use Rattle.line_cli.proofs.running.run_pieces.Goals as goal
 
 pub loop-count-init : goal.loop-count-init
 loop-count-init g c =
-    record { going = rw (c.requires.new, c.requires.none) (goes-first (g.S.Source.left c.args.script.now) (g.K.Sink.contents c.args.report.now)); reads = omega arith; writes = omega arith; room = c.requires.room; unspent = rw c.requires.new refl; bounded = rw c.requires.new (omega arith) }
+    record { going = rw (c.requires.new, c.requires.none) (goes-first (g.S.Source.left c.args.script.now) (g.K.Sink.contents c.args.report.now)); reads = omega arith; writes = omega arith; room = c.requires.room; small = c.requires.small; waits = rw c.requires.new HasNoEnd-nil; unspent = rw c.requires.new refl; bounded = rw c.requires.new (omega arith) }
 
 pub returns-in-Err-clause-runs : goal.returns-in-Err-clause-runs
 returns-in-Err-clause-runs g c =
     let room = c.pull.new.room in
     let takes = rw c.front.ensures at c.in-Err.ensures.takes in
     let ends = rw c.as_slice.ensures.value at c.end_refused.ensures.ends in
-    runs-refused c.in-Err.error (g.S.Source.left c.args.script.now) (g.S.Source.left c.loop-count.script) (g.S.Source.left c.pull.new.self) (g.K.Sink.contents c.args.report.now) (g.K.Sink.contents c.loop-count.report) (g.K.Sink.contents c.end_refused.new.report) (g.K.Sink.faults c.loop-count.report) (g.K.Sink.faults c.end_refused.new.report) c.loop-count.reader c.take_piece.new.self (take c.in-Bytes.count room) c.loop-count.text.items c.take_piece.new.to.items c.end_refused.result c.loop-count.invariant.going c.in-Bytes.ensures.gives.2 takes ends
+    let long : length (take c.in-Bytes.count room) ≡ c.in-Bytes.count = length-take-le c.in-Bytes.count room c.in-Bytes.ensures.gives.1 in
+    let short : length (take c.in-Bytes.count room) ≤ 65536 = omega (arith, long, c.in-Bytes.ensures.gives.1, c.loop-count.invariant.small, c.pull.auto.room) in
+    runs-refused c.in-Err.error (g.S.Source.left c.args.script.now) (g.S.Source.left c.loop-count.script) (g.S.Source.left c.pull.new.self) (g.K.Sink.contents c.args.report.now) (g.K.Sink.contents c.loop-count.report) (g.K.Sink.contents c.end_refused.new.report) (g.K.Sink.faults c.loop-count.report) (g.K.Sink.faults c.end_refused.new.report) c.loop-count.reader c.take_piece.new.self (take c.in-Bytes.count room) c.loop-count.text.items c.take_piece.new.to.items c.end_refused.result c.loop-count.invariant.waits short c.loop-count.invariant.going c.in-Bytes.ensures.gives.2 takes ends
 
 pub returns-in-Err-clause-causes : goal.returns-in-Err-clause-causes
 returns-in-Err-clause-causes g c =
@@ -50,6 +53,8 @@ loop-count-preserved g c =
       reads = omega (arith, c.loop-count.invariant.reads, c.in-Bytes.ensures.cause);
       writes = omega (arith, c.loop-count.invariant.writes, c.in_default-push_full.ensures.0);
       room = omega (arith, c.loop-count.invariant.room, c.pull.auto.room);
+      small = omega (arith, c.loop-count.invariant.small, c.pull.auto.room);
+      waits = c.in_default.ensures.waits;
       unspent = c.in_default.ensures.unspent;
       bounded = c.in_default.ensures.bounded;
     }
@@ -57,7 +62,7 @@ loop-count-preserved g c =
 pub returns-in-Err-finish-clause-runs : goal.returns-in-Err-finish-clause-runs
 returns-in-Err-finish-clause-runs g c =
     let ends = rw c.as_slice-in-Err-finish.ensures.value at c.end_refused-in-Err-finish.ensures.ends in
-    runs-end_refused c.in-Err-finish.error (g.S.Source.left c.args.script.now) (g.S.Source.left c.loop-count.script) (g.S.Source.left c.pull.new.self) (g.K.Sink.contents c.args.report.now) (g.K.Sink.contents c.loop-count.report) (g.K.Sink.contents c.end_refused-in-Err-finish.new.report) (g.K.Sink.faults c.loop-count.report) (g.K.Sink.faults c.end_refused-in-Err-finish.new.report) c.loop-count.reader c.finish.new.self c.loop-count.text.items c.finish.new.to.items c.end_refused-in-Err-finish.result c.loop-count.invariant.going c.in-End.ensures.gives.1 c.in-Err-finish.ensures.finishes ends
+    runs-end_refused c.in-Err-finish.error (g.S.Source.left c.args.script.now) (g.S.Source.left c.loop-count.script) (g.S.Source.left c.pull.new.self) (g.K.Sink.contents c.args.report.now) (g.K.Sink.contents c.loop-count.report) (g.K.Sink.contents c.end_refused-in-Err-finish.new.report) (g.K.Sink.faults c.loop-count.report) (g.K.Sink.faults c.end_refused-in-Err-finish.new.report) c.loop-count.reader c.finish.new.self c.loop-count.text.items c.finish.new.to.items c.end_refused-in-Err-finish.result c.loop-count.invariant.waits c.loop-count.invariant.going c.in-End.ensures.gives.0 c.in-End.ensures.gives.1 c.in-Err-finish.ensures.finishes ends
 
 pub returns-in-Err-finish-clause-causes : goal.returns-in-Err-finish-clause-causes
 returns-in-Err-finish-clause-causes g c =

@@ -1,4 +1,5 @@
 use Rattle.std.proofs.Common.{◌≡◌, ◌<◌, ◌≤◌, ◌-◌, false, length}
+use Rattle.line_cli.specs.LineEnds.{HasNoEnd}
 use Rattle.line_cli.specs.Reader.{progress_of}
 use Rattle.line_cli.specs.Ending.{GoesOn}
 use Rattle.line_cli.proofs.running.run_pieces.Given as goal
@@ -9,6 +10,8 @@ invariant-loop-count g l = record {
   reads : g.S.Source.faults l.fn.script ≤ g.S.Source.faults l.script;
   writes : g.K.Sink.faults l.fn.report ≤ g.K.Sink.faults l.report;
   room : 0 < length l.room;
+  small : length l.room ≤ 65536;
+  waits : HasNoEnd l.reader.pending;
   unspent : l.reader.state.spent ≡ false;
   bounded : progress_of l.reader ≤ 4099004097;
 }

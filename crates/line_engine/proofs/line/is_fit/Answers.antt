@@ -1,4 +1,5 @@
 use Rattle.std.proofs.Common.{subst, sym}
+use Rattle.line_script.specs.Ranges.{IsWithin}
 use Rattle.line_script.specs.declared.line.ScriptLine.{ScriptLine}
 use Rattle.one_standing.specs.Standing.{IsFitLine}
 use Rattle.line_engine.proofs.line.is_fit.Goals as goal
@@ -8,3 +9,9 @@ returns-in-Insert c = subst (λ (line : ScriptLine). IsFitLine line) (sym c.in-I
 
 pub returns-in-Query : goal.returns-in-Query
 returns-in-Query c = subst (λ (line : ScriptLine). IsFitLine line) (sym c.in-Query.is) (c.is_asked.ensures c.in-Query.machine)
+
+pub returns-in-Sub : goal.returns-in-Sub
+returns-in-Sub c = subst (λ (line : ScriptLine). IsFitLine line) (sym c.in-Sub.is) (c.is_circuit.ensures c.in-Sub.machine c.in-Sub.id)
+
+pub is_circuit-requires : goal.is_circuit-requires
+is_circuit-requires c = (subst (λ (line : ScriptLine). IsWithin line) c.in-Sub.is c.requires).1.most

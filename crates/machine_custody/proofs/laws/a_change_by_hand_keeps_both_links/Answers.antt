@@ -1,4 +1,4 @@
-use Rattle.machine_custody.proofs.Step.{insert_goes, mark_goes, remove_goes, replace_goes}
+use Rattle.machine_custody.proofs.Step.{insert_goes, mark_goes, remove_goes, replace_goes, sub_goes}
 use Rattle.machine_custody.proofs.laws.a_change_by_hand_keeps_both_links.Goals as goal
 
 pub returns-clause-insert : goal.returns-clause-insert
@@ -12,3 +12,6 @@ returns-clause-replace c = λ afar above ga gb gone desk unread old new body sce
 
 pub returns-clause-mark : goal.returns-clause-mark
 returns-clause-mark c = λ afar above ga gb desk unread id quality body scene good plain. mark_goes desk unread id quality body scene good plain
+
+pub returns-clause-sub : goal.returns-clause-sub
+returns-clause-sub c = λ afar above ga gb desk unread id sub body scene good plain. sub_goes desk unread id sub body scene good plain

@@ -22,3 +22,9 @@ returns-clause-part g c = c.a_run_is_one.ensures.part
 
 pub returns-clause-connections : goal.returns-clause-connections
 returns-clause-connections g c = c.the_bytes_of_a_connection_are_in_order.ensures
+
+pub returns-clause-settles : goal.returns-clause-settles
+returns-clause-settles g c = c.the_settings_are_those_of_the_last_set.ensures
+
+pub returns-clause-neighbours : goal.returns-clause-neighbours
+returns-clause-neighbours g c = c.woven_nodes_run_behind_the_reading.ensures.stand

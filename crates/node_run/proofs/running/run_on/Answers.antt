@@ -33,7 +33,7 @@ loop-status-init g c = record {
 pub loop-status-smaller : goal.loop-status-smaller
 loop-status-smaller g c =
     let once = c.in_default.ensures in
-    nearer_on _ c.loop-status.run.rules c.move_once.new.run.rules c.loop-status.run.state c.move_once.new.run.state _ _ _ _ (once.rules refl) once.does c.loop-status.invariant.rest (once.rest refl) c.is_short.ensures.channel c.is_short.ensures.held
+    nearer_on _ c.loop-status.run.rules c.move_once.new.run.rules c.loop-status.run.state c.move_once.new.run.state _ _ _ _ (once.rules refl) once.does c.loop-status.invariant.rest (once.rest refl) c.is_short.ensures.channel c.is_short.ensures.config c.is_short.ensures.held
 
 pub loop-status-preserved : goal.loop-status-preserved
 loop-status-preserved g c =

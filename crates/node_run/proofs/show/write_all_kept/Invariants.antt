@@ -1,5 +1,5 @@
 use Rattle.std.proofs.Common.{◌≡◌, ◌++◌, drop, flat_map}
-use Rattle.node_run.specs.Texts.{kept_line}
+use Rattle.machine_log.specs.Texts.{kept_line}
 use Rattle.node_run.proofs.show.write_all_kept.Given as goal
 
 -- what is written and what is left to write are the whole

@@ -8,4 +8,4 @@ pub returns-clause-free : goal.returns-clause-free
 returns-clause-free c = λ t s j desk read rest st front. reads_free t s j desk read rest st front
 
 pub returns-clause-takes : goal.returns-clause-takes
-returns-clause-takes c = λ t s j desk read event st front plain. takes_steady t s j desk read event st front plain
+returns-clause-takes c = λ t s j desk read rest event st front plain in_time enough. takes_steady t s j desk read rest event st front plain in_time enough

@@ -1,8 +1,8 @@
-use Rattle.running_line.proofs.TurnWhole.{turn_goes_on, turns_to}
+use Rattle.running_line.proofs.TurnWhole.{turn_goes_on, turns_first}
 use Rattle.running_line.proofs.laws.the_relation_goes_on_in_a_turn.Goals as goal
 
 pub returns-clause-turned : goal.returns-clause-turned
-returns-clause-turned c = λ t j input moment before after told st turn. turns_to (record {
+returns-clause-turned c = λ t j input moment before after told st turn. turns_first (record {
   oldest = c.the_words_of_a_piece_are_the_oldest_messages.ensures;
   wrong = c.a_frame_with_a_nul_is_a_wrong_word.ensures;
   sayable = c.fit_messages_are_sayable.ensures;

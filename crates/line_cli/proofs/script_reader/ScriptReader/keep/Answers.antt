@@ -14,6 +14,9 @@ returns-then-part-len-clause-takes c =
     let P : Place → Type 0 = λ place. Takes c.refuse_long.result place place part c.args.to.now.items c.refuse_long.new.to.items in
     subst P c.self.view_is (rw append-nil at taken)
 
+pub returns-clause-waits : goal.returns-clause-waits
+returns-clause-waits c = rw c.in_default.ensures.items (HasNoEnd-append c.self.inside.pending.items c.args.part.now c.self.invariant.0 c.requires.rest)
+
 pub returns-clause-takes : goal.returns-clause-takes
 returns-clause-takes c =
     let place : Place = record { state = c.self.inside.run; pending = c.self.inside.pending.items } in

@@ -97,3 +97,6 @@ returns-clause-replay c =
     λ none.
     rw (← c.self.view_is) (step_replays (step_of (goal.at.returns-clause-replay c).After-unspent-2)
     c.each_line_keeps_the_replay_right.ensures c.self.inside.spent c.if-self.false none)
+
+pub returns-clause-has_step : goal.returns-clause-has_step
+returns-clause-has_step c = c.each_line_has_a_step.ensures

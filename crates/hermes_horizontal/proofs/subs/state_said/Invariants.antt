@@ -1,0 +1,6 @@
+use Rattle.std.proofs.Common.{◌≡◌, codes, drop}
+use Rattle.hermes_horizontal.specs.Said.{first_named}
+use Rattle.hermes_horizontal.proofs.subs.state_said.Given as goal
+
+abbrev pub invariant-loop-attribute : goal.invariant-loop-attribute
+invariant-loop-attribute l = first_named (codes "St") (drop l.attribute-index l.attributes) ≡ first_named (codes "St") l.fn.attributes

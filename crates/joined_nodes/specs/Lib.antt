@@ -1,0 +1,5 @@
+pub mod Does
+pub mod Joined
+pub mod Woven
+pub mod Bytes
+pub mod Laws

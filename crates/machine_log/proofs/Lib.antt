@@ -1,0 +1,3 @@
+pub mod Solid
+pub mod Inner
+pub mod Reading

@@ -1,0 +1,3 @@
+pub mod Texts
+pub mod Account
+pub mod Drives

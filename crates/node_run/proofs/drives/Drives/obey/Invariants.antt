@@ -1,7 +1,0 @@
-use Rattle.std.proofs.Common.{◌≡◌, drop}
-use Rattle.node_run.specs.Drives.{drives_after}
-use Rattle.node_run.proofs.drives.Drives.obey.Given as goal
-
--- what the acts that are left do to the drives is what all of them do
-abbrev pub invariant-loop-act : goal.invariant-loop-act
-invariant-loop-act l = drives_after l.self (drop l.act-index l.acts) ≡ drives_after l.initial.self l.acts

@@ -1,0 +1,132 @@
+-- What a line of a script does tells no standing: those that changed are told behind it.
+use Rattle.std.proofs.Common.{◌≡◌, sym, subst, ℕ, ◌+◌, ◌==◌, Bool, true, false, List, [], ◌∷◌, ◌++◌, Option, Some, None, Result, Ok, Err}
+use Rattle.std.specs.Prelude.{if◌then◌else◌}
+use Rattle.std.specs.List.{AllByRecursion}
+use Rattle.hermes_horizontal.specs.declared.message.Message.{Message}
+use Rattle.hermes_horizontal.specs.Canonical.{canonical}
+use Rattle.board_record.specs.declared.record.Record.{Record}
+use Rattle.line_base.specs.declared.states.Side.{Side}
+use Rattle.line_link.specs.Link.{answer_sent, sent_of, spoil_sent}
+use Rattle.line_link.specs.declared.link.Sent.{Sent}
+use Rattle.line_link.specs.declared.link.Sent.TheVariants as sent
+use Rattle.line_world.specs.FloorPlan.{FloorPlan}
+use Rattle.line_world.specs.Moves.{floor_move}
+use Rattle.line_world.specs.declared.moves.Move.{Move}
+use Rattle.line_world.specs.declared.moves.MoveNo.{MoveNo}
+use Rattle.node_core.specs.Node.{NodeState}
+use Rattle.node_core.specs.Own.{own_of}
+use Rattle.node_core.specs.declared.act.Act.{Act}
+use Rattle.node_core.specs.declared.act.Act.TheVariants as acts
+use Rattle.node_core.specs.declared.input.Input.{Input}
+use Rattle.line_report.specs.declared.happening.Happening.{Happening}
+use Rattle.line_report.specs.declared.happening.Happening.TheVariants as happenings
+use Rattle.line_script.specs.declared.line.ScriptLine.{ScriptLine}
+use Rattle.line_step.specs.Acts.{act_did, acts_did, answers, cut_told, sent_by}
+use Rattle.line_step.specs.Lines.{Becomes, Connects, Flows, LineDoes, Unless, move_told, spoil_told, unvouched_told}
+use Rattle.line_step.specs.Reasons.{May}
+use Rattle.line_step.specs.Shown.{between_shown, kept_shown, shown_from, taken_below}
+use Rattle.line_step.specs.State.{LineState}
+use Rattle.line_step.specs.Steps.{MachineSteps, is_second, read_by}
+use Rattle.line_step.specs.World.{WorldParts, end_of, link_at, link_of}
+use Rattle.line_step.proofs.Requests.{Request, RequestDoes, added_told, line_requests, request_of}
+use Rattle.line_step.proofs.Requests as requests
+
+abbrev pub IsSilent : Happening → Type 0
+IsSilent (happenings.With machine id) = ⊥
+IsSilent (happenings.Between gap id) = ⊥
+IsSilent (happenings.Gone id) = ⊥
+IsSilent _ = Unit {0}
+
+abbrev pub AreSilent : List Happening → Type 0
+AreSilent told = AllByRecursion IsSilent told
+
+join : (a b : List Happening) → AreSilent a → AreSilent b → AreSilent (a ++ b)
+join [] b one two = two
+join (h ∷ a) b one two = (one.0, join a b one.1 two)
+
+-- ---- acts
+
+cut_silent : (link : ℕ) (on : Sent) → AreSilent (cut_told link on)
+cut_silent link sent.Cuts = (tt, tt)
+cut_silent link sent.Flows = tt
+cut_silent link sent.Vanishes = tt
+
+sent_silent : (second : Bool) (machine : ℕ) (side : Side) (message : Message) (world : WorldParts) → AreSilent (sent_by second machine side message world).told
+sent_silent true machine side message world = (tt, cut_silent machine (answer_sent (canonical message) (link_at machine world)))
+sent_silent false machine side message world = (tt, cut_silent (link_of machine side) (sent_of (end_of side) (canonical message) (link_at (link_of machine side) world)))
+
+act_silent : (second : Bool) (machine : ℕ) (act : Act) (world : WorldParts) → AreSilent (act_did second machine act world).told
+act_silent second machine (acts.Sends side message) world = sent_silent (answers second side message) machine side message world
+act_silent second machine (acts.Drive side on) world = tt
+act_silent second machine act world = (tt, tt)
+
+acts_silent : (second : Bool) (machine : ℕ) (told : List Act) (world : WorldParts) → AreSilent (acts_did second machine told world).told
+acts_silent second machine [] world = tt
+acts_silent second machine (act ∷ others) world =
+    let one = act_did second machine act world in
+    join one.told (acts_did second machine others one.world).told (act_silent second machine act world) (acts_silent second machine others one.world)
+
+machine_silent : (number which : ℕ) (input : Input) (before after : LineState) (told : List Happening) → MachineSteps number which input before after told → AreSilent told
+machine_silent number which input before after told steps = subst AreSilent (sym steps.told_is) (acts_silent (is_second input) which steps.acts (read_by which before.world))
+
+-- ---- what is shown
+
+kept_silent : (machine : ℕ) (boards : List Record) → AreSilent (kept_shown machine boards)
+kept_silent machine [] = tt
+kept_silent machine (board ∷ boards) = (tt, kept_silent machine boards)
+
+two_silent : (same : Bool) (gap above below : ℕ) → AreSilent (happenings.ShownBetween gap above ∷ (if same then [] else happenings.ShownBetween gap below ∷ []))
+two_silent true gap above below = (tt, tt)
+two_silent false gap above below = (tt, (tt, tt))
+
+between_silent : (gap : ℕ) (above below : Option ℕ) → AreSilent (between_shown gap above below)
+between_silent gap None None = tt
+between_silent gap None (Some below) = (tt, tt)
+between_silent gap (Some above) None = (tt, tt)
+between_silent gap (Some above) (Some below) = two_silent (above == below) gap above below
+
+shown_silent : (machine : ℕ) (nodes : List NodeState) → AreSilent (shown_from machine nodes)
+shown_silent machine [] = tt
+shown_silent machine (node ∷ nodes) =
+    let between = between_shown machine (own_of node.lane.body).held (taken_below nodes) in
+    join (kept_shown machine node.lane.body.kept) (between ++ shown_from (machine + 1) nodes) (kept_silent machine node.lane.body.kept)
+    (join between (shown_from (machine + 1) nodes) (between_silent machine (own_of node.lane.body).held (taken_below nodes)) (shown_silent (machine + 1) nodes))
+
+-- ---- a line
+
+becomes_silent : {next after : LineState} {what told : List Happening} → Becomes next what after told → AreSilent what → AreSilent told
+becomes_silent b silent = subst AreSilent (sym b.told_is) silent
+
+unless_silent : (may : May) (before after : LineState) (told : List Happening) (Done : Type 0) → Unless may before after told Done → (Done → AreSilent told) → AreSilent told
+unless_silent (Ok _) before after told Done does go = go does
+unless_silent (Err reason) before after told Done does go = becomes_silent does (tt, tt)
+
+move_silent : (gap : ℕ) (step : Move) (answer : Result FloorPlan MoveNo) → AreSilent (move_told gap step answer)
+move_silent gap step (Ok floor) = (tt, tt)
+move_silent gap step (Err why) = (tt, tt)
+
+unvouched_silent : (unvouched : Option ℕ) → AreSilent (unvouched_told unvouched)
+unvouched_silent None = (tt, tt)
+unvouched_silent (Some line) = tt
+
+added_silent : (is_bridge : Bool) (capacity : ℕ) (s : LineState) → AreSilent (added_told is_bridge capacity s)
+added_silent true capacity s = (tt, tt)
+added_silent false capacity s = (tt, tt)
+
+request_silent : (number : ℕ) (request : Request) (before after : LineState) (told : List Happening) → RequestDoes number request before after told → AreSilent told
+request_silent number requests.nothing before after told does = becomes_silent does tt
+request_silent number requests.shows before after told does = becomes_silent does (shown_silent 1 before.machines)
+request_silent number (requests.adds is_bridge capacity used) before after told does = unless_silent _ before after told _ does (λ done. becomes_silent done (added_silent is_bridge capacity before))
+request_silent number (requests.gives machine input) before after told does = unless_silent _ before after told _ does (λ done. machine_silent number machine input before after told done)
+request_silent number (requests.connects machine) before after told does = unless_silent _ before after told _ does
+    (λ (done : Connects number machine before after told). subst AreSilent (sym done.told_is) (join done.earlier done.later (machine_silent number machine _ _ done.between done.earlier done.first) (machine_silent number _ _ done.between after done.later done.second)))
+request_silent number (requests.flows machine side count) before after told does = unless_silent _ before after told _ does (λ (done : Flows number machine side count before after told). machine_silent number machine _ _ after told done.steps)
+request_silent number (requests.cuts gap) before after told does = unless_silent _ before after told _ does (λ done. becomes_silent {what = happenings.Cut gap ∷ []} done (tt, tt))
+request_silent number (requests.spoils machine side) before after told does = unless_silent _ before after told _ does
+    (λ done. becomes_silent {what = spoil_told machine side before} done (tt, cut_silent (link_of machine side) (spoil_sent (end_of side) (link_at (link_of machine side) before.world))))
+request_silent number (requests.moves_on gap step) before after told does = becomes_silent does (move_silent gap step (floor_move gap step before.world.floor))
+request_silent number (requests.lies machine sensed) before after told does = unless_silent _ before after told _ does (λ done. becomes_silent {what = happenings.Lie machine sensed ∷ unvouched_told before.unvouched} done (tt, unvouched_silent before.unvouched))
+request_silent number (requests.unsees machine side) before after told does = unless_silent _ before after told _ does (λ done. becomes_silent {what = happenings.Unseen machine side ∷ unvouched_told before.unvouched} done (tt, unvouched_silent before.unvouched))
+
+pub line_silent : (number : ℕ) (line : ScriptLine) (before after : LineState) (told : List Happening) → LineDoes number line before after told → AreSilent told
+line_silent number line before after told does = request_silent number (request_of line) before after told (line_requests number line before after told does)

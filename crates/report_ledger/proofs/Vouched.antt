@@ -1,0 +1,116 @@
+-- Of a report's lines those that are vouched for are those of the honest lines of its script.
+use Rattle.std.proofs.Common.{◌≡◌, ◌∙◌, sym, ap, refl, ℕ, ◌+◌, ◌<◌, ◌==◌, ◌&&◌, ◌||◌, Bool, true, false, List, [], ◌∷◌, ◌++◌, Option, Some, None, append_assoc, append-nil, arith, if◌then◌else◌}
+use Rattle.std.proofs.lemmas.Bool.{eq-eqb, ne_eqb, or_parts}
+use Rattle.line_report.specs.Texts.{happening_text}
+use Rattle.line_report.specs.declared.happening.Happening.{Happening}
+use Rattle.line_step.specs.Lies.{is_lie, tells_lie as told_lies}
+use Rattle.line_step.specs.Runs.{Point}
+use Rattle.report_ledger.specs.Ledgers.{AreUnnumbered, honest}
+use Rattle.report_ledger.specs.ReportLines.{ReportLine, deeds_at, deeds_told, has_number, lies_at, tells_lie, vouched}
+use Rattle.report_ledger.proofs.Lines.{line_with, lines_told, run_lines}
+use Rattle.report_ledger.proofs.Deeds.{happening_lies}
+
+-- ---- the lies of a number
+
+same_number : (number : ℕ) → (number == number) ≡ true
+same_number number = eq-eqb number number refl
+
+-- of the lines of that number
+lies_told : (number : ℕ) (told : List Happening) (later : List ReportLine) → lies_at (Some number) later ≡ false → lies_at (Some number) (lines_told number told ++ later) ≡ told_lies told
+lies_told number [] later silent = silent
+lies_told number (happening ∷ told) later silent =
+    let rest = lies_at (Some number) (lines_told number told ++ later) in
+    ap (λ (b : Bool). (b && tells_lie (happening_text happening)) || rest) (same_number number)
+    ∙ ap (λ (b : Bool). b || rest) (happening_lies happening)
+    ∙ ap (λ (b : Bool). is_lie happening || b) (lies_told number told later silent)
+
+-- and of those of others
+others_silent : (number other : ℕ) (told : List Happening) (later : List ReportLine) → (other == number) ≡ false → lies_at (Some number) later ≡ false → lies_at (Some number) (lines_told other told ++ later) ≡ false
+others_silent number other [] later differ silent = silent
+others_silent number other (happening ∷ told) later differ silent =
+    ap (λ (b : Bool). (b && tells_lie (happening_text happening)) || lies_at (Some number) (lines_told other told ++ later)) differ
+    ∙ others_silent number other told later differ silent
+
+unnumbered_silent : (number : ℕ) (tail : List ReportLine) → AreUnnumbered tail → lies_at (Some number) tail ≡ false
+unnumbered_silent number [] none = refl
+unnumbered_silent number (line ∷ tail) none =
+    ap (λ (n : Option ℕ). (has_number number n && tells_lie line.text) || lies_at (Some number) tail) none.0
+    ∙ unnumbered_silent number tail none.1
+
+later_silent : (number next : ℕ) (points : List Point) (tail : List ReportLine) → number < next → AreUnnumbered tail → lies_at (Some number) (run_lines next points ++ tail) ≡ false
+later_silent number next [] tail less none = unnumbered_silent number tail none
+later_silent number next (point ∷ points) tail less none =
+    ap (lies_at (Some number)) (append_assoc (lines_told next point.told) (run_lines (next + 1) points) tail)
+    ∙ others_silent number next point.told (run_lines (next + 1) points ++ tail) (ne_eqb next number (λ same. absurd (omega (arith, same, less)))) (later_silent number (next + 1) points tail (omega (arith, less)) none)
+
+-- ---- what is vouched for
+
+vouched_line : (number : Option ℕ) (text : List ℕ) (later : List ReportLine) → lies_at number (line_with number text ∷ later) ≡ false → vouched (line_with number text ∷ later) ≡ line_with number text ∷ vouched later
+vouched_line number text later honest = ap (λ (b : Bool). if b then [] else line_with number text ∷ vouched later) honest
+
+vouched_told : (number : ℕ) (told : List Happening) (later : List ReportLine) → lies_at (Some number) later ≡ false → told_lies told ≡ false → vouched (lines_told number told ++ later) ≡ lines_told number told ++ vouched later
+vouched_told number [] later silent honest = refl
+vouched_told number (happening ∷ told) later silent honest =
+    let parts = or_parts (is_lie happening) (told_lies told) honest in
+    vouched_line (Some number) (happening_text happening) (lines_told number told ++ later) (lies_told number (happening ∷ told) later silent ∙ honest)
+    ∙ ap (λ (l : List ReportLine). line_with (Some number) (happening_text happening) ∷ l) (vouched_told number told later silent parts.1)
+
+vouched_lying : (number : ℕ) (told : List Happening) (later : List ReportLine) → lies_at (Some number) later ≡ false → told_lies told ≡ true → vouched (lines_told number told ++ later) ≡ []
+vouched_lying number [] later silent lying = absurd (let h : false ≡ true = lying in cc)
+vouched_lying number (happening ∷ told) later silent lying =
+    ap (λ (b : Bool). if b then [] else line_with (Some number) (happening_text happening) ∷ vouched (lines_told number told ++ later)) (lies_told number (happening ∷ told) later silent ∙ lying)
+
+vouched_unnumbered : (tail : List ReportLine) → AreUnnumbered tail → vouched tail ≡ tail
+vouched_unnumbered [] none = refl
+vouched_unnumbered (line ∷ tail) none =
+    ap (λ (n : Option ℕ). if lies_at n (line ∷ tail) then [] else line ∷ vouched tail) none.0
+    ∙ ap (λ (l : List ReportLine). line ∷ l) (vouched_unnumbered tail none.1)
+
+-- the lines of the honest points, and behind them the last line or nothing
+pub record Vouches (number : ℕ) (points : List Point) (tail : List ReportLine) : Type 0 where
+  pub rest : List ReportLine
+  pub none : AreUnnumbered rest
+  pub is : vouched (run_lines number points ++ tail) ≡ run_lines number (honest points) ++ rest
+
+-- one point more, by whether it lies
+vouched_more : (number : ℕ) (point : Point) (points : List Point) (tail : List ReportLine) → AreUnnumbered tail → Vouches (number + 1) points tail → (lies : Bool) → told_lies point.told ≡ lies → Vouches number (point ∷ points) tail
+vouched_more number point points tail none behind true lying =
+    let later : List ReportLine = run_lines (number + 1) points ++ tail in
+    let silent : lies_at (Some number) later ≡ false = later_silent number (number + 1) points tail (omega arith) none in
+    let whole : vouched (run_lines number (point ∷ points) ++ tail) ≡ vouched (lines_told number point.told ++ later) = ap vouched (append_assoc (lines_told number point.told) (run_lines (number + 1) points) tail) in
+    let cut : honest (point ∷ points) ≡ [] = ap (λ (c : Bool). if c then [] else point ∷ honest points) lying in
+    record {
+      rest = [];
+      none = tt;
+      is = whole ∙ vouched_lying number point.told later silent lying ∙ sym (append-nil (run_lines number (honest (point ∷ points))) ∙ ap (run_lines number) cut);
+    }
+vouched_more number point points tail none behind false honesty =
+    let later : List ReportLine = run_lines (number + 1) points ++ tail in
+    let silent : lies_at (Some number) later ≡ false = later_silent number (number + 1) points tail (omega arith) none in
+    let whole : vouched (run_lines number (point ∷ points) ++ tail) ≡ vouched (lines_told number point.told ++ later) = ap vouched (append_assoc (lines_told number point.told) (run_lines (number + 1) points) tail) in
+    let goes_on : honest (point ∷ points) ≡ point ∷ honest points = ap (λ (c : Bool). if c then [] else point ∷ honest points) honesty in
+    record {
+      rest = behind.rest;
+      none = behind.none;
+      is = whole ∙ vouched_told number point.told later silent honesty
+          ∙ ap (λ (l : List ReportLine). lines_told number point.told ++ l) behind.is
+          ∙ sym (append_assoc (lines_told number point.told) (run_lines (number + 1) (honest points)) behind.rest)
+          ∙ sym (ap (λ (ps : List Point). run_lines number ps ++ behind.rest) goes_on);
+    }
+
+pub run_vouched : (number : ℕ) (points : List Point) (tail : List ReportLine) → AreUnnumbered tail → Vouches number points tail
+run_vouched number [] tail none = record { rest = tail; none = none; is = vouched_unnumbered tail none }
+run_vouched number (point ∷ points) tail none = vouched_more number point points tail none (run_vouched (number + 1) points tail none) (told_lies point.told) refl
+
+-- ---- the deeds of lines one behind the other
+
+pub deeds_append : (a b : List ReportLine) → deeds_told (a ++ b) ≡ deeds_told a ++ deeds_told b
+deeds_append [] b = refl
+deeds_append (line ∷ a) b =
+    ap (λ ds. deeds_at line.number line.text ++ ds) (deeds_append a b)
+    ∙ sym (append_assoc (deeds_at line.number line.text) (deeds_told a) (deeds_told b))
+
+pub deeds_unnumbered : (tail : List ReportLine) → AreUnnumbered tail → deeds_told tail ≡ []
+deeds_unnumbered [] none = refl
+deeds_unnumbered (line ∷ tail) none =
+    ap (λ (n : Option ℕ). deeds_at n line.text ++ deeds_told tail) none.0 ∙ deeds_unnumbered tail none.1

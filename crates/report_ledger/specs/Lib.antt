@@ -1,0 +1,6 @@
+pub mod ReportLines
+pub mod Proper
+pub mod Ledgers
+pub mod Asked
+pub mod Standings
+pub mod Row
