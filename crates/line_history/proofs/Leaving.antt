@@ -25,7 +25,7 @@ use Rattle.node_core.specs.Desk.{Desk}
 use Rattle.node_core.specs.Halves.{intake_row_did, outlet_row_did}
 use Rattle.node_core.specs.Reads.{all_read, reads}
 use Rattle.node_core.specs.Told.{drives, in_does, in_sends}
-use Rattle.node_core.specs.declared.lane.Body.{Body as Machine}
+use Rattle.node_core.specs.declared.lane.Body.{Body}
 use Rattle.custody.specs.Floor.{ExitFloor, at_start, begun_read, begun_unread, both_gone, both_unread, left_gone, left_unread, out_ended, out_idle, stuck_back, stuck_begun, stuck_gone, stuck_left, stuck_left_gone}
 use Rattle.custody.specs.Place.{Beyond, Place}
 use Rattle.custody.specs.Words.{events_at}
@@ -58,32 +58,32 @@ leaves_by q stuck_left_gone far held = by_stuck
 
 -- ---- reading them
 
-left_said : (desk : Desk) (body : Machine) (r : Record) (c : Bool) → body.outlet.phase ≡ out.Moving r c → tells_leaving (reads desk (record { side = Exit; event = event.Left }) body).acts ≡ true
+left_said : (desk : Desk) (body : Body) (r : Record) (c : Bool) → body.outlet.phase ≡ out.Moving r c → tells_leaving (reads desk (record { side = Exit; event = event.Left }) body).acts ≡ true
 left_said desk body r true is = rw is refl
 left_said desk body r false is = rw is refl
 
-stuck_said : (desk : Desk) (body : Machine) (r : Record) (l s : Bool) → body.outlet.phase ≡ out.Stuck r l s → tells_leaving (reads desk (record { side = Exit; event = event.Left }) body).acts ≡ true
+stuck_said : (desk : Desk) (body : Body) (r : Record) (l s : Bool) → body.outlet.phase ≡ out.Stuck r l s → tells_leaving (reads desk (record { side = Exit; event = event.Left }) body).acts ≡ true
 stuck_said desk body r true true is = rw is refl
 stuck_said desk body r true false is = rw is refl
 stuck_said desk body r false s is = rw is refl
 
-begun_moves : (desk : Desk) (body : Machine) (r : Record) (c : Bool) → body.outlet.phase ≡ out.Moving r c → (reads desk (record { side = Exit; event = event.Begun }) body).body.outlet.phase ≡ out.Moving r true
+begun_moves : (desk : Desk) (body : Body) (r : Record) (c : Bool) → body.outlet.phase ≡ out.Moving r c → (reads desk (record { side = Exit; event = event.Begun }) body).body.outlet.phase ≡ out.Moving r true
 begun_moves desk body r true is = rw is refl
 begun_moves desk body r false is = rw is refl
 
 -- the first act, or the later ones
-said_now : (desk : Desk) (sensed : Sensed) (others : List Sensed) (body : Machine) → tells_leaving (reads desk sensed body).acts ≡ true → tells_leaving (all_read desk (sensed ∷ others) body).acts ≡ true
+said_now : (desk : Desk) (sensed : Sensed) (others : List Sensed) (body : Body) → tells_leaving (reads desk sensed body).acts ≡ true → tells_leaving (all_read desk (sensed ∷ others) body).acts ≡ true
 said_now desk sensed others body is =
     leaving_append (reads desk sensed body).acts (all_read desk others (reads desk sensed body).body).acts ∙ or_left (tells_leaving (reads desk sensed body).acts) (tells_leaving (all_read desk others (reads desk sensed body).body).acts) is
 
-said_later : (desk : Desk) (sensed : Sensed) (others : List Sensed) (body : Machine) → tells_leaving (all_read desk others (reads desk sensed body).body).acts ≡ true → tells_leaving (all_read desk (sensed ∷ others) body).acts ≡ true
+said_later : (desk : Desk) (sensed : Sensed) (others : List Sensed) (body : Body) → tells_leaving (all_read desk others (reads desk sensed body).body).acts ≡ true → tells_leaving (all_read desk (sensed ∷ others) body).acts ≡ true
 said_later desk sensed others body is =
     leaving_append (reads desk sensed body).acts (all_read desk others (reads desk sensed body).body).acts ∙ or_right (tells_leaving (reads desk sensed body).acts) (tells_leaving (all_read desk others (reads desk sensed body).body).acts) is
 
 abbrev Leaves : Desk → List Sensed → Type 0
-Leaves desk unread = (body : Machine) (o : Out) (es : List SensorEvent) → body.outlet.phase ≡ o → events_at Exit unread ≡ es → LeavesBy o es → tells_leaving (all_read desk unread body).acts ≡ true
+Leaves desk unread = (body : Body) (o : Out) (es : List SensorEvent) → body.outlet.phase ≡ o → events_at Exit unread ≡ es → LeavesBy o es → tells_leaving (all_read desk unread body).acts ≡ true
 
-exit_leaves : (desk : Desk) (seen : SensorEvent) (others : List Sensed) (body : Machine) (o : Out) (es : List SensorEvent) → Leaves desk others → body.outlet.phase ≡ o → seen ∷ events_at Exit others ≡ es → LeavesBy o es
+exit_leaves : (desk : Desk) (seen : SensorEvent) (others : List Sensed) (body : Body) (o : Out) (es : List SensorEvent) → Leaves desk others → body.outlet.phase ≡ o → seen ∷ events_at Exit others ≡ es → LeavesBy o es
     → tells_leaving (all_read desk (record { side = Exit; event = seen } ∷ others) body).acts ≡ true
 exit_leaves desk seen others body _ _ later phase same (by_left {r = r} {c = c} {es = es}) =
     let is : seen ≡ event.Left = cc in
@@ -139,23 +139,23 @@ in_stays desk (Some (in_deeds.Starts id)) send drive = sends_stay desk send driv
 in_stays desk (Some (in_deeds.Settles id)) send drive = sends_stay desk send drive
 in_stays desk (Some (in_deeds.Drops id)) send drive = sends_stay desk send drive
 
-entry_stays : (desk : Desk) (body : Machine) (found : Option InRow) → tells_leaving (intake_row_did desk body found).acts ≡ false
+entry_stays : (desk : Desk) (body : Body) (found : Option InRow) → tells_leaving (intake_row_did desk body found).acts ≡ false
 entry_stays desk body None = refl
 entry_stays desk body (Some row) = in_stays desk row.act.deed row.act.send row.act.drive
 
-exit_none : (desk : Desk) (body : Machine) (seen : SensorEvent) (found : Option OutRow) → outlet_row body.outlet (out_input.Sensed seen) ≡ found → held_out body.outlet.phase ≡ None
+exit_none : (desk : Desk) (body : Body) (seen : SensorEvent) (found : Option OutRow) → outlet_row body.outlet (out_input.Sensed seen) ≡ found → held_out body.outlet.phase ≡ None
     → (tells_leaving (outlet_row_did desk body found).acts ≡ false) × (held_out (outlet_row_did desk body found).body.outlet.phase ≡ None)
 exit_none desk body seen None is none = (refl, none)
 exit_none desk body seen (Some row) is none =
     let both = none_row (out_row_is body.outlet (out_input.Sensed seen) row is) none in
     (inner_stays (outlet_row_did desk body (Some row)).acts (out_inner desk body.kept row (ap leaves_not both.1)), both.0)
 
-one_none : (desk : Desk) (side : Side) (seen : SensorEvent) (body : Machine) → held_out body.outlet.phase ≡ None
+one_none : (desk : Desk) (side : Side) (seen : SensorEvent) (body : Body) → held_out body.outlet.phase ≡ None
     → (tells_leaving (reads desk (record { side = side; event = seen }) body).acts ≡ false) × (held_out (reads desk (record { side = side; event = seen }) body).body.outlet.phase ≡ None)
 one_none desk Entry seen body none = (entry_stays desk body (intake_row body.intake (in_input.Sensed seen)), ap (λ (s : OutState). held_out s.phase) (intake_apart desk body (intake_row body.intake (in_input.Sensed seen))) ∙ none)
 one_none desk Exit seen body none = exit_none desk body seen (outlet_row body.outlet (out_input.Sensed seen)) refl none
 
-pub none_leave : (desk : Desk) (unread : List Sensed) (body : Machine) → held_out body.outlet.phase ≡ None → tells_leaving (all_read desk unread body).acts ≡ false
+pub none_leave : (desk : Desk) (unread : List Sensed) (body : Body) → held_out body.outlet.phase ≡ None → tells_leaving (all_read desk unread body).acts ≡ false
 none_leave desk [] body none = refl
 none_leave desk (sensed ∷ others) body none =
     let both = one_none desk sensed.side sensed.event body none in

@@ -18,7 +18,7 @@ use Rattle.node_core.specs.Step.{plain_step}
 use Rattle.node_core.specs.declared.act.Act.{Act}
 use Rattle.node_core.specs.declared.act.Act.TheVariants as acts
 use Rattle.node_core.specs.declared.act.Deed.TheVariants as deeds
-use Rattle.node_core.specs.declared.lane.Body.{Body as Machine}
+use Rattle.node_core.specs.declared.lane.Body.{Body}
 use Rattle.line_report.specs.declared.happening.Happening.{Happening}
 use Rattle.line_report.specs.declared.happening.Happening.TheVariants as happenings
 use Rattle.node_core.specs.Own.{id_of}
@@ -176,9 +176,9 @@ still_follows j last t t2 before after told r l same none = by l.was where
   stays = let_go_is (j + 1) last before told false (leaving_is (j + 1) told ∙ ap tells_leaving none)
 
   by : Follows before (j + 1) last r → Follows after (j + 1) (let_go (j + 1) last before told) r
-  by (is_held_still q held) = is_held_still q (ap (λ (b : Machine). held_out b.outlet.phase) same ∙ held)
+  by (is_held_still q held) = is_held_still q (ap (λ (b : Body). held_out b.outlet.phase) same ∙ held)
   by (was_let_go is) = was_let_go (stays ∙ is)
-  by (is_kept_above kept) = is_kept_above (subst (λ (b : Machine). Kept r.id b.kept) (sym same) kept)
+  by (is_kept_above kept) = is_kept_above (subst (λ (b : Body). Kept r.id b.kept) (sym same) kept)
   by (is_off off) = is_off (off_still before after told r.id l.goes (taken_is_old before (j + 1) t r l.st l.taken) off)
 
 -- ---- it makes a step
@@ -220,7 +220,7 @@ held_follows j last t t2 before after told r q l stays s held false leaves =
     follows_where t2 after (j + 1) (let_go (j + 1) last before told) r l.st2 l.taken2 (λ far.
     (let was : IsBeyond before (j + 1) q.id = subst (λ (x : Record). IsBeyond before (j + 1) x.id) (sym same) (was_beyond (j + 1) r.id before after told stays made far) in
     let unread : List Sensed = unread_by (j + 1) before.world in
-    let body : Machine = (node_at before (j + 1)).lane.body in
+    let body : Body = (node_at before (j + 1)).lane.body in
     let left : tells_leaving (all_read s.desk unread body).acts ≡ true = leaves_told s.desk unread body body.outlet.phase (events_at Exit unread) refl refl (unread_leaves t before j q l.st held was) in
     no_way (sym leaves ∙ step_leaving t j before after told l.st s ∙ left)))
 
@@ -250,18 +250,18 @@ turn_follows j last t t2 before after told r l stays (has_stepped s) = by (held_
 -- what its intake holds it held before, or its transport has just started
 below_took : (j : ℕ) (t : Trace) (before after : LineState) (told : List Happening) (r : Record) → Stands t before → Turn (j + 1) t before after told → taken_below after (j + 1) ≡ Some r
     → (taken_below before (j + 1) ≡ Some r) ⊎ (IsJustStarted (node_at after (j + 1 + 1)).lane.body.intake.phase × ((machine_at after.world.floor (j + 1 + 1)).unread ≡ []))
-below_took j t before after told r st (is_still same none) taken = inl (ap (λ (b : Machine). held_in b.intake.phase) (sym same) ∙ taken)
+below_took j t before after told r st (is_still same none) taken = inl (ap (λ (b : Body). held_in b.intake.phase) (sym same) ∙ taken)
 below_took j t before after told r st (has_stepped s) taken =
     let i : InState = (node_at before (j + 1 + 1)).lane.body.intake in
     let know = knowing i i.phase refl in
     let does = (stepped_does t (j + 1) know.0 before after told st know.1 s).does in
-    let now : held_in (plain_step s.desk (unread_by (j + 1 + 1) before.world) s.event (node_at before (j + 1 + 1)).lane.body).body.intake.phase ≡ Some r = ap (λ (b : Machine). held_in b.intake.phase) (sym s.body) ∙ taken in
-    elim (does.comes r now) [ inl was ↦ inl was | inr started ↦ inr (subst (λ (b : Machine). IsJustStarted b.intake.phase) (sym s.body) started, s.unread) ]
+    let now : held_in (plain_step s.desk (unread_by (j + 1 + 1) before.world) s.event (node_at before (j + 1 + 1)).lane.body).body.intake.phase ≡ Some r = ap (λ (b : Body). held_in b.intake.phase) (sym s.body) ∙ taken in
+    elim (does.comes r now) [ inl was ↦ inl was | inr started ↦ inr (subst (λ (b : Body). IsJustStarted b.intake.phase) (sym s.body) started, s.unread) ]
 
 line_follows_by : (j : ℕ) (last : Option Record) (t t2 : Trace) (before after : LineState) (told : List Happening) (r : Record) → Stands t before → Stands t2 after → Goes before after told → AllFollow before (j + 1) last → ((m : ℕ) → Turn m t before after told) → Kind before after told
     → taken_below after (j + 1) ≡ Some r → Follows after (j + 1) (let_go (j + 1) last before told) r
 line_follows_by j last t t2 before after told r st st2 goes all turns (inl stills) taken =
-    let was : taken_below before (j + 1) ≡ Some r = ap (λ (b : Machine). held_in b.intake.phase) (sym (stills (j + 1)).0) ∙ taken in
+    let was : taken_below before (j + 1) ≡ Some r = ap (λ (b : Body). held_in b.intake.phase) (sym (stills (j + 1)).0) ∙ taken in
     still_follows j last t t2 before after told r (record { st = st; st2 = st2; goes = goes; taken = was; taken2 = taken; was = all r was }) (stills j).0 (stills j).1
 line_follows_by j last t t2 before after told r st st2 goes all turns (inr stays) taken =
     elim (below_took j t before after told r st (turns (j + 1)) taken) [

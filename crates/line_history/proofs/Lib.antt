@@ -2,6 +2,7 @@ pub mod OpenedRun
 pub mod Stills
 pub mod Gaps
 pub mod UpForms
+pub mod LinkFlow
 pub mod LinkUp
 pub mod Orders
 pub mod Folds

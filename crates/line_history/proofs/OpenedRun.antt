@@ -31,7 +31,7 @@ use Rattle.node_core.specs.declared.act.Act.{Act}
 use Rattle.node_core.specs.declared.act.Act.TheVariants as acts
 use Rattle.node_core.specs.declared.act.Deed.{Deed}
 use Rattle.node_core.specs.declared.act.Deed.TheVariants as deeds
-use Rattle.node_core.specs.declared.lane.Body.{Body as Machine}
+use Rattle.node_core.specs.declared.lane.Body.{Body}
 use Rattle.node_core.specs.declared.word.Word.{Word}
 use Rattle.custody.specs.Bytes.{Flows as FlowsAs, texts_of}
 use Rattle.custody.specs.Flight.{Stale}
@@ -65,7 +65,8 @@ use Rattle.line_history.specs.Settled.{is_start}
 use Rattle.line_history.proofs.Folds.{Hearing, none_heard}
 use Rattle.line_history.proofs.Gaps.{Found, Gap, OpensIn, Owned, Pending, Split, Starts, Stays, above_deeds, answers, below_deeds, ends_started, found_open, gap_append, gaps_after, gaps_append, is_settle, none_above, none_dropped, none_yet, one_dropped, only_above, only_below, opens_in, owned_did, owned_end, owned_undriven, pend_none, pend_one, split_of, stays_all, stays_dropped, stays_held}
 use Rattle.line_history.proofs.Halves.{IsRecalled, Knows}
-use Rattle.line_history.proofs.LinkUp.{Up, UpOn, none_said_spoiled, same_said, starts_of, up_over, up_spoiled, up_whole}
+use Rattle.line_history.proofs.LinkFlow.{flow_over, flow_spoiled, flow_whole}
+use Rattle.line_history.proofs.LinkUp.{Up, UpOn, none_said_spoiled, same_said, starts_of}
 use Rattle.line_history.proofs.SettledRun.{entry_is, stepped_does}
 use Rattle.line_history.proofs.Orders.{Orders, exit_words, orders_end, step_orders}
 use Rattle.line_history.proofs.Started.{any_new, entry_open, open_all, taking_at, turn_open, none_some}
@@ -218,10 +219,10 @@ flying_said alone t after k said st waits fit flows on = by b.ups b.is b.up
     b = base k t after st
 
     none : Up ⊥ [] (link_at k after.world).stands w c → F (bodies said)
-    none (up_whole other good (inl no_way) more) = absurd no_way
-    none (up_whole other good (inr is) more) = flies_none (ap starts_of (same_said alone w c said other fit good flows more) ∙ is)
-    none (up_spoiled spoiled) = flies_none (ap starts_of (none_said_spoiled alone w c said fit flows spoiled))
-    none (up_over off nothing) = flies_none (over_said after k said waits on nothing flows)
+    none (flow_whole other good (inl no_way) more) = absurd no_way
+    none (flow_whole other good (inr is) more) = flies_none (ap starts_of (same_said alone w c said other fit good flows more) ∙ is)
+    none (flow_spoiled spoiled) = flies_none (ap starts_of (none_said_spoiled alone w c said fit flows spoiled))
+    none (flow_over off nothing) = flies_none (over_said after k said waits on nothing flows)
 
     by : (ups : List Horizontal) → Ups (t.up k) w c ups → Up ⊥ (starts_of ups) (link_at k after.world).stands w c → F (bodies said)
     by _ ups_none up = none up
@@ -302,7 +303,7 @@ stepped_settles : (t : Trace) (k : ℕ) (s after : LineState) (told : List Happe
     → Flying (node_at s (k + 1)).lane.body.intake.phase (up_words (t.up k)) (down_words (t.down k)) → (starts_of (t.up k) ≡ [] → ⊥) → list_any is_settle (done_by (k + 1) told) ≡ false
 stepped_settles t k s after told st d start (flies_none none) some = absurd (some none)
 stepped_settles t k s after told st d start (flies_held r one phase stale) some =
-    let body : Machine = (node_at s (k + 1)).lane.body in
+    let body : Body = (node_at s (k + 1)).lane.body in
     let h : Hearing = record { named = Some r.id; since = just_started } in
     let knows : Knows h body.intake = fresh_knows body.intake.phase body.intake r refl phase in
     let did : Done = plain_step d.desk (unread_by (k + 1) s.world) d.event body in
@@ -310,7 +311,7 @@ stepped_settles t k s after told st d start (flies_held r one phase stale) some 
     unsaid_settles (stepped_does t k h s after told st knows d).does.orderly (step_still d.desk (unread_by (k + 1) s.world) d.event body (still_event d.event (scene_at t s k) d.theirs stale)) (refl, refl) in
     ap (λ (l : List Act). list_any is_settle l) d.acts ∙ settle_undriven did.acts quiet
 stepped_settles t k s after told st d start (flies_alone x one idle) some =
-    let body : Machine = (node_at s (k + 1)).lane.body in
+    let body : Body = (node_at s (k + 1)).lane.body in
     let knows : Knows none_heard body.intake = idle_knows body.intake idle in
     let did : Done = plain_step d.desk (unread_by (k + 1) s.world) d.event body in
     let none : list_any is_start did.acts ≡ false = start_undriven did.acts (sym (ap (λ (l : List Act). list_any is_start l) d.acts) ∙ start) in
@@ -327,7 +328,7 @@ some_ups k t s _ z (ups_whole said fit are flows) one none = let no_way : ◌≡
 turn_owned : (t : Trace) (k : ℕ) (s after : LineState) (told : List Happening) → Turn k t s after told → Owned (taking_at s (k + 1)) (done_by (k + 1) told)
 turn_owned t k s after told (is_still same none) = subst (λ (l : List Act). Owned (taking_at s (k + 1)) l) (sym none) owned_end
 turn_owned t k s after told (has_stepped d) =
-    let body : Machine = (node_at s (k + 1)).lane.body in
+    let body : Body = (node_at s (k + 1)).lane.body in
     subst (λ (l : List Act). Owned (taking_at s (k + 1)) l) (sym d.acts) (owned_undriven (owned_did (step_did d.desk (unread_by (k + 1) s.world) d.event body (any_new d.event))))
 
 unstarted_line : (k : ℕ) (t : Trace) (s after : LineState) (told : List Happening) (g : Gap) (ids : List ℕ) → Stands t s → (n : UpNext k t s after told) → Turn k t s after told → list_any is_start (done_by (k + 1) told) ≡ false → ids ≡ starts_of (drop (length n.heard) n.ups)
@@ -383,9 +384,9 @@ after_line alone k t t2 s after told g st st2 waits n turn w said fit flows on =
     whole false start other same (inr is) = unstarted start (ap starts_of same ∙ is)
 
     by : UpOn (Starting k told) n.ids wait (link_at k after.world) → W
-    by (up_whole other good starts more) = whole (list_any is_start (done_by (k + 1) told)) refl other (same_said alone wait c said other fit good flows more) starts
-    by (up_spoiled spoiled) = waits_none (ap starts_of (none_said_spoiled alone wait c said fit flows spoiled))
-    by (up_over off none) = waits_none (over_said after k said waits on none flows)
+    by (flow_whole other good starts more) = whole (list_any is_start (done_by (k + 1) told)) refl other (same_said alone wait c said other fit good flows more) starts
+    by (flow_spoiled spoiled) = waits_none (ap starts_of (none_said_spoiled alone wait c said fit flows spoiled))
+    by (flow_over off none) = waits_none (over_said after k said waits on none flows)
 
 -- ---- along a run
 

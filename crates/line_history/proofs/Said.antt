@@ -4,7 +4,7 @@ use Rattle.std.proofs.Common.{Bool, List, None, Option, Some, [], ap, false, inl
 use Rattle.std.specs.Prelude.{not}
 use Rattle.std.specs.List.{list_any}
 use Rattle.std.proofs.lemmas.Bool.{or_parts, or_left, or_right}
-use Rattle.line_base.specs.declared.states.Side.TheVariants.{Entry, Exit}
+use Rattle.line_base.specs.declared.states.Side.TheVariants.{Entry}
 use Rattle.line_base.specs.declared.states.Transfer.TheVariants as said
 use Rattle.hermes_horizontal.specs.declared.message.Horizontal.{Horizontal}
 use Rattle.hermes_horizontal.specs.declared.message.Horizontal.TheVariants as bodies

@@ -10,7 +10,7 @@ use Rattle.node_core.specs.Step.{plain_step}
 use Rattle.node_core.specs.declared.act.Act.{Act}
 use Rattle.node_core.specs.declared.act.Act.TheVariants as acts
 use Rattle.node_core.specs.declared.act.Deed.TheVariants as deeds
-use Rattle.node_core.specs.declared.lane.Body.{Body as Machine}
+use Rattle.node_core.specs.declared.lane.Body.{Body}
 use Rattle.line_report.specs.declared.happening.Happening.{Happening}
 use Rattle.line_report.specs.declared.happening.Happening.TheVariants as happenings
 use Rattle.line_step.specs.Lines.{LineSteps}
@@ -117,7 +117,7 @@ turn_told t j h before after told st k (is_still same none) =
     let nothing : entry_acts (j + 1) told ≡ [] = entry_is (j + 1) told ∙ ap entry_of none in
     record {
       orderly = subst (λ (x : List Act). Orderly (IsInAt j before) h x) (sym nothing) ends;
-      knows = subst (λ (x : List Act). Knows (heard_all h x) (node_at after (j + 1)).lane.body.intake) (sym nothing) (subst (λ (b : Machine). Knows h b.intake) (sym same) k);
+      knows = subst (λ (x : List Act). Knows (heard_all h x) (node_at after (j + 1)).lane.body.intake) (sym nothing) (subst (λ (b : Body). Knows h b.intake) (sym same) k);
     }
 turn_told t j h before after told st k (has_stepped s) =
     let d : Done = plain_step s.desk (unread_by (j + 1) before.world) s.event (node_at before (j + 1)).lane.body in
@@ -126,7 +126,7 @@ turn_told t j h before after told st k (has_stepped s) =
     record {
       orderly = subst (λ (x : List Act). Orderly (IsInAt j before) h x) (sym all) (entry_orderly (λ id is. is) does.orderly);
       knows = subst (λ (x : List Act). Knows (heard_all h x) (node_at after (j + 1)).lane.body.intake) (sym all)
-          (subst (λ (x : Hearing). Knows x (node_at after (j + 1)).lane.body.intake) (sym (entry_heard h d.acts)) (subst (λ (b : Machine). Knows (heard_all h d.acts) b.intake) (sym s.body) does.knows));
+          (subst (λ (x : Hearing). Knows x (node_at after (j + 1)).lane.body.intake) (sym (entry_heard h d.acts)) (subst (λ (b : Body). Knows (heard_all h d.acts) b.intake) (sym s.body) does.knows));
     }
 
 pub line_told : SaysAlone → (number j : ℕ) (h : Hearing) (line : ScriptLine) (before after : LineState) (told : List Happening) → Stood before → LineSteps number line before after told → Knows h (node_at before (j + 1)).lane.body.intake → Told j h before after told

@@ -6,13 +6,13 @@ use Rattle.std.proofs.lemmas.Bool.{and_parts}
 use Rattle.line_history.proofs.Said.{some_id}
 use Rattle.line_script.specs.declared.line.ScriptLine.{ScriptLine}
 use Rattle.node_core.specs.Done.{Done}
-use Rattle.node_core.specs.Event.{Accepted, Connect, Event, Fault, Forecast, Insert, Level, Mark, Sub, Nothing, Notice, Query, Remove, Replace, Second, Shutdown, Supervised, Tick, Will, Words}
+use Rattle.node_core.specs.Event.{Event, Nothing}
 use Rattle.node_core.specs.Own.{Own, id_of, own_of}
 use Rattle.node_core.specs.Step.{plain_step}
 use Rattle.node_core.specs.declared.act.Act.{Act}
 use Rattle.node_core.specs.declared.act.Act.TheVariants as acts
 use Rattle.node_core.specs.declared.act.Deed.TheVariants as deeds
-use Rattle.node_core.specs.declared.lane.Body.{Body as Machine}
+use Rattle.node_core.specs.declared.lane.Body.{Body}
 use Rattle.line_report.specs.declared.happening.Happening.{Happening}
 use Rattle.line_step.specs.Numbered.{node_at}
 use Rattle.line_step.specs.Runs.{IsRun, Point}
@@ -119,13 +119,13 @@ taking_at s machine = (own_of (node_at s machine).lane.body).taking
 
 pub turn_open : (t : Trace) (j : ℕ) (before after : LineState) (told : List Happening) → Turn j t before after told → open_all (taking_at before (j + 1)) (entry_acts (j + 1) told) ≡ taking_at after (j + 1)
 turn_open t j before after told (is_still same none) =
-    ap (λ (x : List Act). open_all (taking_at before (j + 1)) x) (entry_is (j + 1) told ∙ ap entry_of none) ∙ ap (λ (b : Machine). (own_of b).taking) (sym same)
+    ap (λ (x : List Act). open_all (taking_at before (j + 1)) x) (entry_is (j + 1) told ∙ ap entry_of none) ∙ ap (λ (b : Body). (own_of b).taking) (sym same)
 turn_open t j before after told (has_stepped s) =
-    let body : Machine = (node_at before (j + 1)).lane.body in
+    let body : Body = (node_at before (j + 1)).lane.body in
     let d : Done = plain_step s.desk (unread_by (j + 1) before.world) s.event body in
     let does : Did Any (own_of body) d.acts (own_of d.body) = step_did s.desk (unread_by (j + 1) before.world) s.event body (any_new s.event) in
     ap (λ (x : List Act). open_all (taking_at before (j + 1)) x) (entry_is (j + 1) told ∙ ap entry_of s.acts ∙ entry_undriven d.acts)
-    ∙ entry_open (taking_at before (j + 1)) d.acts ∙ did_open does ∙ ap (λ (b : Machine). (own_of b).taking) (sym s.body)
+    ∙ entry_open (taking_at before (j + 1)) d.acts ∙ did_open does ∙ ap (λ (b : Body). (own_of b).taking) (sym s.body)
 
 -- ---- read off
 

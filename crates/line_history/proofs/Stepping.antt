@@ -39,7 +39,7 @@ use Rattle.node_core.specs.Told.{in_told}
 use Rattle.node_core.specs.declared.act.Act.{Act}
 use Rattle.node_core.specs.declared.act.Act.TheVariants as acts
 use Rattle.node_core.specs.declared.act.Deed.TheVariants as deeds
-use Rattle.node_core.specs.declared.lane.Body.{Body as Machine}
+use Rattle.node_core.specs.declared.lane.Body.{Body}
 use Rattle.node_core.proofs.Offers.{OffersOf, to_offers}
 use Rattle.node_core.proofs.Sound.{all_read_keeps}
 use Rattle.custody.specs.Pair.{Ghost}
@@ -75,38 +75,38 @@ leaving_append a b = list_any-append is_leaving a b
 
 -- ---- what befalls the machine
 
-pub record Meets (P : ℕ → Type 0) (h : Hearing) (body : Machine) (d : Done) : Type 0 where
+pub record Meets (P : ℕ → Type 0) (h : Hearing) (body : Body) (d : Done) : Type 0 where
   pub tells : Tells P h body d
   pub stays : tells_leaving d.acts ≡ false
 
-met_work : {P : ℕ → Type 0} {h : Hearing} {body : Machine} {d : Done} → Works P h body d → Meets P h body d
+met_work : {P : ℕ → Type 0} {h : Hearing} {body : Body} {d : Done} → Works P h body d → Meets P h body d
 met_work {d = d} w = record { tells = w.tells; stays = inner_stays d.acts w.inner }
 
-hand_meets : {P : ℕ → Type 0} {h : Hearing} (test : Bool) (body : Machine) (kept : List Record) (act : Act) → Tells P h body (done (with_kept kept body) (act ∷ [])) → is_leaving act ≡ false → Knows h body.intake → Meets P h body (if_kept test (with_kept kept body) act body)
+hand_meets : {P : ℕ → Type 0} {h : Hearing} (test : Bool) (body : Body) (kept : List Record) (act : Act) → Tells P h body (done (with_kept kept body) (act ∷ [])) → is_leaving act ≡ false → Knows h body.intake → Meets P h body (if_kept test (with_kept kept body) act body)
 hand_meets true body kept act t not k = record { tells = t; stays = or_from (is_leaving act) false not refl }
 hand_meets false body kept act t not k = met_work (works_still body k)
 
 -- a level of a bridge's segment is set, and the front board may be marked
-level_works : {P : ℕ → Type 0} {h : Hearing} (line : SegmentLine) (on : Bool) (body : Machine) → Knows h body.intake → Works P h body (tells_level line on body)
+level_works : {P : ℕ → Type 0} {h : Hearing} (line : SegmentLine) (on : Bool) (body : Body) → Knows h body.intake → Works P h body (tells_level line on body)
 level_works segment.Ready on body k = works_aside body (tells_level segment.Ready on body) k refl refl refl
 level_works segment.Available on body k = works_aside body (tells_level segment.Available on body) k refl refl refl
 level_works segment.Failed on body k = works_aside body (tells_level segment.Failed on body) k refl refl refl
 
-mark_works : {P : ℕ → Type 0} {h : Hearing} (test : Bool) (id : ℕ) (kept : List Record) (body : Machine) → Knows h body.intake → Works P h body (if_kept test (with_kept kept body) (acts.Marks id qualities.Failed) body)
+mark_works : {P : ℕ → Type 0} {h : Hearing} (test : Bool) (id : ℕ) (kept : List Record) (body : Body) → Knows h body.intake → Works P h body (if_kept test (with_kept kept body) (acts.Marks id qualities.Failed) body)
 mark_works true id kept body k = works_aside body (if_kept true (with_kept kept body) (acts.Marks id qualities.Failed) body) k refl refl refl
 mark_works false id kept body k = works_still body k
 
-fails_works : {P : ℕ → Type 0} {h : Hearing} (front : Option ℕ) (body : Machine) → Knows h body.intake → Works P h body (fails front body)
+fails_works : {P : ℕ → Type 0} {h : Hearing} (front : Option ℕ) (body : Body) → Knows h body.intake → Works P h body (fails front body)
 fails_works None body k = works_still body k
 fails_works (Some id) body k = mark_works (is_kept id body.kept) id _ body k
 
-sets_work : {P : ℕ → Type 0} {h : Hearing} (desk : Desk) (line : SegmentLine) (on : Bool) (body : Machine) → Knows h body.intake → Works P h body (sets_level desk line on body)
+sets_work : {P : ℕ → Type 0} {h : Hearing} (desk : Desk) (line : SegmentLine) (on : Bool) (body : Body) → Knows h body.intake → Works P h body (sets_level desk line on body)
 sets_work desk line on body k =
-    let one : Machine = (tells_level line on body).body in
-    works_both body (tells_level line on body) (λ (b : Machine). fails (failed_front desk.bridge line on b) b) (level_works line on body k) (λ k1. fails_works (failed_front desk.bridge line on one) one k1)
+    let one : Body = (tells_level line on body).body in
+    works_both body (tells_level line on body) (λ (b : Body). fails (failed_front desk.bridge line on b) b) (level_works line on body k) (λ k1. fails_works (failed_front desk.bridge line on one) one k1)
 
 -- the front board is told of ahead
-forecasts_work : {P : ℕ → Type 0} {h : Hearing} (desk : Desk) (front : Option Record) (body : Machine) → Knows h body.intake → Works P h body (done body (forecasts desk front))
+forecasts_work : {P : ℕ → Type 0} {h : Hearing} (desk : Desk) (front : Option Record) (body : Body) → Knows h body.intake → Works P h body (done body (forecasts desk front))
 forecasts_work desk None body k = works_still body k
 forecasts_work desk (Some board) body k = works_aside body (done body (forecasts desk (Some board))) k refl refl refl
 
@@ -116,12 +116,12 @@ AreTheirs (Words side words) c = AreOldest words (unheard side c)
 AreTheirs _ c = Unit {0}
 
 -- what the supervisor asks and says
-supervised_work : {P : ℕ → Type 0} {h : Hearing} (desk : Desk) (what : Supervision) (body : Machine) → Knows h body.intake → Works P h body (supervises desk what body)
+supervised_work : {P : ℕ → Type 0} {h : Hearing} (desk : Desk) (what : Supervision) (body : Body) → Knows h body.intake → Works P h body (supervises desk what body)
 supervised_work desk (Supervise on) body k = works_aside body (supervises desk (Supervise on) body) k refl refl refl
 supervised_work desk (Ask question) body k = works_aside body (supervises desk (Ask question) body) k refl refl refl
 supervised_work desk (Answer query order) body k = works_aside body (supervises desk (Answer query order) body) k refl refl refl
 
-event_meets : {P : ℕ → Type 0} {h : Hearing} {afar : Afar} {above : List Record} {ga gb : Ghost} (desk : Desk) (event : Event) (body : Machine) (c : Scene) → AreTheirs event c → OffersOf body → Good afar above [] ga gb body c → Knows h body.intake → Makes P body c
+event_meets : {P : ℕ → Type 0} {h : Hearing} {afar : Afar} {above : List Record} {ga gb : Ghost} (desk : Desk) (event : Event) (body : Body) (c : Scene) → AreTheirs event c → OffersOf body → Good afar above [] ga gb body c → Knows h body.intake → Makes P body c
     → Meets P h body (event_did desk event body)
 event_meets desk Nothing body c theirs offers g k makes = met_work (works_still body k)
 event_meets desk Connect body c theirs offers g k makes =
@@ -157,24 +157,24 @@ abbrev pub IsJustStarted : In → Type 0
 IsJustStarted (inn.Taking r seen.NotStarted heard) = Unit {0}
 IsJustStarted _ = ⊥
 
-pub record Does (P : ℕ → Type 0) (h : Hearing) (body : Machine) (d : Done) : Type 0 where
+pub record Does (P : ℕ → Type 0) (h : Hearing) (body : Body) (d : Done) : Type 0 where
   pub orderly : Orderly P h d.acts
   pub knows : Knows (heard_all h d.acts) d.body.intake
   pub comes : (r : Record) → held_in d.body.intake.phase ≡ Some r → (held_in body.intake.phase ≡ Some r) ⊎ IsJustStarted d.body.intake.phase
 
 -- nor do they say that a board has left
-record Announced (P : ℕ → Type 0) (h : Hearing) (body : Machine) (d : Done) : Type 0 where
+record Announced (P : ℕ → Type 0) (h : Hearing) (body : Body) (d : Done) : Type 0 where
   does : Does P h body d
   stays : tells_leaving d.acts ≡ false
 
-does_tell : {P : ℕ → Type 0} {h : Hearing} {body : Machine} {d : Done} → Tells P h body d → Does P h body d
+does_tell : {P : ℕ → Type 0} {h : Hearing} {body : Body} {d : Done} → Tells P h body d → Does P h body d
 does_tell t = record { orderly = t.orderly; knows = t.knows; comes = λ r is. inl (t.less r is) }
 
 or_started : {A B C : Type 0} → A ⊎ C → (A → B) → B ⊎ C
 or_started (inl a) next = inl (next a)
 or_started (inr c) next = inr c
 
-does_both : {P : ℕ → Type 0} {h : Hearing} (body : Machine) (first : Done) (next : Machine → Done) → Tells P h body first → (Knows (heard_all h first.acts) first.body.intake → Does P (heard_all h first.acts) first.body (next first.body)) → Does P h body (and_then first next)
+does_both : {P : ℕ → Type 0} {h : Hearing} (body : Body) (first : Done) (next : Body → Done) → Tells P h body first → (Knows (heard_all h first.acts) first.body.intake → Does P (heard_all h first.acts) first.body (next first.body)) → Does P h body (and_then first next)
 does_both {h = h} body first next a later =
     let b = later a.knows in record {
       orderly = orderly_both (next first.body).acts a.orderly b.orderly;
@@ -188,57 +188,57 @@ start_does desk h starts_transport = (goes_on refl (goes_on refl (goes_on refl e
   id_in None = None
   id_in (Some r) = Some r.id
 
-start_row_does : {P : ℕ → Type 0} {h : Hearing} (desk : Desk) (body : Machine) (found : Option InRow) → intake_row body.intake in_input.Start ≡ found → Knows h body.intake → Announced P h body (intake_row_did desk body found)
+start_row_does : {P : ℕ → Type 0} {h : Hearing} (desk : Desk) (body : Body) (found : Option InRow) → intake_row body.intake in_input.Start ≡ found → Knows h body.intake → Announced P h body (intake_row_did desk body found)
 start_row_does desk body None is k = record { does = does_tell (works_still body k).tells; stays = refl }
 start_row_does {h = h} desk body (Some row) is k =
     let all = start_does desk h (in_row_is body.intake in_input.Start row is) in
     record { does = record { orderly = all.0; knows = all.1.0.0; comes = λ r held. inr all.1.0.1 }; stays = all.1.1 }
 
-start_announced : {P : ℕ → Type 0} {h : Hearing} (desk : Desk) (test : Bool) (body : Machine) → Knows h body.intake → Announced P h body (start_by desk test body)
+start_announced : {P : ℕ → Type 0} {h : Hearing} (desk : Desk) (test : Bool) (body : Body) → Knows h body.intake → Announced P h body (start_by desk test body)
 start_announced desk true body k = start_row_does desk body (intake_row body.intake in_input.Start) refl k
 start_announced desk false body k = record { does = does_tell (works_still body k).tells; stays = refl }
 
-revoke_works : {P : ℕ → Type 0} {h : Hearing} (desk : Desk) (test : Bool) (body : Machine) → Knows h body.intake → Works P h body (revoke_by desk test body)
+revoke_works : {P : ℕ → Type 0} {h : Hearing} (desk : Desk) (test : Bool) (body : Body) → Knows h body.intake → Works P h body (revoke_by desk test body)
 revoke_works desk true body k = outlet_works desk body out_input.Revoke (outlet_row body.outlet out_input.Revoke) refl tt k
 revoke_works desk false body k = works_still body k
 
-unready_works : {P : ℕ → Type 0} {h : Hearing} (desk : Desk) (test : Bool) (body : Machine) → Knows h body.intake → Works P h body (unready_by desk test body)
+unready_works : {P : ℕ → Type 0} {h : Hearing} (desk : Desk) (test : Bool) (body : Body) → Knows h body.intake → Works P h body (unready_by desk test body)
 unready_works desk true body k = silent_works desk body in_input.Unready (intake_row body.intake in_input.Unready) refl tt k
 unready_works desk false body k = works_still body k
 
-offer_works : {P : ℕ → Type 0} {h : Hearing} (desk : Desk) (test : Bool) (front : Option Record) (body : Machine) → Knows h body.intake → Works P h body (offer_by desk test front body)
+offer_works : {P : ℕ → Type 0} {h : Hearing} (desk : Desk) (test : Bool) (front : Option Record) (body : Body) → Knows h body.intake → Works P h body (offer_by desk test front body)
 offer_works desk true (Some front) body k = outlet_works desk body (out_input.Offer front.id) (outlet_row body.outlet (out_input.Offer front.id)) refl tt k
 offer_works desk true None body k = works_still body k
 offer_works desk false front body k = works_still body k
 
-ready_works : {P : ℕ → Type 0} {h : Hearing} (desk : Desk) (test : Bool) (body : Machine) → Knows h body.intake → Works P h body (ready_by desk test body)
+ready_works : {P : ℕ → Type 0} {h : Hearing} (desk : Desk) (test : Bool) (body : Body) → Knows h body.intake → Works P h body (ready_by desk test body)
 ready_works desk true body k = silent_works desk body in_input.Ready (intake_row body.intake in_input.Ready) refl tt k
 ready_works desk false body k = works_still body k
 
-announced_both : {P : ℕ → Type 0} {h : Hearing} (body : Machine) (first : Done) (next : Machine → Done) → Works P h body first → (Knows (heard_all h first.acts) first.body.intake → Announced P (heard_all h first.acts) first.body (next first.body)) → Announced P h body (and_then first next)
+announced_both : {P : ℕ → Type 0} {h : Hearing} (body : Body) (first : Done) (next : Body → Done) → Works P h body first → (Knows (heard_all h first.acts) first.body.intake → Announced P (heard_all h first.acts) first.body (next first.body)) → Announced P h body (and_then first next)
 announced_both body first next a later =
     let b = later a.tells.knows in
     record { does = does_both body first next a.tells (λ k. (later k).does); stays = leaving_append first.acts (next first.body).acts ∙ or_from (tells_leaving first.acts) (tells_leaving (next first.body).acts) (inner_stays first.acts a.inner) b.stays }
 
-announces_does : {P : ℕ → Type 0} {h : Hearing} (desk : Desk) (body : Machine) → Knows h body.intake → Announced P h body (announces desk body)
+announces_does : {P : ℕ → Type 0} {h : Hearing} (desk : Desk) (body : Body) → Knows h body.intake → Announced P h body (announces desk body)
 announces_does desk body k =
     let one = (revoke desk body).body in
     let two = (unready desk one).body in
     let three = (offer desk two).body in
     let four = (ready desk three).body in
-    announced_both body (revoke desk body) (λ (b : Machine). and_then (unready desk b) (λ c. and_then (offer desk c) (λ d. and_then (ready desk d) (start desk)))) (revoke_works desk (revokes_now body) body k)
-    (λ k1. announced_both one (unready desk one) (λ (c : Machine). and_then (offer desk c) (λ d. and_then (ready desk d) (start desk))) (unready_works desk (unreadies_now desk one) one k1)
-    (λ k2. announced_both two (offer desk two) (λ (d : Machine). and_then (ready desk d) (start desk)) (offer_works desk (offers_now two) (slice_get two.kept 0) two k2)
+    announced_both body (revoke desk body) (λ (b : Body). and_then (unready desk b) (λ c. and_then (offer desk c) (λ d. and_then (ready desk d) (start desk)))) (revoke_works desk (revokes_now body) body k)
+    (λ k1. announced_both one (unready desk one) (λ (c : Body). and_then (offer desk c) (λ d. and_then (ready desk d) (start desk))) (unready_works desk (unreadies_now desk one) one k1)
+    (λ k2. announced_both two (offer desk two) (λ (d : Body). and_then (ready desk d) (start desk)) (offer_works desk (offers_now two) (slice_get two.kept 0) two k2)
     (λ k3. announced_both three (ready desk three) (start desk) (ready_works desk (readies_now desk three) three k3) (λ k4. start_announced desk (starts_now four) four k4))))
 
 -- ---- THE STEP
 
-heard_still : (desk : Desk) (unread : List Sensed) (event : Event) (body : Machine) (c : Scene) → AreTheirs event c → AreTheirs event (all_met (all_read desk unread body).acts c)
+heard_still : (desk : Desk) (unread : List Sensed) (event : Event) (body : Body) (c : Scene) → AreTheirs event c → AreTheirs event (all_met (all_read desk unread body).acts c)
 heard_still desk unread (Words side words) body c theirs = subst (λ ms. AreOldest words ms) (sym (read_leaves side desk unread body c)) theirs
 heard_still desk unread _ body c theirs = tt
 
 -- what the whole step does, and that a board is said to have left in it where the machine reads its events
-pub record StepDoes (P : ℕ → Type 0) (h : Hearing) (desk : Desk) (unread : List Sensed) (event : Event) (body : Machine) : Type 0 where
+pub record StepDoes (P : ℕ → Type 0) (h : Hearing) (desk : Desk) (unread : List Sensed) (event : Event) (body : Body) : Type 0 where
   pub does : Does P h body (plain_step desk unread event body)
   pub leaves : tells_leaving (plain_step desk unread event body).acts ≡ tells_leaving (all_read desk unread body).acts
 
@@ -246,7 +246,7 @@ or_neither : (a b c : Bool) → b ≡ false → c ≡ false → (a || (b || c)) 
 or_neither true b c one two = refl
 or_neither false b c one two = or_from b c one two
 
-pub step_does : {P : ℕ → Type 0} {h : Hearing} {afar : Afar} {above : List Record} {ga gb : Ghost} (desk : Desk) (unread : List Sensed) (event : Event) (body : Machine) (c : Scene) → AreTheirs event c → OffersFront body → Good afar above unread ga gb body c → Knows h body.intake → Makes P body c
+pub step_does : {P : ℕ → Type 0} {h : Hearing} {afar : Afar} {above : List Record} {ga gb : Ghost} (desk : Desk) (unread : List Sensed) (event : Event) (body : Body) (c : Scene) → AreTheirs event c → OffersFront body → Good afar above unread ga gb body c → Knows h body.intake → Makes P body c
     → StepDoes P h desk unread event body
 step_does {P = P} {h = h} desk unread event body c theirs offers g k makes =
     let read : Done = all_read desk unread body in
@@ -257,7 +257,7 @@ step_does {P = P} {h = h} desk unread event body c theirs offers g k makes =
     event_meets desk event read.body now (heard_still desk unread event body c theirs) ((all_read_keeps 0 desk unread body).offers (to_offers body offers)) (all_read_good desk unread body c g) one.knows (makes_then body c read makes one (read_lists desk unread body c)) in
     let three : Announced P (heard_all (heard_all h read.acts) met.acts) met.body (announces desk met.body) = announces_does desk met.body two.tells.knows in
     record {
-      does = does_both body read (λ (b : Machine). and_then (event_did desk event b) (announces desk)) one
+      does = does_both body read (λ (b : Body). and_then (event_did desk event b) (announces desk)) one
           (λ k1. does_both read.body met (announces desk) two.tells (λ k2. three.does));
       leaves = leaving_append read.acts (met.acts ++ (announces desk met.body).acts)
           ∙ ap (λ (b : Bool). tells_leaving read.acts || b) (leaving_append met.acts (announces desk met.body).acts)

@@ -55,9 +55,9 @@ use Rattle.line_step.specs.Reasons.{has_link, is_empty, may_do, may_flow}
 use Rattle.line_step.specs.Shown.{standings_told}
 use Rattle.line_step.specs.State.{LineState, one_more, with_world}
 use Rattle.line_step.specs.Steps.{MachineSteps, is_second, moment_of, read_by, unread_by}
-use Rattle.line_step.specs.World.{WorldParts, end_of, link_at, link_of, with_link}
+use Rattle.line_step.specs.World.{end_of, link_at, link_of, with_link}
 use Rattle.line_step.proofs.Keeps.{more_at}
-use Rattle.line_step.proofs.Numbers.{Written, link_set, machine_within, nowhere, same_or_not, written}
+use Rattle.line_step.proofs.Numbers.{machine_within, same_or_not}
 use Rattle.one_standing.specs.Carried.{Carries, IsFitMachine, Trace, carries_over, carries_spoiled, carries_whole}
 use Rattle.one_standing.specs.Links.{AreWholeLinks}
 use Rattle.one_standing.specs.Standing.{IsFitLine}
@@ -79,7 +79,8 @@ use Rattle.one_standing.proofs.RestMore.{no_link_at}
 use Rattle.one_standing.proofs.SpoilingLine.{spoil_needs}
 use Rattle.one_standing.proofs.WholeLinks.{CanSpoil, can_spoil, steps as whole_steps, whole_arrival, whole_links}
 use Rattle.line_history.specs.Settled.{is_start}
-use Rattle.line_history.proofs.LinkUp.{Up, UpOn, acts_up, are_silent, at_set, is_silent, on_cut, on_limit, starts_of, up_any, up_off, up_over, up_spoiled, up_whole}
+use Rattle.line_history.proofs.LinkFlow.{at_set, flow_off, flow_over, flow_spoiled, flow_whole, on_cut, on_limit, set_own}
+use Rattle.line_history.proofs.LinkUp.{Up, UpOn, acts_up, are_silent, is_silent, starts_of, up_any}
 use Rattle.line_history.proofs.Orders.{Orders, exit_words, is_plain, orders_end, orders_hears, orders_on, orders_opens, orders_refuses, orders_starts, step_orders}
 use Rattle.line_history.proofs.View.{done_append, done_by, other_acts, own_acts, remarks_none, standings_none, told_of_act, undriven, undriven_signals, undriven_step}
 use Rattle.line_step.proofs.Remarks.{unvouched_remarks}
@@ -249,9 +250,9 @@ pub record Based (messages : List Horizontal) (stands : Bool) (waiting bytes : L
   pub up : Up ⊥ (starts_of ups) stands waiting bytes
 
 based_on : {stands : Bool} {waiting : List ℕ} {stream : Stream} {messages : List Horizontal} → Carries stands waiting stream messages → Based messages stands waiting (coming stream)
-based_on (carries_whole said fit flows) = record { ups = bodies said; is = ups_whole said fit refl flows; up = up_whole said fit (inr refl) flows }
-based_on (carries_spoiled spoiled) = record { ups = []; is = ups_none; up = up_spoiled spoiled }
-based_on (carries_over off none) = record { ups = []; is = ups_none; up = up_over off none }
+based_on (carries_whole said fit flows) = record { ups = bodies said; is = ups_whole said fit refl flows; up = flow_whole said fit (inr refl) flows }
+based_on (carries_spoiled spoiled) = record { ups = []; is = ups_none; up = flow_spoiled spoiled }
+based_on (carries_over off none) = record { ups = []; is = ups_none; up = flow_over off none }
 
 abbrev pub Base : ℕ → Trace → LineState → Type 0
 Base k t s = Based (t.up k) (link_at k s.world).stands (node_at s k).lane.exit_bytes (coming (link_at k s.world).flows.to_upstream)
@@ -262,7 +263,7 @@ base k t s st = by (has_link k s) refl
     by : (test : Bool) → has_link k s ≡ test → Base k t s
     by true has = based_on (st.carried k has).up
     by false none =
-        subst (λ (l : LinkParts). Based (t.up k) l.stands (node_at s k).lane.exit_bytes (coming l.flows.to_upstream)) (sym (no_link_at s k st.together none)) (record { ups = []; is = ups_none; up = up_over refl refl })
+        subst (λ (l : LinkParts). Based (t.up k) l.stands (node_at s k).lane.exit_bytes (coming l.flows.to_upstream)) (sym (no_link_at s k st.together none)) (record { ups = []; is = ups_none; up = flow_over refl refl })
 
 -- ---- THE LINK BEHIND MACHINE k, over a line
 
@@ -315,7 +316,7 @@ changed_next : (k link : ℕ) (parts : LinkParts) (t : Trace) (before : LineStat
 changed_next k link parts t before what st none here =
     let now : LineState = with_world (with_link link parts before.world) before in
     quiet_next k t before now what st (subst (λ (l : List Act). Orders true [] l) (sym none) orders_end)
-    (subst (λ (w : List ℕ). UpOn (Starting k what) (starts_of (base k t before st).ups) w (link_at k now.world)) (sym (ap (λ (n : NodeState). n.lane.exit_bytes) (same_nodes before now refl k))) (at_set k link parts before.world here (up_any (base k t before st).up)))
+    (subst (λ (w : List ℕ). UpOn (Starting k what) (starts_of (base k t before st).ups) w (link_at k now.world)) (sym (ap (λ (n : NodeState). n.lane.exit_bytes) (same_nodes before now refl k))) (at_set Upstream k link parts before.world here (up_any (base k t before st).up)))
 
 -- ---- bytes arrive
 
@@ -366,19 +367,12 @@ hears_of alone words old piece new still later is some are (carries_whole said f
       ups = bodies said;
       is = ups_whole said fit refl flows;
       oldest = h.oldest;
-      up = λ on good. up_whole (drop (length words) said) (fit_behind (length words) said fit) (inr (ap starts_of (bodies_drop (length words) said))) (h.flows on);
+      up = λ on good. flow_whole (drop (length words) said) (fit_behind (length words) said fit) (inr (ap starts_of (bodies_drop (length words) said))) (h.flows on);
     }
 hears_of alone words old piece new still later is some are (carries_spoiled spoiled) =
     let h : HeardSpoiled [] words new (coming later) still = alone.wrong old piece (coming later) new still words [] (subst (λ (bytes : List ℕ). Spoiled old bytes) is spoiled) are in
-    record { ups = []; is = ups_none; oldest = h.oldest; up = λ on good. up_spoiled (h.spoiled on (no_words words h.oldest good)) }
+    record { ups = []; is = ups_none; oldest = h.oldest; up = λ on good. flow_spoiled (h.spoiled on (no_words words h.oldest good)) }
 hears_of {stream = stream} alone words old piece new still later is some are (carries_over off nothing) = absurd (false≢true (sym some ∙ empty_of (coming stream) nothing))
-
-set_own : {Any : Type 0} {ids : List ℕ} {waiting : List ℕ} (link : ℕ) (parts : LinkParts) (world : WorldParts) → UpOn Any ids waiting parts → UpOn Any ids waiting (link_at link (with_link link parts world))
-set_own {Any} {ids} {waiting} link parts world up = by (link_set link parts world)
-  where
-    by : Written link parts world → UpOn Any ids waiting (link_at link (with_link link parts world))
-    by (written now) = subst (λ (l : LinkParts). UpOn Any ids waiting l) (sym now) up
-    by (nowhere now then) = subst (λ (l : LinkParts). UpOn Any ids waiting l) (sym now) (up_over refl refl)
 
 -- to an entry
 entry_next : SaysAlone → (k number j : ℕ) (count : Option ℕ) (t : Trace) (before next : LineState) (told : List Happening) → CanFlow (j + 1) Entry before → number ≤ 1000000 → Stands t before → Flows number (j + 1) Entry count before next told → UpNext k t before next told
@@ -387,7 +381,7 @@ entry_next alone k number j count t before next told can few st flows =
     (subst (λ (w : List ℕ). UpOn (Starting k told) (starts_of (base k t before st).ups) w (link_at k next.world)) (sym (bytes (same_or_not k m)))
     (step_up alone k number m (inputs.Bytes Entry flows.piece) start next told flows.steps (flow_fit number m Entry count before next told few (st.fit m) flows (flow_fits alone t number j Entry count before next told can st flows))
     (silent_at k number m (inputs.Bytes Entry flows.piece) start next told (offers_same before start refl (offers_all t before st) m) flows.steps) (whole_links (m - 1) parts before.world st.links (whole_arrival Downstream count (link_at (m - 1) before.world) (st.links (m - 1))))
-    (at_set k (m - 1) parts before.world (λ is. subst (λ (n : ℕ). UpOn (Starting k told) (starts_of (base k t before st).ups) (node_at before k).lane.exit_bytes (link_at n before.world)) is (up_any (base k t before st).up)) (up_any (base k t before st).up))))
+    (at_set Upstream k (m - 1) parts before.world (λ is. subst (λ (n : ℕ). UpOn (Starting k told) (starts_of (base k t before st).ups) (node_at before k).lane.exit_bytes (link_at n before.world)) is (up_any (base k t before st).up)) (up_any (base k t before st).up))))
   where
     m : ℕ
     m = j + 1
@@ -414,7 +408,7 @@ exit_other alone k number j count t before next told apart can few st flows =
     (subst (λ (w : List ℕ). UpOn (Starting k told) (starts_of (base k t before st).ups) w (link_at k next.world)) (sym (ap (λ (x : NodeState). x.lane.exit_bytes) (others_same number m Exit count before next told flows k apart)))
     (step_up alone k number m (inputs.Bytes Exit flows.piece) start next told flows.steps (flow_fit number m Exit count before next told few (st.fit m) flows (flow_fits alone t number j Exit count before next told can st flows))
     (silent_at k number m (inputs.Bytes Exit flows.piece) start next told (offers_same before start refl (offers_all t before st) m) flows.steps) (whole_links m parts before.world st.links (whole_arrival Upstream count (link_at m before.world) (st.links m)))
-    (at_set k m parts before.world (λ is. absurd (apart is)) (up_any (base k t before st).up))))
+    (at_set Upstream k m parts before.world (λ is. absurd (apart is)) (up_any (base k t before st).up))))
 
 next_apart : (j : ℕ) → j + 1 + 1 ≢ j + 1
 next_apart j = omega arith
@@ -437,7 +431,7 @@ exit_own alone number j count t before next told can few st flows = record {
       subst (λ (w : List ℕ). UpOn (Starting m told) (starts_of (drop (length words) h.ups)) w (link_at m next.world)) (sym (ap (λ (x : NodeState). x.lane.exit_bytes) (own_behind number m Exit count before next told flows)))
       (step_up alone m number m (inputs.Bytes Exit flows.piece) start next told flows.steps (flow_fit number m Exit count before next told few (st.fit m) flows (flow_fits alone t number j Exit count before next told can st flows))
       (λ is. absurd (below_apart j is)) (whole_links m parts before.world st.links (whole_arrival Upstream count (link_at m before.world) (st.links m)))
-      (set_own m parts before.world (up_any (h.up now (heard_good number m Exit flows.piece start next told flows.steps now))))));
+      (set_own Upstream m parts before.world (up_any (h.up now (heard_good number m Exit flows.piece start next told flows.steps now))))));
 } where
   m : ℕ
   m = j + 1
@@ -539,7 +533,7 @@ join_other alone k number m input t before between next earlier later told apart
     quiet_next k t before next told st (join_orders k number m input before between next earlier later told j)
     (subst (λ (w : List ℕ). UpOn (Starting k told) (starts_of (base k t before st).ups) w (link_at k next.world))
     (sym (ap (λ (x : NodeState). x.lane.exit_bytes) (others_stay number (m - 1) input between next later j.second k apart) ∙ bytes_between k number m input before between next earlier later told j))
-    (join_up alone k number m input t before between next earlier later told few st j (at_set k (m - 1) (after_connect (link_at (m - 1) before.world)) before.world (λ is. absurd (apart is)) (up_any (base k t before st).up))))
+    (join_up alone k number m input t before between next earlier later told few st j (at_set Upstream k (m - 1) (after_connect (link_at (m - 1) before.world)) before.world (λ is. absurd (apart is)) (up_any (base k t before st).up))))
 
 -- the exit has no connection: nothing flows to it
 join_first : SaysAlone → (number m : ℕ) (t : Trace) (before between next : LineState) (earlier later told : List Happening) → (link_at (m - 1) before.world).upstream ≡ None → number ≤ 1000000 → Stands t before → Joins number m inputs.Accepted before between next earlier later told
@@ -555,7 +549,7 @@ join_first alone number m t before between next earlier later told above few st 
   left = inl refl;
   up = λ on. (let two : NewBytes (m - 1) inputs.Accepted between next = new_bytes number (m - 1) inputs.Accepted between next later refl j.second in
       subst (λ (w : List ℕ). UpOn (Starting (m - 1) told) [] w (link_at (m - 1) next.world)) (sym two.exit)
-      (join_up alone (m - 1) number m inputs.Accepted t before between next earlier later told few st j (set_own (m - 1) (after_connect L) before.world (subst (λ (l : LinkParts). UpOn (Starting (m - 1) told) [] [] l) (sym parts_are) here))));
+      (join_up alone (m - 1) number m inputs.Accepted t before between next earlier later told few st j (set_own Upstream (m - 1) (after_connect L) before.world (subst (λ (l : LinkParts). UpOn (Starting (m - 1) told) [] [] l) (sym parts_are) here))));
 } where
   L : LinkParts
   L = link_at (m - 1) before.world
@@ -564,7 +558,7 @@ join_first alone number m t before between next earlier later told above few st 
   parts_are = ap (λ (n : Option ℕ). connected n (next_number L.made) L) above
 
   here : UpOn (Starting (m - 1) told) [] [] (connected None (next_number L.made) L)
-  here = up_whole [] none_fit (inr refl) (subst (λ (b : List ℕ). FlowsAs [] b []) (sym (dry_up L (st.links (m - 1)) above)) nothing_flows)
+  here = flow_whole [] none_fit (inr refl) (subst (λ (b : List ℕ). FlowsAs [] b []) (sym (dry_up L (st.links (m - 1)) above)) nothing_flows)
 
 -- it has one: what flowed to it goes on
 join_second : SaysAlone → (number m other : ℕ) (t : Trace) (before between next : LineState) (earlier later told : List Happening) → (link_at (m - 1) before.world).upstream ≡ Some other → number ≤ 1000000 → Stands t before → Joins number m inputs.Second before between next earlier later told
@@ -572,7 +566,7 @@ join_second : SaysAlone → (number m other : ℕ) (t : Trace) (before between n
 join_second alone number m other t before between next earlier later told above few st j =
     quiet_next (m - 1) t before next told st (join_orders (m - 1) number m inputs.Second before between next earlier later told j)
     (subst (λ (w : List ℕ). UpOn (Starting (m - 1) told) (starts_of (base (m - 1) t before st).ups) w (link_at (m - 1) next.world)) (sym bytes)
-    (join_up alone (m - 1) number m inputs.Second t before between next earlier later told few st j (set_own (m - 1) (after_connect L) before.world (subst (λ (l : LinkParts). UpOn (Starting (m - 1) told) (starts_of (base (m - 1) t before st).ups) (node_at before (m - 1)).lane.exit_bytes l) (sym parts_are) here))))
+    (join_up alone (m - 1) number m inputs.Second t before between next earlier later told few st j (set_own Upstream (m - 1) (after_connect L) before.world (subst (λ (l : LinkParts). UpOn (Starting (m - 1) told) (starts_of (base (m - 1) t before st).ups) (node_at before (m - 1)).lane.exit_bytes l) (sym parts_are) here))))
   where
     L : LinkParts
     L = link_at (m - 1) before.world
@@ -581,7 +575,7 @@ join_second alone number m other t before between next earlier later told above 
     parts_are = ap (λ (n : Option ℕ). connected n (next_number L.made) L) above
 
     here : UpOn (Starting (m - 1) told) (starts_of (base (m - 1) t before st).ups) (node_at before (m - 1)).lane.exit_bytes (connected (Some other) (next_number L.made) L)
-    here = up_off (up_any (base (m - 1) t before st).up)
+    here = flow_off (up_any (base (m - 1) t before st).up)
 
     bytes : (node_at next (m - 1)).lane.exit_bytes ≡ (node_at before (m - 1)).lane.exit_bytes
     bytes = (new_bytes number (m - 1) inputs.Second between next later refl j.second).exit ∙ bytes_between (m - 1) number m inputs.Second before between next earlier later told j
@@ -617,11 +611,11 @@ spoil_up : (k m : ℕ) (side : Side) (t : Trace) (before : LineState) (what : Li
 spoil_up k m Exit t before what st waits can is =
     let L : LinkParts = link_at m before.world in
     let needs : answer_of (node_at before k).lane.exit_bytes ≡ NeedMore = ap (λ (n : ℕ). answer_of (node_at before n).lane.exit_bytes) is ∙ spoil_needs m Exit t before st waits can in
-    on_limit (is_too_much Upstream (nulled Upstream L)) (nulled Upstream L)
-    (up_spoiled (subst (λ (b : List ℕ). Spoiled (node_at before k).lane.exit_bytes b) (sym (coming_of_nul L.flows.to_upstream (st.links m).begun.upstream)) (puts_a_nul (node_at before k).lane.exit_bytes (coming L.flows.to_upstream) needs)))
+    on_limit Upstream (is_too_much Upstream (nulled Upstream L)) (nulled Upstream L)
+    (flow_spoiled (subst (λ (b : List ℕ). Spoiled (node_at before k).lane.exit_bytes b) (sym (coming_of_nul L.flows.to_upstream (st.links m).begun.upstream)) (puts_a_nul (node_at before k).lane.exit_bytes (coming L.flows.to_upstream) needs)))
 spoil_up k m Entry t before what st waits can is =
     let L : LinkParts = link_at (m - 1) before.world in
-    on_limit (is_too_much Downstream (nulled Downstream L)) (nulled Downstream L) (subst (λ (n : ℕ). UpOn (Starting k what) (starts_of (base k t before st).ups) (node_at before k).lane.exit_bytes (link_at n before.world)) is (up_any (base k t before st).up))
+    on_limit Upstream (is_too_much Downstream (nulled Downstream L)) (nulled Downstream L) (subst (λ (n : ℕ). UpOn (Starting k what) (starts_of (base k t before st).ups) (node_at before k).lane.exit_bytes (link_at n before.world)) is (up_any (base k t before st).up))
 
 effect_next : SaysAlone → (k number : ℕ) (request : Request) (t : Trace) (before next : LineState) (told : List Happening) → number ≤ 1000000 → IsFitRequest request → Stands t before → AreWaiting before → Effect number before next told request → UpNext k t before next told
 effect_next alone k number request t before next told few fit st waits (effects.rests _ what remarks b) = becomes_by (UpNext k t before) b (still_next k t before before what st (remarks_none k what remarks) refl refl)
@@ -632,7 +626,7 @@ effect_next alone k number request t before next told few fit st waits (effects.
 effect_next alone k number request t before next told few fit st waits (effects.connects m may did) = connect_next alone k number m t before next told (same_or_not k (m - 1)) few st did
 effect_next alone k number request t before next told few fit st waits (effects.flows m side count may did) = flow_next alone k number m side count t before next told may few st did
 effect_next alone k number request t before next told few fit st waits (effects.cuts gap may b) =
-    becomes_by (UpNext k t before) b (changed_next k gap (cut (link_at gap before.world)) t before _ st refl (λ is. on_cut (link_at gap before.world)))
+    becomes_by (UpNext k t before) b (changed_next k gap (cut (link_at gap before.world)) t before _ st refl (λ is. on_cut Upstream (link_at gap before.world)))
 effect_next alone k number request t before next told few fit st waits (effects.spoils m side may b) =
     becomes_by (UpNext k t before) b
     (changed_next k (link_of m side) (after_spoil (end_of side) (link_at (link_of m side) before.world)) t before (spoil_told m side before) st

@@ -22,7 +22,6 @@ use Rattle.hermes_horizontal.specs.declared.message.Horizontal.{Horizontal}
 use Rattle.hermes_horizontal.specs.declared.message.Message.{Message}
 use Rattle.line_link.specs.Flow.{Stream, coming, flowing, with_arrival}
 use Rattle.line_link.specs.Link.{after_connect, after_flow, answer_sent, connected_of, sent_of}
-use Rattle.line_link.specs.declared.link.Connected.TheVariants as connections
 use Rattle.smema_bridge.specs.Levels.{BridgeLevels}
 use Rattle.line_script.specs.declared.line.ScriptLine.{ScriptLine}
 use Rattle.line_world.specs.FloorPlan.{FloorPlan, gap_at, machine_at}
@@ -40,7 +39,7 @@ use Rattle.node_core.specs.declared.act.Act.{Act}
 use Rattle.node_core.specs.declared.act.Act.TheVariants as acts
 use Rattle.node_core.specs.declared.input.Input.{Input}
 use Rattle.node_core.specs.declared.input.Input.TheVariants as inputs
-use Rattle.node_core.specs.declared.lane.Body.{Body as Machine}
+use Rattle.node_core.specs.declared.lane.Body.{Body}
 use Rattle.node_core.specs.declared.supervising.Watch.{Watch}
 use Rattle.node_core.specs.declared.word.Word.{Word}
 use Rattle.node_core.proofs.Signalling.{signals_pass}
@@ -140,7 +139,7 @@ undriven_append : (a b : List Act) → undriven (a ++ b) ≡ undriven a ++ undri
 undriven_append [] b = refl
 undriven_append (act ∷ a) b = ap (λ (x : List Act). told_of_act act ++ x) (undriven_append a b) ∙ sym (append_assoc (told_of_act act) (undriven a) (undriven b))
 
-pub undriven_signals : (made : List Act) (bridge : Option BridgeLevels) (body : Machine) → undriven (made ++ signalled bridge body) ≡ undriven made
+pub undriven_signals : (made : List Act) (bridge : Option BridgeLevels) (body : Body) → undriven (made ++ signalled bridge body) ≡ undriven made
 undriven_signals made bridge body =
     signals_pass undriven (λ front signal on. undriven_append front (acts.Signals signal on ∷ []) ∙ append-nil (undriven front)) made bridge body
 
@@ -149,7 +148,7 @@ pub undriven_tells : (desk : Desk) (watch : Watch) (made : List Act) → undrive
 undriven_tells desk watch made =
     tells_pass undriven (λ act told plain h. ap (λ (x : List Act). told_of_act act ++ x) h) (λ message told. refl) desk watch made
 
-pub undriven_step : (desk : Desk) (unread : List Sensed) (event : Event) (body : Machine)
+pub undriven_step : (desk : Desk) (unread : List Sensed) (event : Event) (body : Body)
     → undriven (machine_step desk unread event body).acts ≡ undriven (plain_step desk unread event body).acts
 undriven_step desk unread event body = undriven_tells desk (watch_of desk body) (plain_step desk unread event body).acts
 
@@ -222,7 +221,7 @@ plain_theirs c maker _ words none = tt
 -- ---- the turn of a machine
 
 -- a body but for what the machine is willing to do: a bridge that is added is willing to nothing yet
-abbrev pub unwilled : Machine → Machine
+abbrev pub unwilled : Body → Body
 unwilled body = record body { entry = record body.entry { willing = false }; exit = record body.exit { willing = false } }
 
 -- it made a step, from what it was before the line

@@ -11,7 +11,7 @@ use Rattle.handover_in.specs.State.{own_of_phase}
 use Rattle.node_core.specs.Own.{own_of}
 use Rattle.node_core.specs.declared.act.Act.{Act}
 use Rattle.node_core.specs.declared.act.Act.TheVariants as acts
-use Rattle.node_core.specs.declared.lane.Body.{Body as Machine}
+use Rattle.node_core.specs.declared.lane.Body.{Body}
 use Rattle.custody.specs.Place.{Place, is_away, is_upstream}
 use Rattle.custody.specs.Words.{events_at}
 use Rattle.standings.specs.Marks.{has_id, is_held}
@@ -35,13 +35,13 @@ left_acts gap id machine (act ∷ others) left =
 
 -- ---- a machine, as a view has it
 
-abbrev pub keeps_it : ℕ → Machine → Bool
+abbrev pub keeps_it : ℕ → Body → Bool
 keeps_it id body = has_id id (own_of body).kept
 
-abbrev pub holds_it : ℕ → Machine → Bool
+abbrev pub holds_it : ℕ → Body → Bool
 holds_it id body = is_held id (own_of body).held
 
-abbrev pub takes_it : ℕ → Machine → Bool
+abbrev pub takes_it : ℕ → Body → Bool
 takes_it id body = is_held id (own_of body).taking
 
 abbrev pub is_gone_own : Option Seen → Bool
@@ -57,7 +57,7 @@ is_leaving_event event.Left = true
 is_leaving_event _ = false
 
 -- its entry knows that the board of its handover was taken out, or will read it
-abbrev pub misses_it : Machine → List Sensed → Bool
+abbrev pub misses_it : Body → List Sensed → Bool
 misses_it body unread = is_gone_own (own_of_phase body.intake.phase) || list_any is_taking_out (events_at Entry unread)
 
 -- its exit will read that a board has left
@@ -65,7 +65,7 @@ abbrev pub will_leave : List Sensed → Bool
 will_leave unread = list_any is_leaving_event (events_at Exit unread)
 
 -- machine j + 1 of a view is this one
-pub record IsHere (id j : ℕ) (body : Machine) (unread : List Sensed) (v : View) : Type 0 where
+pub record IsHere (id j : ℕ) (body : Body) (unread : List Sensed) (v : View) : Type 0 where
   pub kept : v.kept (j + 1) ≡ keeps_it id body
   pub held : v.held (j + 1) ≡ holds_it id body
   pub taken : v.taken (j + 1) ≡ takes_it id body
@@ -86,7 +86,7 @@ brings_in id _ = false
 
 -- ---- what is asked of the line around the machine, of a place of the board of the handover above it
 
-pub record IsBeside (id j : ℕ) (place : Place) (v : View) (told : Told) (left : ℕ → Bool) (body now : Machine) (made : List Act) (off : Bool) : Type 0 where
+pub record IsBeside (id j : ℕ) (place : Place) (v : View) (told : Told) (left : ℕ → Bool) (body now : Body) (made : List Act) (off : Bool) : Type 0 where
   -- what goes by hand was kept
   pub hand : list_any (takes_out id) made ≡ true → keeps_it id body ≡ true
   -- a board that is upstream was not taken out, has not left, and is kept or held above, or nowhere

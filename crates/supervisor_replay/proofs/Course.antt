@@ -31,7 +31,6 @@ use Rattle.line_base.specs.declared.states.Seen.TheVariants as sees
 use Rattle.line_base.specs.declared.states.Side.{Side}
 use Rattle.line_base.specs.declared.states.Side.TheVariants.{Entry, Exit}
 use Rattle.line_base.specs.declared.states.Severity.TheVariants.{Fatal}
-use Rattle.line_base.specs.declared.states.Quality.TheVariants as qualities
 use Rattle.line_base.specs.declared.states.Transfer.{Transfer}
 use Rattle.line_base.specs.declared.states.Transfer.TheVariants as said
 use Rattle.board_record.specs.declared.record.Record.{Record}
@@ -354,10 +353,6 @@ goes_behind : (body : Body) (told : List Act) → are_aside told ≡ true → (d
     → Goes body (behind told d)
 goes_behind body told quiet d k =
     record { turn = turn_both (turn_quiet (seen_of body) (own_of body) told quiet) k.turn }
-
-goes_both : (body : Body) (first : Done) (next : Body → Done) → Goes body first
-    → Goes first.body (next first.body) → Goes body (and_then first next)
-goes_both body first next a b = record { turn = turn_both a.turn b.turn }
 
 -- a session changes first
 goes_session : (side : Side) (s : SessionEnd) (body : Body) (d : Done)

@@ -38,7 +38,7 @@ use Rattle.node_core.specs.declared.act.Act.TheVariants as acts
 use Rattle.node_core.specs.declared.act.Signal.{Signal}
 use Rattle.node_core.specs.declared.input.Input.{Input}
 use Rattle.node_core.specs.declared.input.Input.TheVariants as inputs
-use Rattle.node_core.specs.declared.lane.Body.{Body as Machine}
+use Rattle.node_core.specs.declared.lane.Body.{Body}
 use Rattle.node_core.specs.declared.lane.Lane.{Lane}
 use Rattle.node_core.specs.declared.supervising.Watch.{Watch}
 use Rattle.node_core.specs.declared.word.Word.{Word}
@@ -60,7 +60,7 @@ use Rattle.line_step.specs.Reasons.{is_empty, may_connect, may_do, may_flow}
 use Rattle.line_step.specs.Shown.{standings_told}
 use Rattle.line_step.specs.State.{LineState, one_more, with_world}
 use Rattle.line_step.specs.Steps.{MachineSteps, is_second, moment_of, read_by, unread_by}
-use Rattle.line_step.specs.World.{WorldParts, end_of, link_at, link_of, with_link}
+use Rattle.line_step.specs.World.{end_of, link_at, link_of, with_link}
 use Rattle.line_step.proofs.Connecting.{free_below}
 use Rattle.line_step.proofs.Keeps.{more_at}
 use Rattle.line_step.proofs.Numbers.{machine_within, same_or_not}
@@ -85,8 +85,9 @@ use Rattle.one_standing.proofs.Plain.{node_next}
 use Rattle.one_standing.proofs.WholeLinks.{steps as whole_steps, whole_arrival, whole_links}
 use Rattle.line_history.proofs.View.{done_append, done_by, remarks_none, standings_none, told_of_act, undriven}
 use Rattle.supervisor_replay.proofs.Bodies.{keeps_it}
-use Rattle.supervisor_replay.proofs.Free.{Down, DownOn, IsFree, IsOther, down_over, down_spoiled, down_whole, entry_words, offers_it, starts_it}
-use Rattle.supervisor_replay.proofs.LinkDown.{acts_down, at_set, on_cut, on_limit}
+use Rattle.supervisor_replay.proofs.Free.{Down, DownOn, IsFree, IsOther, entry_words, offers_it, starts_it}
+use Rattle.line_history.proofs.LinkFlow.{at_set, flow_over, flow_spoiled, flow_whole, on_cut, on_limit, set_own}
+use Rattle.supervisor_replay.proofs.LinkDown.{acts_down}
 use Rattle.supervisor_replay.proofs.Receiving.{Receives, step_receives, none_both}
 use Rattle.supervisor_replay.proofs.Sending.{step_offers_not}
 use Rattle.line_step.proofs.Remarks.{unvouched_remarks}
@@ -94,7 +95,6 @@ use Rattle.line_step.proofs.Requests.{Request, request_of}
 use Rattle.line_step.proofs.Effects.{Effect, added_remarks, becomes_by, line_effect, spoil_remarks}
 use Rattle.one_standing.proofs.FitRequests.{IsFitRequest, fit_request, given_plain}
 use Rattle.line_step.proofs.Effects as effects
-use Rattle.line_step.proofs.LinkRule.{link_keeps}
 
 pub record StaysFree (id k : ℕ) (after : LineState) (told : List Happening) : Type 0 where
   pub starts : list_any (starts_it id) (done_by (k + 1) told) ≡ false
@@ -122,7 +122,7 @@ offers_last id [] signal on = refl
 offers_last id (act ∷ front) signal on =
     ap (λ (b : Bool). offers_it id act || b) (offers_last id front signal on)
 
-offers_signals : (id : ℕ) (made : List Act) (bridge : Option BridgeLevels) (body : Machine)
+offers_signals : (id : ℕ) (made : List Act) (bridge : Option BridgeLevels) (body : Body)
     → list_any (offers_it id) (made ++ signalled bridge body) ≡ list_any (offers_it id) made
 offers_signals id made bridge body =
     signals_pass (list_any (offers_it id)) (offers_last id) made bridge body
@@ -208,14 +208,6 @@ free_same {id} {k} s now machines link =
     subst (λ (l : LinkParts). DownOn id passes (node_at s (k + 1)).lane.entry_bytes l)
     (sym link) was)
 
--- one link is written
-set_own : {id : ℕ} {passes : Bool} {waiting : List ℕ} (link : ℕ) (parts : LinkParts)
-    (world : WorldParts) → DownOn id passes waiting parts
-    → DownOn id passes waiting (link_at link (with_link link parts world))
-set_own {id} {passes} {waiting} link parts world down =
-    link_keeps (λ (l : LinkParts). DownOn id passes waiting l) (down_over refl refl) link link parts
-    world (λ is. down) (λ apart. absurd (apart refl))
-
 set_free : (id k link : ℕ) (parts : LinkParts) (before : LineState)
     → (k ≡ link → is_open Entry (node_at before (k + 1)).lane.body ≡ true → (passes : Bool)
     → DownOn id passes (node_at before (k + 1)).lane.entry_bytes (link_at k before.world)
@@ -224,7 +216,7 @@ set_free : (id k link : ℕ) (parts : LinkParts) (before : LineState)
 set_free id k link parts before here free =
     let now : LineState = with_world (with_link link parts before.world) before in
     free_by before now (ap ear_of (same_nodes before now refl (k + 1))) (λ on passes was.
-    at_set k link parts before.world (λ is. here is on passes was) was) free
+    at_set Downstream k link parts before.world (λ is. here is on passes was) was) free
 
 -- ---- what comes to the machine below, and what is left behind the words that it hears
 
@@ -240,28 +232,28 @@ record Incoming (id : ℕ) (passes : Bool) (words : List Word) (still : Bool) (w
 -- nothing is heard
 incoming_quiet : {id : ℕ} {passes still : Bool} {waiting : List ℕ} (link : LinkParts)
     → DownOn id passes waiting link → Incoming id passes [] still waiting link
-incoming_quiet link (down_whole said fit open_all flows) =
+incoming_quiet link (flow_whole said fit open_all flows) =
     record {
       messages = bodies said;
       oldest = oldest_none;
       flight = open_all;
-      later = λ on now free. down_whole said fit free flows;
+      later = λ on now free. flow_whole said fit free flows;
     }
-incoming_quiet link (down_spoiled spoils) =
+incoming_quiet link (flow_spoiled spoils) =
     record {
       messages = [];
       oldest = oldest_none;
       flight = open_none;
       later = λ on now free.
-          down_spoiled spoils;
+          flow_spoiled spoils;
     }
-incoming_quiet link (down_over off none) =
+incoming_quiet link (flow_over off none) =
     record {
       messages = [];
       oldest = oldest_none;
       flight = open_none;
       later = λ on now free.
-          down_over off none;
+          flow_over off none;
     }
 
 -- nothing comes
@@ -285,7 +277,7 @@ incoming_piece : {id : ℕ} {passes stands : Bool} {old piece new : List ℕ} {s
     → AreWords old piece new still words → (still ≡ true → is_wrong_first words ≡ false)
     → Down id passes stands old (coming stream) → Incoming id passes words still new link
 incoming_piece {id = id} {old = old} {piece = piece} {new = new} {still = still} alone words stream
-    later link rest is some are good (down_whole said fit open_all flows) =
+    later link rest is some are good (flow_whole said fit open_all flows) =
     let h : Heard said words new (coming later) still =
     alone.oldest old piece (coming later) new still words said (alone.sayable said fit)
     (subst (λ (bytes : List ℕ). FlowsAs old bytes (texts_of said)) is flows) are in
@@ -294,14 +286,14 @@ incoming_piece {id = id} {old = old} {piece = piece} {new = new} {still = still}
       oldest = h.oldest;
       flight = open_all;
       later = λ on now free.
-          down_whole (drop (length words) said) (fit_behind (length words) said fit)
+          flow_whole (drop (length words) said) (fit_behind (length words) said fit)
           (subst (λ (ms : List Horizontal). OpenAll (IsOther id) now (down_words ms))
           (sym (bodies_drop (length words) said)) free)
           (subst (λ (s : Stream). FlowsAs new (coming s) (texts_of (drop (length words) said)))
           (sym rest) (h.flows on));
     }
 incoming_piece {old = old} {piece = piece} {new = new} {still = still} alone words stream later
-    link rest is some are good (down_spoiled spoils) =
+    link rest is some are good (flow_spoiled spoils) =
     let h : HeardSpoiled [] words new (coming later) still =
     alone.wrong old piece (coming later) new still words []
     (subst (λ (bytes : List ℕ). Spoiled old bytes) is spoils) are in
@@ -310,11 +302,11 @@ incoming_piece {old = old} {piece = piece} {new = new} {still = still} alone wor
       oldest = h.oldest;
       flight = open_none;
       later = λ on now free.
-          down_spoiled
+          flow_spoiled
           (subst (λ (s : Stream). Spoiled new (coming s)) (sym rest)
           (h.spoiled on (no_words words h.oldest (good on))));
     }
-incoming_piece alone words stream later link rest is some are good (down_over off nothing) =
+incoming_piece alone words stream later link rest is some are good (flow_over off nothing) =
     absurd (false≢true (sym some ∙ empty_of (coming stream) nothing))
 
 -- ---- the link behind a step
@@ -345,7 +337,7 @@ below_goes alone id k number m input start after told is steps fit whole offer i
       (own_plain number m input start after told steps) ∙ starts_undriven id
       (plain_did steps).acts ∙ r.starts;
   now = λ none. record {
-    offer = subst (λ (b : Machine). OfferIs (IsOther id) b.intake.offer) (sym body_is) r.offer;
+    offer = subst (λ (b : Body). OfferIs (IsOther id) b.intake.offer) (sym body_is) r.offer;
     down = λ on.
         subst (λ (n : NodeState). DownOn id passes n.lane.entry_bytes (link_at k after.world))
         (sym here_is)
@@ -353,7 +345,7 @@ below_goes alone id k number m input start after told is steps fit whole offer i
         absurd (not_next k m is other)) (λ second other.
         absurd (not_next k m is other)) whole
         (into.later (sym (ap (λ (n : NodeState). is_open Entry n.lane.body) here_is) ∙ on) passes
-        (subst (λ (b : Machine). OpenAll (IsOther id) (passes_offers_over b.intake.phase)
+        (subst (λ (b : Body). OpenAll (IsOther id) (passes_offers_over b.intake.phase)
         (down_words (drop (length words) into.messages))) (sym body_is)
         (r.flight (sym (ap (is_open Entry) body_is) ∙ on)))));
   };
@@ -573,7 +565,7 @@ flow_incoming alone id k number m count before next told is can free flows =
       flight = into.flight;
       later = λ on now rest.
           subst (λ (n : ℕ). DownOn id now flows.steps.next.lane.entry_bytes (link_at n start.world))
-          (sym link_is) (set_own (m - 1) parts before.world (into.later on now rest));
+          (sym link_is) (set_own Downstream (m - 1) parts before.world (into.later on now rest));
     }
   where
     start : LineState
@@ -728,8 +720,8 @@ connect_incoming id k number m before between earlier is below whole steps =
     (sym steps.steps.lane.brings.0)
     (subst (λ (n : ℕ). DownOn id now [] (link_at n (connecting m before).world))
     (sym (below_number k m is))
-    (set_own (m - 1) (after_connect L) before.world
-    (down_whole [] none_fit open_none
+    (set_own Downstream (m - 1) (after_connect L) before.world
+    (flow_whole [] none_fit open_none
     (subst (λ (b : List ℕ). FlowsAs [] b []) (sym none) nothing_flows)))))
   where
     L : LinkParts
@@ -892,15 +884,15 @@ spoil_down : {id : ℕ} {passes : Bool} (k m : ℕ) (side : Side) (before : Line
     (after_spoil (end_of side) (link_at (link_of m side) before.world))
 spoil_down {id} {passes} k m Exit before whole waits is on was =
     let L : LinkParts = link_at m before.world in
-    on_limit (is_too_much Upstream (nulled Upstream L)) (nulled Upstream L)
+    on_limit Downstream (is_too_much Upstream (nulled Upstream L)) (nulled Upstream L)
     (subst (λ (n : ℕ). DownOn id passes (node_at before (k + 1)).lane.entry_bytes
     (link_at n before.world)) is was)
 spoil_down k m Entry before whole waits is on was =
     let L : LinkParts = link_at (m - 1) before.world in
     let bytes : List ℕ = (node_at before (k + 1)).lane.entry_bytes in
     let needs : answer_of bytes ≡ NeedMore = waits (k + 1) Entry on in
-    on_limit (is_too_much Downstream (nulled Downstream L)) (nulled Downstream L)
-    (down_spoiled
+    on_limit Downstream (is_too_much Downstream (nulled Downstream L)) (nulled Downstream L)
+    (flow_spoiled
     (subst (λ (b : List ℕ). Spoiled bytes b)
     (sym (coming_of_nul L.flows.to_downstream (whole (m - 1)).begun.downstream))
     (puts_a_nul bytes (coming L.flows.to_downstream) needs)))
@@ -953,7 +945,7 @@ effect_free alone id k number request t before next told few fit st waits free
     (effects.cuts gap may b) =
     becomes_by (StaysFree id k) b
     (changed_free id k gap (cut (link_at gap before.world)) before _ refl free
-    (λ is on passes was. on_cut (link_at gap before.world)))
+    (λ is on passes was. on_cut Downstream (link_at gap before.world)))
 effect_free alone id k number request t before next told few fit st waits free
     (effects.spoils m side may b) =
     becomes_by (StaysFree id k) b (spoil_free id k m side t before st waits free)

@@ -1,6 +1,7 @@
 -- No offer of a board is still to be taken up on a link: neither has the entry heard one, nor is one on its way that it
 -- won't pass over.
 use Rattle.std.proofs.Common.{Bool, List, [], false, true, ℕ, ◌+◌, ◌==◌, ◌≡◌, ◌≢◌}
+use Rattle.line_base.specs.declared.states.Role.TheVariants.{Downstream}
 use Rattle.line_base.specs.declared.states.Side.TheVariants.{Entry, Exit}
 use Rattle.board_record.specs.declared.record.Record.{Record}
 use Rattle.hermes_horizontal.specs.declared.message.Horizontal.{Horizontal}
@@ -13,16 +14,14 @@ use Rattle.node_core.specs.declared.act.Act.{Act}
 use Rattle.node_core.specs.declared.act.Act.TheVariants as acts
 use Rattle.node_core.specs.declared.act.Deed.TheVariants as deeds
 use Rattle.node_core.specs.declared.word.Word.{Word}
-use Rattle.line_link.specs.Flow.{coming}
 use Rattle.line_link.specs.Link.{LinkParts}
-use Rattle.custody.specs.Bytes.{Flows, Spoiled, texts_of}
 use Rattle.custody.specs.Contents.{OfferIs, OpenAll}
 use Rattle.custody.specs.Words.{down_words}
-use Rattle.link_messages.specs.Fit.{AreFit}
 use Rattle.link_messages.specs.Heard.{bodies}
 use Rattle.line_step.specs.Numbered.{node_at}
 use Rattle.line_step.specs.State.{LineState}
 use Rattle.line_step.specs.World.{link_at}
+use Rattle.line_history.proofs.LinkFlow.{Flow, FlowOn}
 
 -- a record of another board
 abbrev pub IsOther : ℕ → Record → Type 0
@@ -51,14 +50,14 @@ entry_words _ = []
 
 -- what flows down is whole, and has no offer of the board that will be taken up; or it is spoiled; or nothing comes any
 -- more. `passes`: offers are passed over until an end of a transfer is heard
-pub data Down (id : ℕ) (passes stands : Bool) (waiting bytes : List ℕ) : Type 0 where
-  down_whole : (said : List Message) → AreFit said → OpenAll (IsOther id) passes (down_words (bodies said))
-      → Flows waiting bytes (texts_of said) → Down id passes stands waiting bytes
-  down_spoiled : Spoiled waiting bytes → Down id passes stands waiting bytes
-  down_over : stands ≡ false → bytes ≡ [] → Down id passes stands waiting bytes
+abbrev pub AreFree : ℕ → Bool → List Message → Type 0
+AreFree id passes said = OpenAll (IsOther id) passes (down_words (bodies said))
+
+abbrev pub Down : ℕ → Bool → Bool → List ℕ → List ℕ → Type 0
+Down id passes stands waiting bytes = Flow (AreFree id passes) stands waiting bytes
 
 abbrev pub DownOn : ℕ → Bool → List ℕ → LinkParts → Type 0
-DownOn id passes waiting link = Down id passes link.stands waiting (coming link.flows.to_downstream)
+DownOn id passes waiting link = FlowOn Downstream (AreFree id passes) waiting link
 
 -- the link between machines k and k + 1 of a line
 pub record IsFree (id k : ℕ) (s : LineState) : Type 0 where

@@ -53,7 +53,7 @@ use Rattle.node_core.specs.declared.act.Act.{Act}
 use Rattle.node_core.specs.declared.act.Act.TheVariants as acts
 use Rattle.node_core.specs.declared.act.Signal.{Signal}
 use Rattle.node_core.specs.declared.input.Input.{Input}
-use Rattle.node_core.specs.declared.lane.Body.{Body as Machine}
+use Rattle.node_core.specs.declared.lane.Body.{Body}
 use Rattle.node_core.specs.Node.{desk_of}
 use Rattle.node_core.proofs.Signalling.{signals_pass}
 use Rattle.node_core.proofs.Telling.{tells_pass}
@@ -110,7 +110,7 @@ middle false false z one two = two
 middle true y z one two = absurd (false≢true (sym one))
 
 -- in a step: those of the event alone
-pub step_outs : (id : ℕ) (desk : Desk) (unread : List Sensed) (event : Event) (body : Machine)
+pub step_outs : (id : ℕ) (desk : Desk) (unread : List Sensed) (event : Event) (body : Body)
     → list_any (takes_out id) (plain_step desk unread event body).acts
     ≡ list_any (takes_out id) (event_did desk event (all_read desk unread body).body).acts
 step_outs id desk unread event body =
@@ -125,7 +125,7 @@ step_outs id desk unread event body =
     (quiet_out id read.acts (read-quiet desk unread body))
     (quiet_out id last.acts (announces-quiet desk met.body))
 
-pub step_ins : (id : ℕ) (desk : Desk) (unread : List Sensed) (event : Event) (body : Machine)
+pub step_ins : (id : ℕ) (desk : Desk) (unread : List Sensed) (event : Event) (body : Body)
     → list_any (brings_in id) (plain_step desk unread event body).acts
     ≡ list_any (brings_in id) (event_did desk event (all_read desk unread body).body).acts
 step_ins id desk unread event body =
@@ -154,33 +154,33 @@ pub data BringsIn (id : ℕ) : Event → Type 0 where
   in_inserted : {barcode : Option (List ℕ)} → BringsIn id (Insert id barcode)
   in_replaced : {old : ℕ} → BringsIn id (Replace old id)
 
-removed_by : (id old : ℕ) (kept : Bool) (after body : Machine)
+removed_by : (id old : ℕ) (kept : Bool) (after body : Body)
     → list_any (takes_out id) (if_kept kept after (acts.Removes old) body).acts ≡ true
     → TakesOut id (Remove old)
 removed_by id old true after body is =
     subst (λ (n : ℕ). TakesOut id (Remove n)) (sym (eqb-true old id (or_nothing (old == id) is))) out_removed
 removed_by id old false after body is = absurd (false≢true is)
 
-replaced_out : (id old new : ℕ) (kept : Bool) (after body : Machine)
+replaced_out : (id old new : ℕ) (kept : Bool) (after body : Body)
     → list_any (takes_out id) (if_kept kept after (acts.Replaces old new) body).acts ≡ true
     → TakesOut id (Replace old new)
 replaced_out id old new true after body is =
     subst (λ (n : ℕ). TakesOut id (Replace n new)) (sym (eqb-true old id (or_nothing (old == id) is))) out_replaced
 replaced_out id old new false after body is = absurd (false≢true is)
 
-removed_in : (id old : ℕ) (kept : Bool) (after body : Machine)
+removed_in : (id old : ℕ) (kept : Bool) (after body : Body)
     → list_any (brings_in id) (if_kept kept after (acts.Removes old) body).acts ≡ false
 removed_in id old true after body = refl
 removed_in id old false after body = refl
 
-replaced_in : (id old new : ℕ) (kept : Bool) (after body : Machine)
+replaced_in : (id old new : ℕ) (kept : Bool) (after body : Body)
     → list_any (brings_in id) (if_kept kept after (acts.Replaces old new) body).acts ≡ true
     → BringsIn id (Replace old new)
 replaced_in id old new true after body is =
     subst (λ (n : ℕ). BringsIn id (Replace old n)) (sym (eqb-true new id (or_nothing (new == id) is))) in_replaced
 replaced_in id old new false after body is = absurd (false≢true is)
 
-pub outs_are : (id : ℕ) (desk : Desk) (event : Event) (body : Machine)
+pub outs_are : (id : ℕ) (desk : Desk) (event : Event) (body : Body)
     → list_any (takes_out id) (event_did desk event body).acts ≡ true → TakesOut id event
 outs_are id desk (Remove old) body is = removed_by id old (is_kept old body.kept) _ body is
 outs_are id desk (Replace old new) body is =
@@ -197,7 +197,7 @@ outs_are id desk (Supervised what) body is =
 outs_are id desk event body is =
     vacuous (quiet_out id (event_did desk event body).acts (met-quiet desk event body tt)) is
 
-pub ins_are : (id : ℕ) (desk : Desk) (event : Event) (body : Machine)
+pub ins_are : (id : ℕ) (desk : Desk) (event : Event) (body : Body)
     → list_any (brings_in id) (event_did desk event body).acts ≡ true → BringsIn id event
 ins_are id desk (Remove old) body is = vacuous (removed_in id old (is_kept old body.kept) _ body) is
 ins_are id desk (Replace old new) body is = replaced_in id old new (is_kept old body.kept) _ body is

@@ -21,7 +21,7 @@ use Rattle.node_core.specs.Halves.{given_back, intake_row_did, outlet_row_did, s
 use Rattle.node_core.specs.Own.{ids_of}
 use Rattle.node_core.specs.Reads.{all_read}
 use Rattle.node_core.specs.Step.{plain_step}
-use Rattle.node_core.specs.declared.lane.Body.{Body as Machine}
+use Rattle.node_core.specs.declared.lane.Body.{Body}
 use Rattle.standings.specs.Marks.{has_id}
 use Rattle.supervisor_replay.proofs.Bodies.{keeps_it}
 
@@ -41,7 +41,7 @@ unready_keep gets_unready = refl
 start_keep : {s : InState} {row : InRow} → IsIntakeRow s in_input.Start row → row.act.keep ≡ None
 start_keep starts_transport = refl
 
-revoked : (desk : Desk) (body : Machine) (found : Option OutRow)
+revoked : (desk : Desk) (body : Body) (found : Option OutRow)
     → outlet_row body.outlet out_input.Revoke ≡ found
     → (outlet_row_did desk body found).body.kept ≡ body.kept
 revoked desk body None is = refl
@@ -49,7 +49,7 @@ revoked desk body (Some row) is =
     ap (λ (b : Option Record). given_back b body.kept)
     (revoke_back (row_is body.outlet out_input.Revoke row is))
 
-offered : (desk : Desk) (body : Machine) (id : ℕ) (found : Option OutRow)
+offered : (desk : Desk) (body : Body) (id : ℕ) (found : Option OutRow)
     → outlet_row body.outlet (out_input.Offer id) ≡ found
     → (outlet_row_did desk body found).body.kept ≡ body.kept
 offered desk body id None is = refl
@@ -57,7 +57,7 @@ offered desk body id (Some row) is =
     ap (λ (b : Option Record). given_back b body.kept)
     (offer_back (row_is body.outlet (out_input.Offer id) row is))
 
-readied : (desk : Desk) (body : Machine) (found : Option InRow)
+readied : (desk : Desk) (body : Body) (found : Option InRow)
     → intake_row body.intake in_input.Ready ≡ found
     → (intake_row_did desk body found).body.kept ≡ body.kept
 readied desk body None is = refl
@@ -65,7 +65,7 @@ readied desk body (Some row) is =
     ap (λ (k : Option Record). settled k body.kept)
     (ready_keep (in_row_is body.intake in_input.Ready row is))
 
-unreadied : (desk : Desk) (body : Machine) (found : Option InRow)
+unreadied : (desk : Desk) (body : Body) (found : Option InRow)
     → intake_row body.intake in_input.Unready ≡ found
     → (intake_row_did desk body found).body.kept ≡ body.kept
 unreadied desk body None is = refl
@@ -73,7 +73,7 @@ unreadied desk body (Some row) is =
     ap (λ (k : Option Record). settled k body.kept)
     (unready_keep (in_row_is body.intake in_input.Unready row is))
 
-started : (desk : Desk) (body : Machine) (found : Option InRow)
+started : (desk : Desk) (body : Body) (found : Option InRow)
     → intake_row body.intake in_input.Start ≡ found
     → (intake_row_did desk body found).body.kept ≡ body.kept
 started desk body None is = refl
@@ -81,34 +81,34 @@ started desk body (Some row) is =
     ap (λ (k : Option Record). settled k body.kept)
     (start_keep (in_row_is body.intake in_input.Start row is))
 
-revoke_kept : (desk : Desk) (test : Bool) (body : Machine)
+revoke_kept : (desk : Desk) (test : Bool) (body : Body)
     → (revoke_by desk test body).body.kept ≡ body.kept
 revoke_kept desk true body = revoked desk body (outlet_row body.outlet out_input.Revoke) refl
 revoke_kept desk false body = refl
 
-unready_kept : (desk : Desk) (test : Bool) (body : Machine)
+unready_kept : (desk : Desk) (test : Bool) (body : Body)
     → (unready_by desk test body).body.kept ≡ body.kept
 unready_kept desk true body = unreadied desk body (intake_row body.intake in_input.Unready) refl
 unready_kept desk false body = refl
 
-offer_kept : (desk : Desk) (test : Bool) (front : Option Record) (body : Machine)
+offer_kept : (desk : Desk) (test : Bool) (front : Option Record) (body : Body)
     → (offer_by desk test front body).body.kept ≡ body.kept
 offer_kept desk true (Some front) body =
     offered desk body front.id (outlet_row body.outlet (out_input.Offer front.id)) refl
 offer_kept desk true None body = refl
 offer_kept desk false front body = refl
 
-ready_kept : (desk : Desk) (test : Bool) (body : Machine)
+ready_kept : (desk : Desk) (test : Bool) (body : Body)
     → (ready_by desk test body).body.kept ≡ body.kept
 ready_kept desk true body = readied desk body (intake_row body.intake in_input.Ready) refl
 ready_kept desk false body = refl
 
-start_kept : (desk : Desk) (test : Bool) (body : Machine)
+start_kept : (desk : Desk) (test : Bool) (body : Body)
     → (start_by desk test body).body.kept ≡ body.kept
 start_kept desk true body = started desk body (intake_row body.intake in_input.Start) refl
 start_kept desk false body = refl
 
-announced_kept : (desk : Desk) (body : Machine) → (announces desk body).body.kept ≡ body.kept
+announced_kept : (desk : Desk) (body : Body) → (announces desk body).body.kept ≡ body.kept
 announced_kept desk body =
     let one = (revoke desk body).body in
     let two = (unready desk one).body in
@@ -131,7 +131,7 @@ last_is id (first ∷ kept) board is = or_true (first.id == id) (last_is id kept
   or_true false same = same
 
 pub inserted_kept : (desk : Desk) (unread : List Sensed) (id : ℕ) (barcode : Option (List ℕ))
-    (body : Machine) → keeps_it id (plain_step desk unread (Insert id barcode) body).body ≡ true
+    (body : Body) → keeps_it id (plain_step desk unread (Insert id barcode) body).body ≡ true
 inserted_kept desk unread id barcode body =
     let met = event_did desk (Insert id barcode) (all_read desk unread body).body in
     ap (λ (kept : List Record). has_id id (ids_of kept)) (announced_kept desk met.body)

@@ -10,13 +10,12 @@ use Rattle.handover_in.specs.declared.phase.Phase.{Phase as In}
 use Rattle.handover_in.specs.declared.phase.Phase.TheVariants as inn
 use Rattle.line_link.specs.Link.{after_connect, connected_of}
 use Rattle.line_link.specs.declared.link.Connected.{Connected}
-use Rattle.line_link.specs.declared.link.Connected.TheVariants as connections
 use Rattle.node_core.specs.May as own
 use Rattle.node_core.specs.Node.{NodeState, desk_of}
 use Rattle.node_core.specs.Own.{id_of}
 use Rattle.node_core.specs.declared.input.Input.{Input}
 use Rattle.node_core.specs.declared.input.Input.TheVariants as inputs
-use Rattle.node_core.specs.declared.lane.Body.{Body as Machine}
+use Rattle.node_core.specs.declared.lane.Body.{Body}
 use Rattle.standings.specs.Marks.{is_held}
 use Rattle.line_report.specs.declared.happening.Happening.{Happening}
 use Rattle.line_report.specs.declared.happening.Reason.TheVariants as reasons
@@ -101,7 +100,7 @@ call_phase id number j t t2 before between next done past earlier c =
     let start : LineState = connecting (j + 1 + 1) before in
     let mine = own_step number (j + 1) inputs.Connect start between earlier c.first in
     let floor = floor_of c.passing.st (connecting_stand (j + 1 + 1) (j + 1 + 1) before) c.first in
-    ap (λ (b : Machine). b.intake.phase) mine.now
+    ap (λ (b : Body). b.intake.phase) mine.now
     ∙ connect_takes (desk_of c.first.node (moment_of number)) (unread_by (j + 1 + 1) start.world) c.first.node.lane.body
     floor.0 _ _ (intake_may c.first.node c.may) (entry_closed c.first.node c.may) floor.1
 

@@ -35,7 +35,7 @@ use Rattle.node_core.specs.Told.{drives, in_does, in_sends, out_sends as out_sen
 use Rattle.node_core.specs.declared.act.Act.{Act}
 use Rattle.node_core.specs.declared.act.Act.TheVariants as acts
 use Rattle.node_core.specs.declared.act.Deed.TheVariants as deeds
-use Rattle.node_core.specs.declared.lane.Body.{Body as Machine}
+use Rattle.node_core.specs.declared.lane.Body.{Body}
 use Rattle.standings.specs.Marks.{is_held}
 use Rattle.one_standing.proofs.LedgerWalk.{is_silent}
 use Rattle.supervisor_replay.proofs.Bodies.{holds_it}
@@ -115,7 +115,7 @@ said_none id (starts_one s) =
 -- ---- what is read
 
 -- it says so of a board that the outlet held, and what the outlet holds then it held before
-record Leaving (id : ℕ) (body : Machine) (d : Done) : Type 0 where
+record Leaving (id : ℕ) (body : Body) (d : Done) : Type 0 where
   held : leaves_in id d.acts ≡ true → holds_it id body ≡ true
   still : holds_it id d.body ≡ true → holds_it id body ≡ true
 
@@ -153,7 +153,7 @@ in_none id desk (Some (in_deeds.Drops other)) None (Some on) = refl
 in_none id desk (Some (in_deeds.Drops other)) (Some what) None = refl
 in_none id desk (Some (in_deeds.Drops other)) (Some what) (Some on) = refl
 
-entry_leaving : (id : ℕ) (desk : Desk) (body : Machine) (found : Option InRow)
+entry_leaving : (id : ℕ) (desk : Desk) (body : Body) (found : Option InRow)
     → Leaving id body (intake_row_did desk body found)
 entry_leaving id desk body None = record { held = λ is. vacuous refl is; still = λ is. is }
 entry_leaving id desk body (Some row) = record {
@@ -161,16 +161,16 @@ entry_leaving id desk body (Some row) = record {
   still = λ is. is;
 }
 
-is_held_by : (id : ℕ) (mine : Record) (body : Machine) → held_out body.outlet.phase ≡ Some mine
+is_held_by : (id : ℕ) (mine : Record) (body : Body) → held_out body.outlet.phase ≡ Some mine
     → (mine.id == id) ≡ true → holds_it id body ≡ true
 is_held_by id mine body held is = rw held is
 
-not_held : {X : Type 0} (id : ℕ) (body : Machine) → held_out body.outlet.phase ≡ None
+not_held : {X : Type 0} (id : ℕ) (body : Body) → held_out body.outlet.phase ≡ None
     → holds_it id body ≡ true → X
 not_held id body none is = vacuous (rw none refl) is
 
 exit_leaving : {e : SensorEvent} {s : OutState} {found : Option OutRow} (id : ℕ) (desk : Desk)
-    (body : Machine)
+    (body : Body)
     → ExitTurn e s found → body.outlet ≡ s → Leaving id body (outlet_row_did desk body found)
 exit_leaving id desk body exit_none is =
     record { held = λ told. vacuous refl told; still = λ has. has }
@@ -215,7 +215,7 @@ exit_leaving id desk body
       still = λ has. not_held id (record body { outlet = after }) none has;
     }
 
-saw_leaving : (id : ℕ) (desk : Desk) (side : Side) (event : SensorEvent) (body : Machine)
+saw_leaving : (id : ℕ) (desk : Desk) (side : Side) (event : SensorEvent) (body : Body)
     → Leaving id body (saw desk side event body)
 saw_leaving id desk Entry event body =
     entry_leaving id desk body (intake_row body.intake (in_input.Sensed event))
@@ -223,7 +223,7 @@ saw_leaving id desk Exit event body =
     exit_leaving id desk body
     (exit_turn event body.outlet (outlet_row body.outlet (out_input.Sensed event)) refl) refl
 
-read_leaving : (id : ℕ) (desk : Desk) (unread : List Sensed) (body : Machine)
+read_leaving : (id : ℕ) (desk : Desk) (unread : List Sensed) (body : Body)
     → Leaving id body (all_read desk unread body)
 read_leaving id desk [] body = record { held = λ is. vacuous refl is; still = λ is. is }
 read_leaving id desk (sensed ∷ others) body =
@@ -249,7 +249,7 @@ read_leaving id desk (sensed ∷ others) body =
 
 -- ---- the step
 
-pub leaves_held : (id : ℕ) (desk : Desk) (unread : List Sensed) (event : Event) (body : Machine)
+pub leaves_held : (id : ℕ) (desk : Desk) (unread : List Sensed) (event : Event) (body : Body)
     → list_any (leaves_act id) (plain_step desk unread event body).acts ≡ true
     → holds_it id body ≡ true
 leaves_held id desk unread event body is =

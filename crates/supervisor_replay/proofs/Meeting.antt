@@ -8,7 +8,6 @@ use Rattle.std.proofs.Common.{
   inl,
   inr,
   is_some,
-  not,
   refl,
   subst,
   sym,
@@ -60,7 +59,7 @@ use Rattle.node_core.specs.Supervising.{
 use Rattle.node_core.specs.declared.act.Act.{Act}
 use Rattle.node_core.specs.declared.act.Act.TheVariants as acts
 use Rattle.node_core.specs.declared.act.Deed.TheVariants as deeds
-use Rattle.node_core.specs.declared.lane.Body.{Body as Machine}
+use Rattle.node_core.specs.declared.lane.Body.{Body}
 use Rattle.custody.specs.Floor.{
   EntryFloor,
   Sees,
@@ -666,12 +665,12 @@ seen_held (inn.Waiting _ _ _) own is = refl
 
 -- ---- MEETING AN EVENT
 
-pub not_of : (id : ℕ) (body : Machine) → has id (own_of body) ≡ false → HasNot id body
+pub not_of : (id : ℕ) (body : Body) → has id (own_of body) ≡ false → HasNot id body
 not_of id body none =
     let two = or_parts (keeps_it id body) (holds_it id body) none in
     record { kept = two.0; held = two.1 }
 
-pub still_of : (id : ℕ) (body now : Machine) → has id (own_of now) ≡ has id (own_of body)
+pub still_of : (id : ℕ) (body now : Body) → has id (own_of now) ≡ has id (own_of body)
     → HasStill id body now
 still_of id body now same = by_test (has id (own_of body)) refl where
   by_test : (test : Bool) → has id (own_of body) ≡ test → HasStill id body now
@@ -680,7 +679,7 @@ still_of id body now same = by_test (has id (own_of body)) refl where
       (or_cases (keeps_it id now) (holds_it id now) (same ∙ is))
   by_test false is = has_not (not_of id body is) (not_of id now (same ∙ is))
 
-fare_met : {id j : ℕ} {place : Place} {body now : Machine} {made all : List Act}
+fare_met : {id j : ℕ} {place : Place} {body now : Body} {made all : List Act}
     → (seen_of body ≡ Some sees.Taken → is_away place ≡ true)
     → (seen_of body ≡ Some sees.NotStarted → is_upstream place ≡ true)
     → list_any (takes_out id) made ≡ false → list_any (brings_in id) made ≡ false
@@ -695,7 +694,7 @@ fare_met {id = id} {body = body} {now = now} away home out in_hand (fare_missing
 fare_met {id = id} {body = body} {now = now} away home out in_hand (fare_upstream t u h o s) =
     met_upstream t u (home o) (still_of id body now h) s out in_hand
 
-met_of : {id j : ℕ} {place : Place} {body now : Machine} {made all : List Act}
+met_of : {id j : ℕ} {place : Place} {body now : Body} {made all : List Act}
     → (seen_of body ≡ Some sees.Taken → is_away place ≡ true)
     → (seen_of body ≡ Some sees.NotStarted → is_upstream place ≡ true)
     → Met id j (seen_of body) (own_of body) (own_of now) made all
@@ -707,7 +706,7 @@ met_of {id = id} {now = now} away home (goes_out takes_it_out kept none same say
 
 -- all events are read. What goes by hand is kept, and what comes by hand is nowhere in the machine
 pub met_fares : (id j : ℕ) (desk : Desk) (event : Event) (place : Place) (board : Record)
-    (body : Machine)
+    (body : Body)
     → desk.supervised ≡ true → are_different (all_of (own_of body)) ≡ true
     → (is_some (held_in body.intake.phase) ≡ true → (drive : Bool)
     × EntryFloor body.intake.phase [] drive place board)

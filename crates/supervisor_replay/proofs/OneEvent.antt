@@ -60,7 +60,7 @@ use Rattle.node_core.specs.declared.act.Act.{Act}
 use Rattle.node_core.specs.declared.act.Act.TheVariants as acts
 use Rattle.node_core.specs.declared.act.Deed.{Deed}
 use Rattle.node_core.specs.declared.act.Deed.TheVariants as deeds
-use Rattle.node_core.specs.declared.lane.Body.{Body as Machine}
+use Rattle.node_core.specs.declared.lane.Body.{Body}
 use Rattle.node_core.specs.declared.supervising.Watch.{Watch}
 use Rattle.custody.specs.Place.{Place}
 use Rattle.custody.specs.Words.{before_event}
@@ -123,7 +123,7 @@ use Rattle.supervisor_replay.proofs.Tells.{
 -- ---- some events are read: with those that are unread at the entry then
 
 pub record Went (id j : ℕ) (desk : Desk) (unread : List Sensed) (es : List SensorEvent)
-    (place : Place) (board : Record) (body : Machine) (d : Done) : Type 0 where
+    (place : Place) (board : Record) (body : Body) (d : Done) : Type 0 where
   pub fares : ReadFares id j unread place body d.body
       (with_tells desk (watching (own_of_phase body.intake.phase)) d.acts)
   pub floor : Later d.body.intake.phase es place board
@@ -178,15 +178,15 @@ abbrev entry_more : Desk → Option InSend → Option Bool → List Act
 entry_more desk send drive = in_sends desk send ++ drives Entry drive
 
 -- the machine with this intake, and with a record at the back
-abbrev pub with_intake : Machine → InState → Machine
+abbrev pub with_intake : Body → InState → Body
 with_intake body s = record body { intake = s }
 
-abbrev with_settled : Machine → InState → Record → Machine
+abbrev with_settled : Body → InState → Record → Body
 with_settled body s mine = record body { intake = s; kept = body.kept ++ mine ∷ [] }
 
 -- its board settles
 settles_fares : {unread : List Sensed} {place : Place} {phase : Phase} {mine : Record} (id j : ℕ)
-    (desk : Desk) (sees : Option Seen) (e : SensorEvent) (body : Machine) (o : Option Record)
+    (desk : Desk) (sees : Option Seen) (e : SensorEvent) (body : Body) (o : Option Record)
     (rd : Bool) (more : List Act) (test : Bool) → list_all is_quiet more ≡ true
     → held_in phase ≡ Some mine → (mine.id == id) ≡ test
     → ReadFares id j unread place (with_intake body (state_of phase o rd))
@@ -207,7 +207,7 @@ settles_fares {phase = phase} {mine = mine} id j desk sees e body o rd more fals
     (λ gap left. refl))
 
 -- the intake holds nothing then
-intake_still : {phase : Phase} (id : ℕ) (body : Machine) (o : Option Record) (rd : Bool)
+intake_still : {phase : Phase} (id : ℕ) (body : Body) (o : Option Record) (rd : Bool)
     → HasStill id (with_intake body (state_of phase o rd)) (with_intake body (state_of Idle o rd))
 intake_still {phase = phase} id body o rd =
     still_same id (with_intake body (state_of phase o rd)) (with_intake body (state_of Idle o rd))
@@ -215,7 +215,7 @@ intake_still {phase = phase} id body o rd =
 
 -- its board is dropped
 drops_fares : {unread : List Sensed} {place : Place} {phase : Phase} {mine : Record} {own : Seen}
-    (id j : ℕ) (desk : Desk) (e : SensorEvent) (body : Machine) (o : Option Record) (rd : Bool)
+    (id j : ℕ) (desk : Desk) (e : SensorEvent) (body : Body) (o : Option Record) (rd : Bool)
     (more : List Act) (test : Bool) → list_all is_quiet more ≡ true → held_in phase ≡ Some mine
     → WasSeen own place → (mine.id == id) ≡ test
     → ReadFares id j unread place (with_intake body (state_of phase o rd))
@@ -265,7 +265,7 @@ dropped_different kept mine held same different =
 
 -- the intake holds what it held
 stays_went : {phase after : Phase} {e : SensorEvent} {es : List SensorEvent} {place : Place}
-    {board : Record} (id j : ℕ) (desk : Desk) (unread : List Sensed) (body : Machine)
+    {board : Record} (id j : ℕ) (desk : Desk) (unread : List Sensed) (body : Body)
     (o : Option Record) (rd : Bool) (more : List Act) → list_all is_quiet more ≡ true
     → held_in after ≡ held_in phase
     → option_map (seen_with e) (own_of_phase phase) ≡ own_of_phase after
@@ -294,7 +294,7 @@ stays_went {phase = phase} {after = after} {e = e} id j desk unread body o rd mo
 
 -- it holds nothing then
 over_went : {phase : Phase} {e : SensorEvent} {es : List SensorEvent} {place : Place}
-    {board : Record} (id j : ℕ) (desk : Desk) (unread : List Sensed) (body : Machine)
+    {board : Record} (id j : ℕ) (desk : Desk) (unread : List Sensed) (body : Body)
     (o : Option Record) (rd : Bool) (kept : List Record) (deed : Deed) (more : List Act)
     → list_all is_quiet more ≡ true
     → ((w : Watch) → watch_after w (acts.Deed deed) ≡ record w { seen = None })
@@ -320,7 +320,7 @@ over_went {phase = phase} {e = e} id j desk unread body o rd kept deed more quie
 
 entry_went : {s : InState} {found : Option InRow} {e : SensorEvent} {es : List SensorEvent}
     {place : Place} {board : Record} (id j : ℕ) (desk : Desk) (unread : List Sensed)
-    (body : Machine) → EntryTurn e es place board s found
+    (body : Body) → EntryTurn e es place board s found
     → are_different (all_of (own_by body.kept body.outlet s)) ≡ true
     → Went id j desk unread es place board (with_intake body s)
     (behind (acts.Reads Entry e ∷ []) (intake_row_did desk (with_intake body s) found))
@@ -357,10 +357,10 @@ abbrev exit_more : Desk → List Record → Option OutSend → Option Bool → L
 exit_more desk kept send drive = out_sends desk kept send ++ drives Exit drive
 
 -- the machine with this outlet, and with a record in front
-abbrev with_outlet : Machine → OutState → Machine
+abbrev with_outlet : Body → OutState → Body
 with_outlet body s = record body { outlet = s }
 
-abbrev with_returned : Machine → OutState → Record → Machine
+abbrev with_returned : Body → OutState → Record → Body
 with_returned body s mine = record body { outlet = s; kept = mine ∷ body.kept }
 
 leaves_on : (n : ℕ) (left : Bool) {test : Bool} → test ≡ true → (((n == n) && test) || left) ≡ true
@@ -375,7 +375,7 @@ leaves_off true left is = rw is refl
 leaves_off false left is = refl
 
 -- the outlet holds nothing then, and the board is another
-outlet_still : {s after : OutState} {mine : Record} (id : ℕ) (body : Machine)
+outlet_still : {s after : OutState} {mine : Record} (id : ℕ) (body : Body)
     → held_out s ≡ Some mine → held_out after ≡ None → (mine.id == id) ≡ false
     → HasStill id (with_outlet body s) (with_outlet body after)
 outlet_still {s = s} {after = after} id body same none is =
@@ -384,7 +384,7 @@ outlet_still {s = s} {after = after} id body same none is =
 
 -- its board leaves
 leaves_fares : {place : Place} {s after : OutState} {mine : Record} (id j : ℕ) (desk : Desk)
-    (sees : Option Seen) (body : Machine) (more : List Act) (test : Bool)
+    (sees : Option Seen) (body : Body) (more : List Act) (test : Bool)
     → list_all is_quiet more ≡ true → held_out s ≡ Some mine → held_out after ≡ None
     → Apart id (with_outlet body s) → (mine.id == id) ≡ test
     → ReadFares id j (record { side = Exit; event = event.Left } ∷ []) place (with_outlet body s)
@@ -408,7 +408,7 @@ leaves_fares {s = s} {after = after} {mine = mine} id j desk sees body more fals
 
 -- its board is lost
 loses_fares : {place : Place} {s after : OutState} {mine : Record} (id j : ℕ) (desk : Desk)
-    (sees : Option Seen) (body : Machine) (more : List Act) (unread : List Sensed) (e : SensorEvent)
+    (sees : Option Seen) (body : Body) (more : List Act) (unread : List Sensed) (e : SensorEvent)
     (test : Bool) → list_all is_quiet more ≡ true → held_out s ≡ Some mine
     → held_out after ≡ None → Apart id (with_outlet body s) → (mine.id == id) ≡ test
     → ReadFares id j unread place (with_outlet body s) (with_outlet body after)
@@ -426,7 +426,7 @@ loses_fares {s = s} {after = after} {mine = mine} id j desk sees body more unrea
 
 -- its board is given back
 returns_fares : {place : Place} {s after : OutState} {mine : Record} (id j : ℕ) (desk : Desk)
-    (sees : Option Seen) (body : Machine) (more : List Act) (unread : List Sensed) (e : SensorEvent)
+    (sees : Option Seen) (body : Body) (more : List Act) (unread : List Sensed) (e : SensorEvent)
     (test : Bool) → list_all is_quiet more ≡ true → held_out s ≡ Some mine
     → held_out after ≡ None → (mine.id == id) ≡ test
     → ReadFares id j unread place (with_outlet body s) (with_returned body after mine)
@@ -462,12 +462,12 @@ back_different {mine = mine} rest same none different =
     ∙ different
 
 -- the ids behind that at the outlet
-abbrev ids_behind : Machine → List ℕ
+abbrev ids_behind : Body → List ℕ
 ids_behind body = ids_of body.kept ++ one_of (id_of (held_in body.intake.phase))
 
 -- the outlet holds what it held
 same_went : {s after : OutState} {e : SensorEvent} {es : List SensorEvent} {place : Place}
-    {board : Record} (id j : ℕ) (desk : Desk) (unread : List Sensed) (body : Machine)
+    {board : Record} (id j : ℕ) (desk : Desk) (unread : List Sensed) (body : Body)
     → held_out after ≡ held_out s → Later body.intake.phase es place board
     → are_different (all_of (own_of (with_outlet body s))) ≡ true
     → Went id j desk unread es place board (with_outlet body s)
@@ -488,7 +488,7 @@ same_went {s = s} {after = after} {e = e} id j desk unread body same later diffe
 
 -- it holds nothing then
 gone_went : {s after : OutState} {e : SensorEvent} {es : List SensorEvent} {place : Place}
-    {board : Record} (id j : ℕ) (desk : Desk) (unread : List Sensed) (body : Machine)
+    {board : Record} (id j : ℕ) (desk : Desk) (unread : List Sensed) (body : Body)
     (kept : List Record) (deed : Deed) (more : List Act) → list_all is_quiet more ≡ true
     → ((w : Watch) → watch_after w (acts.Deed deed) ≡ w) → held_out after ≡ None
     → Later body.intake.phase es place board
@@ -511,7 +511,7 @@ gone_went id j desk unread body kept deed more quiet same none later different f
 
 -- and nothing was offered
 still_went : {s after : OutState} {e : SensorEvent} {es : List SensorEvent} {place : Place}
-    {board : Record} {last : Option ℕ} (id j : ℕ) (desk : Desk) (body : Machine)
+    {board : Record} {last : Option ℕ} (id j : ℕ) (desk : Desk) (body : Body)
     (kept : List Record) (told : List Act) → last ≡ body.last_offer
     → Went id j desk (record { side = Exit; event = e } ∷ []) es place board (with_outlet body s)
     (done (record body { outlet = after; kept = kept }) told)
@@ -524,7 +524,7 @@ still_went {s = s} {after = after} {e = e} {es = es} {place = place} {board = bo
     (sym same) went
 
 exit_went : {s : OutState} {found : Option OutRow} {e : SensorEvent} {es : List SensorEvent}
-    {place : Place} {board : Record} (id j : ℕ) (desk : Desk) (body : Machine) → ExitTurn e s found
+    {place : Place} {board : Record} (id j : ℕ) (desk : Desk) (body : Body) → ExitTurn e s found
     → are_different (all_of (own_by body.kept s body.intake)) ≡ true
     → Later body.intake.phase es place board
     → Went id j desk (record { side = Exit; event = e } ∷ []) es place board (with_outlet body s)
@@ -570,7 +570,7 @@ exit_went {e = e} id j desk body
 -- ---- one event, at either side
 
 pub one_went : {es : List SensorEvent} {place : Place} {board : Record} (id j : ℕ) (desk : Desk)
-    (side : Side) (e : SensorEvent) (body : Machine)
+    (side : Side) (e : SensorEvent) (body : Body)
     → Later body.intake.phase (before_event Entry side e es) place board
     → are_different (all_of (own_of body)) ≡ true
     → Went id j desk (record { side = side; event = e } ∷ []) es place board body

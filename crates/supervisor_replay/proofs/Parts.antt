@@ -4,20 +4,20 @@ use Rattle.std.specs.List.{list_any}
 use Rattle.board_record.specs.declared.sensed.Sensed.{Sensed}
 use Rattle.hermes_vertical.specs.declared.message.Passing.TheVariants.{ByHand, Transferred}
 use Rattle.node_core.specs.declared.act.Act.{Act}
-use Rattle.node_core.specs.declared.lane.Body.{Body as Machine}
+use Rattle.node_core.specs.declared.lane.Body.{Body}
 use Rattle.custody.specs.Place.{Place, is_away, is_upstream}
 use Rattle.supervisor_replay.specs.Replay.{At, Told, departs}
 use Rattle.supervisor_replay.proofs.Bodies.{brings_in, holds_it, keeps_it, left_acts, takes_it, takes_out, told_acts, will_leave}
 
 -- the machine keeps the board or its outlet holds it
-abbrev pub HasIt : ℕ → Machine → Type 0
+abbrev pub HasIt : ℕ → Body → Type 0
 HasIt id body = (keeps_it id body ≡ true) ⊎ (holds_it id body ≡ true)
 
-pub record HasNot (id : ℕ) (body : Machine) : Type 0 where
+pub record HasNot (id : ℕ) (body : Body) : Type 0 where
   pub kept : keeps_it id body ≡ false
   pub held : holds_it id body ≡ false
 
-pub data HasStill (id : ℕ) (body now : Machine) : Type 0 where
+pub data HasStill (id : ℕ) (body now : Body) : Type 0 where
   has_not : HasNot id body → HasNot id now → HasStill id body now
   has_still : HasIt id body → HasIt id now → HasStill id body now
 
@@ -33,7 +33,7 @@ pub record SaysLeft (id j : ℕ) (all : List Act) : Type 0 where
   pub others : (gap : ℕ) (left : Bool) → (gap ≡ j + 1 → ⊥) → left_acts gap id (j + 1) all left ≡ left
 
 -- as it reads its events: `all` are the acts with what is told behind them; `place` that of the handover above
-pub data ReadFares (id j : ℕ) (unread : List Sensed) (place : Place) (body now : Machine) (all : List Act) : Type 0 where
+pub data ReadFares (id j : ℕ) (unread : List Sensed) (place : Place) (body now : Body) (all : List Act) : Type 0 where
   read_so : HasStill id body now → takes_it id now ≡ takes_it id body → Says id j all (λ told. told)
       → ReadFares id j unread place body now all
   read_leaves : holds_it id body ≡ true → will_leave unread ≡ true → HasNot id now
@@ -48,7 +48,7 @@ pub data ReadFares (id j : ℕ) (unread : List Sensed) (place : Place) (body now
       → HasStill id body now → Says id j all (λ told. told) → ReadFares id j unread place body now all
 
 -- as it meets an event
-pub data MetFares (id j : ℕ) (place : Place) (body now : Machine) (made all : List Act) : Type 0 where
+pub data MetFares (id j : ℕ) (place : Place) (body now : Body) (made all : List Act) : Type 0 where
   met_so : HasStill id body now → takes_it id now ≡ takes_it id body → Says id j all (λ told. told)
       → list_any (takes_out id) made ≡ false → list_any (brings_in id) made ≡ false
       → MetFares id j place body now made all

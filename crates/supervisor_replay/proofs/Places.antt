@@ -37,7 +37,7 @@ use Rattle.board_record.specs.declared.record.Record.{Record}
 use Rattle.board_record.specs.declared.sensed.Sensed.{Sensed}
 use Rattle.node_core.specs.Own.{Own, ids_of, one_of, own_of}
 use Rattle.node_core.specs.declared.act.Act.{Act}
-use Rattle.node_core.specs.declared.lane.Body.{Body as Machine}
+use Rattle.node_core.specs.declared.lane.Body.{Body}
 use Rattle.custody.specs.Place.{Place}
 use Rattle.custody.specs.Words.{events_at}
 use Rattle.standings.specs.Ledger.{are_different}
@@ -117,11 +117,11 @@ held_apart id own different is = held_by (has_id id own.kept) refl where
       not_front id (one_of own.held) behind different has in
       absurd (false≢true (sym none ∙ one_held id own.held ∙ is))
 
-pub record Apart (id : ℕ) (body : Machine) : Type 0 where
+pub record Apart (id : ℕ) (body : Body) : Type 0 where
   pub held : holds_it id body ≡ true → keeps_it id body ≡ false
   pub taking : takes_it id body ≡ true → HasNot id body
 
-pub apart : (id : ℕ) (body : Machine) → are_different (all_of (own_of body)) ≡ true → Apart id body
+pub apart : (id : ℕ) (body : Body) → are_different (all_of (own_of body)) ≡ true → Apart id body
 apart id body different = record {
   held = held_apart id (own_of body) different;
   taking = λ is. let parts = taken_apart id (own_of body) different is in
@@ -142,34 +142,34 @@ has_back id (one ∷ kept) board =
 
 -- ---- what the machine has
 
-pub it_not : {X : Type 0} {id : ℕ} {body : Machine} → HasIt id body → HasNot id body → X
+pub it_not : {X : Type 0} {id : ℕ} {body : Body} → HasIt id body → HasNot id body → X
 it_not (inl kept) none = absurd (false≢true (sym none.kept ∙ kept))
 it_not (inr held) none = absurd (false≢true (sym none.held ∙ held))
 
-still_by : {id : ℕ} {body now : Machine} (k h : Bool) → keeps_it id body ≡ k → holds_it id body ≡ h
+still_by : {id : ℕ} {body now : Body} (k h : Bool) → keeps_it id body ≡ k → holds_it id body ≡ h
     → keeps_it id now ≡ k → holds_it id now ≡ h → HasStill id body now
 still_by true h k1 h1 k2 h2 = has_still (inl k1) (inl k2)
 still_by false true k1 h1 k2 h2 = has_still (inr h1) (inr h2)
 still_by false false k1 h1 k2 h2 =
     has_not (record { kept = k1; held = h1 }) (record { kept = k2; held = h2 })
 
-pub still_same : (id : ℕ) (body now : Machine) → keeps_it id now ≡ keeps_it id body
+pub still_same : (id : ℕ) (body now : Body) → keeps_it id now ≡ keeps_it id body
     → holds_it id now ≡ holds_it id body → HasStill id body now
 still_same id body now kept held =
     still_by (keeps_it id body) (holds_it id body) refl refl kept held
 
-pub still_both : {id : ℕ} {body one now : Machine} → HasStill id body one → HasStill id one now
+pub still_both : {id : ℕ} {body one now : Body} → HasStill id body one → HasStill id one now
     → HasStill id body now
 still_both (has_not a b) (has_not c d) = has_not a d
 still_both (has_not a b) (has_still c d) = it_not c b
 still_both (has_still a b) (has_not c d) = it_not b c
 still_both (has_still a b) (has_still c d) = has_still a d
 
-pub still_not : {id : ℕ} {one now : Machine} → HasNot id one → HasStill id one now → HasNot id now
+pub still_not : {id : ℕ} {one now : Body} → HasNot id one → HasStill id one now → HasNot id now
 still_not none (has_not a b) = b
 still_not none (has_still a b) = it_not a none
 
-pub still_it : {id : ℕ} {one now : Machine} → HasIt id one → HasStill id one now → HasIt id now
+pub still_it : {id : ℕ} {one now : Body} → HasIt id one → HasStill id one now → HasIt id now
 still_it has (has_not a b) = it_not has a
 still_it has (has_still a b) = b
 
@@ -193,12 +193,12 @@ later_leaves Exit event others is =
     or_right (is_leaving_event event) (list_any is_leaving_event (events_at Exit others)) is
 
 -- where the machine neither holds nor takes it, nothing becomes of it
-record Nothing (id j : ℕ) (one now : Machine) (all : List Act) : Type 0 where
+record Nothing (id j : ℕ) (one now : Body) (all : List Act) : Type 0 where
   still : HasStill id one now
   takes : takes_it id now ≡ false
   says : Says id j all (λ told. told)
 
-nothing_more : {id j : ℕ} {unread : List Sensed} {place : Place} {one now : Machine}
+nothing_more : {id j : ℕ} {unread : List Sensed} {place : Place} {one now : Body}
     {all : List Act} → holds_it id one ≡ false → takes_it id one ≡ false
     → ReadFares id j unread place one now all → Nothing id j one now all
 nothing_more held takes (read_so still same says) =
@@ -210,7 +210,7 @@ nothing_more held takes (read_missing is over away still says) = vacuous takes i
 nothing_more held takes (read_upstream is over above still says) = vacuous takes is
 
 -- nothing became of it at first
-behind_so : {id j : ℕ} {place : Place} {body one now : Machine} {first second : List Act}
+behind_so : {id j : ℕ} {place : Place} {body one now : Body} {first second : List Act}
     (sensed : Sensed) (others : List Sensed)
     → (holds_it id one ≡ true → holds_it id body ≡ true)
     → HasStill id body one → takes_it id one ≡ takes_it id body → Says id j first (λ told. told)
@@ -239,19 +239,19 @@ behind_so {id = id} {j = j} {first = first} {second = second} sensed others mine
     (says_both id j first second says says2)
 
 -- an outlet's board is not taken, and a board that is taken is not held
-pub held_untaken : {id : ℕ} {body : Machine} → Apart id body → holds_it id body ≡ true
+pub held_untaken : {id : ℕ} {body : Body} → Apart id body → holds_it id body ≡ true
     → takes_it id body ≡ false
 held_untaken {id = id} {body = body} alone held =
     false_from_ne_true (takes_it id body) (λ is. it_not (inr held) (alone.taking is))
 
-taken_unheld : {id : ℕ} {body : Machine} (one : Machine) → Apart id body
+taken_unheld : {id : ℕ} {body : Body} (one : Body) → Apart id body
     → (holds_it id one ≡ true → holds_it id body ≡ true) → takes_it id body ≡ true
     → holds_it id one ≡ false
 taken_unheld {id = id} one alone mine is =
     false_from_ne_true (holds_it id one) (λ held. it_not (inr (mine held)) (alone.taking is))
 
 -- what becomes of a board as one event is read, and then the others
-pub behind_one : {id j : ℕ} {place : Place} {body one now : Machine} {first second : List Act}
+pub behind_one : {id j : ℕ} {place : Place} {body one now : Body} {first second : List Act}
     (sensed : Sensed) (others : List Sensed) → Apart id body
     → (holds_it id one ≡ true → holds_it id body ≡ true)
     → ReadFares id j (sensed ∷ []) place body one first

@@ -32,7 +32,7 @@ use Rattle.node_core.specs.Own.{own_of}
 use Rattle.node_core.specs.Reads.{all_read, reads}
 use Rattle.node_core.specs.Supervising.{watch_behind, watch_of, with_tells}
 use Rattle.node_core.specs.declared.act.Act.{Act}
-use Rattle.node_core.specs.declared.lane.Body.{Body as Machine}
+use Rattle.node_core.specs.declared.lane.Body.{Body}
 use Rattle.node_core.specs.declared.supervising.Watch.{Watch}
 use Rattle.custody.specs.Floor.{EntryFloor}
 use Rattle.custody.specs.Place.{Place}
@@ -50,7 +50,7 @@ use Rattle.supervisor_replay.proofs.Tells.{says_none, watch_append, watching}
 
 -- an event, and then the others
 then_went : {es : List SensorEvent} {place : Place} {board : Record} (id j : ℕ) (desk : Desk)
-    (sensed : Sensed) (others : List Sensed) (body : Machine) (one next : Done)
+    (sensed : Sensed) (others : List Sensed) (body : Body) (one next : Done)
     → are_different (all_of (own_of body)) ≡ true
     → Went id j desk (sensed ∷ []) es place board body one
     → Went id j desk others [] place board one.body next
@@ -76,7 +76,7 @@ then_went {place = place} id j desk sensed others body one next different a b =
     }
 
 all_went : {place : Place} {board : Record} (id j : ℕ) (desk : Desk) (unread : List Sensed)
-    (body : Machine) → Later body.intake.phase (events_at Entry unread) place board
+    (body : Body) → Later body.intake.phase (events_at Entry unread) place board
     → are_different (all_of (own_of body)) ≡ true
     → Went id j desk unread [] place board body (all_read desk unread body)
 all_went id j desk [] body later different = record {
@@ -99,7 +99,7 @@ all_went id j desk (sensed ∷ others) body later different =
 -- what was read is known then; the place of the handover stays; ids differ still; and nothing is
 -- done by hand
 pub record Read (id j : ℕ) (desk : Desk) (unread : List Sensed) (place : Place) (board : Record)
-    (body : Machine) : Type 0 where
+    (body : Body) : Type 0 where
   pub fares : ReadFares id j unread place body (all_read desk unread body).body
       (with_tells desk (watch_of desk body) (all_read desk unread body).acts)
   pub floor : is_some (held_in (all_read desk unread body).body.intake.phase) ≡ true
@@ -111,14 +111,14 @@ pub record Read (id j : ℕ) (desk : Desk) (unread : List Sensed) (place : Place
   pub out : list_any (takes_out id) (all_read desk unread body).acts ≡ false
   pub «in» : list_any (brings_in id) (all_read desk unread body).acts ≡ false
 
-watched_is : (desk : Desk) (body : Machine) → desk.supervised ≡ true
+watched_is : (desk : Desk) (body : Body) → desk.supervised ≡ true
     → watching (own_of_phase body.intake.phase) ≡ watch_of desk body
 watched_is desk body watched =
     ap (λ (on : Bool). record { supervised = on; seen = own_of_phase body.intake.phase })
     (sym watched)
 
 pub read_fares : (id j : ℕ) (desk : Desk) (unread : List Sensed) (place : Place) (board : Record)
-    (body : Machine) (drive : Bool) → desk.supervised ≡ true
+    (body : Body) (drive : Bool) → desk.supervised ≡ true
     → are_different (all_of (own_of body)) ≡ true
     → EntryFloor body.intake.phase (events_at Entry unread) drive place board
     → Read id j desk unread place board body

@@ -47,7 +47,7 @@ use Rattle.node_core.specs.Bridge.{failed_front, fails, sets_level, tells_level}
 use Rattle.node_core.specs.Connect.{if_open, opens, shuts_down, ticks}
 use Rattle.node_core.specs.Desk.{Desk}
 use Rattle.node_core.specs.Done.{Done, and_then, behind, done, stays}
-use Rattle.node_core.specs.Event.{Accepted, Connect, Event, Fault, Forecast, Insert, Level, Mark, Sub, Nothing, Notice, Query, Remove, Replace, Second, Shutdown, Supervised, Tick, Will, Words, event_did}
+use Rattle.node_core.specs.Event.{Accepted, Connect, Event, Fault, Forecast, Level, Mark, Sub, Nothing, Notice, Query, Remove, Replace, Second, Shutdown, Supervised, Tick, Will, Words, event_did}
 use Rattle.node_core.specs.Halves.{behind_opening, ended, half_closed, intake_row_did, opening_board, outlet_row_did}
 use Rattle.node_core.specs.Hears.{exit_took, exit_word, hears, intake_took, outlet_took, passed, rowed, taken}
 use Rattle.node_core.specs.Information.{forecasts}
@@ -60,7 +60,7 @@ use Rattle.node_core.specs.Told.{drives, in_told, notification, offers, out_does
 use Rattle.node_core.specs.Words.{all_heard, word_did}
 use Rattle.node_core.specs.declared.act.Act.{Act}
 use Rattle.node_core.specs.declared.act.Act.TheVariants as acts
-use Rattle.node_core.specs.declared.lane.Body.{Body as Machine}
+use Rattle.node_core.specs.declared.lane.Body.{Body}
 use Rattle.node_core.specs.declared.word.ExitWord.{ExitWord}
 use Rattle.node_core.specs.declared.word.ExitWord.TheVariants as exits
 use Rattle.node_core.specs.declared.word.Word.{Word}
@@ -264,7 +264,7 @@ finished_takes {row = row} shape o all =
 
 -- ---- a micro event that leaves the entry's session: what is on its way is as good as before, where C holds
 
-record Calm (C : Type 0) (id : ℕ) (body : Machine) (d : Done) : Type 0 where
+record Calm (C : Type 0) (id : ℕ) (body : Body) (d : Done) : Type 0 where
   offer : OfferIs (IsOther id) body.intake.offer → OfferIs (IsOther id) d.body.intake.offer
   flight : C → (ws : List DownWord)
       → OpenAll (IsOther id) (passes_offers_over body.intake.phase) ws
@@ -272,12 +272,12 @@ record Calm (C : Type 0) (id : ℕ) (body : Machine) (d : Done) : Type 0 where
   same : d.body.entry.session ≡ body.entry.session
   starts : OfferIs (IsOther id) body.intake.offer → list_any (starts_it id) d.acts ≡ false
 
-calm_still : {C : Type 0} {id : ℕ} (body : Machine) → Calm C id body (stays body)
+calm_still : {C : Type 0} {id : ℕ} (body : Body) → Calm C id body (stays body)
 calm_still body =
     record { offer = λ o. o; flight = λ c ws all. all; same = refl; starts = λ o. refl }
 
 -- the intake is as it was
-calm_aside : {C : Type 0} {id : ℕ} (body : Machine) (d : Done) → d.body.intake ≡ body.intake
+calm_aside : {C : Type 0} {id : ℕ} (body : Body) (d : Done) → d.body.intake ≡ body.intake
     → d.body.entry.session ≡ body.entry.session → list_any (starts_it id) d.acts ≡ false
     → Calm C id body d
 calm_aside {id = id} body d same session none = record {
@@ -288,7 +288,7 @@ calm_aside {id = id} body d same session none = record {
   starts = λ o. none;
 }
 
-calm_behind : {C : Type 0} {id : ℕ} (body : Machine) (told : List Act) (d : Done)
+calm_behind : {C : Type 0} {id : ℕ} (body : Body) (told : List Act) (d : Done)
     → list_any (starts_it id) told ≡ false → Calm C id body d → Calm C id body (behind told d)
 calm_behind {id = id} body told d none k =
     record {
@@ -299,7 +299,7 @@ calm_behind {id = id} body told d none k =
           none_both id told d.acts none (k.starts o);
     }
 
-calm_both : {C : Type 0} {id : ℕ} (body : Machine) (first : Done) (next : Machine → Done)
+calm_both : {C : Type 0} {id : ℕ} (body : Body) (first : Done) (next : Body → Done)
     → Calm C id body first → Calm C id first.body (next first.body)
     → Calm C id body (and_then first next)
 calm_both {id = id} body first next a b = record {
@@ -310,12 +310,12 @@ calm_both {id = id} body first next a b = record {
 }
 
 -- the exit's session changes first
-calm_session : {C : Type 0} {id : ℕ} (s : SessionEnd) (body : Machine) (d : Done)
+calm_session : {C : Type 0} {id : ℕ} (s : SessionEnd) (body : Body) (d : Done)
     → Calm C id (with_session Exit s body) d → Calm C id body d
 calm_session s body d k =
     record { offer = k.offer; flight = k.flight; same = k.same; starts = k.starts }
 
-intake_calm : {C : Type 0} {id : ℕ} (desk : Desk) (body : Machine) (w : InInput)
+intake_calm : {C : Type 0} {id : ℕ} (desk : Desk) (body : Body) (w : InInput)
     (found : Option InRow) → intake_row body.intake w ≡ found → IsCalmInput w
     → Calm C id body (intake_row_did desk body found)
 intake_calm desk body w None is calm = calm_still body
@@ -331,7 +331,7 @@ intake_calm {id = id} desk body w (Some row) is calm =
     }
 
 -- a connection is closed that stands no more
-intake_closed : {C : Type 0} {id : ℕ} (desk : Desk) (body : Machine) (found : Option InRow)
+intake_closed : {C : Type 0} {id : ℕ} (desk : Desk) (body : Body) (found : Option InRow)
     → intake_row body.intake in_input.Closed ≡ found → (C → ⊥)
     → Calm C id body (intake_row_did desk body found)
 intake_closed desk body None is none = calm_still body
@@ -344,7 +344,7 @@ intake_closed {id = id} desk body (Some row) is none =
       starts = row_none id desk shape;
     }
 
-outlet_calm : {C : Type 0} {id : ℕ} (desk : Desk) (body : Machine) (found : Option OutRow)
+outlet_calm : {C : Type 0} {id : ℕ} (desk : Desk) (body : Body) (found : Option OutRow)
     → Calm C id body (outlet_row_did desk body found)
 outlet_calm desk body None = calm_still body
 outlet_calm {id = id} desk body (Some row) =
@@ -362,13 +362,13 @@ abbrev Bars : Side → Type 0 → Actions → Type 0
 Bars side C actions =
     Bar side C actions.first × (Bar side C actions.second × Bar side C actions.third)
 
-closes_calm : {C : Type 0} {id : ℕ} (desk : Desk) (side : Side) (body : Machine)
+closes_calm : {C : Type 0} {id : ℕ} (desk : Desk) (side : Side) (body : Body)
     → Bar side C (Some Close) → Calm C id body (half_closed desk side body)
 closes_calm desk Entry body bar =
     intake_closed desk body (intake_row body.intake in_input.Closed) refl bar
 closes_calm desk Exit body bar = outlet_calm desk body (outlet_row body.outlet out_input.Closed)
 
-action_calm : {C : Type 0} {id : ℕ} (desk : Desk) (side : Side) (action : Action) (body : Machine)
+action_calm : {C : Type 0} {id : ℕ} (desk : Desk) (side : Side) (action : Action) (body : Body)
     → Bar side C (Some action) → Calm C id body (action_did desk side action body)
 action_calm desk side SendService body bar = calm_aside body _ refl refl refl
 action_calm desk side (Pong name) body bar = calm_aside body _ refl refl refl
@@ -382,16 +382,16 @@ action_calm desk side Stand body bar =
 action_calm desk side (Pass what) body bar = calm_still body
 
 maybe_calm : {C : Type 0} {id : ℕ} (desk : Desk) (side : Side) (action : Option Action)
-    (body : Machine) → Bar side C action → Calm C id body (maybe_did desk side action body)
+    (body : Body) → Bar side C action → Calm C id body (maybe_did desk side action body)
 maybe_calm desk side None body bar = calm_still body
 maybe_calm desk side (Some action) body bar = action_calm desk side action body bar
 
 actions_calm : {C : Type 0} {id : ℕ} (desk : Desk) (side : Side) (actions : Actions)
-    (body : Machine) → Bars side C actions → Calm C id body (actions_did desk side actions body)
+    (body : Body) → Bars side C actions → Calm C id body (actions_did desk side actions body)
 actions_calm desk side actions body bars =
     let one = maybe_did desk side actions.first body in
     let two = maybe_did desk side actions.second one.body in
-    calm_both body one (λ (b : Machine). and_then (maybe_did desk side actions.second b)
+    calm_both body one (λ (b : Body). and_then (maybe_did desk side actions.second b)
     (maybe_did desk side actions.third)) (maybe_calm desk side actions.first body bars.0)
     (calm_both one.body two (maybe_did desk side actions.third)
     (maybe_calm desk side actions.second one.body bars.1.0)
@@ -412,7 +412,7 @@ row_bars (gives_up_standing _ _) = (λ on. false≢true on, (tt, tt))
 row_bars (row_shuts _) = (tt, (λ on. false≢true on, tt))
 row_bars _ = (tt, (tt, tt))
 
-exit_session : {C : Type 0} {id : ℕ} (desk : Desk) (found : Option SessionRow) (body : Machine)
+exit_session : {C : Type 0} {id : ℕ} (desk : Desk) (found : Option SessionRow) (body : Body)
     → Calm C id body (session_did desk Exit found body)
 exit_session desk None body = calm_still body
 exit_session {C = C} desk (Some row) body =
@@ -420,14 +420,14 @@ exit_session {C = C} desk (Some row) body =
     (actions_calm desk Exit row.actions (with_session Exit row.after body)
     (bars_exit C row.actions))
 
-exit_ended : {C : Type 0} {id : ℕ} (desk : Desk) (body : Machine)
+exit_ended : {C : Type 0} {id : ℕ} (desk : Desk) (body : Body)
     → Calm C id body (ended desk Exit body)
 exit_ended desk body =
     let b = with_session Exit (at_rest body.exit.session.role) body in
     calm_session (at_rest body.exit.session.role) body (ended desk Exit body)
     (outlet_calm desk b (outlet_row b.outlet out_input.Closed))
 
-exit_breaches : {C : Type 0} {id : ℕ} (desk : Desk) (text : List ℕ) (body : Machine)
+exit_breaches : {C : Type 0} {id : ℕ} (desk : Desk) (text : List ℕ) (body : Body)
     → Calm C id body (breaches desk Exit text body)
 exit_breaches desk text body =
     calm_behind body (acts.Breaches Exit text ∷ (sends desk Exit (notification 1 Fatal text)
@@ -436,16 +436,16 @@ exit_breaches desk text body =
 -- ---- what is heard at the exit
 
 -- what a half took, if it has a row
-data CalmAny (C : Type 0) (id : ℕ) (body : Machine) : Option Done → Type 0 where
+data CalmAny (C : Type 0) (id : ℕ) (body : Body) : Option Done → Type 0 where
   calm_none : CalmAny C id body None
   calm_some : {d : Done} → Calm C id body d → CalmAny C id body (Some d)
 
-exit_half : {C : Type 0} {id : ℕ} (desk : Desk) (body : Machine) (found : Option OutRow)
+exit_half : {C : Type 0} {id : ℕ} (desk : Desk) (body : Body) (found : Option OutRow)
     → CalmAny C id body (outlet_took desk body found)
 exit_half desk body None = calm_none
 exit_half desk body (Some row) = calm_some (outlet_calm desk body (Some row))
 
-start_half : {C : Type 0} {id : ℕ} (desk : Desk) (body : Machine) (kept : List Record)
+start_half : {C : Type 0} {id : ℕ} (desk : Desk) (body : Body) (kept : List Record)
     (found : Option OutRow)
     → CalmAny C id body (outlet_took desk (record body { kept = kept }) found)
 start_half desk body kept None = calm_none
@@ -454,7 +454,7 @@ start_half {id = id} desk body kept (Some row) =
     (calm_aside body (outlet_row_did desk (record body { kept = kept }) (Some row)) refl refl
     (out_none id desk kept row.act))
 
-exit_calm : {C : Type 0} {id : ℕ} (desk : Desk) (word : ExitWord) (body : Machine)
+exit_calm : {C : Type 0} {id : ℕ} (desk : Desk) (word : ExitWord) (body : Body)
     → CalmAny C id body (exit_took desk word body)
 exit_calm desk exits.Ready body =
     exit_half desk body (outlet_row body.outlet out_input.MachineReady)
@@ -469,7 +469,7 @@ exit_calm desk (exits.Stop state named) body =
 exit_calm desk (exits.Query top bottom) body = calm_some (calm_aside body _ refl refl refl)
 exit_calm desk exits.Nothing body = calm_some (calm_still body)
 
-exit_passed : {C : Type 0} {id : ℕ} (desk : Desk) (message : Message) (body : Machine)
+exit_passed : {C : Type 0} {id : ℕ} (desk : Desk) (message : Message) (body : Body)
     (found : Option Done) → CalmAny C id body found
     → Calm C id body (passed desk Exit message body found)
 exit_passed desk message body None any =
@@ -478,14 +478,14 @@ exit_passed desk message body (Some d) (calm_some k) =
     calm_behind body (acts.Hears Exit message ∷ []) d refl k
 
 exit_by : {C : Type 0} {id : ℕ} (desk : Desk) (message : Message) (actions : Actions)
-    (body : Machine)
+    (body : Body)
     → Calm C id body (behind (acts.Hears Exit message ∷ []) (actions_did desk Exit actions body))
 exit_by {C = C} desk message actions body =
     calm_behind body (acts.Hears Exit message ∷ []) (actions_did desk Exit actions body) refl
     (actions_calm desk Exit actions body (bars_exit C actions))
 
 exit_taken : {C : Type 0} {id : ℕ} (desk : Desk) (message : Message) (first : Option Action)
-    (actions : Actions) (body : Machine)
+    (actions : Actions) (body : Body)
     → Calm C id body (taken desk Exit message first actions body)
 exit_taken desk message (Some (Pass what)) actions body =
     exit_passed desk message body (exit_took desk (exit_word what) body)
@@ -498,26 +498,26 @@ exit_taken desk message (Some (Tell what)) actions body = exit_by desk message a
 exit_taken desk message (Some Close) actions body = exit_by desk message actions body
 exit_taken desk message (Some Stand) actions body = exit_by desk message actions body
 
-exit_rowed : {C : Type 0} {id : ℕ} (desk : Desk) (message : Message) (body : Machine)
+exit_rowed : {C : Type 0} {id : ℕ} (desk : Desk) (message : Message) (body : Body)
     (found : Option SessionRow) → Calm C id body (rowed desk Exit message body found)
 exit_rowed desk message body None = exit_breaches desk (unexpected (kind_of message.body)) body
 exit_rowed desk message body (Some row) =
     calm_session row.after body (rowed desk Exit message body (Some row))
     (exit_taken desk message row.actions.first row.actions (with_session Exit row.after body))
 
-exit_hears : {C : Type 0} {id : ℕ} (desk : Desk) (word : Word) (body : Machine)
+exit_hears : {C : Type 0} {id : ℕ} (desk : Desk) (word : Word) (body : Body)
     → Calm C id body (word_did desk Exit word body)
 exit_hears desk (Says message) body =
     exit_rowed desk message body
     (session_row (session_at Exit body) (heard message.body (is_some (held body.outlet))))
 exit_hears desk (Wrong text) body = exit_breaches desk text body
 
-calm_if : {C : Type 0} {id : ℕ} (test : Bool) (d : Done) (body : Machine) → Calm C id body d
+calm_if : {C : Type 0} {id : ℕ} (test : Bool) (d : Done) (body : Body) → Calm C id body d
     → Calm C id body (if_open test d body)
 calm_if true d body k = k
 calm_if false d body k = calm_still body
 
-exit_heard : {C : Type 0} {id : ℕ} (desk : Desk) (words : List Word) (body : Machine)
+exit_heard : {C : Type 0} {id : ℕ} (desk : Desk) (words : List Word) (body : Body)
     → Calm C id body (all_heard desk Exit words body)
 exit_heard desk [] body = calm_still body
 exit_heard desk (word ∷ others) body =
@@ -528,7 +528,7 @@ exit_heard desk (word ∷ others) body =
 
 -- ---- sensor events
 
-saw_calm : {C : Type 0} {id : ℕ} (desk : Desk) (side : Side) (event : SensorEvent) (body : Machine)
+saw_calm : {C : Type 0} {id : ℕ} (desk : Desk) (side : Side) (event : SensorEvent) (body : Body)
     → Calm C id body (behind (acts.Reads side event ∷ []) (saw desk side event body))
 saw_calm desk Entry event body =
     calm_behind body (acts.Reads Entry event ∷ []) (saw desk Entry event body) refl
@@ -538,7 +538,7 @@ saw_calm desk Exit event body =
     calm_behind body (acts.Reads Exit event ∷ []) (saw desk Exit event body) refl
     (outlet_calm desk body (outlet_row body.outlet (out_input.Sensed event)))
 
-all_read_calm : {C : Type 0} {id : ℕ} (desk : Desk) (unread : List Sensed) (body : Machine)
+all_read_calm : {C : Type 0} {id : ℕ} (desk : Desk) (unread : List Sensed) (body : Body)
     → Calm C id body (all_read desk unread body)
 all_read_calm desk [] body = calm_still body
 all_read_calm desk (sensed ∷ others) body =
@@ -548,49 +548,49 @@ all_read_calm desk (sensed ∷ others) body =
 
 -- ---- the announcements
 
-revoke_calm : {C : Type 0} {id : ℕ} (desk : Desk) (test : Bool) (body : Machine)
+revoke_calm : {C : Type 0} {id : ℕ} (desk : Desk) (test : Bool) (body : Body)
     → Calm C id body (revoke_by desk test body)
 revoke_calm desk true body = outlet_calm desk body (outlet_row body.outlet out_input.Revoke)
 revoke_calm desk false body = calm_still body
 
-unready_calm : {C : Type 0} {id : ℕ} (desk : Desk) (test : Bool) (body : Machine)
+unready_calm : {C : Type 0} {id : ℕ} (desk : Desk) (test : Bool) (body : Body)
     → Calm C id body (unready_by desk test body)
 unready_calm desk true body =
     intake_calm desk body in_input.Unready (intake_row body.intake in_input.Unready) refl tt
 unready_calm desk false body = calm_still body
 
 offer_calm : {C : Type 0} {id : ℕ} (desk : Desk) (test : Bool) (front : Option Record)
-    (body : Machine) → Calm C id body (offer_by desk test front body)
+    (body : Body) → Calm C id body (offer_by desk test front body)
 offer_calm desk true (Some front) body =
     outlet_calm desk body (outlet_row body.outlet (out_input.Offer front.id))
 offer_calm desk true None body = calm_still body
 offer_calm desk false front body = calm_still body
 
-ready_calm : {C : Type 0} {id : ℕ} (desk : Desk) (test : Bool) (body : Machine)
+ready_calm : {C : Type 0} {id : ℕ} (desk : Desk) (test : Bool) (body : Body)
     → Calm C id body (ready_by desk test body)
 ready_calm desk true body =
     intake_calm desk body in_input.Ready (intake_row body.intake in_input.Ready) refl tt
 ready_calm desk false body = calm_still body
 
-start_calm : {C : Type 0} {id : ℕ} (desk : Desk) (test : Bool) (body : Machine)
+start_calm : {C : Type 0} {id : ℕ} (desk : Desk) (test : Bool) (body : Body)
     → Calm C id body (start_by desk test body)
 start_calm desk true body =
     intake_calm desk body in_input.Start (intake_row body.intake in_input.Start) refl tt
 start_calm desk false body = calm_still body
 
-announces_calm : {C : Type 0} {id : ℕ} (desk : Desk) (body : Machine)
+announces_calm : {C : Type 0} {id : ℕ} (desk : Desk) (body : Body)
     → Calm C id body (announces desk body)
 announces_calm desk body =
     let one = (revoke desk body).body in
     let two = (unready desk one).body in
     let three = (offer desk two).body in
     let four = (ready desk three).body in
-    calm_both body (revoke desk body) (λ (b : Machine). and_then (unready desk b) (λ c.
+    calm_both body (revoke desk body) (λ (b : Body). and_then (unready desk b) (λ c.
     and_then (offer desk c) (λ d. and_then (ready desk d) (start desk))))
     (revoke_calm desk (revokes_now body) body)
-    (calm_both one (unready desk one) (λ (c : Machine). and_then (offer desk c) (λ d.
+    (calm_both one (unready desk one) (λ (c : Body). and_then (offer desk c) (λ d.
     and_then (ready desk d) (start desk))) (unready_calm desk (unreadies_now desk one) one)
-    (calm_both two (offer desk two) (λ (d : Machine). and_then (ready desk d) (start desk))
+    (calm_both two (offer desk two) (λ (d : Body). and_then (ready desk d) (start desk))
     (offer_calm desk (offers_now two) (slice_get two.kept 0) two)
     (calm_both three (ready desk three) (start desk)
     (ready_calm desk (readies_now desk three) three)
@@ -604,7 +604,7 @@ record Goes (id : ℕ) (ws : List DownWord) (d : Done) : Type 0 where
       → OpenAll (IsOther id) (passes_offers_over d.body.intake.phase) ws
   starts : list_any (starts_it id) d.acts ≡ false
 
-goes_calm : {id : ℕ} {ws : List DownWord} (body : Machine) (d : Done) → Calm (Unit {0}) id body d
+goes_calm : {id : ℕ} {ws : List DownWord} (body : Body) (d : Done) → Calm (Unit {0}) id body d
     → OfferIs (IsOther id) body.intake.offer
     → OpenAll (IsOther id) (passes_offers_over body.intake.phase) ws → Goes id ws d
 goes_calm {ws = ws} body d k o all =
@@ -616,7 +616,7 @@ goes_behind {id = id} told d none g =
     record { offer = g.offer; flight = g.flight; starts = none_both id told d.acts none g.starts }
 
 -- the entry's session changes first
-goes_session : {id : ℕ} {ws : List DownWord} (s : SessionEnd) (body : Machine) (d : Done)
+goes_session : {id : ℕ} {ws : List DownWord} (s : SessionEnd) (body : Body) (d : Done)
     → Calm (IsOn s) id (with_session Entry s body) d → OfferIs (IsOther id) body.intake.offer
     → OpenAll (IsOther id) (passes_offers_over body.intake.phase) ws → Goes id ws d
 goes_session {ws = ws} s body d k o all =
@@ -628,7 +628,7 @@ goes_session {ws = ws} s body d k o all =
     }
 
 -- it has no connection then, whatever comes
-goes_off : {id : ℕ} {ws : List DownWord} (s : SessionEnd) (body : Machine) (d : Done)
+goes_off : {id : ℕ} {ws : List DownWord} (s : SessionEnd) (body : Body) (d : Done)
     → is_connected_state s.state ≡ false → Calm (IsOn s) id (with_session Entry s body) d
     → OfferIs (IsOther id) body.intake.offer → Goes id ws d
 goes_off s body d off k o =
@@ -640,7 +640,7 @@ goes_off s body d off k o =
           k.starts o;
     }
 
-goes_then : {id : ℕ} {ws : List DownWord} (first : Done) (next : Machine → Done) → Goes id ws first
+goes_then : {id : ℕ} {ws : List DownWord} (first : Done) (next : Body → Done) → Goes id ws first
     → Calm (Unit {0}) id first.body (next first.body) → Goes id ws (and_then first next)
 goes_then {id = id} {ws = ws} first next g k = record {
   offer = k.offer g.offer;
@@ -648,7 +648,7 @@ goes_then {id = id} {ws = ws} first next g k = record {
   starts = none_both id first.acts (next first.body).acts g.starts (k.starts g.offer);
 }
 
-goes_after : {id : ℕ} {ws : List DownWord} (first : Done) (next : Machine → Done)
+goes_after : {id : ℕ} {ws : List DownWord} (first : Done) (next : Body → Done)
     → list_any (starts_it id) first.acts ≡ false → Goes id ws (next first.body)
     → Goes id ws (and_then first next)
 goes_after {id = id} first next none g =
@@ -659,7 +659,7 @@ goes_after {id = id} first next none g =
     }
 
 entry_session : {id : ℕ} {ws : List DownWord} (desk : Desk) (input : Given)
-    (found : Option SessionRow) (body : Machine)
+    (found : Option SessionRow) (body : Body)
     → session_row (session_at Entry body) input ≡ found
     → OfferIs (IsOther id) body.intake.offer
     → OpenAll (IsOther id) (passes_offers_over body.intake.phase) ws
@@ -670,7 +670,7 @@ entry_session desk input (Some row) body is o all =
     (actions_calm desk Entry row.actions (with_session Entry row.after body)
     (row_bars (session_row_is (session_at Entry body) input row is))) o all
 
-entry_ended : {id : ℕ} {ws : List DownWord} (desk : Desk) (body : Machine)
+entry_ended : {id : ℕ} {ws : List DownWord} (desk : Desk) (body : Body)
     → OfferIs (IsOther id) body.intake.offer → Goes id ws (ended desk Entry body)
 entry_ended desk body o =
     let s = at_rest body.entry.session.role in
@@ -678,7 +678,7 @@ entry_ended desk body o =
     goes_off s body (ended desk Entry body) refl
     (intake_closed desk b (intake_row b.intake in_input.Closed) refl (λ on. false≢true on)) o
 
-entry_breaches : {id : ℕ} {ws : List DownWord} (desk : Desk) (text : List ℕ) (body : Machine)
+entry_breaches : {id : ℕ} {ws : List DownWord} (desk : Desk) (text : List ℕ) (body : Body)
     → OfferIs (IsOther id) body.intake.offer → Goes id ws (breaches desk Entry text body)
 entry_breaches desk text body o =
     goes_behind (acts.Breaches Entry text ∷ (sends desk Entry (notification 1 Fatal text)
@@ -687,7 +687,7 @@ entry_breaches desk text body o =
 -- ---- what is heard at the entry
 
 -- by the intake: a word is taken off
-took_goes : {id : ℕ} {ws : List DownWord} (desk : Desk) (message : Message) (body : Machine)
+took_goes : {id : ℕ} {ws : List DownWord} (desk : Desk) (message : Message) (body : Body)
     (w : InInput) (found : Option InRow) → intake_row body.intake w ≡ found
     → OfferIs (IsOther id) body.intake.offer
     → ((row : InRow) → IsIntakeRow body.intake w row → Takes (IsOther id) ws row)
@@ -702,7 +702,7 @@ took_goes {id = id} desk message body w (Some row) is o takes =
 
 -- by the session alone
 by_session : {id : ℕ} {ws : List DownWord} (desk : Desk) (message : Message) (row : SessionRow)
-    (body : Machine) → Bars Entry (IsOn row.after) row.actions
+    (body : Body) → Bars Entry (IsOn row.after) row.actions
     → OfferIs (IsOther id) body.intake.offer
     → OpenAll (IsOther id) (passes_offers_over body.intake.phase) ws
     → Goes id ws
@@ -716,7 +716,7 @@ by_session desk message row body bars o all =
     (actions_calm desk Entry row.actions (with_session Entry row.after body) bars) o all)
 
 -- by nobody
-by_none : {id : ℕ} {ws : List DownWord} (message : Message) (body : Machine)
+by_none : {id : ℕ} {ws : List DownWord} (message : Message) (body : Body)
     → OfferIs (IsOther id) body.intake.offer
     → OpenAll (IsOther id) (passes_offers_over body.intake.phase) ws
     → Goes id ws (behind (acts.Hears Entry message ∷ []) (stays body))
@@ -729,7 +729,7 @@ service_off : {Q : Record → Type 0} {b : Bool} {ws : List DownWord}
 service_off (open_service rest) = rest
 
 entry_taken : (id : ℕ) (desk : Desk) (stamp : Option ℤ) (what : Horizontal)
-    (ws : List DownWord) {unsettled : Bool} {s : SessionEnd} (row : SessionRow) (body : Machine)
+    (ws : List DownWord) {unsettled : Bool} {s : SessionEnd} (row : SessionRow) (body : Body)
     → IsSessionRow s (heard what unsettled) row
     → OfferIs (IsOther id) body.intake.offer
     → OpenAll (IsOther id) (passes_offers_over body.intake.phase) (before_down what ws)
@@ -792,7 +792,7 @@ entry_taken id desk stamp what ws row body passes_info o all =
     by_none (record { stamp = stamp; body = what }) (with_session Entry row.after body) o all
 
 entry_rowed : (id : ℕ) (desk : Desk) (message : Message) (ws : List DownWord) (unsettled : Bool)
-    (body : Machine) (found : Option SessionRow)
+    (body : Body) (found : Option SessionRow)
     → session_row (session_at Entry body) (heard message.body unsettled) ≡ found
     → OfferIs (IsOther id) body.intake.offer
     → OpenAll (IsOther id) (passes_offers_over body.intake.phase) (before_down message.body ws)
@@ -803,7 +803,7 @@ entry_rowed id desk message ws unsettled body (Some row) is o all =
     entry_taken id desk message.stamp message.body ws row body
     (session_row_is (session_at Entry body) (heard message.body unsettled) row is) o all
 
-entry_hears : (id : ℕ) (desk : Desk) (message : Message) (ws : List DownWord) (body : Machine)
+entry_hears : (id : ℕ) (desk : Desk) (message : Message) (ws : List DownWord) (body : Body)
     → OfferIs (IsOther id) body.intake.offer
     → OpenAll (IsOther id) (passes_offers_over body.intake.phase) (before_down message.body ws)
     → Goes id ws (hears desk Entry message body)
@@ -813,7 +813,7 @@ entry_hears id desk message ws body o all =
     all
 
 -- only where there is a connection
-goes_if : {id : ℕ} {ws : List DownWord} (test : Bool) (d : Done) (body : Machine)
+goes_if : {id : ℕ} {ws : List DownWord} (test : Bool) (d : Done) (body : Body)
     → is_open Entry body ≡ test → OfferIs (IsOther id) body.intake.offer
     → (is_open Entry body ≡ true → Goes id ws d) → Goes id ws (if_open test d body)
 goes_if true d body is o g = g is
@@ -821,7 +821,7 @@ goes_if false d body is o g =
     record { offer = o; flight = λ on. absurd (false≢true (sym is ∙ on)); starts = refl }
 
 entry_heard : (id : ℕ) (desk : Desk) (words : List Word) (messages : List Horizontal)
-    (body : Machine) → AreOldest words messages → OfferIs (IsOther id) body.intake.offer
+    (body : Body) → AreOldest words messages → OfferIs (IsOther id) body.intake.offer
     → (is_open Entry body ≡ true
     → OpenAll (IsOther id) (passes_offers_over body.intake.phase) (down_words messages))
     → Goes id (down_words (drop (length words) messages)) (all_heard desk Entry words body)
@@ -845,7 +845,7 @@ entry_heard id desk (Wrong text ∷ others) messages body oldest_wrong o all =
 
 -- ---- what befalls the machine
 
-levels_calm : {C : Type 0} {id : ℕ} (line : SegmentLine) (on : Bool) (body : Machine)
+levels_calm : {C : Type 0} {id : ℕ} (line : SegmentLine) (on : Bool) (body : Body)
     → Calm C id body (tells_level line on body)
 levels_calm segment.Ready on body =
     calm_aside body (tells_level segment.Ready on body) refl refl refl
@@ -854,33 +854,33 @@ levels_calm segment.Available on body =
 levels_calm segment.Failed on body =
     calm_aside body (tells_level segment.Failed on body) refl refl refl
 
-hand_calm : {C : Type 0} {id : ℕ} (test : Bool) (body : Machine) (kept : List Record) (act : Act)
+hand_calm : {C : Type 0} {id : ℕ} (test : Bool) (body : Body) (kept : List Record) (act : Act)
     → list_any (starts_it id) (act ∷ []) ≡ false
     → Calm C id body (if_kept test (with_kept kept body) act body)
 hand_calm true body kept act none = calm_aside body _ refl refl none
 hand_calm false body kept act none = calm_still body
 
-fails_calm : {C : Type 0} {id : ℕ} (front : Option ℕ) (body : Machine)
+fails_calm : {C : Type 0} {id : ℕ} (front : Option ℕ) (body : Body)
     → Calm C id body (fails front body)
 fails_calm None body = calm_still body
 fails_calm (Some named) body =
     hand_calm (is_kept named body.kept) body _ (acts.Marks named qualities.Failed) refl
 
-sets_calm : {C : Type 0} {id : ℕ} (desk : Desk) (line : SegmentLine) (on : Bool) (body : Machine)
+sets_calm : {C : Type 0} {id : ℕ} (desk : Desk) (line : SegmentLine) (on : Bool) (body : Body)
     → Calm C id body (sets_level desk line on body)
 sets_calm desk line on body =
-    let one : Machine = (tells_level line on body).body in
+    let one : Body = (tells_level line on body).body in
     calm_both body (tells_level line on body)
-    (λ (b : Machine). fails (failed_front desk.bridge line on b) b) (levels_calm line on body)
+    (λ (b : Body). fails (failed_front desk.bridge line on b) b) (levels_calm line on body)
     (fails_calm (failed_front desk.bridge line on one) one)
 
-forecasts_calm : {C : Type 0} {id : ℕ} (desk : Desk) (front : Option Record) (body : Machine)
+forecasts_calm : {C : Type 0} {id : ℕ} (desk : Desk) (front : Option Record) (body : Body)
     → Calm C id body (done body (forecasts desk front))
 forecasts_calm desk None body = calm_still body
 forecasts_calm desk (Some board) body =
     calm_aside body (done body (forecasts desk (Some board))) refl refl refl
 
-supervised_calm : {C : Type 0} {id : ℕ} (desk : Desk) (what : Supervision) (body : Machine)
+supervised_calm : {C : Type 0} {id : ℕ} (desk : Desk) (what : Supervision) (body : Body)
     → Calm C id body (supervises desk what body)
 supervised_calm desk (Supervise on) body =
     calm_aside body (supervises desk (Supervise on) body) refl refl refl
@@ -889,7 +889,7 @@ supervised_calm desk (Ask question) body =
 supervised_calm desk (Answer query order) body =
     calm_aside body (supervises desk (Answer query order) body) refl refl refl
 
-event_goes : (id : ℕ) (desk : Desk) (event : Event) (body : Machine) (messages : List Horizontal)
+event_goes : (id : ℕ) (desk : Desk) (event : Event) (body : Body) (messages : List Horizontal)
     → AreOldest (entry_words event) messages → OfferIs (IsOther id) body.intake.offer
     → OpenAll (IsOther id) (passes_offers_over body.intake.phase) (down_words messages)
     → Goes id (down_words (drop (length (entry_words event)) messages))
@@ -967,7 +967,7 @@ event_goes id desk event body messages oldest o all =
 -- ---- THE STEP
 
 -- `messages` are on their way to the entry; the oldest of them are heard
-pub step_receives : (id : ℕ) (desk : Desk) (unread : List Sensed) (event : Event) (body : Machine)
+pub step_receives : (id : ℕ) (desk : Desk) (unread : List Sensed) (event : Event) (body : Body)
     (messages : List Horizontal)
     → AreOldest (entry_words event) messages → OfferIs (IsOther id) body.intake.offer
     → OpenAll (IsOther id) (passes_offers_over body.intake.phase) (down_words messages)
@@ -980,6 +980,6 @@ step_receives id desk unread event body messages oldest o all =
     event_goes id desk event read.body messages oldest (one.offer o)
     (one.flight tt (down_words messages) all) in
     let three =
-    goes_after read (λ (b : Machine). and_then (event_did desk event b) (announces desk))
+    goes_after read (λ (b : Body). and_then (event_did desk event b) (announces desk))
     (one.starts o) (goes_then met (announces desk) two (announces_calm desk met.body)) in
     record { offer = three.offer; flight = three.flight; starts = three.starts }

@@ -11,7 +11,7 @@ use Rattle.line_script.specs.declared.line.ScriptLine.{ScriptLine}
 use Rattle.line_world.specs.FloorPlan.{AtMachine, FloorPlan, empty_machine, machine_at}
 use Rattle.node_core.specs.declared.input.Input.{Input}
 use Rattle.node_core.specs.declared.input.Input.TheVariants as inputs
-use Rattle.node_core.specs.declared.lane.Body.{Body as Machine}
+use Rattle.node_core.specs.declared.lane.Body.{Body}
 use Rattle.line_report.specs.declared.happening.Happening.{Happening}
 use Rattle.line_report.specs.declared.happening.Happening.TheVariants as happenings
 use Rattle.line_step.specs.FloorIds.{boards_of}
@@ -80,18 +80,18 @@ off_same id before next what goes plain =
     (comes_not id before next all goes (with_standings (may_bring id) (brings_none id) what before next ∙ plain.brings id))
     (stays_there id before next all goes (with_standings (may_lose id) (loses_none id) what before next ∙ plain.loses id))
 
-misses_same : (body body2 : Machine) (unread unread2 : List Sensed) → unwilled body2 ≡ unwilled body → unread2 ≡ unread
+misses_same : (body body2 : Body) (unread unread2 : List Sensed) → unwilled body2 ≡ unwilled body → unread2 ≡ unread
     → misses_it body2 unread2 ≡ misses_it body unread
 misses_same body body2 unread unread2 same read =
-    ap (λ (b : Machine). misses_it b unread2) same ∙ ap (λ (u : List Sensed). misses_it body u) read
+    ap (λ (b : Body). misses_it b unread2) same ∙ ap (λ (u : List Sensed). misses_it body u) read
 
 same_view : (id : ℕ) (before next : LineState) (what : List Happening)
     → Goes before next (what ++ standings_told before next) → IsPlain what → SameMachines before next
     → IsSame (view_of id before) (view_of id next)
 same_view id before next what goes plain same = record {
-  kept = λ i. ap (λ (b : Machine). keeps_it id b) (same.bodies i);
-  held = λ i. ap (λ (b : Machine). holds_it id b) (same.bodies i);
-  taken = λ i. ap (λ (b : Machine). takes_it id b) (same.bodies i);
+  kept = λ i. ap (λ (b : Body). keeps_it id b) (same.bodies i);
+  held = λ i. ap (λ (b : Body). holds_it id b) (same.bodies i);
+  taken = λ i. ap (λ (b : Body). takes_it id b) (same.bodies i);
   leaving = λ i. ap will_leave (same.unread i);
   missing = λ i. misses_same (node_at before i).lane.body (node_at next i).lane.body _ _ (same.bodies i) (same.unread i);
   off = off_same id before next what goes plain;

@@ -57,7 +57,7 @@ use Rattle.node_core.specs.Reads.{all_read}
 use Rattle.node_core.specs.Step.{plain_step}
 use Rattle.node_core.specs.Told.{drives, in_does, in_sends, in_told, out_does, out_sends, out_told}
 use Rattle.node_core.specs.declared.act.Act.{Act}
-use Rattle.node_core.specs.declared.lane.Body.{Body as Machine}
+use Rattle.node_core.specs.declared.lane.Body.{Body}
 use Rattle.line_link.specs.Flow.{Stream, coming}
 use Rattle.custody.specs.Apart.{
   Entry as EntryEnd,
@@ -103,15 +103,8 @@ use Rattle.one_standing.specs.Carried.{
 }
 use Rattle.one_standing.specs.Stands.{Stands}
 use Rattle.supervisor_replay.proofs.Bodies.{holds_it, keeps_it}
-use Rattle.supervisor_replay.proofs.Free.{
-  Down,
-  IsFree,
-  IsOther,
-  down_over,
-  down_spoiled,
-  down_whole,
-  offers_it,
-}
+use Rattle.line_history.proofs.LinkFlow.{flow_over, flow_spoiled, flow_whole}
+use Rattle.supervisor_replay.proofs.Free.{Down, IsFree, IsOther, offers_it}
 use Rattle.step_rules.specs.Causes.{
   Announcing,
   ByHand,
@@ -214,12 +207,12 @@ abbrev IsBefore : Cause → Type 0
 IsBefore (Announcing starting) = ⊥
 IsBefore _ = Unit {0}
 
-no_offer_yet : {cause : Cause} {body : Machine} {input : OutInput} → ToOutlet cause body input
+no_offer_yet : {cause : Cause} {body : Body} {input : OutInput} → ToOutlet cause body input
     → IsBefore cause → IsNoOffer input
 no_offer_yet (out_offer now is) before = absurd before
 no_offer_yet _ before = tt
 
-act_quiet : {desk : Desk} {cause : Cause} {body : Machine} {act : Act} (id : ℕ)
+act_quiet : {desk : Desk} {cause : Cause} {body : Body} {act : Act} (id : ℕ)
     → Tells desk cause body act → offers_it id act ≡ false
 act_quiet id (tells_service {side = Entry} talk) = refl
 act_quiet id (tells_service {side = Exit} talk) = refl
@@ -229,13 +222,13 @@ act_quiet id (tells_notice {side = Entry} talk) = refl
 act_quiet id (tells_notice {side = Exit} talk) = refl
 act_quiet id _ = refl
 
-hand_quiet : {desk : Desk} {event : Event} {body : Machine} {kept : List Record} {act : Act}
+hand_quiet : {desk : Desk} {event : Event} {body : Body} {kept : List Record} {act : Act}
     (id : ℕ) → ByHand desk event body kept act → offers_it id act ≡ false
 hand_quiet id hand_inserts = refl
 hand_quiet id (hand_changes (changes_quality is)) = refl
 hand_quiet id _ = refl
 
-quiet_by : {desk : Desk} {cause : Cause} {body : Machine} {d : Done} (id : ℕ)
+quiet_by : {desk : Desk} {cause : Cause} {body : Body} {d : Done} (id : ℕ)
     → Made desk cause body d → IsBefore cause → Quiet id d.acts
 quiet_by id made_none before = refl
 quiet_by id (made_both {one = one} {two = two} first next) before =
@@ -292,7 +285,7 @@ offer_kept : {s : OutState} {row : OutRow} {other : ℕ} (id : ℕ) (kept : List
     → has_id id (ids_of (given_back row.act.back kept)) ≡ false → has_id id (ids_of kept) ≡ false
 offer_kept id kept row_offers is = is
 
-announces_not : {desk : Desk} {starting : Bool} {body : Machine} {d : Done} (id : ℕ)
+announces_not : {desk : Desk} {starting : Bool} {body : Body} {d : Done} (id : ℕ)
     → Made desk (Announcing starting) body d → keeps_it id d.body ≡ false
     → (keeps_it id body ≡ false) × Quiet id d.acts
 announces_not id made_none is = (is, refl)
@@ -316,7 +309,7 @@ announces_not {desk = desk} id (made_intake {row = row} {body = body} to shape) 
 -- ---- THE STEP
 
 pub step_offers_not : (id : ℕ) (desk : Desk) (unread : List Sensed) (event : Event)
-    (body : Machine)
+    (body : Body)
     → keeps_it id (plain_step desk unread event body).body ≡ false
     → list_any (offers_it id) (plain_step desk unread event body).acts ≡ false
 step_offers_not id desk unread event body is =
@@ -393,9 +386,9 @@ talk_passed id _ holds = absurd (false≢true holds)
 carries_down : {id : ℕ} {passes stands : Bool} {waiting : List ℕ} {stream : Stream}
     {said : List Horizontal} → Carries stands waiting stream said
     → OpenAll (IsOther id) passes (down_words said) → Down id passes stands waiting (coming stream)
-carries_down (carries_whole said fit flows) offers = down_whole said fit offers flows
-carries_down (carries_spoiled spoiled) offers = down_spoiled spoiled
-carries_down (carries_over off none) offers = down_over off none
+carries_down (carries_whole said fit flows) offers = flow_whole said fit offers flows
+carries_down (carries_spoiled spoiled) offers = flow_spoiled spoiled
+carries_down (carries_over off none) offers = flow_over off none
 
 pub held_free : (t : Trace) (s : LineState) (k id : ℕ) → Stands t s
     → holds_it id (node_at s k).lane.body ≡ true → IsFree id k s

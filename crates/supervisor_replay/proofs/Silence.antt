@@ -77,7 +77,7 @@ use Rattle.node_core.specs.Supervising.{
 use Rattle.node_core.specs.Told.{in_told, out_told}
 use Rattle.node_core.specs.declared.act.Act.{Act}
 use Rattle.node_core.specs.declared.act.Act.TheVariants as acts
-use Rattle.node_core.specs.declared.lane.Body.{Body as Machine}
+use Rattle.node_core.specs.declared.lane.Body.{Body}
 use Rattle.node_core.specs.declared.supervising.Watch.{Watch}
 use Rattle.standings.specs.Marks.{has_id, is_held}
 use Rattle.line_history.proofs.OfferingStep.{IsNoHand}
@@ -151,7 +151,7 @@ idle_in : {s : InState} {e : SensorEvent} {r : InRow} → IsIntakeRow s (in_inpu
 idle_in sensed_idle none = (refl, refl)
 idle_in _ none = absurd (false≢true (sym none))
 
-out_stays : (desk : Desk) (body : Machine) (e : SensorEvent) (found : Option OutRow)
+out_stays : (desk : Desk) (body : Body) (e : SensorEvent) (found : Option OutRow)
     → outlet_row body.outlet (out_input.Sensed e) ≡ found → is_some (held body.outlet) ≡ false
     → outlet_row_did desk body found ≡ stays body
 out_stays desk body e None is none = refl
@@ -166,7 +166,7 @@ out_stays desk body e (Some r) is none =
     (out_told desk body.kept act)) idle.0
     ∙ ap (λ (s : OutState). done (record body { outlet = s }) []) idle.1
 
-in_stays : (desk : Desk) (body : Machine) (e : SensorEvent) (found : Option InRow)
+in_stays : (desk : Desk) (body : Body) (e : SensorEvent) (found : Option InRow)
     → intake_row body.intake (in_input.Sensed e) ≡ found → is_some (in_held body.intake) ≡ false
     → intake_row_did desk body found ≡ stays body
 in_stays desk body e None is none = refl
@@ -176,7 +176,7 @@ in_stays desk body e (Some r) is none =
     (in_told desk act)) idle.0
     ∙ ap (λ (s : InState). done (record body { intake = s }) []) idle.1
 
-saw_stays : (desk : Desk) (side : Side) (e : SensorEvent) (body : Machine)
+saw_stays : (desk : Desk) (side : Side) (e : SensorEvent) (body : Body)
     → is_some (held body.outlet) ≡ false → is_some (in_held body.intake) ≡ false
     → saw desk side e body ≡ stays body
 saw_stays desk Entry e body no_out no_in =
@@ -188,7 +188,7 @@ abbrev pub reading : List Sensed → List Act
 reading [] = []
 reading (sensed ∷ others) = acts.Reads sensed.side sensed.event ∷ reading others
 
-pub read_nothing : (desk : Desk) (unread : List Sensed) (body : Machine) → HasNothing (own_of body)
+pub read_nothing : (desk : Desk) (unread : List Sensed) (body : Body) → HasNothing (own_of body)
     → all_read desk unread body ≡ done body (reading unread)
 read_nothing desk [] body none = refl
 read_nothing desk (sensed ∷ others) body none =
@@ -289,7 +289,7 @@ hands_nothing (hands_remove {id = id} found) none unkept =
 hands_nothing (hands_replace {old = old} found) none unkept =
     absurd (false≢true (sym (none old).0 ∙ found))
 
-pub met_nothing : (desk : Desk) (event : Event) (body : Machine) → HasNothing (own_of body)
+pub met_nothing : (desk : Desk) (event : Event) (body : Body) → HasNothing (own_of body)
     → ((x : ℕ) → has_id x (own_of (event_did desk event body).body).kept ≡ false) ⊎ IsNoHand event
     → Silent (event_did desk event body).acts
     × (own_of (event_did desk event body).body ≡ own_of body)

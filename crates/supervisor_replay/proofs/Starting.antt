@@ -43,7 +43,7 @@ use Rattle.node_core.specs.Supervising.{watch_after, watch_behind, with_tells}
 use Rattle.node_core.specs.declared.act.Act.{Act}
 use Rattle.node_core.specs.declared.act.Act.TheVariants as acts
 use Rattle.node_core.specs.declared.act.Deed.TheVariants as deeds
-use Rattle.node_core.specs.declared.lane.Body.{Body as Machine}
+use Rattle.node_core.specs.declared.lane.Body.{Body}
 use Rattle.node_core.specs.declared.supervising.Watch.{Watch}
 use Rattle.standings.specs.Marks.{has_id, is_held}
 use Rattle.line_history.proofs.Stepping.{IsJustStarted}
@@ -188,7 +188,7 @@ said_free id (starts_one s) free = inr s.just
 -- ---- the views
 
 -- the view with what this machine has behind the step, which has read all events
-abbrev pub view_then : ℕ → ℕ → Machine → Bool → View → View
+abbrev pub view_then : ℕ → ℕ → Body → Bool → View → View
 view_then id j now off v =
     with_here (j + 1) (keeps_it id now) (holds_it id now) (takes_it id now)
     (is_gone_own (own_of_phase now.intake.phase)) off v
@@ -203,7 +203,7 @@ pub put_there : (machine : ℕ) (here : Bool) (others : ℕ → Bool) (i : ℕ) 
 put_there machine here others i other =
     ap (λ (b : Bool). if b then here else others i) (ne_eqb i machine other)
 
-pub then_apart : (id j : ℕ) (now : Machine) (off : Bool) (v : View)
+pub then_apart : (id j : ℕ) (now : Body) (off : Bool) (v : View)
     → IsApart j v (view_then id j now off v)
 then_apart id j now off v = record {
   kept = put_there (j + 1) (keeps_it id now) v.kept;
@@ -216,7 +216,7 @@ then_apart id j now off v = record {
 
 -- ---- THE END OF A STEP
 
-abbrev pub Ends : ℕ → ℕ → View → Bool → Machine → Machine → (ℕ → Bool) → (ℕ → Bool) → Type 0
+abbrev pub Ends : ℕ → ℕ → View → Bool → Body → Body → (ℕ → Bool) → (ℕ → Bool) → Type 0
 Ends id j v off two now front last =
     (IsSame (view_then id j two off v) (view_then id j now off v)
     × ((gap : ℕ) → last gap ≡ front gap))
@@ -232,7 +232,7 @@ just_stays (inn.Taking _ sees.Taken _) just = absurd just
 just_stays (inn.Stopped _ _ _) just = absurd just
 just_stays (inn.Waiting _ _ _) just = absurd just
 
-same_then : (id j : ℕ) (v : View) (off : Bool) (two now : Machine)
+same_then : (id j : ℕ) (v : View) (off : Bool) (two now : Body)
     → keeps_it id now ≡ keeps_it id two
     → holds_it id now ≡ holds_it id two → takes_it id now ≡ takes_it id two
     → is_gone_own (seen_of now) ≡ is_gone_own (seen_of two)
@@ -250,7 +250,7 @@ next_gap : (i j : ℕ) → i ≢ j → j + 1 ≢ i + 1
 next_gap i j other same = other (omega (arith, same))
 
 -- the machine above is as it was
-from_then : (id j : ℕ) (v : View) (off : Bool) (two : Machine) → IsFrom j v off
+from_then : (id j : ℕ) (v : View) (off : Bool) (two : Body) → IsFrom j v off
     → IsFrom j (view_then id j two off v) off
 from_then id j v off two (inl kept) =
     inl (put_there (j + 1) (keeps_it id two) v.kept j (before_apart j) ∙ kept)
@@ -273,7 +273,7 @@ not_second true false left is = refl
 not_second false false left is = refl
 
 -- the machine starts this board
-start_ends : {made : List Act} (id j : ℕ) (v : View) (off : Bool) (two now : Machine)
+start_ends : {made : List Act} (id j : ℕ) (v : View) (off : Bool) (two now : Body)
     (front last : ℕ
     → Bool) (s : Started (own_of two) (own_of now) (seen_of two) now.intake.phase made)
     → (takes_it id now ≡ true → IsJustStarted now.intake.phase → v.held j ≡ true → off ≡ false)
@@ -306,7 +306,7 @@ start_ends id j v off two now front last s there from left is =
     }
 
 -- another
-other_ends : {made : List Act} (id j : ℕ) (v : View) (off : Bool) (two now : Machine)
+other_ends : {made : List Act} (id j : ℕ) (v : View) (off : Bool) (two now : Body)
     (front last : ℕ
     → Bool) (s : Started (own_of two) (own_of now) (seen_of two) now.intake.phase made)
     → ((gap : ℕ) → last gap ≡ left_acts gap id (j + 1) made (front gap)) → (s.id == id) ≡ false
@@ -320,7 +320,7 @@ other_ends id j v off two now front last s left is = (
       ∙ not_second (j + 1 == gap + 1) (s.id == id) (front gap) is,
 )
 
-pub said_ends : {made : List Act} (id j : ℕ) (v : View) (off : Bool) (two now : Machine)
+pub said_ends : {made : List Act} (id j : ℕ) (v : View) (off : Bool) (two now : Body)
     (front last : ℕ → Bool)
     → Announced (own_of two) (own_of now) (seen_of two) (seen_of now) now.intake.phase made
     → (takes_it id now ≡ true → IsJustStarted now.intake.phase → v.held j ≡ true → off ≡ false)

@@ -16,7 +16,7 @@ use Rattle.handover_in.specs.State.{own_of_phase}
 use Rattle.node_core.specs.declared.act.Act.{Act}
 use Rattle.node_core.specs.declared.act.Act.TheVariants as acts
 use Rattle.node_core.specs.declared.input.Input.{Input}
-use Rattle.node_core.specs.declared.lane.Body.{Body as Machine}
+use Rattle.node_core.specs.declared.lane.Body.{Body}
 use Rattle.node_core.proofs.Signalling.{signals_pass}
 use Rattle.custody.specs.Floor.{EntryFloor}
 use Rattle.custody.specs.Pair.{Ghost}
@@ -145,7 +145,7 @@ own_step number j input start next done steps = record {
 }
 
 then_view : (id number j : ℕ) (input : Input) (start next : LineState) (done : List Happening)
-    → (steps : MachineSteps number (j + 1) input start next done) → (now : Machine)
+    → (steps : MachineSteps number (j + 1) input start next done) → (now : Body)
     → (node_at next (j + 1)).lane.body ≡ now
     → IsSame (view_then id j now (view_of id next).off (view_of id start)) (view_of id next)
 then_view id number j input start next done steps now is =
@@ -168,7 +168,7 @@ then_view id number j input start next done steps now is =
           (view_of id start).missing (view_of id next).missing
           (ap (misses_it (node_at next (j + 1)).lane.body) own.read
           ∙ or-false (is_gone_own (own_of_phase (node_at next (j + 1)).lane.body.intake.phase))
-          ∙ ap (λ (b : Machine). is_gone_own (own_of_phase b.intake.phase)) is)
+          ∙ ap (λ (b : Body). is_gone_own (own_of_phase b.intake.phase)) is)
           (λ apart. ap (λ (s : Stand). misses_it s.node.lane.body s.place.unread) (other i apart));
       off = refl;
     }
@@ -262,7 +262,7 @@ floor_of {number} {j} {input} {t} {before} {start} {next} {done} st own steps =
 beside_of : (id number j : ℕ) (input : Input) (t : Trace) (before start next : LineState) (done : List Happening)
     (told : Told) (left : ℕ → Bool) (steps : MachineSteps number (j + 1) input start next done)
     → Around id number j input t before start next done told left steps
-    → (now : Machine) → (node_at next (j + 1)).lane.body ≡ now
+    → (now : Body) → (node_at next (j + 1)).lane.body ≡ now
     → IsBeside id j (t.ghost j).place (view_of id start) told left steps.node.lane.body now
     (plain_of number (j + 1) input start next done steps) (view_of id next).off
 beside_of id number j input t before start next done told left steps a now is =
@@ -283,7 +283,7 @@ beside_of id number j input t before start next done told left steps a now is =
           (missing ∙ up.0, (λ h. leaving ∙ up.1.0 (sym held ∙ h), λ none off. kept ∙ up.1.1 (sym held ∙ none) (sym a.floor ∙ off))));
       away = λ place has. missing ∙ away_of t before id j a.stands place (sym taken ∙ has);
       alone = λ has ends own.
-          subst (λ (b : Machine). (takes_it id b ≡ false) ⊎ IsJustStarted b.intake.phase
+          subst (λ (b : Body). (takes_it id b ≡ false) ⊎ IsJustStarted b.intake.phase
           → (keeps_it id b ≡ true) ⊎ (holds_it id b ≡ true)
           → ((view_of id start).kept j ≡ false)
           × (((view_of id start).held j ≡ false) × ((view_of id next).off ≡ false))) is
@@ -292,16 +292,16 @@ beside_of id number j input t before start next done told left steps a now is =
       out = a.out;
       still = a.still;
       there = λ takes starts holds.
-          subst (λ (b : Machine). takes_it id b ≡ true → IsJustStarted b.intake.phase
+          subst (λ (b : Body). takes_it id b ≡ true → IsJustStarted b.intake.phase
           → (view_of id start).held j ≡ true → (view_of id next).off ≡ false) is a.there takes starts holds;
       from = λ takes starts.
-          subst (λ (b : Machine). takes_it id b ≡ true → IsJustStarted b.intake.phase
+          subst (λ (b : Body). takes_it id b ≡ true → IsJustStarted b.intake.phase
           → IsFrom j (view_of id start) (view_of id next).off) is a.from takes starts;
     }
 
 -- what becomes of the board in the step
 abbrev pub now_of : (number j : ℕ) (input : Input) (start next : LineState) (done : List Happening)
-    → MachineSteps number (j + 1) input start next done → Machine
+    → MachineSteps number (j + 1) input start next done → Body
 now_of number j input start next done steps =
     (plain_step (desk_of steps.node (moment_of number)) (unread_by (j + 1) start.world)
     (event_of steps.node.maker input steps.steps.lane.words) steps.node.lane.body).body
@@ -338,7 +338,7 @@ fares_of id number j input t before start next done told left steps a (is_unwatc
     step_silent id j (desk_of steps.node (moment_of number)) (unread_by (j + 1) start.world)
     (event_of steps.node.maker input steps.steps.lane.words) steps.node.lane.body (view_of id start) told left
     (view_of id next).off unwatched none
-    (subst (λ (b : Machine). ((x : ℕ) → keeps_it x b ≡ false)
+    (subst (λ (b : Body). ((x : ℕ) → keeps_it x b ≡ false)
     ⊎ IsNoHand (event_of steps.node.maker input steps.steps.lane.words)) own.now then)
     (here_of id number j input start next done steps) same beside.there beside.from
 
@@ -414,7 +414,7 @@ pub step_behind : (id number j : ℕ) (input : Input) (t : Trace) (before start 
 step_behind id number j input t before start next done told left steps a h sole placed =
     let f = fares_of id number j input t before start next done told left steps a a.seen in
     let own = own_step number j input start next done steps in
-    let now : Machine = now_of number j input start next done steps in
+    let now : Body = now_of number j input start next done steps in
     let v : View = view_of id start in
     let all : List Act = tells_in number (j + 1) input start next done steps in
     let one = faring j v f.one told f.told2 left f.left2 h sole placed f.apart f.fares in
@@ -451,7 +451,7 @@ step_behind id number j input t before start next done told left steps a h sole 
             (λ gap. since_after gap id done (left gap)) same lefts
             (starting j f.one last f.told2 f.left2 (λ gap. left_acts gap id (j + 1) all (left gap)) one begun.0
             (λ kept. a.on (same.kept j ∙ kept))));
-        sole = λ taken starts apart. absurd (starts (subst (λ (b : Machine). IsJustStarted b.intake.phase) (sym own.now) begun.1));
+        sole = λ taken starts apart. absurd (starts (subst (λ (b : Body). IsJustStarted b.intake.phase) (sym own.now) begun.1));
         known = inr (inr (inr (inr (same.taken (j + 1) ∙ begun.0.taken))));
       }
     ]

@@ -47,7 +47,7 @@ use Rattle.node_core.specs.Reads.{all_read}
 use Rattle.node_core.specs.Step.{plain_step}
 use Rattle.node_core.specs.Supervising.{watch_behind, watch_of, with_tells}
 use Rattle.node_core.specs.declared.act.Act.{Act}
-use Rattle.node_core.specs.declared.lane.Body.{Body as Machine}
+use Rattle.node_core.specs.declared.lane.Body.{Body}
 use Rattle.node_core.specs.declared.supervising.Watch.{Watch}
 use Rattle.custody.specs.Floor.{
   EntryFloor,
@@ -187,7 +187,7 @@ use Rattle.supervisor_replay.proofs.Views.{
 
 -- the board fares so; and the step may start it at its end
 pub record StepFares (id j : ℕ) (v : View) (told : Told) (left : ℕ
-    → Bool) (all : List Act) (now : Machine) (off : Bool) : Type 0 where
+    → Bool) (all : List Act) (now : Body) (off : Bool) : Type 0 where
   pub one : View
   pub told2 : Told
   pub left2 : ℕ → Bool
@@ -203,7 +203,7 @@ pub record StepFares (id j : ℕ) (v : View) (told : Told) (left : ℕ
 
 -- between the body before the step and that behind the event
 record Around (id j : ℕ) (unread : List Sensed) (place : Place) (v : View) (told : Told) (left : ℕ
-    → Bool) (body two : Machine) (met : List Act) (off : Bool) : Type 0 where
+    → Bool) (body two : Body) (met : List Act) (off : Bool) : Type 0 where
   ids : Apart id body
   here : IsHere id j body unread v
   missing : takes_it id body ≡ true → takes_it id two ≡ true
@@ -224,29 +224,29 @@ record Around (id j : ℕ) (unread : List Sensed) (place : Place) (v : View) (to
   out : list_any (takes_out id) met ≡ true → off ≡ true
   still : list_any (takes_out id) met ≡ false → list_any (brings_in id) met ≡ false → off ≡ v.off
 
-then_it : (id j : ℕ) (two : Machine) (off : Bool) (v : View) → HasIt id two
+then_it : (id j : ℕ) (two : Body) (off : Bool) (v : View) → HasIt id two
     → ((view_then id j two off v).kept (j + 1) ≡ true) ⊎ ((view_then id j two off v).held (j + 1)
     ≡ true)
 then_it id j two off v (inl kept) = inl (put_here (j + 1) (keeps_it id two) v.kept ∙ kept)
 then_it id j two off v (inr held) = inr (put_here (j + 1) (holds_it id two) v.held ∙ held)
 
-then_none : (id j : ℕ) (two : Machine) (off : Bool) (v : View) → HasNot id two
+then_none : (id j : ℕ) (two : Body) (off : Bool) (v : View) → HasNot id two
     → HasNone j (view_then id j two off v)
 then_none id j two off v none = record {
   kept = put_here (j + 1) (keeps_it id two) v.kept ∙ none.kept;
   held = put_here (j + 1) (holds_it id two) v.held ∙ none.held;
 }
 
-then_taken : (id j : ℕ) (two : Machine) (off : Bool) (v : View) {is : Bool} → takes_it id two ≡ is
+then_taken : (id j : ℕ) (two : Body) (off : Bool) (v : View) {is : Bool} → takes_it id two ≡ is
     → (view_then id j two off v).taken (j + 1) ≡ is
 then_taken id j two off v is = put_here (j + 1) (takes_it id two) v.taken ∙ is
 
-here_it : {id j : ℕ} {unread : List Sensed} {body : Machine} {v : View} → IsHere id j body unread v
+here_it : {id j : ℕ} {unread : List Sensed} {body : Body} {v : View} → IsHere id j body unread v
     → HasIt id body → (v.kept (j + 1) ≡ true) ⊎ (v.held (j + 1) ≡ true)
 here_it here (inl kept) = inl (here.kept ∙ kept)
 here_it here (inr held) = inr (here.held ∙ held)
 
-has_then : {id j : ℕ} {unread : List Sensed} {body : Machine} {v : View} (two : Machine)
+has_then : {id j : ℕ} {unread : List Sensed} {body : Body} {v : View} (two : Body)
     (off : Bool)
     → IsHere id j body unread v → HasStill id body two → HasAsBefore j v (view_then id j two off v)
 has_then {id = id} {j = j} {v = v} two off here (has_not a b) =
@@ -256,7 +256,7 @@ has_then {id = id} {j = j} {v = v} two off here (has_still a b) =
     kept_or_held (here_it here a) (then_it id j two off v b)
 
 takes_then : {id j : ℕ} {unread : List Sensed} {place : Place} {v : View} {told : Told}
-    {left : ℕ → Bool} {body two : Machine} {met : List Act} {off : Bool}
+    {left : ℕ → Bool} {body two : Body} {met : List Act} {off : Bool}
     → Around id j unread place v told left body two met off → takes_it id two ≡ takes_it id body
     → TakesAsBefore j v (view_then id j two off v)
 takes_then {id = id} {j = j} {v = v} {two = two} {off = off} a same = record {
@@ -268,14 +268,14 @@ takes_then {id = id} {j = j} {v = v} {two = two} {off = off} a same = record {
 -- ---- what is read and what is met, together
 
 -- the board fares so behind both
-abbrev Both : ℕ → ℕ → View → Machine → Bool → Told → (ℕ → Bool) → List Act → Type 0
+abbrev Both : ℕ → ℕ → View → Body → Bool → Told → (ℕ → Bool) → List Act → Type 0
 Both id j v two off told left all =
     Fares j v (view_then id j two off v) told (told_acts id (j + 1) all told) left
     (λ gap. left_acts gap id (j + 1) all (left gap))
 
 -- nothing of it is read
 read_so_fares : {id j : ℕ} {unread : List Sensed} {place : Place} {v : View} {told : Told}
-    {left : ℕ → Bool} {body one two : Machine} {met first second : List Act} {off : Bool}
+    {left : ℕ → Bool} {body one two : Body} {met first second : List Act} {off : Bool}
     → Around id j unread place v told left body two met off
     → HasStill id body one → takes_it id one ≡ takes_it id body → Says id j first (λ told. told)
     → MetFares id j place one two met second → Both id j v two off told left (first ++ second)
@@ -324,14 +324,14 @@ read_so_fares {id = id} {j = j} {v = v} {told = told} {left = left} {two = two} 
     (a.out goes) (both.told told) (λ gap. both.left gap (left gap))
 
 -- behind anything else that was read nothing of it is met
-record MetSo (id j : ℕ) (one two : Machine) (met all : List Act) : Type 0 where
+record MetSo (id j : ℕ) (one two : Body) (met all : List Act) : Type 0 where
   still : HasStill id one two
   taken : takes_it id two ≡ takes_it id one
   says : Says id j all (λ told. told)
   out : list_any (takes_out id) met ≡ false
   coming : list_any (brings_in id) met ≡ false
 
-must_so : {id j : ℕ} {place : Place} {one two : Machine} {met all : List Act}
+must_so : {id j : ℕ} {place : Place} {one two : Body} {met all : List Act}
     → takes_it id one ≡ false → (list_any (takes_out id) met ≡ true → ⊥)
     → (list_any (brings_in id) met ≡ true → ⊥) → MetFares id j place one two met all
     → MetSo id j one two met all
@@ -345,7 +345,7 @@ must_so free no_out no_in (met_removed goes _ _ _ _) = absurd (no_out goes)
 
 -- its outlet held it, or its intake
 held_so : {id j : ℕ} {unread : List Sensed} {place : Place} {v : View} {told : Told}
-    {left : ℕ → Bool} {body one two : Machine} {met all : List Act} {off : Bool}
+    {left : ℕ → Bool} {body one two : Body} {met all : List Act} {off : Bool}
     → Around id j unread place v told left body two met off → holds_it id body ≡ true
     → takes_it id one ≡ takes_it id body → MetFares id j place one two met all
     → MetSo id j one two met all
@@ -355,7 +355,7 @@ held_so {j = j} a held same =
     (λ brings. false≢true (sym ((a.new brings).1.1.1.0 (j + 1)) ∙ a.here.held ∙ held))
 
 taken_so : {id j : ℕ} {unread : List Sensed} {place : Place} {v : View} {told : Told}
-    {left : ℕ → Bool} {body one two : Machine} {met all : List Act} {off : Bool}
+    {left : ℕ → Bool} {body one two : Body} {met all : List Act} {off : Bool}
     → Around id j unread place v told left body two met off → takes_it id body ≡ true
     → takes_it id one ≡ false → MetFares id j place one two met all → MetSo id j one two met all
 taken_so {j = j} a taken free =
@@ -364,7 +364,7 @@ taken_so {j = j} a taken free =
     (λ brings. false≢true (sym ((a.new brings).1.1.1.1 (j + 1)) ∙ a.here.taken ∙ taken))
 
 both_fare : {id j : ℕ} {unread : List Sensed} {place : Place} {v : View} {told : Told}
-    {left : ℕ → Bool} {body one two : Machine} {met first second : List Act} {off : Bool}
+    {left : ℕ → Bool} {body one two : Body} {met first second : List Act} {off : Bool}
     → Around id j unread place v told left body two met off
     → ReadFares id j unread place body one first → MetFares id j place one two met second
     → Both id j v two off told left (first ++ second)
@@ -468,13 +468,13 @@ seen_by : {a b : Option Seen} → IsSeen a b → (b ≡ None → ⊥) → b ≡ 
 seen_by seen_same some = refl
 seen_by seen_none some = absurd (some refl)
 
-held_seen : (id : ℕ) (one two : Machine) → IsSeen (seen_of one) (seen_of two)
+held_seen : (id : ℕ) (one two : Body) → IsSeen (seen_of one) (seen_of two)
     → takes_it id two ≡ true → seen_of two ≡ seen_of one
 held_seen id one two seen taken =
     seen_by seen (λ none. false≢true (sym (none_seen id two.intake.phase none) ∙ taken))
 
 -- an intake that holds nothing takes nothing
-taken_one : (id : ℕ) (one two : Machine) → IsSeen (seen_of one) (seen_of two)
+taken_one : (id : ℕ) (one two : Body) → IsSeen (seen_of one) (seen_of two)
     → takes_it id two ≡ true → is_some (held_in one.intake.phase) ≡ true
 taken_one id one two seen taken = by_phase one.intake.phase (held_seen id one two seen taken) where
   by_phase : (i : InPhase) → seen_of two ≡ own_of_phase i → is_some (held_in i) ≡ true
@@ -484,7 +484,7 @@ taken_one id one two seen taken = by_phase one.intake.phase (held_seen id one tw
   by_phase (inn.Waiting _ _ _) same = refl
 
 missing_is : {place : Place} {board : Record} {drive : Bool} (id : ℕ) (unread : List Sensed)
-    (body one two : Machine)
+    (body one two : Body)
     → EntryFloor body.intake.phase (events_at Entry unread) drive place board
     → (is_some (held_in one.intake.phase) ≡ true → (on : Bool)
     × EntryFloor one.intake.phase [] on place board)
@@ -523,7 +523,7 @@ step_tells desk watch next read met said same last =
     ∙ sym (append_assoc front (with_tells desk next met) said)
 
 -- what becomes of it before the announcements, and then with them
-step_ends : {id j : ℕ} {v : View} {told : Told} {left : ℕ → Bool} {off : Bool} (two now : Machine)
+step_ends : {id j : ℕ} {v : View} {told : Told} {left : ℕ → Bool} {off : Bool} (two now : Body)
     (front said all : List Act)
     → Both id j v two off told left front
     → Announced (own_of two) (own_of now) (seen_of two) (seen_of now) now.intake.phase said
@@ -552,7 +552,7 @@ step_ends {id = id} {j = j} {v = v} {told = told} {left = left} {off = off} two 
 
 around : {v : View} {told : Told} {left : ℕ
     → Bool} {drive off : Bool} {place : Place} {board : Record}
-    (id j : ℕ) (desk : Desk) (unread : List Sensed) (event : Event) (body : Machine)
+    (id j : ℕ) (desk : Desk) (unread : List Sensed) (event : Event) (body : Body)
     → are_different (all_of (own_of body)) ≡ true
     → EntryFloor body.intake.phase (events_at Entry unread) drive place board
     → IsHere id j body unread v
@@ -563,7 +563,7 @@ around : {v : View} {told : Told} {left : ℕ
     (event_did desk event (all_read desk unread body).body).body
     (event_did desk event (all_read desk unread body).body).acts off
 around id j desk unread event body different floor here beside read =
-    let one : Machine = (all_read desk unread body).body in
+    let one : Body = (all_read desk unread body).body in
     let met : Done = event_did desk event one in
     let said : Done = announces desk met.body in
     let says = announced desk met.body in
@@ -594,7 +594,7 @@ around id j desk unread event body different floor here beside read =
 
 -- what comes by hand doesn't go by hand
 comes_alone : {id j : ℕ} {unread : List Sensed} {place : Place} {v : View} {told : Told}
-    {left : ℕ → Bool} {body two : Machine} {met : List Act} {off : Bool}
+    {left : ℕ → Bool} {body two : Body} {met : List Act} {off : Bool}
     → Around id j unread place v told left body two met off
     → list_any (brings_in id) met ≡ true → list_any (takes_out id) met ≡ false
 comes_alone {id = id} {j = j} {met = met} a brings =
@@ -604,7 +604,7 @@ comes_alone {id = id} {j = j} {met = met} a brings =
       by_test true is =
           absurd (false≢true (sym ((a.new brings).1.1.0 (j + 1)) ∙ a.here.kept ∙ a.hand is))
 
-pub step_fares : (id j : ℕ) (desk : Desk) (unread : List Sensed) (event : Event) (body : Machine)
+pub step_fares : (id j : ℕ) (desk : Desk) (unread : List Sensed) (event : Event) (body : Body)
     (v : View) (told : Told) (left : ℕ → Bool)
     (drive off : Bool) (place : Place) (board : Record)
     → desk.supervised ≡ true
@@ -620,7 +620,7 @@ step_fares id j desk unread event body v told left drive off place board watched
     here beside =
     let read : Read id j desk unread place board body =
     read_fares id j desk unread place board body drive watched different floor in
-    let one : Machine = (all_read desk unread body).body in
+    let one : Body = (all_read desk unread body).body in
     let met : Done = event_did desk event one in
     let said : Done = announces desk met.body in
     let a : Around id j unread place v told left body met.body met.acts off =
@@ -644,7 +644,7 @@ abbrev behind_read : Desk → Event → Done → Done
 behind_read desk event read =
     and_then read (λ one. and_then (event_did desk event one) (announces desk))
 
-abbrev FaresBehind : ℕ → ℕ → Desk → Event → Machine → View → Told → (ℕ → Bool) → Bool → Done
+abbrev FaresBehind : ℕ → ℕ → Desk → Event → Body → View → Told → (ℕ → Bool) → Bool → Done
     → Type 0
 FaresBehind id j desk event body v told left off read =
     ((x : ℕ) → keeps_it x (behind_read desk event read).body ≡ false) ⊎ IsNoHand event
@@ -658,7 +658,7 @@ FaresBehind id j desk event body v told left off read =
     (behind_read desk event read).body off
 
 -- it has nothing, and has nothing behind the event
-nothing_fares : (id j : ℕ) (unread : List Sensed) (body two : Machine) (met : List Act) (v : View)
+nothing_fares : (id j : ℕ) (unread : List Sensed) (body two : Body) (met : List Act) (v : View)
     (told : Told) (left : ℕ → Bool) (off : Bool)
     → (keeps_it id body ≡ false) × ((holds_it id body ≡ false) × (takes_it id body ≡ false))
     → IsHere id j body unread v → off ≡ v.off → Silent met → own_of two ≡ own_of body
@@ -682,13 +682,13 @@ nothing_fares id j unread body two met v told left off none here same silent own
     ∙ ap (left_acts gap id (j + 1) met)
     (reading_left gap id (j + 1) unread (left gap)) ∙ silent.left gap id (j + 1) (left gap))
 
-unkept : (two now : Machine) (event : Event) → (own_of now).kept ≡ (own_of two).kept
+unkept : (two now : Body) (event : Event) → (own_of now).kept ≡ (own_of two).kept
     → ((x : ℕ) → keeps_it x now ≡ false) ⊎ IsNoHand event
     → ((x : ℕ) → keeps_it x two ≡ false) ⊎ IsNoHand event
 unkept two now event same (inl none) = inl (λ x. ap (has_id x) (sym same) ∙ none x)
 unkept two now event same (inr plain) = inr plain
 
-silent_by : (id j : ℕ) (desk : Desk) (unread : List Sensed) (event : Event) (body : Machine)
+silent_by : (id j : ℕ) (desk : Desk) (unread : List Sensed) (event : Event) (body : Body)
     (v : View) (told : Told) (left : ℕ → Bool) (off : Bool)
     → ((x : ℕ) → (keeps_it x body ≡ false)
     × ((holds_it x body ≡ false) × (takes_it x body ≡ false)))
@@ -714,7 +714,7 @@ silent_by id j desk unread event body v told left off none here same kept there 
 
 -- a machine that is not supervised and has no mark before the step, to which nothing comes by
 -- hand, tells nothing of the id; it may start it at its end
-pub step_silent : (id j : ℕ) (desk : Desk) (unread : List Sensed) (event : Event) (body : Machine)
+pub step_silent : (id j : ℕ) (desk : Desk) (unread : List Sensed) (event : Event) (body : Body)
     (v : View) (told : Told) (left : ℕ → Bool) (off : Bool)
     → desk.supervised ≡ false
     → ((x : ℕ) → (keeps_it x body ≡ false)

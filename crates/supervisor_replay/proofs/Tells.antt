@@ -1,7 +1,6 @@
 -- What the supervisor is told of acts behind others, and which acts tell it nothing.
 use Rattle.std.proofs.Common.{
   ap,
-  append_assoc,
   sym,
   subst,
   refl,
