@@ -37,11 +37,12 @@ use Rattle.node_panel.specs.declared.line.PanelLine.TheVariants as lines
 use Rattle.node_run.specs.After.{AfterClose, AfterDownstream, AfterPanel, AfterPoll, AfterUpstream, PanelArrives, TakesFinding, TakesFound, after_configuration, after_listen, after_send, after_supervisory, broken, configuration_arrived, configuration_bytes, configuration_closed, configuration_second, looked, panel_bytes, panel_closed, panel_second, supervisory_arrived, supervisory_bytes, supervisory_closed, supervisory_second, way_of, with_held}
 use Rattle.node_run.specs.Configuring.{AfterTry, DoesConfigFound, DoesConfigWord, DoesPlan, TriesIf, with_config}
 use Rattle.node_run.specs.Held.{Finding, nothing_held}
-use Rattle.node_run.specs.Hearing.{AnswersIf, DoesAction, DoesFound, DoesRow, DoesWord, Unsupervised, broken_off, said, system_of, with_channel, with_stands}
+use Rattle.supervised_end.specs.Said.{system_of}
+use Rattle.node_run.specs.Hearing.{AnswersIf, DoesAction, DoesFound, DoesRow, DoesWord, Unsupervised, broken_off, said, with_channel, with_stands}
 use Rattle.node_run.specs.Lines.{AsksConnect, AsksIf, DoesAsked, DoesCut, DoesInput, Ends, Fronts, KeepsFront, cut_line, is_too_long, may_ask, without_return}
 use Rattle.node_run.specs.Next.{asks_next, at_place, configures_next, connects_next, ends_next, has_ended, hears_next, held_next, is_due, is_polled, lines_next, listens_if, moved_on, next_of, refuses_next, resets_next, takes_next, tries_next}
 use Rattle.node_run.specs.Resetting.{ResetsSide, leaving, reset_begun}
-use Rattle.node_run.specs.Channel.{is_empty, no_session}
+use Rattle.supervised_end.specs.Channel.{is_empty, no_session}
 use Rattle.node_run.specs.Runs.{Moves, Runs, begins, closes, connects, does_config, does_hear, does_line, goes_on, listens, looks_again, polls, refuses, resets_side, sends, skips, takes_held, tries_port}
 use Rattle.node_run.specs.State.{Refusal, RunState, WayValue, at_rest, started, with_way, with_wire}
 use Rattle.node_run.specs.Steps.{MeetsSecond, Takes}
@@ -49,10 +50,10 @@ use Rattle.node_run.specs.declared.channel.ConfigFound.{ConfigFound}
 use Rattle.node_run.specs.declared.channel.ConfigFound.TheVariants as config_finds
 use Rattle.node_run.specs.declared.channel.ConfigWord.{ConfigWord}
 use Rattle.node_run.specs.declared.channel.ConfigWord.TheVariants as config_words
-use Rattle.node_run.specs.declared.channel.Found.{Found}
-use Rattle.node_run.specs.declared.channel.Found.TheVariants as finds
-use Rattle.node_run.specs.declared.channel.Word.{Word}
-use Rattle.node_run.specs.declared.channel.Word.TheVariants as words
+use Rattle.supervised_end.specs.declared.channel.Found.{Found}
+use Rattle.supervised_end.specs.declared.channel.Found.TheVariants as finds
+use Rattle.supervised_end.specs.declared.channel.Word.{Word}
+use Rattle.supervised_end.specs.declared.channel.Word.TheVariants as words
 use Rattle.node_run.specs.declared.place.Next.{Next}
 use Rattle.node_run.specs.declared.place.Next.TheVariants as nexts
 use Rattle.node_run.specs.declared.place.Place.{Place}

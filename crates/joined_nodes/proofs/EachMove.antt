@@ -37,18 +37,19 @@ use Rattle.node_connections.proofs.Parts.{config_same, configuration_same, super
 use Rattle.node_connections.proofs.Polled.{none_held}
 use Rattle.node_run.specs.After.{AfterClose, AfterDownstream, AfterPanel, AfterPoll, AfterUpstream, PanelArrives, TakesFinding, TakesFound, after_listen, after_send, broken, looked, panel_bytes, panel_closed, panel_second, way_of, with_held}
 use Rattle.node_run.specs.Held.{Finding, holds, nothing_held}
-use Rattle.node_run.specs.Hearing.{AnswersIf, DoesAction, DoesFound, DoesHear, DoesRow, DoesWord, Unsupervised, broken_off, said, system_of, with_channel, with_stands}
+use Rattle.supervised_end.specs.Said.{system_of}
+use Rattle.node_run.specs.Hearing.{AnswersIf, DoesAction, DoesFound, DoesHear, DoesRow, DoesWord, Unsupervised, broken_off, said, with_channel, with_stands}
 use Rattle.node_run.specs.Lines.{AsksConnect, AsksIf, DoesAsked, DoesCut, DoesInput, Ends, Fronts, KeepsFront, Tells, cut_line, is_too_long, may_ask, without_return}
 use Rattle.node_run.specs.Next.{has_ended, moved_on}
 use Rattle.node_run.specs.Resetting.{ResetsSide, leaving, reset_begun}
-use Rattle.node_run.specs.Channel.{no_session}
+use Rattle.supervised_end.specs.Channel.{no_session}
 use Rattle.node_run.specs.Runs.{Moves, closes, connects, does_config, does_hear as hears_supervisor, does_line, listens, looks_again, polls, refuses, resets_side, room_bytes, sends, skips, takes_held, tries_port}
 use Rattle.node_run.specs.State.{RunState, WayValue, at_rest, with_way, with_wire}
 use Rattle.node_run.specs.Steps.{MeetsSecond, Takes, TakesStep}
-use Rattle.node_run.specs.declared.channel.Found.{Found}
-use Rattle.node_run.specs.declared.channel.Found.TheVariants as finds
-use Rattle.node_run.specs.declared.channel.Word.{Word}
-use Rattle.node_run.specs.declared.channel.Word.TheVariants as words
+use Rattle.supervised_end.specs.declared.channel.Found.{Found}
+use Rattle.supervised_end.specs.declared.channel.Found.TheVariants as finds
+use Rattle.supervised_end.specs.declared.channel.Word.{Word}
+use Rattle.supervised_end.specs.declared.channel.Word.TheVariants as words
 use Rattle.node_run.specs.declared.rules.Rules.{Rules}
 use Rattle.node_run.specs.declared.way_state.Wire.{Wire}
 use Rattle.node_run.specs.declared.way_state.Wire.TheVariants as wires

@@ -17,7 +17,7 @@ use Rattle.line_script.proofs.Tokens.{IsAllowed-from_text}
 use Rattle.node_panel.specs.Panel.{ask_of, asked_of, asked_of_connections, asked_of_sides, bare, event_of, id_of, insert_of, is_comment, made_sense, mark_of, panel_line_of, panel_line_of_words, quality_of, query_of, sense_of, side_of, signal_of, sub_of, with_id, with_side}
 use Rattle.node_panel.specs.declared.line.PanelLine.{PanelLine}
 use Rattle.node_panel.specs.declared.line.PanelLine.TheVariants as lines
-use Rattle.node_run.specs.Lines.{input_of}
+use Rattle.panel_inputs.specs.Inputs.{input_of}
 
 -- ---- words
 

@@ -37,15 +37,16 @@ use Rattle.node_run.specs.declared.rules.Rules.{Rules}
 use Rattle.node_run.specs.State.{RunState, with_wire}
 use Rattle.node_run.specs.Next.{has_ended}
 use Rattle.node_run.specs.Configuring.{Accepts, AfterTry, DoesConfig, DoesConfigFound, DoesConfigWord, DoesPlan, TriesIf, with_config}
-use Rattle.node_run.specs.Hearing.{AnswersIf, DoesAction, DoesFound, DoesHear, DoesRow, DoesWord, Unsupervised, broken_off, said, system_of, with_channel, with_stands}
+use Rattle.supervised_end.specs.Said.{system_of}
+use Rattle.node_run.specs.Hearing.{AnswersIf, DoesAction, DoesFound, DoesHear, DoesRow, DoesWord, Unsupervised, broken_off, said, with_channel, with_stands}
 use Rattle.node_run.specs.declared.channel.ConfigFound.{ConfigFound}
 use Rattle.node_run.specs.declared.channel.ConfigFound.TheVariants as config_finds
 use Rattle.node_run.specs.declared.channel.ConfigWord.{ConfigWord}
 use Rattle.node_run.specs.declared.channel.ConfigWord.TheVariants as config_words
-use Rattle.node_run.specs.declared.channel.Found.{Found}
-use Rattle.node_run.specs.declared.channel.Found.TheVariants as finds
-use Rattle.node_run.specs.declared.channel.Word.{Word}
-use Rattle.node_run.specs.declared.channel.Word.TheVariants as words
+use Rattle.supervised_end.specs.declared.channel.Found.{Found}
+use Rattle.supervised_end.specs.declared.channel.Found.TheVariants as finds
+use Rattle.supervised_end.specs.declared.channel.Word.{Word}
+use Rattle.supervised_end.specs.declared.channel.Word.TheVariants as words
 use Rattle.node_run.specs.Steps.{MeetsSecond, Takes, TakesStep, messages_for}
 use Rattle.node_run.specs.After.{AfterPanel, PanelArrives, after_configuration, after_supervisory, configuration_arrived, configuration_bytes, configuration_closed, configuration_second, panel_bytes, panel_closed, panel_second, supervisory_arrived, supervisory_bytes, supervisory_closed, supervisory_second}
 use Rattle.node_run.specs.Lines.{AsksConnect, AsksIf, DoesAsked, DoesCut, DoesInput, Ends, Fronts, KeepsFront, Tells, is_too_long, may_ask, without_return}

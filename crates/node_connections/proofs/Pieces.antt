@@ -35,7 +35,7 @@ use Rattle.node_run.specs.Owning.{IsAnswer, TellsActs, answer_lines, step_lines}
 use Rattle.node_run.specs.Runs.{Moves, closes, connects, does_config, does_hear, does_line, listens, looks_again, polls, refuses as refuses_second, resets_side, room_bytes, sends, skips, takes_held, tries_port}
 use Rattle.node_run.specs.State.{RunState, at_rest, way_at, with_wire}
 use Rattle.node_run.specs.Resetting.{ResetsSide, leaving, reset_begun, reset_text}
-use Rattle.node_run.specs.Channel.{no_session}
+use Rattle.supervised_end.specs.Channel.{no_session}
 use Rattle.node_run.specs.Steps.{Takes}
 use Rattle.node_run.specs.declared.place.Next.TheVariants as nexts
 use Rattle.node_run.specs.declared.way_state.Wire.TheVariants as wires

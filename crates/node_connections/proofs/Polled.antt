@@ -7,7 +7,7 @@ use Rattle.line_outside.specs.declared.way.Address.{Address}
 use Rattle.line_outside.specs.declared.way.Way.{Way}
 use Rattle.line_outside.specs.declared.way.Way.TheVariants as ways
 use Rattle.node_run.specs.declared.rules.Rules.{Rules}
-use Rattle.node_run.specs.Channel.{is_empty}
+use Rattle.supervised_end.specs.Channel.{is_empty}
 use Rattle.node_run.specs.Held.{Finding}
 use Rattle.node_run.specs.Next.{asks_next, at_place, configures_next, ends_next, hears_next, held_next, is_due, lines_next, next_of, refuses_next, takes_next, tries_next}
 use Rattle.node_run.specs.State.{Refusal, RunState}

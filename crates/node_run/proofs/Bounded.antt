@@ -7,7 +7,7 @@ use Rattle.line_outside.specs.declared.way.Way.{Way}
 use Rattle.line_outside.specs.declared.way.Way.TheVariants as ways
 use Rattle.node_run.specs.declared.rules.Rules.{Rules}
 use Rattle.node_run.specs.State.{Refusal, RunState, way_at}
-use Rattle.node_run.specs.Channel.{is_empty}
+use Rattle.supervised_end.specs.Channel.{is_empty}
 use Rattle.node_run.specs.Next.{next_of, ends_next, refuses_next, connects_next, tries_next, is_due, is_due_by, goes_on, HasBoundedText, most_unsent}
 use Rattle.node_run.specs.declared.place.Next.{Next}
 use Rattle.node_run.specs.declared.place.Next.TheVariants as nexts

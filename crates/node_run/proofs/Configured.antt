@@ -15,7 +15,7 @@ use Rattle.node_core.specs.May.{may_of}
 use Rattle.node_core.specs.declared.input.Input.{Input}
 use Rattle.node_core.specs.declared.input.Input.TheVariants as inputs
 use Rattle.node_core.specs.declared.input.No.{No}
-use Rattle.node_run.specs.Channel.{ChannelValue, fed, is_empty}
+use Rattle.supervised_end.specs.Channel.{ChannelValue, fed, is_empty}
 use Rattle.node_run.specs.Configuring.{Accepts, DoesConfig, DoesConfigFound, DoesPlan, HearsConfig, TriesIf, accepted, config_broken_off, config_ended, config_notice, config_said, port_refused, settled, with_config}
 use Rattle.node_run.specs.Resetting.{ResetsSide, leaving, reset_begun}
 use Rattle.node_run.specs.State.{RunState, RunView}

@@ -29,7 +29,7 @@ use Rattle.node_run.specs.Hearing.{DoesHear}
 use Rattle.node_run.specs.Lines.{DoesLine}
 use Rattle.node_run.specs.Runs.{Moves, listens, connects, polls, sends, refuses, closes, skips, looks_again, takes_held, does_line, does_hear, does_config, tries_port, resets_side}
 use Rattle.node_run.specs.Moving.{is_end}
-use Rattle.node_run.specs.Channel.{is_empty, ChannelValue, IsShort, no_session}
+use Rattle.supervised_end.specs.Channel.{is_empty, ChannelValue, IsShort, no_session}
 use Rattle.node_run.specs.Held.{HasFewLooks, is_more}
 use Rattle.node_run.specs.Work.{far_at, count, wire_work, refusal_work, close_work, hear_work, look_work, other_work, reset_work, try_work, work_at, far_of}
 use Rattle.node_run.specs.declared.place.Next.{Next}

@@ -14,15 +14,16 @@ use Rattle.node_core.specs.May.{may_of}
 use Rattle.node_core.specs.declared.input.Input.{Input}
 use Rattle.node_core.specs.declared.input.Input.TheVariants as inputs
 use Rattle.node_core.specs.declared.input.No.{No}
-use Rattle.node_run.specs.Channel.{ChannelValue, HearsNext, is_empty, fed, room_of}
-use Rattle.node_run.specs.Hearing.{AnswersIf, BreaksOff, DoesAction, DoesFound, DoesHear, DoesRow, DoesWord, broken_off, said, system_of, with_channel, with_stands}
+use Rattle.supervised_end.specs.Channel.{ChannelValue, HearsNext, is_empty, fed, room_of}
+use Rattle.supervised_end.specs.Said.{system_of}
+use Rattle.node_run.specs.Hearing.{AnswersIf, BreaksOff, DoesAction, DoesFound, DoesHear, DoesRow, DoesWord, broken_off, said, with_channel, with_stands}
 use Rattle.node_run.specs.State.{RunState}
 use Rattle.node_run.specs.Steps.{Takes, TakesStep}
 use Rattle.node_run.specs.Work.{count, hear_work}
-use Rattle.node_run.specs.declared.channel.Found.{Found}
-use Rattle.node_run.specs.declared.channel.Found.TheVariants as founds
-use Rattle.node_run.specs.declared.channel.Word.{Word}
-use Rattle.node_run.specs.declared.channel.Word.TheVariants as words
+use Rattle.supervised_end.specs.declared.channel.Found.{Found}
+use Rattle.supervised_end.specs.declared.channel.Found.TheVariants as founds
+use Rattle.supervised_end.specs.declared.channel.Word.{Word}
+use Rattle.supervised_end.specs.declared.channel.Word.TheVariants as words
 use Rattle.node_run.specs.declared.rules.Rules.{Rules}
 
 -- ---- what is left to hear

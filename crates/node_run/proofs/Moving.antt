@@ -24,7 +24,7 @@ use Rattle.line_outside.specs.declared.way.Address.{Address}
 use Rattle.line_outside.specs.declared.way.Way.{Way}
 use Rattle.line_outside.specs.declared.way.Way.TheVariants as ways
 use Rattle.node_run.specs.After.{found_of, after_listen, after_send, looked, AfterPoll, AfterLook, AfterClose, TakesHeld}
-use Rattle.node_run.specs.Channel.{is_empty, IsShort}
+use Rattle.supervised_end.specs.Channel.{is_empty, IsShort}
 use Rattle.node_run.specs.Held.{HasFewLooks}
 use Rattle.node_run.specs.Hearing.{DoesHear}
 use Rattle.node_run.specs.Configuring.{AfterTry, DoesConfig}

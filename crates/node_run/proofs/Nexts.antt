@@ -10,7 +10,7 @@ use Rattle.line_outside.specs.declared.way.Way.{Way}
 use Rattle.line_outside.specs.declared.way.Way.TheVariants as ways
 use Rattle.node_run.specs.declared.rules.Rules.{Rules}
 use Rattle.node_run.specs.State.{Refusal, RunState, way_at}
-use Rattle.node_run.specs.Channel.{is_empty}
+use Rattle.supervised_end.specs.Channel.{is_empty}
 use Rattle.node_run.specs.Next.{next_of, ends_next, refuses_next, tries_next, asks_next, lines_next, hears_next, configures_next, is_to_reset, held_next, takes_next, at_place, listens_if, is_polled, is_due, IsTurnLeft}
 use Rattle.node_run.specs.Moving.{is_end}
 use Rattle.node_run.specs.declared.place.Next.{Next}

@@ -41,13 +41,14 @@ use Rattle.node_panel.specs.declared.line.PanelLine.TheVariants as lines
 use Rattle.node_run.specs.declared.rules.Rules.{Rules}
 use Rattle.node_run.specs.State.{RunState, WayValue, at_rest, way_at, with_way, with_wire}
 use Rattle.node_run.specs.Next.{has_ended, moved_on}
-use Rattle.node_run.specs.Channel.{no_session}
+use Rattle.supervised_end.specs.Channel.{no_session}
 use Rattle.node_run.specs.Held.{Finding, nothing_held}
-use Rattle.node_run.specs.Hearing.{AnswersIf, DoesAction, DoesFound, DoesHear, DoesRow, DoesWord, Unsupervised, broken_off, said, system_of, with_channel, with_stands}
-use Rattle.node_run.specs.declared.channel.Found.{Found}
-use Rattle.node_run.specs.declared.channel.Found.TheVariants as finds
-use Rattle.node_run.specs.declared.channel.Word.{Word}
-use Rattle.node_run.specs.declared.channel.Word.TheVariants as words
+use Rattle.supervised_end.specs.Said.{system_of}
+use Rattle.node_run.specs.Hearing.{AnswersIf, DoesAction, DoesFound, DoesHear, DoesRow, DoesWord, Unsupervised, broken_off, said, with_channel, with_stands}
+use Rattle.supervised_end.specs.declared.channel.Found.{Found}
+use Rattle.supervised_end.specs.declared.channel.Found.TheVariants as finds
+use Rattle.supervised_end.specs.declared.channel.Word.{Word}
+use Rattle.supervised_end.specs.declared.channel.Word.TheVariants as words
 use Rattle.config_service.specs.Plans.{plan_of}
 use Rattle.config_service.specs.declared.config.Plan.{Plan}
 use Rattle.config_service.specs.declared.config.Plan.TheVariants as plans

@@ -25,7 +25,7 @@ use Rattle.node_run.specs.Runs.{Moves, Runs, begins, closes, connects, does_conf
 use Rattle.node_run.specs.Settled.{IsSettled, IsTaken, Settles, SettingsAreTheLast, TakesSet, as_before, heard, keeps, last_set, listened, takes}
 use Rattle.node_run.specs.State.{RunState}
 use Rattle.node_run.specs.declared.rules.Rules.{Rules}
-use Rattle.node_run.specs.Channel.{ChannelValue}
+use Rattle.supervised_end.specs.Channel.{ChannelValue}
 use Rattle.node_run.specs.Configuring.{HearsConfig}
 use Rattle.node_run.specs.declared.channel.ConfigFound.{ConfigFound}
 use Rattle.node_run.specs.declared.channel.ConfigFound.TheVariants as finds

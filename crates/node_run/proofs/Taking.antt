@@ -21,12 +21,13 @@ use Rattle.line_outside.specs.declared.answer.GotBytes.{GotBytes}
 use Rattle.line_outside.specs.declared.answer.GotBytes.TheVariants as founds
 use Rattle.line_outside.specs.declared.way.Way.TheVariants as ways
 use Rattle.node_run.specs.After.{AfterLook, AfterPanel, PanelArrives, TakesFinding, TakesHeld, greeting, looked, with_held}
-use Rattle.node_run.specs.Channel.{HearsNext}
+use Rattle.supervised_end.specs.Channel.{HearsNext}
 use Rattle.node_run.specs.Held.{Finding, nothing_held}
-use Rattle.node_run.specs.Hearing.{AnswersIf, BreaksOff, Describes, DoesFound, DoesHear, DoesRow, Unsupervised, notification, said, session_ended, system_of, untaken, with_channel}
+use Rattle.supervised_end.specs.Said.{all_told_for, notification, system_of, told_for, untaken}
+use Rattle.node_run.specs.Hearing.{AnswersIf, BreaksOff, Describes, DoesFound, DoesHear, DoesRow, Unsupervised, said, session_ended, with_channel}
 use Rattle.node_run.specs.State.{RunState, RunView, WayValue, echoed, with_wire}
-use Rattle.node_run.specs.Steps.{HasStepped, Takes, TakesSecond, TakesStep, all_told_for, closes_side, message_for, messages_for, panel_told, put, put_told, refusing_with, routed, told_for, with_node}
-use Rattle.node_run.specs.declared.channel.Found.{Found}
+use Rattle.node_run.specs.Steps.{HasStepped, Takes, TakesSecond, TakesStep, closes_side, message_for, messages_for, panel_told, put, put_told, refusing_with, routed, with_node}
+use Rattle.supervised_end.specs.declared.channel.Found.{Found}
 use Rattle.node_run.specs.declared.rules.Rules.{Rules}
 use Rattle.node_run.specs.declared.way_state.Wire.{Wire}
 use Rattle.node_run.specs.declared.way_state.Wire.TheVariants as wires

@@ -18,10 +18,11 @@ use Rattle.node_core.specs.May.{may_of}
 use Rattle.node_core.specs.Sides.{is_open}
 use Rattle.node_core.specs.declared.input.Input.TheVariants as inputs
 use Rattle.node_run.specs.declared.rules.Rules.{Rules}
-use Rattle.node_run.specs.Channel.{no_session}
+use Rattle.supervised_end.specs.Channel.{no_session}
 use Rattle.node_run.specs.Configuring.{config_text, configured_already}
 use Rattle.node_run.specs.Held.{Finding, HeldValue, holds, is_more, looks_behind, nothing_held}
-use Rattle.node_run.specs.Hearing.{Unsupervised, connected_already, text_of}
+use Rattle.supervised_end.specs.Said.{connected_already, text_of}
+use Rattle.node_run.specs.Hearing.{Unsupervised}
 use Rattle.node_run.specs.State.{RunState, at_rest, way_at, with_way, with_wire}
 use Rattle.node_run.specs.Next.{moved_on}
 use Rattle.node_run.specs.Steps.{Takes, MeetsSecond}

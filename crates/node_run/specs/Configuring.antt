@@ -19,7 +19,7 @@ use Rattle.config_service.specs.declared.message.ConfigMessage.{ConfigMessage}
 use Rattle.config_service.specs.declared.message.Settings.{Settings}
 use Rattle.hermes_stream.specs.Cutter.{GivesFrame, StaysTooLong, WantsMore}
 use Rattle.hermes_stream.specs.Frames.{left_of}
-use Rattle.node_run.specs.Channel.{ChannelValue, fed, is_empty, no_session}
+use Rattle.supervised_end.specs.Channel.{ChannelValue, fed, is_empty, no_session}
 use Rattle.node_run.specs.State.{RunState}
 use Rattle.node_run.specs.declared.channel.ConfigFound.{ConfigFound}
 use Rattle.node_run.specs.declared.channel.ConfigFound.TheVariants as founds

@@ -1,9 +1,7 @@
 -- What the supervisor's messages do.
 use Rattle.std.specs.Prelude.{◌≡◌, ◌++◌, ℕ, ℤ, Bool, true, false, List, [], codes, Option, None, Some, Result, Ok, Err}
-use Rattle.line_base.specs.declared.states.Severity.{Severity}
 use Rattle.line_base.specs.declared.states.Severity.TheVariants as severity
 use Rattle.hermes_horizontal.specs.declared.message.Ping.TheVariants as pings
-use Rattle.hermes_vertical.specs.Canonical.{canonical}
 use Rattle.hermes_vertical.specs.Parts.{kind_of}
 use Rattle.hermes_vertical.specs.declared.message.Vertical.{Vertical}
 use Rattle.hermes_vertical.specs.declared.message.Vertical.TheVariants as bodies
@@ -14,37 +12,16 @@ use Rattle.supervisory_core.specs.declared.action.VerticalAction.TheVariants as 
 use Rattle.node_core.specs.May.{may_of}
 use Rattle.node_core.specs.declared.input.Input.TheVariants as inputs
 use Rattle.node_core.specs.declared.input.No.{No}
-use Rattle.node_core.specs.declared.input.No.TheVariants as nos
-use Rattle.node_run.specs.Channel.{ChannelValue, HearsNext, no_session}
+use Rattle.supervised_end.specs.Channel.{ChannelValue, HearsNext, no_session}
+use Rattle.supervised_end.specs.Said.{notification, system_of, text_of, untaken}
 use Rattle.node_run.specs.State.{RunState}
 use Rattle.node_run.specs.Steps.{Takes, TakesStep}
-use Rattle.node_run.specs.declared.channel.Found.{Found}
-use Rattle.node_run.specs.declared.channel.Found.TheVariants as founds
-use Rattle.node_run.specs.declared.channel.Word.{Word}
-use Rattle.node_run.specs.declared.channel.Word.TheVariants as words
+use Rattle.supervised_end.specs.declared.channel.Found.{Found}
+use Rattle.supervised_end.specs.declared.channel.Found.TheVariants as founds
+use Rattle.supervised_end.specs.declared.channel.Word.{Word}
+use Rattle.supervised_end.specs.declared.channel.Word.TheVariants as words
 use Rattle.node_run.specs.declared.rules.Rules.{Rules}
 use Rattle.node_run.specs.declared.way_state.Wire.TheVariants as wires
-
--- ---- what the machine says on the channel
-
--- the text of a message of this moment
-abbrev pub text_of : ℤ → Vertical → List ℕ
-text_of moment body = canonical (record { stamp = Some moment; body = body })
-
-abbrev pub notification : ℕ → Severity → List ℕ → Vertical
-notification number severity text = bodies.Notification (record { number = number }) severity text
-
--- how it describes itself
-abbrev pub system_of : List ℕ → Vertical
-system_of machine_id = bodies.SupervisoryServiceDescription (record {
-  system = machine_id;
-  version = codes "1.5";
-  features = record { check_alive = true; forecast = false; query = false; send = false };
-})
-
--- a second connection is refused with this
-abbrev pub connected_already : Vertical
-connected_already = notification 2 severity.Error (codes "already connected")
 
 -- a message waits to be sent
 abbrev pub said : ℤ → Vertical → RunState → RunState
@@ -83,12 +60,6 @@ Describes rules moment s t log =
     let told = said moment (system_of rules.machine_id) s in
     Takes (may_of s.node (inputs.Supervise true)) rules moment
     (inputs.Supervise true) told told t log
-
--- what is told of an answer that isn't taken
-abbrev pub untaken : No → List ℕ
-untaken nos.UnknownQuery = codes "unknown query"
-untaken (nos.Answered query) = codes "answered"
-untaken why = codes "not supervised"
 
 -- an answer whose question is open is one step
 abbrev pub AnswersIf : Result (Unit {0}) No → Rules → ℤ → ℕ → List ℕ → RunState → RunState → List ℕ

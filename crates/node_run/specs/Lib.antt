@@ -1,5 +1,4 @@
 pub mod Status
-pub mod Channel
 pub mod Held
 pub mod State
 pub mod Next

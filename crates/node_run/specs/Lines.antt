@@ -16,6 +16,7 @@ use Rattle.node_core.specs.declared.input.No.TheVariants as nos
 use Rattle.node_panel.specs.Panel.{panel_line_of}
 use Rattle.node_panel.specs.declared.line.PanelLine.{PanelLine}
 use Rattle.node_panel.specs.declared.line.PanelLine.TheVariants as lines
+use Rattle.panel_inputs.specs.Inputs.{input_of, sensed_of}
 use Rattle.node_run.specs.declared.rules.Rules.{Rules}
 use Rattle.node_run.specs.State.{RunState, echoed}
 use Rattle.node_run.specs.Next.{has_ended}
@@ -45,28 +46,6 @@ is_too_long line = nat_lt 4096 (length (without_return line))
 -- lines go to the log, and the same to the panel
 abbrev pub Tells : List ℕ → RunState → RunState → List ℕ → Type 0
 Tells text s t log = (t ≡ echoed text s) × (log ≡ text)
-
-abbrev pub sensed_of : PanelLine → List Sensed
-sensed_of (lines.Sense sensed) = sensed ∷ []
-sensed_of line = []
-
--- the input that a line gives to the machine
-abbrev pub input_of : PanelLine → Input
-input_of (lines.Insert barcode) = inputs.Insert barcode
-input_of (lines.Remove id) = inputs.Remove id
-input_of (lines.Replace id) = inputs.Replace id
-input_of (lines.Mark id quality) = inputs.Mark id quality
-input_of (lines.Sub id place barcode) = inputs.Sub id place barcode
-input_of (lines.Hold side) = inputs.Will side false
-input_of (lines.Go side) = inputs.Will side true
-input_of lines.Shutdown = inputs.Shutdown
-input_of lines.Tick = inputs.Tick
-input_of (lines.Signal line on) = inputs.Level line on
-input_of lines.Forecast = inputs.Forecast
-input_of (lines.Query barcode) = inputs.Query barcode
-input_of (lines.Ask question) = inputs.Ask question
-input_of (lines.Fault side) = inputs.Fault side
-input_of line = inputs.Nothing
 
 -- a step, whose lines go to the panel too
 abbrev pub DoesInput : Result (Unit {0}) No → Rules → ℤ → List Sensed → Input → RunState → RunState

@@ -10,7 +10,7 @@ use Rattle.line_outside.specs.Given.{Given, Listens}
 use Rattle.line_outside.specs.Listening.{at_all}
 use Rattle.line_outside.specs.declared.ports.Opened.TheVariants as opens
 use Rattle.line_outside.specs.declared.way.Way.TheVariants as ways
-use Rattle.node_run.specs.Channel.{ChannelValue}
+use Rattle.supervised_end.specs.Channel.{ChannelValue}
 use Rattle.node_run.specs.Configuring.{HearsConfig}
 use Rattle.node_run.specs.Runs.{Moves, Runs}
 use Rattle.node_run.specs.State.{RunState}

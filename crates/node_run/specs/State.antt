@@ -7,7 +7,7 @@ use Rattle.line_outside.specs.declared.way.Way.TheVariants as ways
 use Rattle.config_service.specs.declared.config.Resets.{Resets}
 use Rattle.config_service.specs.declared.message.Settings.{Settings}
 use Rattle.node_core.specs.Node.{NodeState}
-use Rattle.node_run.specs.Channel.{ChannelValue, no_session}
+use Rattle.supervised_end.specs.Channel.{ChannelValue, no_session}
 use Rattle.machine_log.specs.Drives.{all_off}
 use Rattle.node_run.specs.Held.{HeldValue, nothing_held}
 use Rattle.machine_log.specs.declared.drives.Drives.{Drives}

@@ -7,13 +7,13 @@ use Rattle.line_base.specs.declared.states.Side.TheVariants.{Entry, Exit}
 use Rattle.line_outside.specs.declared.way.Way.TheVariants as ways
 use Rattle.board_record.specs.declared.sensed.Sensed.{Sensed}
 use Rattle.hermes_horizontal.specs.Canonical.{canonical}
-use Rattle.hermes_vertical.specs.Canonical.{canonical as vertical_canonical}
 use Rattle.node_core.specs.Node.{NodeState}
 use Rattle.node_core.specs.Step.{Steps}
 use Rattle.node_core.specs.declared.act.Act.{Act}
 use Rattle.node_core.specs.declared.act.Act.TheVariants as acts
 use Rattle.node_core.specs.declared.input.Input.{Input}
 use Rattle.node_core.specs.declared.input.No.{No}
+use Rattle.supervised_end.specs.Said.{all_told_for}
 use Rattle.node_run.specs.declared.rules.Rules.{Rules}
 use Rattle.machine_log.specs.Account.{AreProper}
 use Rattle.machine_log.specs.Drives.{drives_after}
@@ -42,14 +42,6 @@ wire_after side told wire = if list_any (closes_side side) told then wires.Ends 
 abbrev pub put : Side → List Act → WayValue → WayValue
 put side told way =
     record { wire = wire_after side told way.wire; unsent = way.unsent ++ messages_for side told }
-
--- the text of what a supervisor is told, whose session stands; where none stands, it is dropped
-abbrev pub told_for : Bool → Act → List ℕ
-told_for stands (acts.Tells message) = if stands then vertical_canonical message else []
-told_for stands act = []
-
-abbrev pub all_told_for : Bool → List Act → List ℕ
-all_told_for stands told = flat_map (told_for stands) told
 
 abbrev pub put_told : Bool → List Act → WayValue → WayValue
 put_told stands told way = record way { unsent = way.unsent ++ all_told_for stands told }

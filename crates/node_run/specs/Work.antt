@@ -5,7 +5,7 @@ use Rattle.config_service.specs.declared.config.Resets.{Resets}
 use Rattle.config_service.specs.declared.message.Settings.{Settings}
 use Rattle.node_core.specs.Sides.{is_open}
 use Rattle.node_run.specs.declared.rules.Rules.{Rules}
-use Rattle.node_run.specs.Channel.{ChannelValue}
+use Rattle.supervised_end.specs.Channel.{ChannelValue}
 use Rattle.node_run.specs.Held.{Finding, HeldValue}
 use Rattle.node_run.specs.State.{Refusal, RunState}
 use Rattle.node_run.specs.declared.place.Place.{Place}

@@ -9,7 +9,6 @@ ghost use Rattle.node_run.specs.Held.{nothing_held, seen_finding};
 ghost use Rattle.node_run.specs.After.{after_configuration, after_listen, after_send, after_supervisory, broken, configuration_gone, configuration_second, greeting, found_of, looked, panel_gone, supervisory_second, way_of, with_held, AfterPanel, AfterPoll, AfterLook, AfterUpstream, AfterDownstream, AfterClose, HearsBytes, TakesFound, TakesHeld};
 
 use crate::configuring::refusal_of_second as refusal_of_second_client;
-use crate::hearing::refusal_of_second;
 use crate::held::Finding;
 use crate::run::{Refusal, Run};
 use crate::status::NodeStatus;
@@ -18,6 +17,7 @@ use line_base::{Memory, Moment, Side};
 use line_outside::{Address, Got, Opened, Sent, Way};
 use machine_log::write_drives;
 use node_core::Input;
+use supervised_end::refusal_of_second;
 
 impl Run {
     /// Nothing was to do at this place.

@@ -6,7 +6,7 @@ ghost use Rattle.config_service.specs.Plans.{IsReset};
 ghost use Rattle.config_service.specs.declared.message.ConfigBody.TheVariants as bodies;
 ghost use Rattle.node_run.specs.Configuring.{Accepts, AfterTry, DoesConfig, DoesConfigFound, DoesConfigWord, DoesPlan, HearsConfig, TriesIf, config_broken_off, config_ended, config_notice, config_said, config_text, configured_already, port_refused, settled, with_config};
 
-use crate::channel::{ConfigFound, ConfigWord};
+use crate::channel::{ConfigFound, ConfigWord, next_config};
 use crate::run::Run;
 use crate::way_state::Wire;
 use config_service::{ConfigBody, ConfigMessage, Plan, Settings, write_config};
@@ -36,7 +36,7 @@ impl Run {
             self.new ≡ record self.old
             { state = with_config self.new.state.config self.old.state }) }
     {
-        self.config.next_config(self.alloc)
+        next_config(self.alloc, &mut self.config)
     }
 
     fn do_config(&mut self, found: ConfigFound, moment: Moment) -> Result<(), Memory>

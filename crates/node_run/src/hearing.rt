@@ -6,21 +6,18 @@ ghost use Rattle.line_base.specs.PlainText.{is_plain_text};
 ghost use Rattle.node_core.specs.May.{may_of};
 ghost use Rattle.node_core.specs.declared.input.Input.TheVariants as inputs;
 ghost use Rattle.supervisory_core.specs.Row.{row, supervised_row};
-ghost use Rattle.node_run.specs.Channel.{HearsNext};
-ghost use Rattle.node_run.specs.Hearing.{AnswersIf, BreaksOff, Describes, DoesAction, DoesFound, DoesHear, DoesRow, DoesWord, Unsupervised, connected_already, notification, said, session_ended, system_of, text_of, untaken, with_channel, with_stands};
+ghost use Rattle.supervised_end.specs.Channel.{HearsNext};
+ghost use Rattle.supervised_end.specs.Said.{notification, system_of, untaken};
+ghost use Rattle.node_run.specs.Hearing.{AnswersIf, BreaksOff, Describes, DoesAction, DoesFound, DoesHear, DoesRow, DoesWord, Unsupervised, said, session_ended, with_channel, with_stands};
 
-use crate::channel::{Found, Word};
 use crate::run::Run;
 use crate::way_state::Wire;
-use hermes_horizontal::{Features, Ping};
-use hermes_vertical::{System, Vertical, VerticalKind, VerticalMessage, write_vertical};
-use line_base::{Code, Memory, Moment, Severity, Text};
+use hermes_horizontal::Ping;
+use hermes_vertical::{Vertical, VerticalKind, VerticalMessage};
+use line_base::{Memory, Moment, Severity, Text};
 use node_core::{Input, No};
-use std::alloc::Global;
+use supervised_end::{Found, Word, notification, system_of, told_of_untaken};
 use supervisory_core::{VerticalAction, unexpected};
-
-/// The version of the standard that the machine speaks.
-const VERSION: &[u8] = b"1.5";
 
 impl Run {
     /// Does the next of the supervisor's messages.
@@ -232,80 +229,5 @@ impl Run {
             (Unsupervised self.old.rules moment self.old.state self.new.state self.new.told) }
     {
         self.take(Input::Supervise(false), moment)
-    }
-}
-
-fn notification(number: u32, severity: Severity, text: Text) -> Vertical
-    ensures { result ≡ notification number severity text }
-{
-    Vertical::Notification {
-        code: Code { number },
-        severity,
-        text,
-    }
-}
-
-/// How a machine of this id text describes itself.
-fn system_of(alloc: Global, machine_id: &Text) -> Result<Vertical, Memory>
-    ensures { IfOk result (λ body. body ≡ system_of machine_id.now) }
-{
-    let system = machine_id.copy(alloc)?;
-    let version = Text::plain(alloc, VERSION)?;
-    Ok(Vertical::SupervisoryServiceDescription(System {
-        system,
-        version,
-        features: Features {
-            check_alive: true,
-            forecast: false,
-            query: false,
-            send: false,
-        },
-    }))
-}
-
-/// The text for a second connection.
-pub fn refusal_of_second(alloc: Global, moment: Moment) -> Result<Vec<u8>, Memory>
-    ensures { IfOk result (λ text. text.items ≡ text_of moment connected_already) }
-{
-    let body = connected_already(alloc)?;
-    text_of(alloc, body, moment)
-}
-
-fn connected_already(alloc: Global) -> Result<Vertical, Memory>
-    ensures { IfOk result (λ body. body ≡ connected_already) }
-{
-    let text = Text::plain(alloc, b"already connected")?;
-    Ok(notification(2, Severity::Error, text))
-}
-
-/// The text of a message of this moment.
-fn text_of(alloc: Global, body: Vertical, moment: Moment) -> Result<Vec<u8>, Memory>
-    ensures { IfOk result (λ text. text.items ≡ text_of moment body) }
-{
-    let message = VerticalMessage {
-        stamp: Some(moment),
-        body,
-    };
-    let mut to = Vec::new(alloc);
-    write_vertical(&message, &mut to)?;
-    Ok(to)
-}
-
-/// What is told of an answer that isn't taken.
-fn told_of_untaken(alloc: Global, why: No) -> Result<Vertical, Memory>
-    ensures { IfOk result (λ body. body ≡ notification 0 Severity.Warning (untaken why)) }
-{
-    let text = Text::plain(alloc, untaken(why).as_bytes())?;
-    Ok(notification(0, Severity::Warning, text))
-}
-
-fn untaken(why: No) -> &'static str
-    ensures text { result.now ≡ untaken why }
-    ensures plain { is_plain_text result.now ≡ true }
-{
-    match why {
-        No::UnknownQuery => "unknown query",
-        No::Answered(_) => "answered",
-        _ => "not supervised",
     }
 }

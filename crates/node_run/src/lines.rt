@@ -2,7 +2,7 @@
 
 ghost use Rattle.std.specs.Prelude.{◌≡◌, ◌==◌, ◌≤◌, ◌<◌, [], Ok, OnOk, IfOk, IfSome, length, drop, position};
 ghost use Rattle.node_core.specs.May.{may_of};
-ghost use Rattle.node_run.specs.Lines.{AsksConnect, DoesAsked, DoesInput, DoesLine, Ends, Fronts, Tells, cut_line, input_of, without_return};
+ghost use Rattle.node_run.specs.Lines.{AsksConnect, DoesAsked, DoesInput, DoesLine, Ends, Fronts, Tells, cut_line, without_return};
 ghost use Rattle.node_run.specs.Cuts.{HasCut, fronted};
 ghost use Rattle.node_panel.specs.Panel.{panel_line_of};
 ghost use Rattle.machine_log.specs.Texts.{no_line, refused_line};
@@ -16,6 +16,7 @@ use line_script::{LineError, LineWhy, MOST_LINE_BYTES};
 use machine_log::{write_no, write_refused};
 use node_core::{Input, No};
 use node_panel::{PanelLine, read_panel_line};
+use panel_inputs::input_of;
 use std::mem;
 
 impl Run {
@@ -229,32 +230,5 @@ fn without_return(line: &[u8]) -> &[u8]
     match line {
         [front @ .., b'\r'] => front,
         _ => line,
-    }
-}
-
-/// The input that a line gives to the machine.
-fn input_of(asked: PanelLine) -> Input<'static>
-    ensures { result ≡ input_of asked }
-{
-    match asked {
-        PanelLine::Insert { barcode } => Input::Insert(barcode),
-        PanelLine::Remove { id } => Input::Remove(id),
-        PanelLine::Replace { id } => Input::Replace(id),
-        PanelLine::Mark { id, quality } => Input::Mark(id, quality),
-        PanelLine::Sub { id, pos, barcode } => Input::Sub { id, pos, barcode },
-        PanelLine::Hold { side } => Input::Will(side, false),
-        PanelLine::Go { side } => Input::Will(side, true),
-        PanelLine::Shutdown => Input::Shutdown,
-        PanelLine::Tick => Input::Tick,
-        PanelLine::Signal { line, on } => Input::Level(line, on),
-        PanelLine::Forecast => Input::Forecast,
-        PanelLine::Query { barcode } => Input::Query(barcode),
-        PanelLine::Ask { question } => Input::Ask(question),
-        PanelLine::Fault { side } => Input::Fault(side),
-        PanelLine::Blank
-        | PanelLine::Connect
-        | PanelLine::Sense { .. }
-        | PanelLine::Show
-        | PanelLine::End => Input::Nothing,
     }
 }

@@ -1,12 +1,11 @@
 ghost use Rattle.std.specs.Prelude.{◌≡◌, [], OnOk};
-ghost use Rattle.node_run.specs.Channel.{IsShort, no_session};
+ghost use Rattle.supervised_end.specs.Channel.{IsShort, no_session};
 ghost use Rattle.node_run.specs.Held.{HasFewLooks};
 ghost use Rattle.node_run.specs.State.{RunView, echoed, started, way_at, with_wire, refusal_text};
 ghost use Rattle.node_run.specs.Next.{IsTurnLeft, moved_on};
 ghost use Rattle.node_run.specs.After.{after_send};
 ghost use Rattle.line_outside.specs.declared.ports.Sent.TheVariants as sents;
 
-use crate::channel::Channel;
 use crate::held::Held;
 use crate::place::Place;
 use crate::rules::Rules;
@@ -19,6 +18,7 @@ use machine_log::Drives;
 use node_core::Node;
 use std::alloc::Global;
 use std::marker::Model;
+use supervised_end::Channel;
 
 /// A text for a second connection, which is to be refused.
 #[derive(Drop)]

@@ -5,7 +5,6 @@ ghost use Rattle.node_run.specs.State.{started};
 ghost use Rattle.node_run.specs.Moving.{IsEndCaused, IsRunEnd, IsOnceStatus, DoesOnce};
 ghost use Rattle.node_core.specs.Node.{new_node};
 
-use crate::channel::Channel;
 use crate::moves::make_move;
 use crate::place::Next;
 use crate::rules::Rules;
@@ -16,6 +15,7 @@ use line_outside::{Clock, Ports, Pushed, Sink, push_all};
 use node_core::{Node, NodeProfile};
 use node_settings::Settings;
 use std::alloc::Global;
+use supervised_end::Channel;
 
 /// How many bytes a poll takes at most.
 const ROOM_BYTES: usize = 4096;

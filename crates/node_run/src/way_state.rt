@@ -4,7 +4,7 @@ ghost use Rattle.node_run.specs.State.{WayValue, at_rest};
 ghost use Rattle.hermes_horizontal.specs.Canonical.{canonical};
 ghost use Rattle.hermes_vertical.specs.Canonical.{canonical as vertical_canonical};
 ghost use Rattle.config_service.specs.Canonical.{canonical as config_canonical};
-ghost use Rattle.node_run.specs.Channel.{is_empty};
+ghost use Rattle.supervised_end.specs.Channel.{is_empty};
 ghost use Rattle.node_run.specs.Next.{is_due, has_ended};
 
 use config_service::{ConfigMessage, write_config};

@@ -22,13 +22,14 @@ use Rattle.supervisory_core.specs.Told.{unexpected}
 use Rattle.supervisory_core.specs.declared.action.VerticalAction.{VerticalAction}
 use Rattle.supervisory_core.specs.declared.action.VerticalAction.TheVariants as actions
 use Rattle.node_run.specs.After.{after_supervisory, supervisory_arrived, supervisory_bytes, supervisory_closed, supervisory_second}
-use Rattle.node_run.specs.Channel.{ChannelValue, Finds, HearsNext, IsWrong, Means, fed, hears_behind}
-use Rattle.node_run.specs.Hearing.{AnswersIf, BreaksOff, DoesAction, DoesFound, DoesHear, DoesRow, DoesWord, Unsupervised, broken_off, notification, said, system_of, untaken, with_channel, with_stands}
+use Rattle.supervised_end.specs.Channel.{ChannelValue, Finds, HearsNext, IsWrong, Means, fed, hears_behind}
+use Rattle.supervised_end.specs.Said.{notification, system_of, untaken}
+use Rattle.node_run.specs.Hearing.{AnswersIf, BreaksOff, DoesAction, DoesFound, DoesHear, DoesRow, DoesWord, Unsupervised, broken_off, said, with_channel, with_stands}
 use Rattle.node_run.specs.State.{RunState}
-use Rattle.node_run.specs.declared.channel.Found.{Found}
-use Rattle.node_run.specs.declared.channel.Found.TheVariants as founds
-use Rattle.node_run.specs.declared.channel.Word.{Word}
-use Rattle.node_run.specs.declared.channel.Word.TheVariants as words
+use Rattle.supervised_end.specs.declared.channel.Found.{Found}
+use Rattle.supervised_end.specs.declared.channel.Found.TheVariants as founds
+use Rattle.supervised_end.specs.declared.channel.Word.{Word}
+use Rattle.supervised_end.specs.declared.channel.Word.TheVariants as words
 use Rattle.node_run.specs.declared.rules.Rules.{Rules}
 use Rattle.node_run.specs.declared.way_state.Wire.{Wire}
 use Rattle.node_run.specs.declared.way_state.Wire.TheVariants as wires

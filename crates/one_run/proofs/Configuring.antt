@@ -21,7 +21,7 @@ use Rattle.line_outside.specs.declared.ports.Opened.TheVariants as opens
 use Rattle.node_core.specs.Node.{NodeState}
 use Rattle.node_core.specs.declared.input.Input.TheVariants as inputs
 use Rattle.node_run.specs.After.{after_configuration, configuration_arrived, configuration_bytes, configuration_closed, configuration_second}
-use Rattle.node_run.specs.Channel.{ChannelValue, fed}
+use Rattle.supervised_end.specs.Channel.{ChannelValue, fed}
 use Rattle.node_run.specs.Configuring.{Accepts, AfterTry, DoesConfig, DoesConfigFound, DoesPlan, FindsConfig, HearsConfig, IsWrongConfig, MeansConfig, TriesIf, accepted, config_broken_off, config_said, hears_config_behind, port_refused, with_config}
 use Rattle.node_run.specs.Resetting.{ResetsSide, leaving, reset_begun}
 use Rattle.node_run.specs.State.{RunState}

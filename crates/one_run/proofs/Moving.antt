@@ -20,7 +20,7 @@ use Rattle.node_core.specs.declared.input.Input.TheVariants as inputs
 use Rattle.node_core.specs.declared.lane.Body.{Body}
 use Rattle.line_step.proofs.Once.{OneMeaning}
 use Rattle.node_run.specs.After.{AfterClose, AfterDownstream, AfterLook, AfterPoll, AfterUpstream, TakesFinding, TakesFound, TakesHeld, after_listen, after_send, broken, configuration_gone, looked, panel_gone, way_of, with_held}
-use Rattle.node_run.specs.Channel.{no_session}
+use Rattle.supervised_end.specs.Channel.{no_session}
 use Rattle.node_run.specs.Configuring.{AfterTry, DoesConfig}
 use Rattle.node_run.specs.Hearing.{DoesHear}
 use Rattle.node_run.specs.Held.{Finding, holds, nothing_held}

@@ -21,7 +21,8 @@ use Rattle.node_panel.specs.declared.line.PanelLine.{PanelLine}
 use Rattle.node_panel.specs.declared.line.PanelLine.TheVariants as lines
 use Rattle.line_step.proofs.Once.{IsDry}
 use Rattle.node_run.specs.After.{AfterPanel, PanelArrives, greeting, panel_bytes, panel_closed, panel_second}
-use Rattle.node_run.specs.Lines.{AsksConnect, AsksIf, DoesAsked, DoesCut, DoesInput, DoesLine, Ends, Fronts, KeepsFront, cut_line, input_of, is_too_long, may_ask, sensed_of, shown, without_return}
+use Rattle.node_run.specs.Lines.{AsksConnect, AsksIf, DoesAsked, DoesCut, DoesInput, DoesLine, Ends, Fronts, KeepsFront, cut_line, is_too_long, may_ask, shown, without_return}
+use Rattle.panel_inputs.specs.Inputs.{input_of, sensed_of}
 use Rattle.node_run.specs.Next.{has_ended}
 use Rattle.node_run.specs.State.{RunState, echoed, with_wire}
 use Rattle.machine_log.specs.Texts.{no_line, refused_line, show_lines}

@@ -7,10 +7,10 @@ use Rattle.hermes_horizontal.specs.Texts.{message_refusal_text}
 use Rattle.hermes_horizontal.specs.declared.fault.Fault.{Fault}
 use Rattle.hermes_vertical.specs.Spelling.{IsRefused, Spells}
 use Rattle.hermes_vertical.specs.declared.message.VerticalMessage.{VerticalMessage}
-use Rattle.node_run.specs.declared.channel.Found.{Found}
-use Rattle.node_run.specs.declared.channel.Found.TheVariants as founds
-use Rattle.node_run.specs.declared.channel.Word.{Word}
-use Rattle.node_run.specs.declared.channel.Word.TheVariants as words
+use Rattle.supervised_end.specs.declared.channel.Found.{Found}
+use Rattle.supervised_end.specs.declared.channel.Found.TheVariants as founds
+use Rattle.supervised_end.specs.declared.channel.Word.{Word}
+use Rattle.supervised_end.specs.declared.channel.Word.TheVariants as words
 
 abbrev pub is_empty : List ℕ → Bool
 is_empty [] = true

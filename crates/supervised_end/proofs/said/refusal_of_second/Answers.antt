@@ -1,8 +1,8 @@
 use Rattle.std.proofs.Common.{◌≡◌, subst}
 use Rattle.std.specs.Prelude.{IfOk}
 use Rattle.hermes_vertical.specs.declared.message.Vertical.{Vertical}
-use Rattle.node_run.specs.Hearing.{text_of}
-use Rattle.node_run.proofs.hearing.refusal_of_second.Goals as goal
+use Rattle.supervised_end.specs.Said.{text_of}
+use Rattle.supervised_end.proofs.said.refusal_of_second.Goals as goal
 
 pub returns : goal.returns
 returns c =
