@@ -1,9 +1,11 @@
 -- EACH MOVE OF A NODE DOES ONE OF THESE THINGS: one step of its machine with the input that the move gives it, or none.
-use Rattle.std.proofs.Common.{Bool, List, None, Ok, Option, Err, Result, Some, [], ap, codes, false, refl, subst, sym, true, ℕ, ℤ, ◌++◌, ◌∙◌, ◌∷◌, ◌≡◌}
+use Rattle.std.proofs.Common.{Bool, List, None, Ok, Option, Err, Result, Some, [], ap, append-nil, codes, false, refl, subst, sym, true, ℕ, ℤ, ◌++◌, ◌∙◌, ◌∷◌, ◌≡◌}
 use Rattle.std.specs.Borrow.{Bor}
+use Rattle.std.proofs.lemmas.Bool.{true≢false}
+use Rattle.std.proofs.lemmas.List.{take-append-drop}
 use Rattle.line_base.specs.declared.states.Side.{Side}
 use Rattle.line_base.specs.declared.states.Side.TheVariants.{Entry, Exit}
-use Rattle.line_outside.specs.Given.{Given, Polls}
+use Rattle.line_outside.specs.Given.{Closes, Given, Polls, Sends, is_same_way, taken_of}
 use Rattle.line_outside.specs.declared.answer.GotBytes.{GotBytes}
 use Rattle.line_outside.specs.declared.answer.GotBytes.TheVariants as founds
 use Rattle.line_outside.specs.declared.ports.Opened.{Opened}
@@ -25,6 +27,7 @@ use Rattle.node_core.specs.May.{may_do, may_of}
 use Rattle.node_core.specs.Node.{NodeState}
 use Rattle.node_core.specs.Sides.{is_open}
 use Rattle.node_core.specs.Step.{Steps}
+use Rattle.node_core.specs.declared.act.Act.{Act}
 use Rattle.node_core.specs.declared.input.Input.{Input}
 use Rattle.node_core.specs.declared.input.Input.TheVariants as inputs
 use Rattle.node_core.specs.declared.input.No.{No}
@@ -32,28 +35,31 @@ use Rattle.link_messages.specs.Fit.{IsFitInput}
 use Rattle.node_panel.specs.Panel.{panel_line_of}
 use Rattle.node_panel.specs.declared.line.PanelLine.{PanelLine}
 use Rattle.node_panel.specs.declared.line.PanelLine.TheVariants as lines
-use Rattle.node_connections.proofs.Holding.{Same, same_is, same_self}
+use Rattle.node_connections.specs.Connections.{acts_for}
+use Rattle.node_connections.proofs.Holding.{Same, is_unreached, same_is, same_self}
 use Rattle.node_connections.proofs.Parts.{config_same, configuration_same, supervisory_same, try_same}
 use Rattle.node_connections.proofs.Polled.{none_held}
 use Rattle.node_run.specs.After.{AfterClose, AfterDownstream, AfterPanel, AfterPoll, AfterUpstream, PanelArrives, TakesFinding, TakesFound, after_listen, after_send, broken, looked, panel_bytes, panel_closed, panel_second, way_of, with_held}
-use Rattle.node_run.specs.Held.{Finding, holds, nothing_held}
+use Rattle.node_run.specs.Held.{Finding, HeldValue, holds, nothing_held}
 use Rattle.supervised_end.specs.Said.{system_of}
 use Rattle.node_run.specs.Hearing.{AnswersIf, DoesAction, DoesFound, DoesHear, DoesRow, DoesWord, Unsupervised, broken_off, said, with_channel, with_stands}
 use Rattle.node_run.specs.Lines.{AsksConnect, AsksIf, DoesAsked, DoesCut, DoesInput, Ends, Fronts, KeepsFront, Tells, cut_line, is_too_long, may_ask, without_return}
-use Rattle.node_run.specs.Next.{has_ended, moved_on}
-use Rattle.node_run.specs.Resetting.{ResetsSide, leaving, reset_begun}
+use Rattle.node_run.specs.Next.{has_ended, moved_on, next_of}
+use Rattle.node_run.specs.Resetting.{ResetsSide, leaving, reset_begun, reset_text}
 use Rattle.supervised_end.specs.Channel.{no_session}
 use Rattle.node_run.specs.Runs.{Moves, closes, connects, does_config, does_hear as hears_supervisor, does_line, listens, looks_again, polls, refuses, resets_side, room_bytes, sends, skips, takes_held, tries_port}
-use Rattle.node_run.specs.State.{RunState, WayValue, at_rest, with_way, with_wire}
-use Rattle.node_run.specs.Steps.{MeetsSecond, Takes, TakesStep}
+use Rattle.node_run.specs.State.{RunState, WayValue, at_rest, way_at, with_way, with_wire}
+use Rattle.node_run.specs.Steps.{MeetsSecond, Takes, TakesSecond, TakesStep, messages_for}
 use Rattle.supervised_end.specs.declared.channel.Found.{Found}
 use Rattle.supervised_end.specs.declared.channel.Found.TheVariants as finds
 use Rattle.supervised_end.specs.declared.channel.Word.{Word}
 use Rattle.supervised_end.specs.declared.channel.Word.TheVariants as words
+use Rattle.node_run.specs.declared.place.Next.TheVariants as nexts
 use Rattle.node_run.specs.declared.rules.Rules.{Rules}
 use Rattle.node_run.specs.declared.way_state.Wire.{Wire}
 use Rattle.node_run.specs.declared.way_state.Wire.TheVariants as wires
 use Rattle.joined_nodes.specs.Does.{Does, FindsNoBytes, Holds, IsBeside, Makes, Taken, does_accept, does_connect, does_find, does_hear, does_nothing, does_step, end_found, none_found, same_found}
+use Rattle.joined_nodes.specs.Ways.{IsOther, Notices, ReadsBy, Stays, Ways, found_by, found_for, notices, notices_none, stays_found, stays_heard, stays_on, stays_shut, texts_in, waits_at, way_closes, way_resets, way_says, way_sends}
 use Rattle.joined_nodes.specs.Laws.{DoesOne, EachMoveDoes}
 use Rattle.joined_nodes.proofs.FitLines.{FitOk, line_fit}
 
@@ -64,11 +70,39 @@ IsAside (inputs.Bytes side piece) = ⊥
 IsAside inputs.Connect = ⊥
 IsAside inputs.Accepted = ⊥
 IsAside inputs.Second = ⊥
+IsAside (inputs.Notice side) = ⊥
 IsAside input = Unit {0}
 
+-- a way other than the neighbours'
+abbrev IsThird : Way → Type 0
+IsThird ways.Upstream = ⊥
+IsThird ways.Downstream = ⊥
+IsThird way = Unit {0}
+
+-- what goes over the ways behind it
+record Goes (s t : RunState) (taken : Option Taken) : Type 0 where
+  up : t.upstream.unsent ≡ s.upstream.unsent ++ texts_in Entry taken
+  down : t.downstream.unsent ≡ s.downstream.unsent ++ texts_in Exit taken
+  held : t.held.finding ≡ s.held.finding
+
 data Part (moment : ℤ) (s t : RunState) : Type 0 where
-  quiet : t.node ≡ s.node → FindsNoBytes s t → Part moment s t
-  makes : (taken : Taken) → IsAside taken.input → Makes moment s t taken → FindsNoBytes s t → Part moment s t
+  quiet : t.node ≡ s.node → Goes s t None → Part moment s t
+  makes : (taken : Taken) → IsAside taken.input → Makes moment s t taken → Goes s t (Some taken)
+      → Part moment s t
+
+goes_from : {s u t : RunState} {taken : Option Taken} → Same s u → Goes u t taken → Goes s t taken
+goes_from {taken = taken} same goes = record {
+  up = goes.up ∙ ap (λ (text : List ℕ). text ++ texts_in Entry taken) same.up;
+  down = goes.down ∙ ap (λ (text : List ℕ). text ++ texts_in Exit taken) same.down;
+  held = goes.held ∙ same.held;
+}
+
+same_goes : {s t : RunState} → Same s t → Goes s t None
+same_goes {s} same = record {
+  up = same.up ∙ sym (append-nil s.upstream.unsent);
+  down = same.down ∙ sym (append-nil s.downstream.unsent);
+  held = same.held;
+}
 
 found_from : {s u t : RunState} → u.held.finding ≡ s.held.finding → FindsNoBytes u t → FindsNoBytes s t
 found_from is (same_found same) = same_found (same ∙ is)
@@ -82,15 +116,13 @@ makes_from {moment} {s} {u} {t} {taken} is m = record {
   texts = m.texts;
 }
 
-part_from : {moment : ℤ} {t : RunState} (s u : RunState) → u.node ≡ s.node → u.held.finding ≡ s.held.finding → Part moment u t → Part moment s t
-part_from s u same is (quiet node found) = quiet (node ∙ same) (found_from is found)
-part_from s u same is (makes taken aside m found) = makes taken aside (makes_from same m) (found_from is found)
-
 moved_part : {moment : ℤ} {s u t : RunState} → Same s u → Part moment u t → Part moment s t
-moved_part {s = s} {u = u} same part = part_from s u same.node same.held part
+moved_part same (quiet node goes) = quiet (node ∙ same.node) (goes_from same goes)
+moved_part same (makes taken aside m goes) =
+    makes taken aside (makes_from same.node m) (goes_from same goes)
 
 still : {moment : ℤ} {s t : RunState} → Same s t → Part moment s t
-still same = quiet same.node (same_found same.held)
+still same = quiet same.node (same_goes same)
 
 still_is : {moment : ℤ} {s u t : RunState} → t ≡ u → Same s u → Part moment s t
 still_is is same = still (same_is is same)
@@ -100,11 +132,39 @@ aside_beside given (inputs.Bytes side piece) aside = absurd aside
 aside_beside given inputs.Connect aside = absurd aside
 aside_beside given inputs.Accepted aside = absurd aside
 aside_beside given inputs.Second aside = absurd aside
+aside_beside given (inputs.Notice side) aside = absurd aside
 aside_beside given input aside = tt
 
-by_part : {moment : ℤ} {s t : RunState} (given : List Given) → Part moment s t → DoesOne moment s t given
-by_part given (quiet node found) = record { taken = None; does = does_nothing node found }
-by_part given (makes taken aside m found) = record { taken = Some taken; does = does_step (aside_beside given taken.input aside) m found }
+aside_reads : (input : Input) (read : List Sensed) → IsAside input → ReadsBy input read
+aside_reads inputs.Second read aside = absurd aside
+aside_reads (inputs.Notice side) read aside = absurd aside
+aside_reads input read aside = tt
+
+aside_whole : (input : Input) (told : List Act) → IsAside input → acts_for input told ≡ told
+aside_whole inputs.Second told aside = absurd aside
+aside_whole input told aside = refl
+
+-- a call that is of neither side's way, or neither sends nor closes
+abbrev AreOther : List Given → Type 0
+AreOther given = (side : Side) → IsOther side given
+
+goes_ways : {rules : Rules} {moment : ℤ} {s t : RunState} {given : List Given} {taken : Option Taken} → AreOther given → Goes s t taken → (side : Side) → Ways rules moment side s t taken given
+goes_ways other goes Entry = way_says (other Entry) goes.up
+goes_ways other goes Exit = way_says (other Exit) goes.down
+
+goes_stays : {s t : RunState} {given : List Given} {taken : Option Taken} → Goes s t taken → (side : Side) → Stays side s t given taken
+goes_stays goes side = stays_on (ap (found_for side) goes.held)
+
+by_part : {rules : Rules} {moment : ℤ} {s t : RunState} (given : List Given) → AreOther given → Part moment s t → DoesOne rules moment s t given
+by_part given other (quiet node goes) =
+    record { taken = None; does = does_nothing node (same_found goes.held); ways = goes_ways other goes; stays = goes_stays goes; reads = tt }
+by_part given other (makes taken aside m goes) = record {
+  taken = Some taken;
+  does = does_step (aside_beside given taken.input aside) m (same_found goes.held);
+  ways = goes_ways other goes;
+  stays = goes_stays goes;
+  reads = aside_reads taken.input taken.read aside;
+}
 
 -- ---- a step
 
@@ -116,9 +176,17 @@ makes_step {moment = moment} {sensed = sensed} {input = input} {s = s} texts may
   texts = texts;
 }
 
+step_goes : {asked : Bool} {rules : Rules} {moment : ℤ} {sensed : List Sensed} {input : Input} {s t : RunState} {log : List ℕ} (takes : TakesStep asked rules moment sensed input s t log) → acts_for input takes.told ≡ takes.told
+    → Goes s t (Some (record { read = sensed; input = input; told = takes.told }))
+step_goes {s = s} takes whole = record {
+  up = ap (λ (r : RunState). r.upstream.unsent) takes.after ∙ ap (λ (acts : List Act). s.upstream.unsent ++ messages_for Entry acts) (sym whole);
+  down = ap (λ (r : RunState). r.downstream.unsent) takes.after ∙ ap (λ (acts : List Act). s.downstream.unsent ++ messages_for Exit acts) (sym whole);
+  held = ap (λ (r : RunState). r.held.finding) takes.after;
+}
+
 step_part : {asked : Bool} {rules : Rules} {moment : ℤ} {sensed : List Sensed} {input : Input} {s t : RunState} {log : List ℕ} → IsAside input → IsFitInput input → may_of s.node input ≡ may_do → TakesStep asked rules moment sensed input s t log → Part moment s t
 step_part {sensed = sensed} {input = input} aside texts may takes =
-    makes (record { read = sensed; input = input; told = takes.told }) aside (makes_step texts may takes) (same_found (ap (λ (r : RunState). r.held.finding) takes.after))
+    makes (record { read = sensed; input = input; told = takes.told }) aside (makes_step texts may takes) (step_goes takes (aside_whole input takes.told aside))
 
 takes_part : (may : Result (Unit {0}) No) (rules : Rules) (moment : ℤ) (input : Input) (from s t : RunState) (log : List ℕ) → IsAside input → IsFitInput input → may_of s.node input ≡ may → Same s from → Takes may rules moment input from s t log → Part moment s t
 takes_part (Ok done) rules moment input from s t log aside texts may same takes = moved_part same (step_part aside texts (ap (λ (n : NodeState). may_of n input) same.node ∙ may) takes)
@@ -251,57 +319,175 @@ hear_part rules moment s t log does = moved_part (record { node = refl; up = ref
 
 -- ---- closes, and the reset of a side
 
-close_part : (way : Way) (rules : Rules) (moment : ℤ) (s t : RunState) (log : List ℕ) → AfterClose rules moment way s t log → Part moment s t
-close_part ways.Panel rules moment s t log after = part_from s (record s { panel = at_rest; line = []; drops = false; rest = [] }) refl refl (still_is after.0 same_self)
+-- nothing is said at a side that has no connection, or what the machine says as it notices the close
+data Noticed (rules : Rules) (moment : ℤ) (side : Side) (u t : RunState) : Type 0 where
+  noticed : {told : List Act} → Makes moment u t (record { read = []; input = inputs.Notice side; told = told })
+      → Goes u t (Some (record { read = []; input = inputs.Notice side; told = told })) → Noticed rules moment side u t
+  unnoticed : is_open side u.node.lane.body ≡ false → t ≡ u → Noticed rules moment side u t
+
+notices_by : (may : Result (Unit {0}) No) (rules : Rules) (moment : ℤ) (side : Side) (u t : RunState) (log : List ℕ) → may_of u.node (inputs.Notice side) ≡ may → Takes may rules moment (inputs.Notice side) u u t log → Noticed rules moment side u t
+notices_by (Ok done) rules moment side u t log may takes = noticed (makes_step tt may takes) (step_goes takes refl)
+notices_by (Err why) rules moment side u t log may takes = unnoticed (is_unreached side u.node.lane.body why may) takes.0
+
+-- the way of a side, closed: what waited there is gone, and all else is as it was
+record Closed (side : Side) (s u : RunState) : Type 0 where
+  node : u.node ≡ s.node
+  own : waits_at side u ≡ []
+  beside : (at : Side) → is_same_way (way_of at) (way_of side) ≡ false → waits_at at u ≡ waits_at at s
+  held : u.held.finding ≡ s.held.finding
+
+not_own : (side : Side) {X : Type 0} → is_same_way (way_of side) (way_of side) ≡ false → X
+not_own Entry is = absurd (true≢false is)
+not_own Exit is = absurd (true≢false is)
+
+goes_at : {s t : RunState} {taken : Option Taken} (side : Side) → Goes s t taken → waits_at side t ≡ waits_at side s ++ texts_in side taken
+goes_at Entry goes = goes.up
+goes_at Exit goes = goes.down
+
+-- of each way: it is closed, or another is
+close_ways : {rules : Rules} {moment : ℤ} {s u t : RunState} {taken : Option Taken} (at side : Side) → Closed side s u → Notices side s taken → Goes u t taken → Ways rules moment at s t taken (Closes (way_of side) ∷ [])
+close_ways {taken = taken} Entry Entry closed seen goes = way_closes seen (goes.up ∙ ap (λ (text : List ℕ). text ++ texts_in Entry taken) closed.own)
+close_ways {taken = taken} Exit Exit closed seen goes = way_closes seen (goes.down ∙ ap (λ (text : List ℕ). text ++ texts_in Exit taken) closed.own)
+close_ways {taken = taken} Entry Exit closed seen goes = way_says refl (goes.up ∙ ap (λ (text : List ℕ). text ++ texts_in Entry taken) (closed.beside Entry refl))
+close_ways {taken = taken} Exit Entry closed seen goes = way_says refl (goes.down ∙ ap (λ (text : List ℕ). text ++ texts_in Exit taken) (closed.beside Exit refl))
+
+close_one : {rules : Rules} {moment : ℤ} {s u t : RunState} (side : Side) → Closed side s u → Noticed rules moment side u t → DoesOne rules moment s t (Closes (way_of side) ∷ [])
+close_one {s = s} side closed (noticed m goes) = record {
+  taken = Some _;
+  does = does_step tt (makes_from closed.node m) (same_found (goes.held ∙ closed.held));
+  ways = λ at. close_ways at side closed notices goes;
+  stays = λ at. stays_on (ap (found_for at) (goes.held ∙ closed.held));
+  reads = refl;
+}
+close_one {s = s} {u = u} {t = t} side closed (unnoticed shut is) = record {
+  taken = None;
+  does = does_nothing (ap (λ (r : RunState). r.node) is ∙ closed.node) (same_found (ap (λ (r : RunState). r.held.finding) is ∙ closed.held));
+  ways = λ at. close_ways at side closed (notices_none (ap (λ (n : NodeState). is_open side n.lane.body) (sym closed.node) ∙ shut)) (same_goes (same_is is same_self));
+  stays = λ at. stays_on (ap (found_for at) (ap (λ (r : RunState). r.held.finding) is ∙ closed.held));
+  reads = tt;
+}
+
+upstream_closed : (s : RunState) → Closed Entry s (record s { upstream = at_rest })
+upstream_closed s = record { node = refl; own = refl; beside = by; held = refl } where
+  by : (at : Side) → is_same_way (way_of at) ways.Upstream ≡ false → waits_at at (record s { upstream = at_rest }) ≡ waits_at at s
+  by Entry is = absurd (true≢false is)
+  by Exit is = refl
+
+downstream_closed : (s : RunState) → Closed Exit s (record s { downstream = at_rest })
+downstream_closed s = record { node = refl; own = refl; beside = by; held = refl } where
+  by : (at : Side) → is_same_way (way_of at) ways.Downstream ≡ false → waits_at at (record s { downstream = at_rest }) ≡ waits_at at s
+  by Exit is = absurd (true≢false is)
+  by Entry is = refl
+
+other_close : (way : Way) → IsThird way → AreOther (Closes way ∷ [])
+other_close ways.Panel third Entry = refl
+other_close ways.Panel third Exit = refl
+other_close ways.Supervisory third Entry = refl
+other_close ways.Supervisory third Exit = refl
+other_close ways.Configuration third Entry = refl
+other_close ways.Configuration third Exit = refl
+other_close ways.Upstream third side = absurd third
+other_close ways.Downstream third side = absurd third
+
+close_part : (way : Way) (rules : Rules) (moment : ℤ) (s t : RunState) (log : List ℕ) → AfterClose rules moment way s t log → DoesOne rules moment s t (Closes way ∷ [])
+close_part ways.Panel rules moment s t log after = by_part _ (other_close ways.Panel tt) (still_is after.0 (record { node = refl; up = refl; down = refl; held = refl }))
 close_part ways.Upstream rules moment s t log after =
-    let closed : RunState = record s { upstream = at_rest } in
-    part_from s closed refl refl (takes_part (may_of s.node (inputs.Notice Entry)) rules moment (inputs.Notice Entry) closed closed t log tt tt refl same_self after)
+    close_one {rules = rules} Entry (upstream_closed s) (notices_by (may_of s.node (inputs.Notice Entry)) rules moment Entry (record s { upstream = at_rest }) t log refl after)
 close_part ways.Downstream rules moment s t log after =
-    let closed : RunState = record s { downstream = at_rest } in
-    part_from s closed refl refl (takes_part (may_of s.node (inputs.Notice Exit)) rules moment (inputs.Notice Exit) closed closed t log tt tt refl same_self after)
+    close_one {rules = rules} Exit (downstream_closed s) (notices_by (may_of s.node (inputs.Notice Exit)) rules moment Exit (record s { downstream = at_rest }) t log refl after)
 close_part ways.Supervisory rules moment s t log after =
     let closed : RunState = record s { supervisory = at_rest; channel = no_session } in
-    part_from s closed refl refl (unsupervised_part rules moment closed t log after)
-close_part ways.Configuration rules moment s t log after = part_from s (record s { configuration = at_rest; config = no_session }) refl refl (still_is after.0 same_self)
+    by_part _ (other_close ways.Supervisory tt) (moved_part (record { node = refl; up = refl; down = refl; held = refl }) (unsupervised_part rules moment closed t log after))
+close_part ways.Configuration rules moment s t log after = by_part _ (other_close ways.Configuration tt) (still_is after.0 (record { node = refl; up = refl; down = refl; held = refl }))
 
 same_begun : (side : Side) (s : RunState) → Same s (reset_begun side s)
 same_begun Entry s = record { node = refl; up = refl; down = refl; held = refl }
 same_begun Exit s = record { node = refl; up = refl; down = refl; held = refl }
 
-left_node : (moment : ℤ) (side : Side) (s : RunState) → (leaving moment side s).node ≡ s.node
-left_node moment Entry s = refl
-left_node moment Exit s = refl
+no_call : AreOther []
+no_call side = tt
 
-left_held : (moment : ℤ) (side : Side) (s : RunState) → (leaving moment side s).held.finding ≡ s.held.finding
-left_held moment Entry s = refl
-left_held moment Exit s = refl
+-- a side that is reset: a text is put behind what waits there, and then its machine notices
+record Left (moment : ℤ) (side : Side) (s u : RunState) : Type 0 where
+  node : u.node ≡ s.node
+  own : waits_at side u ≡ waits_at side s ++ reset_text moment
+  beside : (at : Side) → is_same_way (way_of at) (way_of side) ≡ false → waits_at at u ≡ waits_at at s
+  held : u.held.finding ≡ s.held.finding
 
-notices : (may : Result (Unit {0}) No) (rules : Rules) (moment : ℤ) (side : Side) (u s t : RunState) (log : List ℕ) → may_of s.node (inputs.Notice side) ≡ may → u.node ≡ s.node → u.held.finding ≡ s.held.finding → Takes may rules moment (inputs.Notice side) u s t log → Part moment s t
-notices (Ok done) rules moment side u s t log may node held takes = part_from s u node held (step_part tt tt (ap (λ (n : NodeState). may_of n (inputs.Notice side)) node ∙ may) takes)
-notices (Err why) rules moment side u s t log may node held takes = still_is takes.0 same_self
+begun_left : (moment : ℤ) (side : Side) (s : RunState) → Left moment side s (leaving moment side (reset_begun side s))
+begun_left moment Entry s = record { node = refl; own = refl; beside = by; held = refl } where
+  by : (at : Side) → is_same_way (way_of at) ways.Upstream ≡ false → waits_at at (leaving moment Entry (reset_begun Entry s)) ≡ waits_at at s
+  by Entry is = absurd (true≢false is)
+  by Exit is = refl
+begun_left moment Exit s = record { node = refl; own = refl; beside = by; held = refl } where
+  by : (at : Side) → is_same_way (way_of at) ways.Downstream ≡ false → waits_at at (leaving moment Exit (reset_begun Exit s)) ≡ waits_at at s
+  by Exit is = absurd (true≢false is)
+  by Entry is = refl
 
-reset_part : (rules : Rules) (moment : ℤ) (side : Side) (s t : RunState) (log : List ℕ) → ResetsSide rules moment side s t log → Part moment s t
-reset_part rules moment side s t log resets =
-    let begun : RunState = reset_begun side s in
-    let same : Same s begun = same_begun side s in
-    moved_part same (notices (may_of s.node (inputs.Notice side)) rules moment side (leaving moment side begun) begun t log (ap (λ (n : NodeState). may_of n (inputs.Notice side)) same.node) (left_node moment side begun) (left_held moment side begun) resets)
+reset_ways : {rules : Rules} {moment : ℤ} {s u t : RunState} {taken : Option Taken} (at side : Side) → next_of rules s ≡ nexts.Reset side → Left moment side s u → Notices side s taken → Goes u t taken → Ways rules moment at s t taken []
+reset_ways {taken = taken} Entry Entry next left seen goes = way_resets next seen (goes.up ∙ ap (λ (text : List ℕ). text ++ texts_in Entry taken) left.own)
+reset_ways {taken = taken} Exit Exit next left seen goes = way_resets next seen (goes.down ∙ ap (λ (text : List ℕ). text ++ texts_in Exit taken) left.own)
+reset_ways {taken = taken} Entry Exit next left seen goes = way_says tt (goes.up ∙ ap (λ (text : List ℕ). text ++ texts_in Entry taken) (left.beside Entry refl))
+reset_ways {taken = taken} Exit Entry next left seen goes = way_says tt (goes.down ∙ ap (λ (text : List ℕ). text ++ texts_in Exit taken) (left.beside Exit refl))
+
+reset_by : (may : Result (Unit {0}) No) (rules : Rules) (moment : ℤ) (side : Side) (s t : RunState) (log : List ℕ) → next_of rules s ≡ nexts.Reset side → may_of s.node (inputs.Notice side) ≡ may
+    → Takes may rules moment (inputs.Notice side) (leaving moment side (reset_begun side s)) (reset_begun side s) t log → DoesOne rules moment s t []
+reset_by (Err why) rules moment side s t log next may takes = by_part [] no_call (still_is takes.0 (same_begun side s))
+reset_by (Ok done) rules moment side s t log next may takes =
+    let left : Left moment side s (leaving moment side (reset_begun side s)) = begun_left moment side s in
+    let goes : Goes (leaving moment side (reset_begun side s)) t (Some (record { read = []; input = inputs.Notice side; told = takes.told })) = step_goes takes refl in
+    record {
+      taken = Some _;
+      does = does_step tt (makes_from left.node (makes_step tt (ap (λ (n : NodeState). may_of n (inputs.Notice side)) left.node ∙ may) takes)) (same_found (goes.held ∙ left.held));
+      ways = λ at. reset_ways at side next left notices goes;
+      stays = λ at. stays_on (ap (found_for at) (goes.held ∙ left.held));
+      reads = refl;
+    }
+
+reset_part : (rules : Rules) (moment : ℤ) (side : Side) (s t : RunState) (log : List ℕ) → next_of rules s ≡ nexts.Reset side → ResetsSide rules moment side s t log → DoesOne rules moment s t []
+reset_part rules moment Entry s t log next resets = reset_by (may_of s.node (inputs.Notice Entry)) rules moment Entry s t log next refl resets
+reset_part rules moment Exit s t log next resets = reset_by (may_of s.node (inputs.Notice Exit)) rules moment Exit s t log next refl resets
 
 -- ---- polls of the neighbours' ways
 
-connect_by : (may : Result (Unit {0}) No) (rules : Rules) (moment : ℤ) (u s t : RunState) (log : List ℕ) → may_of s.node inputs.Connect ≡ may → u.node ≡ s.node → u.held.finding ≡ None → s.held.finding ≡ None → Takes may rules moment inputs.Connect u s t log
-    → DoesOne moment s t (Polls ways.Upstream room_bytes founds.Arrived ∷ [])
-connect_by (Ok done) rules moment u s t log may node none held takes =
-    record { taken = Some _; does = does_connect (makes_from node (makes_step tt (ap (λ (n : NodeState). may_of n inputs.Connect) node ∙ may) takes)) (ap (λ (r : RunState). r.held.finding) takes.after ∙ none) }
-connect_by (Err why) rules moment u s t log may node none held takes = by_part _ (still_is takes.0 same_self)
+polled_other : (way : Way) (got : GotBytes) → AreOther (Polls way room_bytes got ∷ [])
+polled_other way got side = tt
 
-accept_by : (may : Result (Unit {0}) No) (rules : Rules) (moment : ℤ) (u s t : RunState) (log : List ℕ) → may_of s.node inputs.Accepted ≡ may → u.node ≡ s.node → u.held.finding ≡ None → s.held.finding ≡ None → Takes may rules moment inputs.Accepted u s t log
-    → DoesOne moment s t (Polls ways.Downstream room_bytes founds.Arrived ∷ [])
-accept_by (Ok done) rules moment u s t log may node none held takes =
-    record { taken = Some _; does = does_accept (makes_from node (makes_step tt (ap (λ (n : NodeState). may_of n inputs.Accepted) node ∙ may) takes)) (ap (λ (r : RunState). r.held.finding) takes.after ∙ none) }
-accept_by (Err why) rules moment u s t log may node none held takes = by_part _ (still_is takes.0 same_self)
+connect_by : (may : Result (Unit {0}) No) (rules : Rules) (moment : ℤ) (u s t : RunState) (log : List ℕ) → may_of s.node inputs.Connect ≡ may → Same s u → s.held.finding ≡ None → Takes may rules moment inputs.Connect u s t log
+    → DoesOne rules moment s t (Polls ways.Upstream room_bytes founds.Arrived ∷ [])
+connect_by (Ok done) rules moment u s t log may same none takes =
+    let goes : Goes s t (Some (record { read = []; input = inputs.Connect; told = takes.told })) = goes_from same (step_goes takes refl) in
+    record {
+      taken = Some _;
+      does = does_connect (makes_from same.node (makes_step tt (ap (λ (n : NodeState). may_of n inputs.Connect) same.node ∙ may) takes)) (goes.held ∙ none);
+      ways = goes_ways (polled_other ways.Upstream founds.Arrived) goes;
+      stays = goes_stays goes;
+      reads = tt;
+    }
+connect_by (Err why) rules moment u s t log may same none takes = by_part _ (polled_other ways.Upstream founds.Arrived) (still_is takes.0 same_self)
+
+accept_by : (may : Result (Unit {0}) No) (rules : Rules) (moment : ℤ) (u s t : RunState) (log : List ℕ) → may_of s.node inputs.Accepted ≡ may → Same s u → s.held.finding ≡ None → Takes may rules moment inputs.Accepted u s t log
+    → DoesOne rules moment s t (Polls ways.Downstream room_bytes founds.Arrived ∷ [])
+accept_by (Ok done) rules moment u s t log may same none takes =
+    let goes : Goes s t (Some (record { read = []; input = inputs.Accepted; told = takes.told })) = goes_from same (step_goes takes refl) in
+    record {
+      taken = Some _;
+      does = does_accept (makes_from same.node (makes_step tt (ap (λ (n : NodeState). may_of n inputs.Accepted) same.node ∙ may) takes)) (goes.held ∙ none);
+      ways = goes_ways (polled_other ways.Downstream founds.Arrived) goes;
+      stays = goes_stays goes;
+      reads = tt;
+    }
+accept_by (Err why) rules moment u s t log may same none takes = by_part _ (polled_other ways.Downstream founds.Arrived) (still_is takes.0 same_self)
+
+second_goes : {rules : Rules} {moment : ℤ} {s t : RunState} {log : List ℕ} (meets : TakesSecond rules moment inputs.Second s t log) → Goes s t (Some (record { read = []; input = inputs.Second; told = meets.told }))
+second_goes meets = record {
+  up = ap (λ (r : RunState). r.upstream.unsent) meets.after;
+  down = ap (λ (r : RunState). r.downstream.unsent) meets.after;
+  held = ap (λ (r : RunState). r.held.finding) meets.after;
+}
 
 second_by : (may : Result (Unit {0}) No) (rules : Rules) (moment : ℤ) (s t : RunState) (log : List ℕ) → may_of s.node inputs.Second ≡ may → MeetsSecond may rules moment inputs.Second s t log
-    → DoesOne moment s t (Polls ways.Downstream room_bytes founds.Second ∷ [])
+    → DoesOne rules moment s t (Polls ways.Downstream room_bytes founds.Second ∷ [])
 second_by (Ok done) rules moment s t log may meets = record {
   taken = Some (record { read = []; input = inputs.Second; told = meets.told });
   does = does_step refl (record {
@@ -309,30 +495,64 @@ second_by (Ok done) rules moment s t log may meets = record {
     steps = subst (λ (n : NodeState). Steps s.node [] inputs.Second moment n meets.told) (sym (ap (λ (r : RunState). r.node) meets.after)) meets.steps;
     texts = tt;
   }) (same_found (ap (λ (r : RunState). r.held.finding) meets.after));
+  ways = goes_ways (polled_other ways.Downstream founds.Second) (second_goes meets);
+  stays = goes_stays (second_goes meets);
+  reads = refl;
 }
-second_by (Err why) rules moment s t log may meets = by_part _ (still_is meets.0 same_self)
+second_by (Err why) rules moment s t log may meets = by_part _ (polled_other ways.Downstream founds.Second) (still_is meets.0 same_self)
 
-finds_bytes : {moment : ℤ} {s t : RunState} (side : Side) (bytes : List ℕ) → t ≡ with_held (holds side (Some bytes)) s → DoesOne moment s t (Polls (way_of side) room_bytes (founds.Bytes bytes) ∷ [])
-finds_bytes side bytes is = record { taken = None; does = does_find {side = side} (ap (λ (r : RunState). r.node) is) (ap (λ (r : RunState). r.held.finding) is) }
+-- bytes of one side's way
+finds_stays : (at side : Side) (bytes : List ℕ) (s t : RunState) → s.held.finding ≡ None → t ≡ with_held (holds side (Some bytes)) s → Stays at s t (Polls (way_of side) room_bytes (founds.Bytes bytes) ∷ []) None
+finds_stays Entry Entry bytes s t none is = stays_found refl
+finds_stays Exit Exit bytes s t none is = stays_found refl
+finds_stays Entry Exit bytes s t none is = stays_on (ap (λ (r : RunState). found_for Entry r.held.finding) is ∙ sym (ap (found_for Entry) none))
+finds_stays Exit Entry bytes s t none is = stays_on (ap (λ (r : RunState). found_for Exit r.held.finding) is ∙ sym (ap (found_for Exit) none))
 
-finds_end : {moment : ℤ} {s t : RunState} (side : Side) → t ≡ with_held (holds side None) s → Part moment s t
-finds_end side is = quiet (ap (λ (r : RunState). r.node) is) (end_found side (ap (λ (r : RunState). r.held.finding) is))
+held_goes : (held : HeldValue) (s t : RunState) → t ≡ with_held held s → (side : Side) → waits_at side t ≡ waits_at side s ++ []
+held_goes held s t is Entry = ap (λ (r : RunState). r.upstream.unsent) is ∙ sym (append-nil s.upstream.unsent)
+held_goes held s t is Exit = ap (λ (r : RunState). r.downstream.unsent) is ∙ sym (append-nil s.downstream.unsent)
 
-upstream_part : (rules : Rules) (moment : ℤ) (got : GotBytes) (s t : RunState) (log : List ℕ) → s.held.finding ≡ None → AfterUpstream rules moment got s t log → DoesOne moment s t (Polls ways.Upstream room_bytes got ∷ [])
-upstream_part rules moment founds.Arrived s t log none after = connect_by (may_of s.node inputs.Connect) rules moment (with_wire ways.Upstream wires.Stands s) s t log refl refl none none after
-upstream_part rules moment founds.Second s t log none after = by_part _ (still_is after.0 same_self)
-upstream_part rules moment (founds.Bytes bytes) s t log none after = finds_bytes Entry bytes after.0
-upstream_part rules moment founds.NotYet s t log none after = by_part _ (still_is after.0 same_self)
-upstream_part rules moment founds.Closed s t log none after = by_part _ (finds_end Entry after.0)
-upstream_part rules moment founds.Failed s t log none after = by_part _ (finds_end Entry after.0)
+finds_bytes : {rules : Rules} {moment : ℤ} {s t : RunState} (side : Side) (bytes : List ℕ) → s.held.finding ≡ None → t ≡ with_held (holds side (Some bytes)) s → DoesOne rules moment s t (Polls (way_of side) room_bytes (founds.Bytes bytes) ∷ [])
+finds_bytes {s = s} {t = t} side bytes none is = record {
+  taken = None;
+  does = does_find {side = side} (ap (λ (r : RunState). r.node) is) (ap (λ (r : RunState). r.held.finding) is);
+  ways = λ at. way_says tt (held_goes (holds side (Some bytes)) s t is at);
+  stays = λ at. finds_stays at side bytes s t none is;
+  reads = tt;
+}
 
-downstream_part : (rules : Rules) (moment : ℤ) (got : GotBytes) (s t : RunState) (log : List ℕ) → s.held.finding ≡ None → AfterDownstream rules moment got s t log → DoesOne moment s t (Polls ways.Downstream room_bytes got ∷ [])
-downstream_part rules moment founds.Arrived s t log none after = accept_by (may_of s.node inputs.Accepted) rules moment (with_wire ways.Downstream wires.Stands s) s t log refl refl none none after
+ended_found : (at side : Side) → found_by at side None ≡ []
+ended_found Entry Entry = refl
+ended_found Entry Exit = refl
+ended_found Exit Entry = refl
+ended_found Exit Exit = refl
+
+finds_end : {rules : Rules} {moment : ℤ} {s t : RunState} (side : Side) (got : GotBytes) → s.held.finding ≡ None → t ≡ with_held (holds side None) s → DoesOne rules moment s t (Polls (way_of side) room_bytes got ∷ [])
+finds_end {s = s} {t = t} side got none is = record {
+  taken = None;
+  does = does_nothing (ap (λ (r : RunState). r.node) is) (end_found side (ap (λ (r : RunState). r.held.finding) is));
+  ways = λ at. way_says tt (held_goes (holds side None) s t is at);
+  stays = λ at. stays_on (ap (λ (r : RunState). found_for at r.held.finding) is ∙ ended_found at side ∙ sym (ap (found_for at) none));
+  reads = tt;
+}
+
+upstream_part : (rules : Rules) (moment : ℤ) (got : GotBytes) (s t : RunState) (log : List ℕ) → s.held.finding ≡ None → AfterUpstream rules moment got s t log → DoesOne rules moment s t (Polls ways.Upstream room_bytes got ∷ [])
+upstream_part rules moment founds.Arrived s t log none after =
+    connect_by (may_of s.node inputs.Connect) rules moment (with_wire ways.Upstream wires.Stands s) s t log refl (record { node = refl; up = refl; down = refl; held = refl }) none after
+upstream_part rules moment founds.Second s t log none after = by_part _ (polled_other ways.Upstream founds.Second) (still_is after.0 same_self)
+upstream_part rules moment (founds.Bytes bytes) s t log none after = finds_bytes Entry bytes none after.0
+upstream_part rules moment founds.NotYet s t log none after = by_part _ (polled_other ways.Upstream founds.NotYet) (still_is after.0 same_self)
+upstream_part rules moment founds.Closed s t log none after = finds_end Entry founds.Closed none after.0
+upstream_part rules moment founds.Failed s t log none after = finds_end Entry founds.Failed none after.0
+
+downstream_part : (rules : Rules) (moment : ℤ) (got : GotBytes) (s t : RunState) (log : List ℕ) → s.held.finding ≡ None → AfterDownstream rules moment got s t log → DoesOne rules moment s t (Polls ways.Downstream room_bytes got ∷ [])
+downstream_part rules moment founds.Arrived s t log none after =
+    accept_by (may_of s.node inputs.Accepted) rules moment (with_wire ways.Downstream wires.Stands s) s t log refl (record { node = refl; up = refl; down = refl; held = refl }) none after
 downstream_part rules moment founds.Second s t log none after = second_by (may_of s.node inputs.Second) rules moment s t log refl after
-downstream_part rules moment (founds.Bytes bytes) s t log none after = finds_bytes Exit bytes after.0
-downstream_part rules moment founds.NotYet s t log none after = by_part _ (still_is after.0 same_self)
-downstream_part rules moment founds.Closed s t log none after = by_part _ (finds_end Exit after.0)
-downstream_part rules moment founds.Failed s t log none after = by_part _ (finds_end Exit after.0)
+downstream_part rules moment (founds.Bytes bytes) s t log none after = finds_bytes Exit bytes none after.0
+downstream_part rules moment founds.NotYet s t log none after = by_part _ (polled_other ways.Downstream founds.NotYet) (still_is after.0 same_self)
+downstream_part rules moment founds.Closed s t log none after = finds_end Exit founds.Closed none after.0
+downstream_part rules moment founds.Failed s t log none after = finds_end Exit founds.Failed none after.0
 
 -- a move from the place behind is one from this place
 does_from : {moment : ℤ} {s u t : RunState} {given : List Given} {taken : Option Taken} → Same s u → Does moment u t given taken → Does moment s t given taken
@@ -343,18 +563,38 @@ does_from same (does_accept m none) = does_accept (makes_from same.node m) none
 does_from same (does_hear holds m none) = does_hear (sym same.held ∙ holds) (makes_from same.node m) none
 does_from same (does_step beside m found) = does_step beside (makes_from same.node m) (found_from same.held found)
 
-one_from : {moment : ℤ} {s u t : RunState} {given : List Given} → Same s u → DoesOne moment u t given → DoesOne moment s t given
-one_from same one = record { taken = one.taken; does = does_from same one.does }
+-- the same text waits, and the same bytes
+from_waits : {s u : RunState} (side : Side) → Same s u → waits_at side u ≡ waits_at side s
+from_waits Entry same = same.up
+from_waits Exit same = same.down
+
+ways_from : {rules : Rules} {moment : ℤ} {side : Side} {s u t : RunState} {taken : Option Taken} {way : Way} {got : GotBytes} → Same s u → Ways rules moment side u t taken (Polls way room_bytes got ∷ []) → Ways rules moment side s t taken (Polls way room_bytes got ∷ [])
+ways_from {side = side} {taken = taken} same (way_says aside is) = way_says aside (is ∙ ap (λ (text : List ℕ). text ++ texts_in side taken) (from_waits side same))
+
+stays_from : {side : Side} {s u t : RunState} {taken : Option Taken} {given : List Given} → Same s u → Stays side u t given taken → Stays side s t given taken
+stays_from {side = side} same (stays_on is) = stays_on (is ∙ ap (found_for side) same.held)
+stays_from same (stays_shut shut) = stays_shut shut
+stays_from same (stays_found is) = stays_found is
+stays_from same (stays_heard some is input) = stays_heard some is input
+
+one_from : {rules : Rules} {moment : ℤ} {s u t : RunState} {way : Way} {got : GotBytes} → Same s u → DoesOne rules moment u t (Polls way room_bytes got ∷ []) → DoesOne rules moment s t (Polls way room_bytes got ∷ [])
+one_from same one = record {
+  taken = one.taken;
+  does = does_from same one.does;
+  ways = λ side. ways_from same (one.ways side);
+  stays = λ side. stays_from same (one.stays side);
+  reads = one.reads;
+}
 
 same_moved : {s : RunState} → Same s (moved_on s)
 same_moved = record { node = refl; up = refl; down = refl; held = refl }
 
-poll_one : (rules : Rules) (moment : ℤ) (way : Way) (got : GotBytes) (s t : RunState) (log : List ℕ) → s.held.finding ≡ None → AfterPoll rules moment way got s t log → DoesOne moment s t (Polls way room_bytes got ∷ [])
-poll_one rules moment ways.Panel got s t log none after = by_part _ (panel_part rules got s t log after)
+poll_one : (rules : Rules) (moment : ℤ) (way : Way) (got : GotBytes) (s t : RunState) (log : List ℕ) → s.held.finding ≡ None → AfterPoll rules moment way got s t log → DoesOne rules moment s t (Polls way room_bytes got ∷ [])
+poll_one rules moment ways.Panel got s t log none after = by_part _ (polled_other ways.Panel got) (panel_part rules got s t log after)
 poll_one rules moment ways.Upstream got s t log none after = upstream_part rules moment got s t log none after
 poll_one rules moment ways.Downstream got s t log none after = downstream_part rules moment got s t log none after
-poll_one rules moment ways.Supervisory got s t log none after = by_part _ (still_is after.0 (supervisory_same moment got s))
-poll_one rules moment ways.Configuration got s t log none after = by_part _ (still_is after.0 (configuration_same moment got s))
+poll_one rules moment ways.Supervisory got s t log none after = by_part _ (polled_other ways.Supervisory got) (still_is after.0 (supervisory_same moment got s))
+poll_one rules moment ways.Configuration got s t log none after = by_part _ (polled_other ways.Configuration got) (still_is after.0 (configuration_same moment got s))
 
 -- ---- what was found is taken
 
@@ -363,58 +603,174 @@ broken_same Entry true s = record { node = refl; up = refl; down = refl; held = 
 broken_same Exit true s = record { node = refl; up = refl; down = refl; held = refl }
 broken_same side false s = same_self
 
-hears_by : (rules : Rules) (moment : ℤ) (s t : RunState) (log : List ℕ) (side : Side) (bytes : List ℕ) (piece : Bor (List ℕ)) (may : Result (Unit {0}) No) → piece.now ≡ bytes → Holds s side bytes → may_of s.node (inputs.Bytes side piece) ≡ may
-    → Takes may rules moment (inputs.Bytes side piece) (with_held nothing_held s) (with_held nothing_held s) t log → DoesOne moment s t []
-hears_by rules moment s t log side bytes piece (Ok done) is held may takes =
-    record { taken = Some _; does = does_hear (subst (λ (text : List ℕ). Holds s side text) (sym is) held) (makes_from refl (makes_step tt may takes)) (ap (λ (r : RunState). r.held.finding) takes.after) }
-hears_by rules moment s t log side bytes piece (Err why) is held may takes = by_part _ (quiet (ap (λ (r : RunState). r.node) takes.0) (none_found (ap (λ (r : RunState). r.held.finding) takes.0)))
+hears_stays : (at side : Side) (piece : Bor (List ℕ)) (told : List Act) (s t : RunState) → Holds s side piece.now → t.held.finding ≡ None → Stays at s t [] (Some (record { read = []; input = inputs.Bytes side piece; told = told }))
+hears_stays Entry Entry piece told s t held none = stays_heard _ refl refl
+hears_stays Exit Exit piece told s t held none = stays_heard _ refl refl
+hears_stays Entry Exit piece told s t held none = stays_on (ap (found_for Entry) none ∙ sym (ap (found_for Entry) held))
+hears_stays Exit Entry piece told s t held none = stays_on (ap (found_for Exit) none ∙ sym (ap (found_for Exit) held))
 
-takes_found : (rules : Rules) (moment : ℤ) (bytes : Option (List ℕ)) (side : Side) (s t : RunState) (log : List ℕ) → s.held.finding ≡ Some (record { side = side; bytes = bytes }) → TakesFound bytes side rules moment (with_held nothing_held s) t log → DoesOne moment s t []
+drops_stays : (at side : Side) (bytes : List ℕ) (s t : RunState) → Holds s side bytes → t.held.finding ≡ None → is_open side t.node.lane.body ≡ false → Stays at s t [] None
+drops_stays Entry Entry bytes s t held none shut = stays_shut shut
+drops_stays Exit Exit bytes s t held none shut = stays_shut shut
+drops_stays Entry Exit bytes s t held none shut = stays_on (ap (found_for Entry) none ∙ sym (ap (found_for Entry) held))
+drops_stays Exit Entry bytes s t held none shut = stays_on (ap (found_for Exit) none ∙ sym (ap (found_for Exit) held))
+
+hears_way : {rules : Rules} {moment : ℤ} {s t : RunState} {taken : Taken} (side : Side) → Goes (with_held nothing_held s) t (Some taken) → Ways rules moment side s t (Some taken) []
+hears_way Entry goes = way_says tt goes.up
+hears_way Exit goes = way_says tt goes.down
+
+hears_by : (rules : Rules) (moment : ℤ) (s t : RunState) (log : List ℕ) (side : Side) (bytes : List ℕ) (piece : Bor (List ℕ)) (may : Result (Unit {0}) No) → piece.now ≡ bytes → Holds s side bytes → may_of s.node (inputs.Bytes side piece) ≡ may
+    → Takes may rules moment (inputs.Bytes side piece) (with_held nothing_held s) (with_held nothing_held s) t log → DoesOne rules moment s t []
+hears_by rules moment s t log side bytes piece (Ok done) is held may takes =
+    let goes : Goes (with_held nothing_held s) t (Some (record { read = []; input = inputs.Bytes side piece; told = takes.told })) = step_goes takes refl in
+    let waits : Holds s side piece.now = subst (λ (text : List ℕ). Holds s side text) (sym is) held in
+    record {
+      taken = Some _;
+      does = does_hear waits (makes_from refl (makes_step tt may takes)) goes.held;
+      ways = λ at. hears_way at goes;
+      stays = λ at. hears_stays at side piece takes.told s t waits goes.held;
+      reads = tt;
+    }
+hears_by rules moment s t log side bytes piece (Err why) is held may takes = record {
+  taken = None;
+  does = does_nothing (ap (λ (r : RunState). r.node) takes.0) (none_found (ap (λ (r : RunState). r.held.finding) takes.0));
+  ways = λ at. way_says tt (held_goes nothing_held s t takes.0 at);
+  stays = λ at. drops_stays at side bytes s t held (ap (λ (r : RunState). r.held.finding) takes.0) (ap (λ (r : RunState). is_open side r.node.lane.body) takes.0 ∙ is_unreached side s.node.lane.body why may);
+  reads = tt;
+}
+
+-- an end that was found is taken, or nothing was found
+ends_found : (rules : Rules) (moment : ℤ) (s u t : RunState) → ((at : Side) → found_for at s.held.finding ≡ []) → u ≡ with_held nothing_held s → Same u t → DoesOne rules moment s t []
+ends_found rules moment s u t none is same = record {
+  taken = None;
+  does = does_nothing (same.node ∙ ap (λ (r : RunState). r.node) is) (none_found (same.held ∙ ap (λ (r : RunState). r.held.finding) is));
+  ways = λ at. way_says tt (from_waits at same ∙ held_goes nothing_held s u is at);
+  stays = λ at. stays_on (ap (found_for at) (same.held ∙ ap (λ (r : RunState). r.held.finding) is) ∙ sym (none at));
+  reads = tt;
+}
+
+takes_found : (rules : Rules) (moment : ℤ) (bytes : Option (List ℕ)) (side : Side) (s t : RunState) (log : List ℕ) → s.held.finding ≡ Some (record { side = side; bytes = bytes }) → TakesFound bytes side rules moment (with_held nothing_held s) t log → DoesOne rules moment s t []
 takes_found rules moment (Some bytes) side s t log held takes = hears_by rules moment s t log side bytes takes.piece (may_of s.node (inputs.Bytes side takes.piece)) takes.same held refl takes.takes
 takes_found rules moment None side s t log held takes =
     let same : Same (with_held nothing_held s) t = same_is takes.0 (broken_same side (is_open side s.node.lane.body) (with_held nothing_held s)) in
-    by_part _ (quiet same.node (none_found same.held))
+    ends_found rules moment s (with_held nothing_held s) t (λ at. ap (found_for at) held ∙ ended_found at side) refl same
 
-takes_finding : (rules : Rules) (moment : ℤ) (finding : Option Finding) (s t : RunState) (log : List ℕ) → s.held.finding ≡ finding → TakesFinding finding rules moment (with_held nothing_held s) t log → DoesOne moment s t []
-takes_finding rules moment None s t log is takes = by_part _ (quiet (ap (λ (r : RunState). r.node) takes.0) (none_found (ap (λ (r : RunState). r.held.finding) takes.0)))
+takes_finding : (rules : Rules) (moment : ℤ) (finding : Option Finding) (s t : RunState) (log : List ℕ) → s.held.finding ≡ finding → TakesFinding finding rules moment (with_held nothing_held s) t log → DoesOne rules moment s t []
+takes_finding rules moment None s t log is takes = ends_found rules moment s (with_held nothing_held s) t (λ at. ap (found_for at) is) refl (same_is takes.0 same_self)
 takes_finding rules moment (Some finding) s t log is takes = takes_found rules moment finding.bytes finding.side s t log is takes
 
 -- ---- listens and sends
 
-with_way_same : {moment : ℤ} (way : Way) (value : WayValue) (s : RunState) → Part moment s (with_way way value s)
-with_way_same ways.Panel value s = quiet refl (same_found refl)
-with_way_same ways.Upstream value s = quiet refl (same_found refl)
-with_way_same ways.Downstream value s = quiet refl (same_found refl)
-with_way_same ways.Supervisory value s = quiet refl (same_found refl)
-with_way_same ways.Configuration value s = quiet refl (same_found refl)
+-- a way other than the neighbours' sends
+third_same : (way : Way) → IsThird way → (value : WayValue) (s : RunState) → Same s (with_way way value s)
+third_same ways.Panel third value s = record { node = refl; up = refl; down = refl; held = refl }
+third_same ways.Supervisory third value s = record { node = refl; up = refl; down = refl; held = refl }
+third_same ways.Configuration third value s = record { node = refl; up = refl; down = refl; held = refl }
+third_same ways.Upstream third value s = absurd third
+third_same ways.Downstream third value s = absurd third
 
-sent_part : {moment : ℤ} (way : Way) (sent : Sent) (s : RunState) → Part moment s (after_send way sent s)
-sent_part way (sents.Took n) s = with_way_same way _ s
-sent_part way sents.NotYet s = still same_self
-sent_part way sents.Closed s = with_way_same way _ s
-sent_part way sents.Failed s = with_way_same way _ s
+third_sent : (way : Way) (sent : Sent) (s : RunState) → IsThird way → Same s (after_send way sent s)
+third_sent way (sents.Took n) s third = third_same way third _ s
+third_sent way sents.NotYet s third = same_self
+third_sent way sents.Closed s third = third_same way third _ s
+third_sent way sents.Failed s third = third_same way third _ s
+
+third_other : (way : Way) (text : List ℕ) (sent : Sent) → IsThird way → AreOther (Sends way text sent ∷ [])
+third_other ways.Panel text sent third Entry = refl
+third_other ways.Panel text sent third Exit = refl
+third_other ways.Supervisory text sent third Entry = refl
+third_other ways.Supervisory text sent third Exit = refl
+third_other ways.Configuration text sent third Entry = refl
+third_other ways.Configuration text sent third Exit = refl
+third_other ways.Upstream text sent third side = absurd third
+third_other ways.Downstream text sent third side = absurd third
+
+-- the way of a side sends: its ports take a front
+own_waits : (side : Side) (sent : Sent) (s : RunState) → waits_at side s ≡ taken_of sent (waits_at side s) ++ waits_at side (after_send (way_of side) sent s)
+own_waits Entry (sents.Took n) s = sym (take-append-drop n s.upstream.unsent)
+own_waits Exit (sents.Took n) s = sym (take-append-drop n s.downstream.unsent)
+own_waits Entry sents.NotYet s = refl
+own_waits Exit sents.NotYet s = refl
+own_waits Entry sents.Closed s = refl
+own_waits Exit sents.Closed s = refl
+own_waits Entry sents.Failed s = refl
+own_waits Exit sents.Failed s = refl
+
+other_waits : (at side : Side) (sent : Sent) (s : RunState) → is_same_way (way_of at) (way_of side) ≡ false → waits_at at (after_send (way_of side) sent s) ≡ waits_at at s ++ []
+other_waits Entry Entry sent s is = absurd (true≢false is)
+other_waits Exit Exit sent s is = absurd (true≢false is)
+other_waits Entry Exit (sents.Took n) s is = sym (append-nil s.upstream.unsent)
+other_waits Entry Exit sents.NotYet s is = sym (append-nil s.upstream.unsent)
+other_waits Entry Exit sents.Closed s is = sym (append-nil s.upstream.unsent)
+other_waits Entry Exit sents.Failed s is = sym (append-nil s.upstream.unsent)
+other_waits Exit Entry (sents.Took n) s is = sym (append-nil s.downstream.unsent)
+other_waits Exit Entry sents.NotYet s is = sym (append-nil s.downstream.unsent)
+other_waits Exit Entry sents.Closed s is = sym (append-nil s.downstream.unsent)
+other_waits Exit Entry sents.Failed s is = sym (append-nil s.downstream.unsent)
+
+sent_ways : {rules : Rules} (moment : ℤ) (at side : Side) (sent : Sent) (s : RunState) → Ways rules moment at s (after_send (way_of side) sent (moved_on s)) None (Sends (way_of side) (waits_at side s) sent ∷ [])
+sent_ways moment Entry Entry sent s = way_sends refl (own_waits Entry sent (moved_on s))
+sent_ways moment Exit Exit sent s = way_sends refl (own_waits Exit sent (moved_on s))
+sent_ways moment Entry Exit sent s = way_says refl (other_waits Entry Exit sent (moved_on s) refl)
+sent_ways moment Exit Entry sent s = way_says refl (other_waits Exit Entry sent (moved_on s) refl)
+
+sent_node : (side : Side) (sent : Sent) (s : RunState) → (after_send (way_of side) sent s).node ≡ s.node
+sent_node Entry (sents.Took n) s = refl
+sent_node Exit (sents.Took n) s = refl
+sent_node Entry sents.NotYet s = refl
+sent_node Exit sents.NotYet s = refl
+sent_node Entry sents.Closed s = refl
+sent_node Exit sents.Closed s = refl
+sent_node Entry sents.Failed s = refl
+sent_node Exit sents.Failed s = refl
+
+sent_held : (side : Side) (sent : Sent) (s : RunState) → (after_send (way_of side) sent s).held.finding ≡ s.held.finding
+sent_held Entry (sents.Took n) s = refl
+sent_held Exit (sents.Took n) s = refl
+sent_held Entry sents.NotYet s = refl
+sent_held Exit sents.NotYet s = refl
+sent_held Entry sents.Closed s = refl
+sent_held Exit sents.Closed s = refl
+sent_held Entry sents.Failed s = refl
+sent_held Exit sents.Failed s = refl
+
+side_sent : {rules : Rules} (moment : ℤ) (side : Side) (sent : Sent) (s : RunState) → DoesOne rules moment s (after_send (way_of side) sent (moved_on s)) (Sends (way_of side) (waits_at side s) sent ∷ [])
+side_sent moment side sent s = record {
+  taken = None;
+  does = does_nothing (sent_node side sent (moved_on s)) (same_found (sent_held side sent (moved_on s)));
+  ways = λ at. sent_ways moment at side sent s;
+  stays = λ at. stays_on (ap (found_for at) (sent_held side sent (moved_on s)));
+  reads = tt;
+}
+
+sent_one : {rules : Rules} (moment : ℤ) (way : Way) (sent : Sent) (s : RunState) → DoesOne rules moment s (after_send way sent (moved_on s)) (Sends way (way_at way s).unsent sent ∷ [])
+sent_one moment ways.Upstream sent s = side_sent moment Entry sent s
+sent_one moment ways.Downstream sent s = side_sent moment Exit sent s
+sent_one moment ways.Panel sent s = by_part _ (third_other ways.Panel s.panel.unsent sent tt) (moved_part same_moved (still (third_sent ways.Panel sent (moved_on s) tt)))
+sent_one moment ways.Supervisory sent s = by_part _ (third_other ways.Supervisory s.supervisory.unsent sent tt) (moved_part same_moved (still (third_sent ways.Supervisory sent (moved_on s) tt)))
+sent_one moment ways.Configuration sent s = by_part _ (third_other ways.Configuration s.configuration.unsent sent tt) (moved_part same_moved (still (third_sent ways.Configuration sent (moved_on s) tt)))
 
 listened_part : {moment : ℤ} (address : Address) (opened : Opened) (s : RunState) → Part moment s (after_listen address opened s)
-listened_part address openings.Done s = quiet refl (same_found refl)
-listened_part address openings.Failed s = quiet refl (same_found refl)
+listened_part address openings.Done s = still (record { node = refl; up = refl; down = refl; held = refl })
+listened_part address openings.Failed s = still (record { node = refl; up = refl; down = refl; held = refl })
 
 -- ---- A MOVE
 
-move_does : {rules : Rules} {moment : ℤ} {s t : RunState} {given : List Given} {log : List ℕ} → Moves rules moment s given t log → DoesOne moment s t given
-move_does (listens {s} {way} {address} {opened} next) = by_part _ (listened_part address opened s)
-move_does (connects next) = by_part _ (quiet refl (same_found refl))
+move_does : {rules : Rules} {moment : ℤ} {s t : RunState} {given : List Given} {log : List ℕ} → Moves rules moment s given t log → DoesOne rules moment s t given
+move_does (listens {s} {way} {address} {opened} next) = by_part _ (λ side. tt) (listened_part address opened s)
+move_does (connects next) = by_part _ (λ side. tt) (still (record { node = refl; up = refl; down = refl; held = refl }))
 move_does {rules} {moment} (polls {s} {t} {way} {got} {log} next done) = one_from same_moved (poll_one rules moment way got (moved_on s) t log (none_held rules s way next) done)
-move_does (sends {s} {way} {sent} next) = by_part _ (moved_part same_moved (sent_part way sent (moved_on s)))
-move_does (refuses next is) = by_part _ (quiet refl (same_found refl))
-move_does {rules} {moment} (closes {s} {t} {way} {log} next done) = by_part _ (close_part way rules moment s t log done)
-move_does (skips next) = by_part _ (still same_moved)
-move_does {rules} {moment} (looks_again {s} {t} {got} {log} next done) = by_part _ (moved_part (record { node = refl; up = refl; down = refl; held = refl }) (panel_part rules got (looked got s) t log done))
+move_does {moment = moment} (sends {s} {way} {sent} next) = sent_one moment way sent s
+move_does (refuses next is) = by_part _ (λ side. tt) (still (record { node = refl; up = refl; down = refl; held = refl }))
+move_does {rules} {moment} (closes {s} {t} {way} {log} next done) = close_part way rules moment s t log done
+move_does (skips next) = by_part _ no_call (still same_moved)
+move_does {rules} {moment} (looks_again {s} {t} {got} {log} next done) = by_part _ (polled_other ways.Panel got) (moved_part (record { node = refl; up = refl; down = refl; held = refl }) (panel_part rules got (looked got s) t log done))
 move_does {rules} {moment} (takes_held {s} {t} {log} next done) = takes_finding rules moment s.held.finding s t log refl done
-move_does {rules} {moment} (does_line {s} {t} {log} next done) = by_part _ (cut_part (cut_line s.rest) rules moment s t log done)
-move_does {rules} {moment} (hears_supervisor {s} {t} {log} next done) = by_part _ (hear_part rules moment s t log done)
-move_does {rules} {moment} (does_config {s} {t} {log} next done none) = by_part _ (still (config_same moment s t done))
-move_does {rules} {moment} (tries_port {s} {t} {settings} {opened} {log} next done none) = by_part _ (still (try_same opened moment settings s t done))
-move_does {rules} {moment} (resets_side {s} {t} {side} {log} next done) = by_part _ (reset_part rules moment side s t log done)
+move_does {rules} {moment} (does_line {s} {t} {log} next done) = by_part _ no_call (cut_part (cut_line s.rest) rules moment s t log done)
+move_does {rules} {moment} (hears_supervisor {s} {t} {log} next done) = by_part _ no_call (hear_part rules moment s t log done)
+move_does {rules} {moment} (does_config {s} {t} {log} next done none) = by_part _ no_call (still (config_same moment s t done))
+move_does {rules} {moment} (tries_port {s} {t} {settings} {opened} {log} next done none) = by_part _ (λ side. tt) (still (try_same opened moment settings s t done))
+move_does {rules} {moment} (resets_side {s} {t} {side} {log} next done) = reset_part rules moment side s t log next done
 
 pub each_move_does : EachMoveDoes
 each_move_does rules moment s t given log move = move_does move

@@ -46,11 +46,11 @@ use Rattle.joined_nodes.proofs.Turned.{place_further, turn_beside, turn_other}
 
 -- ---- what was found of a neighbour and isn't taken yet comes still
 
-abbrev HeldBy : ℕ → Side → Option (List ℕ) → Running → Type 0
+abbrev pub HeldBy : ℕ → Side → Option (List ℕ) → Running → Type 0
 HeldBy machine side None s = Unit {0}
 HeldBy machine side (Some bytes) s = ComeTo machine side bytes s
 
-abbrev Held : ℕ → Option Finding → Running → Type 0
+abbrev pub Held : ℕ → Option Finding → Running → Type 0
 Held machine None s = Unit {0}
 Held machine (Some finding) s = HeldBy machine finding.side finding.bytes s
 
@@ -89,7 +89,7 @@ set_machine [] place run = refl
 set_machine (first ∷ runs) zero run = refl
 set_machine (first ∷ runs) (suc place) run = ap (λ (ms : List NodeState). machine_of first ∷ ms) (set_machine runs place run)
 
-some_machine : (machine : ℕ) (j : Joined) (run : NodeRun) → run_of machine j ≡ Some run → 1 ≤ machine
+pub some_machine : (machine : ℕ) (j : Joined) (run : NodeRun) → run_of machine j ≡ Some run → 1 ≤ machine
 some_machine zero j run there = absurd (cc)
 some_machine (suc place) j run there = omega arith
 
@@ -143,7 +143,7 @@ came_related {before = before} goes related (came_turn {told = told} {after = af
 came_related {before = before} goes related (came_gone {told = told} {after = after} g) = goes before after told (lets_go g) related
 
 -- a node's run behind a step of a node is as it was, or it is that node's
-run_behind : (machine : ℕ) (run : NodeRun) (next : RunState) (before after : Joined) → 1 ≤ machine → after.runs ≡ with_state machine run next before.runs → (k : ℕ) (r : NodeRun) → run_of k after ≡ Some r
+pub run_behind : (machine : ℕ) (run : NodeRun) (next : RunState) (before after : Joined) → 1 ≤ machine → after.runs ≡ with_state machine run next before.runs → (k : ℕ) (r : NodeRun) → run_of k after ≡ Some r
     → ((k ≡ machine) × (next ≡ r.state)) ⊎ ((k ≢ machine) × (run_of k before ≡ Some r))
 run_behind machine run next before after some is zero r there = absurd (cc)
 run_behind machine run next before after some is (suc at) r there = by (set_or_not before.runs (machine - 1) new at r (sym (ap (λ (rs : List NodeRun). slice_get rs at) is) ∙ there)) where
@@ -445,7 +445,7 @@ woven_runs goes joins (and_then first later) =
     record { runs = runs_join one.runs others.runs; joins = others.joins }
 
 -- nothing was found as they begin
-started_at : (runs : List NodeRun) (place : ℕ) (run : NodeRun) → slice_get runs place ≡ Some run → AllByRecursion IsStarted runs → IsStarted run
+pub started_at : (runs : List NodeRun) (place : ℕ) (run : NodeRun) → slice_get runs place ≡ Some run → AllByRecursion IsStarted runs → IsStarted run
 started_at [] place run there all = absurd (cc)
 started_at (first ∷ runs) zero run there all = (let same : first ≡ run = cc in subst IsStarted same all.0)
 started_at (first ∷ runs) (suc place) run there all = started_at runs place run there all.1

@@ -1,6 +1,7 @@
 -- THE LAWS of joined nodes.
 use Rattle.std.specs.Prelude.{ℕ, ℤ, List, [], ◌∷◌, Option, Some, ◌≡◌}
 use Rattle.config_service.specs.declared.message.Settings.{Settings}
+use Rattle.line_base.specs.declared.states.Side.{Side}
 use Rattle.line_outside.specs.Given.{Connects, Given}
 use Rattle.line_outside.specs.declared.ports.Opened.{Opened}
 use Rattle.line_outside.specs.declared.way.Address.{Address}
@@ -18,17 +19,22 @@ use Rattle.running_line.specs.RunSteps.{RunsTo}
 use Rattle.running_line.specs.Stands.{line_of}
 use Rattle.joined_nodes.specs.Does.{Does, Taken}
 use Rattle.joined_nodes.specs.Joined.{AreTheirs, HaveBegun, Joined, NodeRun, run_of}
+use Rattle.joined_nodes.specs.Ways.{ReadsNone, Stays, Ways}
 use Rattle.joined_nodes.specs.Woven.{WovenTo}
 
--- each move does one of these things
-pub record DoesOne (moment : ℤ) (s t : RunState) (given : List Given) : Type 0 where
+-- each move does one of these things, and one to what goes over the way of each side
+pub record DoesOne (rules : Rules) (moment : ℤ) (s t : RunState)
+    (given : List Given) : Type 0 where
   pub taken : Option Taken
   pub does : Does moment s t given taken
+  pub ways : (side : Side) → Ways rules moment side s t taken given
+  pub stays : (side : Side) → Stays side s t given taken
+  pub reads : ReadsNone taken
 
 abbrev pub EachMoveDoes : Type 0
 EachMoveDoes =
     (rules : Rules) (moment : ℤ) (s t : RunState) (given : List Given) (log : List ℕ)
-    → Moves rules moment s given t log → DoesOne moment s t given
+    → Moves rules moment s given t log → DoesOne rules moment s t given
 
 -- a node asks for a connection only where its machine can take one
 abbrev pub AsksWhereItMay : Type 0

@@ -1,4 +1,5 @@
 pub mod Does
+pub mod Ways
 pub mod Joined
 pub mod Woven
 pub mod Bytes

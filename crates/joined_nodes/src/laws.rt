@@ -7,7 +7,8 @@ ghost use Rattle.joined_nodes.specs.Laws.{AsksWhereItMay, EachMoveDoes, EachNode
 /// Each move of a node makes one step of its machine, or none: a connection is made, taken or
 /// refused where a poll says that one came; all bytes of one poll are heard at once, and no
 /// others; every other step is of an input that a line of the panel, a message of the supervisor,
-/// a close or a reset gives.
+/// a close or a reset gives. What waits on a side's way is what the machine said there and the
+/// ports didn't take, and where a side is reset, the text that tells so before it.
 pub fn each_move_does()
     ensures { EachMoveDoes }
 {}

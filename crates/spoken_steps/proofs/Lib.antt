@@ -1,0 +1,4 @@
+pub mod Calm
+pub mod Halves
+pub mod Speaking
+pub mod Steps
