@@ -28,6 +28,7 @@ use Rattle.line_cli.specs.declared.script_run.RunError.TheVariants as errors
 use Rattle.line_cli.specs.declared.status.Status.{Status}
 use Rattle.line_cli.specs.declared.status.Status.TheVariants as statuses
 use Rattle.line_cli.proofs.Fronts.{first_begins}
+use Rattle.line_cli.proofs.LedgerTold.{ending_unnumbered}
 use Rattle.line_cli.proofs.Steps.{behind-behind, proper-append}
 
 abbrev pub start : Place
@@ -106,6 +107,18 @@ going-front script rest old now now' place text going part = record {
     rest = part.back;
     front = append_assoc going.shown part.front part.back ∙ ap (λ t. going.shown ++ t) part.parts ∙ going.told;
   });
+  first = record {
+    lines = going.asked;
+    others = (script_behind place rest).lines;
+    all = ap (λ (s : Script). s.lines) (going-all going);
+    points = going.points;
+    run = going.run;
+    proper = going.proper;
+    ending = [];
+    last = tt;
+    rest = part.back;
+    front = append_assoc going.shown part.front part.back ∙ ap (λ t. going.shown ++ t) part.parts ∙ going.told ∙ sym (append-nil (told_text 1 going.points));
+  };
   grows = grows_more old now now' going.shown part.front going.grows part.grows;
 }
 
@@ -160,6 +173,18 @@ front-report script text shown refusal end old now now' reports grows part =
       begins = record {
         rest = part.back;
         whole = record { points = reports.points; run = reports.run; written = whole ∙ reports-text script (shown ++ text) refusal end reports };
+      };
+      first = record {
+        lines = (script_of script).lines;
+        others = [];
+        all = sym (append-nil (script_of script).lines);
+        points = reports.points;
+        run = reports.run;
+        proper = reports.proper;
+        ending = ending (state_behind no_line reports.points) (script_of script).refusal;
+        last = ending_unnumbered (state_behind no_line reports.points) (script_of script).refusal;
+        rest = part.back;
+        front = whole ∙ reports-text script (shown ++ text) refusal end reports;
       };
       grows = grows_more old now now' shown part.front grows part.grows;
     }

@@ -1,20 +1,24 @@
 -- The last line of a report has no number, so nothing is read off it.
-use Rattle.std.proofs.Common.{◌≡◌, ◌∙◌, ℕ, List, [], ◌∷◌, ◌++◌, Option, Some, None, ap, append_assoc, append-nil, codes, decimal, refl, subst, sym}
+use Rattle.std.proofs.Common.{◌≡◌, ◌≤◌, ◌∙◌, ℕ, List, [], ◌∷◌, ◌++◌, Option, Some, None, ap, append_assoc, append-nil, arith, codes, decimal, length, length-append, refl, subst, sym}
+use Rattle.std.specs.List.{AllByRecursion}
 use Rattle.line_script.specs.Words.{why_text}
 use Rattle.line_script.specs.declared.line.LineWhy.{LineWhy}
+use Rattle.line_script.specs.declared.line.ScriptLine.{ScriptLine}
 use Rattle.line_report.specs.Texts.{summary_text, unvouched_text}
 use Rattle.line_report.specs.declared.summary.Summary.{Summary}
 use Rattle.line_step.specs.State.{LineState}
 use Rattle.line_step.specs.Runs.{state_behind, told_text}
 use Rattle.line_step.specs.State.{no_line}
+use Rattle.one_standing.specs.Standing.{IsFitLine}
 use Rattle.machine_log.proofs.Inner.{inner, inner_why}
 use Rattle.machine_log.proofs.Solid.{inner_decimal, is_inner, join}
 use Rattle.report_ledger.specs.Asked.{ReportTellsStarts}
+use Rattle.report_ledger.specs.Fronts.{FrontsTellLedgers}
 use Rattle.report_ledger.specs.Ledgers.{AreUnnumbered, ReportTellsLedger, TellsLedger, honest}
 use Rattle.report_ledger.specs.Standings.{ReportTellsStandings}
 use Rattle.report_ledger.specs.ReportLines.{line_of, lines_in}
 use Rattle.report_ledger.proofs.Lines.{line_read}
-use Rattle.line_cli.specs.Deeds.{EachReportTellsItsLedger, EachReportTellsItsStandings, EachReportTellsItsStarts}
+use Rattle.line_cli.specs.Deeds.{EachFrontTellsItsLedger, EachReportTellsItsLedger, EachReportTellsItsStandings, EachReportTellsItsStarts}
 use Rattle.line_cli.specs.Report.{ending}
 use Rattle.line_cli.specs.Script.{Refusal, script_of}
 use Rattle.line_cli.specs.Texts.{refused_text}
@@ -63,7 +67,7 @@ refused_unnumbered number why =
     let within : inner (refused number why) = more (line ++ codes ": ") (why_text why) (more line (codes ": ") line_in refl) (inner_why why) in
     subst AreUnnumbered (sym (alone (refused number why) within)) (refl, tt)
 
-ending_unnumbered : (s : LineState) (refusal : Option Refusal) → AreUnnumbered (lines_in (ending s refusal))
+pub ending_unnumbered : (s : LineState) (refusal : Option Refusal) → AreUnnumbered (lines_in (ending s refusal))
 ending_unnumbered s None = summary_unnumbered _
 ending_unnumbered s (Some refusal) = refused_unnumbered refusal.line refusal.why
 
@@ -85,3 +89,17 @@ reports_start starts bytes points gap some run proper =
     let fit = scripts_are_fit bytes in
     let last = ending (state_behind no_line points) (script_of bytes).refusal in
     starts (script_of bytes).lines points last gap some fit.fit fit.few run proper (ending_unnumbered (state_behind no_line points) (script_of bytes).refusal)
+
+-- ---- a front
+
+-- the first lines of a script are fit, as all of them are
+fit_first : (lines others : List ScriptLine) → AllByRecursion IsFitLine (lines ++ others) → AllByRecursion IsFitLine lines
+fit_first [] others fit = tt
+fit_first (line ∷ lines) others fit = (fit.0, fit_first lines others fit.1)
+
+pub fronts_tell : FrontsTellLedgers → EachFrontTellsItsLedger
+fronts_tell tells bytes text first =
+    let fit = scripts_are_fit bytes in
+    let P : List ScriptLine → Type 0 = AllByRecursion IsFitLine in
+    let few : length first.lines ≤ 1000000 = omega (arith, fit.few, ap length first.all, length-append first.lines first.others) in
+    tells first.lines first.points first.ending text first.rest (fit_first first.lines first.others (subst P first.all fit.fit)) few first.run first.proper first.last first.front

@@ -4,6 +4,7 @@ use Rattle.line_outside.specs.Faults.{Rose}
 use Rattle.line_outside.specs.Sink.{Grows, PushesAll}
 use Rattle.line_outside.specs.declared.pushing.Pushed.{Pushed}
 use Rattle.line_cli.specs.Script.{Refusal, script_of}
+use Rattle.line_cli.specs.Deeds.{IsToldFirst}
 use Rattle.line_cli.specs.Report.{BeginsReport, report_text}
 use Rattle.line_cli.specs.Stops.{StopsIn}
 use Rattle.report_ledger.specs.Proper.{AreProperPoints}
@@ -63,10 +64,11 @@ pub record WritesReport (script : List ℕ) (old new : Option (List ℕ))
   pub ends : status ≡ status_of (script_of script).refusal (has_lie points)
   pub grows : Grows old new (report_text points (script_of script).refusal)
 
--- a front of it was written
+-- a front of it was written, which tells of lines that were done
 pub record WritesFront (script : List ℕ) (old new : Option (List ℕ)) : Type 0 where
   pub text : List ℕ
   pub begins : BeginsReport script text
+  pub first : IsToldFirst script text
   pub grows : Grows old new text
 
 -- what `run` did with a script: what is left of it, and how the sink's contents grew

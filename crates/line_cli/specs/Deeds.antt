@@ -1,8 +1,10 @@
 -- WHAT IS READ OFF A REPORT: the ledger that its bytes tell, and the starts that its openings answer.
-use Rattle.std.specs.Prelude.{List, [], ℕ, ◌≤◌}
-use Rattle.line_step.specs.Runs.{IsRun, Point, state_behind}
+use Rattle.std.specs.Prelude.{◌≡◌, ◌≤◌, ◌++◌, List, [], ℕ}
+use Rattle.line_script.specs.declared.line.ScriptLine.{ScriptLine}
+use Rattle.line_step.specs.Runs.{IsRun, Point, state_behind, told_text}
 use Rattle.line_step.specs.State.{no_line}
-use Rattle.report_ledger.specs.Ledgers.{TellsLedger, honest}
+use Rattle.report_ledger.specs.Fronts.{FrontTells}
+use Rattle.report_ledger.specs.Ledgers.{AreUnnumbered, TellsLedger, honest}
 use Rattle.report_ledger.specs.Asked.{OpensWereAsked}
 use Rattle.report_ledger.specs.Proper.{AreProperPoints}
 use Rattle.report_ledger.specs.ReportLines.{lines_in, vouched}
@@ -33,3 +35,23 @@ EachReportTellsItsStarts =
     (bytes : List ℕ) (points : List Point) (gap : ℕ) → 1 ≤ gap
     → IsRun no_line (script_of bytes).lines points → AreProperPoints points
     → OpensWereAsked gap [] (vouched (lines_in (report_text points (script_of bytes).refusal)))
+
+-- a text is a front of what the first lines of a script tell, or of that with a last line behind it;
+-- their ids and names are what their types allow
+pub record IsToldFirst (bytes text : List ℕ) : Type 0 where
+  pub lines : List ScriptLine
+  pub others : List ScriptLine
+  pub all : (script_of bytes).lines ≡ lines ++ others
+  pub points : List Point
+  pub run : IsRun no_line lines points
+  pub proper : AreProperPoints points
+  pub ending : List ℕ
+  pub last : AreUnnumbered (lines_in ending)
+  pub rest : List ℕ
+  pub front : text ++ rest ≡ told_text 1 points ++ ending
+
+-- and whoever has such a front alone, as a fault may leave it, reads off its lines before those of
+-- its last number the ledger and the standings behind the first of those lines of the script
+abbrev pub EachFrontTellsItsLedger : Type 0
+EachFrontTellsItsLedger =
+    (bytes text : List ℕ) → (first : IsToldFirst bytes text) → FrontTells text first.points

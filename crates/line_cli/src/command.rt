@@ -21,7 +21,7 @@ ghost use Rattle.whoever_goes_on.specs.Play.{EndsForWhoeverGoesOn};
 ghost use Rattle.work_orders.specs.Answers.{OneAnswer};
 ghost use Rattle.line_cli.specs.Answered.{EachInputHasOneAnswer, IsAnswered};
 ghost use Rattle.line_cli.specs.Command.{DoesAs, FitsWords, HasCauses, is_word, is_run, is_read, is_check, usage_text};
-ghost use Rattle.line_cli.specs.Deeds.{EachReportTellsItsLedger, EachReportTellsItsStandings, EachReportTellsItsStarts};
+ghost use Rattle.line_cli.specs.Deeds.{EachFrontTellsItsLedger, EachReportTellsItsLedger, EachReportTellsItsStandings, EachReportTellsItsStarts};
 ghost use Rattle.line_cli.specs.Making.{EachNumberHasOneMakeText, made_number};
 ghost use Rattle.line_cli.specs.Premises.{ScriptsAreFit};
 ghost use Rattle.line_cli.specs.ReadText.{EachStreamHasOneReadText};
@@ -96,6 +96,9 @@ pub fn line_main<S: Source, K: Sink>(
     ensures told { EachReportTellsItsStandings }
     // and each opening that they tell answers the last start at its gap
     ensures starts { EachReportTellsItsStarts }
+    // and of a front that a fault leaves, cut anywhere, the lines before those of its last number
+    // give the ledger behind the lines of the script of which they tell
+    ensures fronts { EachFrontTellsItsLedger }
     // each machine lets its boards go in the order in which they came to it
     ensures order { FirstInFirstOut }
     // a record that is kept changes only where its board is marked
@@ -142,6 +145,7 @@ pub fn line_main<S: Source, K: Sink>(
     report_ledger::laws::a_report_tells_its_ledger();
     report_ledger::laws::a_report_tells_its_standings();
     report_ledger::laws::a_report_tells_its_starts();
+    report_ledger::laws::a_front_tells_its_ledger();
     first_in_first_out::laws::boards_go_in_the_order_in_which_they_came();
     contents_kept::laws::contents_are_kept_over_each_line();
     contents_kept::laws::contents_stay_whole();

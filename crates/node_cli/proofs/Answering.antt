@@ -15,7 +15,9 @@ use Rattle.node_run.specs.declared.status.NodeStatus.TheVariants as statuses
 use Rattle.node_settings.specs.Settings.{Refusal, read_of}
 use Rattle.node_settings.specs.declared.settings.Settings.{Settings}
 use Rattle.one_run.specs.One.{Agree, EachRunIsOne, IsWhole, answers_of}
-use Rattle.node_cli.specs.Answered.{Answers, EachInputHasOneAnswer, IsAnswer, IsAnswered, IsSettingsAnswer, IsStatusAlone, answered, file_failed, log_failed, memory_wanted}
+use Rattle.each_run.specs.Each.{EachOutsideHasOneRun, Fits, HasOneRun, Outside, begun_by}
+use Rattle.node_cli.specs.Answered.{Answers, EachInputHasOneAnswer, EachOutsideHasOneAnswer, HasOneAnswer, IsAnswer, IsAnswered, IsSettingsAnswer, IsStatusAlone, answered, file_failed, log_failed, memory_wanted}
+use Rattle.node_cli.proofs.Bounds.{read_bounded}
 use Rattle.node_cli.specs.Command.{DoesFile, DoesNode, DoesSettings, HasCauses, IsQuiet}
 
 -- ---- the program's answer
@@ -96,3 +98,47 @@ settings_once law (Err refusal) moments others calls more log text status end on
 pub one_answer : EachRunIsOne → EachInputHasOneAnswer
 one_answer law false bytes moments others calls more log text status end one other times answers = alone_once one other
 one_answer law true bytes moments others calls more log text status end one other times answers = settings_once law (read_of bytes) moments others calls more log text status end one other times answers
+
+-- ---- the answer that there is
+
+alone_has : (outside : Outside) (one : Bool) (bytes : List ℕ) (wanted : NodeStatus)
+    → ((moments : List ℤ) → IsAnswer one bytes moments [] [] wanted)
+    → ((moments : List ℤ) (calls : List Given) (log : List ℕ) (status : NodeStatus) → IsAnswer one bytes moments calls log status → IsStatusAlone wanted calls log status)
+    → HasOneAnswer outside one bytes
+alone_has outside one bytes wanted is only = record {
+  moments = [];
+  calls = [];
+  log = [];
+  status = wanted;
+  is = record { answer = is []; at = tt; answered = tt };
+  alone = λ others more text end other. let a = only others more text end other.answer in (a.1, a.2, a.0);
+}
+
+run_has : (outside : Outside) (bytes : List ℕ) (settings : Settings) → read_of bytes ≡ Ok settings → HasOneRun outside (rules_of settings) (begun_by settings) → HasOneAnswer outside true bytes
+run_has outside bytes settings is has =
+    let P : Result Settings Refusal → Type 0 = λ read. IsSettingsAnswer read has.moments has.calls has.log has.status in
+    record {
+      moments = has.moments;
+      calls = has.calls;
+      log = has.log;
+      status = has.status;
+      is = record { answer = subst P (sym is) has.run.whole; at = has.run.at; answered = has.run.answered };
+      alone = λ others more text end other.
+          let Q : Result Settings Refusal → Type 0 = λ read. IsSettingsAnswer read others more text end in
+          let one = has.alone others more text end (record { whole = subst Q is other.answer; at = other.at; answered = other.answered }) in
+          (one.1, one.2, one.3);
+    }
+
+refused_has : (outside : Outside) (bytes : List ℕ) (refusal : Refusal) → read_of bytes ≡ Err refusal → HasOneAnswer outside true bytes
+refused_has outside bytes refusal is =
+    let P : List ℤ → Result Settings Refusal → Type 0 = λ moments read. IsSettingsAnswer read moments [] [] (statuses.ConfigRefused refusal.key refusal.why) in
+    alone_has outside true bytes (statuses.ConfigRefused refusal.key refusal.why) (λ moments. subst (P moments) (sym is) (refl, refl, refl))
+    (λ moments calls log status answer. let Q : Result Settings Refusal → Type 0 = λ read. IsSettingsAnswer read moments calls log status in subst Q is answer)
+
+settings_have : EachOutsideHasOneRun → (outside : Outside) (bytes : List ℕ) → Fits outside → (read : Result Settings Refusal) → read_of bytes ≡ read → HasOneAnswer outside true bytes
+settings_have law outside bytes fits (Ok settings) is = run_has outside bytes settings is (law settings outside (read_bounded bytes settings is).number fits)
+settings_have law outside bytes fits (Err refusal) is = refused_has outside bytes refusal is
+
+pub outside_answers : EachOutsideHasOneRun → EachOutsideHasOneAnswer
+outside_answers law false bytes outside fits = alone_has outside false bytes statuses.Usage (λ moments. (refl, refl, refl)) (λ moments calls log status answer. answer)
+outside_answers law true bytes outside fits = settings_have law outside bytes fits (read_of bytes) refl

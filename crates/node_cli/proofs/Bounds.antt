@@ -4,19 +4,26 @@ use Rattle.std.proofs.lemmas.Bool.Decides.{nat_tests}
 use Rattle.line_base.specs.Results.{then_ok, mapped_ok}
 use Rattle.toml.specs.Data.{Data, Members, string, integer, float, boolean, datetime, array, table, get_member}
 use Rattle.std.specs.Prelude.{codes}
-use Rattle.node_settings.specs.Settings.{refusal, named, capacity_of, used_of, places_of, made_places, bridge_of, identity_of, connections_of, turns_of, known_panel_of, made_settings, settings_of, document_of, settings_in, read_of}
+use Rattle.node_settings.specs.Settings.{refusal, named, capacity_of, used_of, places_of, made_places, bridge_of, identity_of, lane_of, machine_id_of, made_identity, number_of, connections_of, turns_of, known_panel_of, made_settings, settings_of, document_of, settings_in, read_of}
 use Rattle.node_settings.specs.Value.{number_in, number_as, required, optional}
 use Rattle.node_settings.specs.declared.key.ConfigKey.{ConfigKey}
 use Rattle.node_settings.specs.declared.key.ConfigKey.TheVariants as keys
 use Rattle.node_settings.specs.declared.key.ConfigWhy.{ConfigWhy}
 use Rattle.node_settings.specs.declared.key.ConfigWhy.TheVariants as whys
 use Rattle.node_settings.specs.declared.settings.Settings.{Settings}
+use Rattle.node_settings.specs.declared.settings.Identity.{Identity}
 use Rattle.node_settings.specs.declared.settings.Places.{Places}
 
-pub record AreBounded (places : Places) : Type 0 where
-  pub least : 1 ≤ places.capacity
-  pub most : places.capacity ≤ 1024
-  pub used : places.used < 2 ^ 48
+record HasPlaces (places : Places) : Type 0 where
+  least : 1 ≤ places.capacity
+  most : places.capacity ≤ 1024
+  used : places.used < 2 ^ 48
+
+pub record AreBounded (settings : Settings) : Type 0 where
+  pub least : 1 ≤ settings.places.capacity
+  pub most : settings.places.capacity ≤ 1024
+  pub used : settings.places.used < 2 ^ 48
+  pub number : settings.identity.number < 2 ^ 32
 
 -- ---- results one after another
 
@@ -67,15 +74,24 @@ optional_most high (Some value) m e =
 
 -- ---- settings
 
-places_bounded : (ms : Members) (places : Places) → places_of ms ≡ Ok places → AreBounded places
+places_bounded : (ms : Members) (places : Places) → places_of ms ≡ Ok places → HasPlaces places
 places_bounded ms places e =
     let first = then_ok-inverse (capacity_of ms) (λ capacity. mapped_ok (made_places capacity) (used_of ms)) places e in
     let second = mapped_ok-inverse (made_places first.0) (used_of ms) places first.2 in
     let capacity = required_between 1 1024 (get_member (codes "capacity") ms) first.0 (named-inverse _ _ first.0 first.1) in
     let used = optional_most 281474976710655 (get_member (codes "used") ms) second.0 (named-inverse _ _ second.0 second.1) in
-    subst AreBounded second.2 (record { least = capacity.0; most = capacity.1; used = omega (arith, used) })
+    subst HasPlaces second.2 (record { least = capacity.0; most = capacity.1; used = omega (arith, used) })
 
-settings_bounded : (ms : Members) (settings : Settings) → settings_of ms ≡ Ok settings → AreBounded settings.places
+identity_bounded : (ms : Members) (identity : Identity) → identity_of ms ≡ Ok identity → identity.number < 2 ^ 32
+identity_bounded ms identity e =
+    let first = then_ok-inverse (number_of ms) (λ number. then_ok (machine_id_of ms) (λ machine_id. mapped_ok (made_identity number machine_id) (lane_of ms))) identity e in
+    let second = then_ok-inverse (machine_id_of ms) (λ machine_id. mapped_ok (made_identity first.0 machine_id) (lane_of ms)) identity first.2 in
+    let third = mapped_ok-inverse (made_identity first.0 second.0) (lane_of ms) identity second.2 in
+    let number = required_between 1 4294967295 (get_member (codes "number") ms) first.0 (named-inverse _ _ first.0 first.1) in
+    let P : Identity → Type 0 = λ i. i.number < 2 ^ 32 in
+    subst P third.2 (omega (arith, number.1))
+
+settings_bounded : (ms : Members) (settings : Settings) → settings_of ms ≡ Ok settings → AreBounded settings
 settings_bounded ms settings e =
     let one = then_ok-inverse (identity_of ms) _ settings e in
     let two = then_ok-inverse (places_of ms) _ settings one.2 in
@@ -83,17 +99,17 @@ settings_bounded ms settings e =
     let four = then_ok-inverse (connections_of one.0.lane ms) _ settings three.2 in
     let five = then_ok-inverse (turns_of ms) _ settings four.2 in
     let six = mapped_ok-inverse (made_settings one.0 two.0 three.0 four.0 five.0) (known_panel_of ms) settings five.2 in
-    let P : Settings → Type 0 = λ s. AreBounded s.places in
-    subst P six.2 (places_bounded ms two.0 two.1)
+    let places = places_bounded ms two.0 two.1 in
+    subst AreBounded six.2 (record { least = places.least; most = places.most; used = places.used; number = identity_bounded ms one.0 one.1 })
 
-in_bounded : (document : Option Members) (settings : Settings) → settings_in document ≡ Ok settings → AreBounded settings.places
+in_bounded : (document : Option Members) (settings : Settings) → settings_in document ≡ Ok settings → AreBounded settings
 in_bounded None settings e = cc
 in_bounded (Some ms) settings e = settings_bounded ms settings e
 
-read_if : (test : Bool) (bytes : List ℕ) (settings : Settings) → (if test then Err (refusal keys.Document whys.TooLarge) else settings_in (document_of bytes)) ≡ Ok settings → AreBounded settings.places
+read_if : (test : Bool) (bytes : List ℕ) (settings : Settings) → (if test then Err (refusal keys.Document whys.TooLarge) else settings_in (document_of bytes)) ≡ Ok settings → AreBounded settings
 read_if true bytes settings e = cc
 read_if false bytes settings e = in_bounded (document_of bytes) settings e
 
 -- WHAT A FILE SAYS IS WITHIN ITS BOUNDS
-pub read_bounded : (bytes : List ℕ) (settings : Settings) → read_of bytes ≡ Ok settings → AreBounded settings.places
+pub read_bounded : (bytes : List ℕ) (settings : Settings) → read_of bytes ≡ Ok settings → AreBounded settings
 read_bounded bytes settings e = read_if (nat_lt 65536 (length bytes)) bytes settings e

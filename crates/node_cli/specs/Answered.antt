@@ -15,6 +15,7 @@ use Rattle.node_run.specs.declared.status.NodeStatus.TheVariants as statuses
 use Rattle.node_settings.specs.Settings.{Refusal, read_of}
 use Rattle.node_settings.specs.declared.settings.Settings.{Settings}
 use Rattle.one_run.specs.One.{Agree, IsWhole, answers_of}
+use Rattle.each_run.specs.Each.{AreAnswered, AreMoments, Fits, Outside}
 
 -- nothing but this status
 abbrev pub IsStatusAlone : NodeStatus → List Given → List ℕ → NodeStatus → Type 0
@@ -78,3 +79,30 @@ EachInputHasOneAnswer =
     → IsAnswer one bytes moments calls log status → IsAnswer one bytes others more text end
     → Agree moments others → Agree (answers_of calls) (answers_of more)
     → (more ≡ calls) × (text ≡ log) × (end ≡ status)
+
+-- ---- whatever is outside
+
+-- THE ANSWER IN what is outside: each move at its moment there, each call answered as there
+pub record IsAnswerIn (outside : Outside) (one : Bool) (bytes : List ℕ) (moments : List ℤ)
+    (calls : List Given) (log : List ℕ) (status : NodeStatus) : Type 0 where
+  pub answer : IsAnswer one bytes moments calls log status
+  pub at : AreMoments outside 0 moments
+  pub answered : AreAnswered outside [] calls
+
+-- there is one, and no other
+pub record HasOneAnswer (outside : Outside) (one : Bool) (bytes : List ℕ) : Type 0 where
+  pub moments : List ℤ
+  pub calls : List Given
+  pub log : List ℕ
+  pub status : NodeStatus
+  pub is : IsAnswerIn outside one bytes moments calls log status
+  pub alone : (others : List ℤ) (more : List Given) (text : List ℕ) (end : NodeStatus)
+      → IsAnswerIn outside one bytes others more text end
+      → (more ≡ calls) × (text ≡ log) × (end ≡ status)
+
+-- THE LAW: whatever the words, the bytes of the file, the moments and what the ports would answer,
+-- there is exactly one answer: one list of calls, one log and one status
+abbrev pub EachOutsideHasOneAnswer : Type 0
+EachOutsideHasOneAnswer =
+    (one : Bool) (bytes : List ℕ) (outside : Outside) → Fits outside
+    → HasOneAnswer outside one bytes

@@ -1,7 +1,7 @@
 ghost use Rattle.std.specs.Prelude.{◌≡◌};
 ghost use Rattle.one_run.specs.One.{EachPartIsAFront, EachRunIsOne};
 ghost use Rattle.joined_nodes.specs.Laws.{NodesStand};
-ghost use Rattle.node_cli.specs.Answered.{EachInputHasOneAnswer, IsAnswered};
+ghost use Rattle.node_cli.specs.Answered.{EachInputHasOneAnswer, EachOutsideHasOneAnswer, IsAnswered};
 ghost use Rattle.node_cli.specs.Command.{DoesNode, FitsNode, HasCauses, is_one, status_of};
 ghost use Rattle.node_cli.specs.Logged.{LogTellsOwn, TextIsBounded};
 ghost use Rattle.node_connections.specs.Connections.{ConnectionsAreInOrder};
@@ -43,6 +43,9 @@ pub fn node_main<S: Source, P: Ports, C: Clock, K: Sink>(
         (S.faults file.old) (S.faults file.new) (K.faults log.old) (K.faults log.new) result }
     // and these have one at most, with one list of calls and one log
     ensures determined { EachInputHasOneAnswer }
+    // whatever the words, the file's bytes, the moments and what the ports would answer next, there
+    // is exactly one: a node's run has a move for each answer, and comes to its end
+    ensures each { EachOutsideHasOneAnswer }
     // since a run is one, whatever state it goes on from
     ensures one { EachRunIsOne }
     // and what was called and logged at a fault of the log or at Memory is a front of what the whole
@@ -64,6 +67,7 @@ pub fn node_main<S: Source, P: Ports, C: Clock, K: Sink>(
     node_run::laws::what_a_machine_owns_is_read_off_its_log();
     node_run::laws::too_much_text_closes_a_way();
     one_run::laws::a_run_is_one();
+    each_run::laws::each_outside_has_one_run();
     node_connections::laws::the_bytes_of_a_connection_are_in_order();
     node_run::laws::the_settings_are_those_of_the_last_set();
     joined_nodes::laws::woven_nodes_run_behind_the_reading();

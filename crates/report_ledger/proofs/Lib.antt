@@ -6,3 +6,4 @@ pub mod Asked
 pub mod Silent
 pub mod Standings
 pub mod Row
+pub mod Fronts

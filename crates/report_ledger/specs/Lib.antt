@@ -4,3 +4,4 @@ pub mod Ledgers
 pub mod Asked
 pub mod Standings
 pub mod Row
+pub mod Fronts

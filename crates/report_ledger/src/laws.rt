@@ -1,6 +1,7 @@
 //! What is read off a report's bytes.
 
 ghost use Rattle.report_ledger.specs.Asked.{ReportTellsStarts};
+ghost use Rattle.report_ledger.specs.Fronts.{FrontsTellLedgers};
 ghost use Rattle.report_ledger.specs.Ledgers.{ReportTellsLedger};
 ghost use Rattle.report_ledger.specs.Standings.{ReportTellsStandings};
 ghost use Rattle.report_ledger.specs.Row.{IsReadOffTheRow};
@@ -29,6 +30,16 @@ pub fn a_report_tells_its_standings()
 {
     one_standing::laws::one_standing_after_each_line();
     a_report_tells_its_ledger();
+}
+
+/// Of each front of such a report, cut anywhere, the lines before those of its last number are the
+/// whole report of the first lines of the script: so they tell the ledger and the standings behind
+/// those.
+pub fn a_front_tells_its_ledger()
+    ensures { FrontsTellLedgers }
+{
+    a_report_tells_its_ledger();
+    a_report_tells_its_standings();
 }
 
 /// A worked row: a board is put in, started and opened; behind the line that tells a lie nothing is

@@ -4,7 +4,7 @@ use Rattle.line_cli.specs.Making.{made_number}
 use Rattle.line_cli.proofs.AnsweredOnce.{answers_so}
 use Rattle.line_cli.proofs.FitScript.{scripts_are_fit}
 use Rattle.line_cli.proofs.Fronts.{has_one_report}
-use Rattle.line_cli.proofs.LedgerTold.{reports_stand, reports_start, reports_tell}
+use Rattle.line_cli.proofs.LedgerTold.{fronts_tell, reports_stand, reports_start, reports_tell}
 use Rattle.line_cli.proofs.MadeOnce.{has_one_make_text}
 use Rattle.line_cli.proofs.ReadFronts.{has_one_read_text}
 use Rattle.line_cli.proofs.command.line_main.Goals as goal
@@ -41,6 +41,9 @@ returns-clause-told g c = reports_stand c.a_report_tells_its_standings.ensures
 
 pub returns-clause-starts : goal.returns-clause-starts
 returns-clause-starts g c = reports_start c.a_report_tells_its_starts.ensures
+
+pub returns-clause-fronts : goal.returns-clause-fronts
+returns-clause-fronts g c = fronts_tell c.a_front_tells_its_ledger.ensures
 
 pub returns-clause-order : goal.returns-clause-order
 returns-clause-order g c = c.boards_go_in_the_order_in_which_they_came.ensures

@@ -1,5 +1,5 @@
 use Rattle.node_cli.specs.Command.{is_one}
-use Rattle.node_cli.proofs.Answering.{answers_so, one_answer}
+use Rattle.node_cli.proofs.Answering.{answers_so, one_answer, outside_answers}
 use Rattle.node_cli.proofs.main_call.node_main.Goals as goal
 
 pub returns-clause-owns : goal.returns-clause-owns
@@ -13,6 +13,9 @@ returns-clause-complete g c = answers_so (is_one c.args.words.now) _ _ _ _ _ _ _
 
 pub returns-clause-determined : goal.returns-clause-determined
 returns-clause-determined g c = one_answer c.a_run_is_one.ensures.whole
+
+pub returns-clause-each : goal.returns-clause-each
+returns-clause-each g c = outside_answers c.each_outside_has_one_run.ensures
 
 pub returns-clause-one : goal.returns-clause-one
 returns-clause-one g c = c.a_run_is_one.ensures.whole

@@ -1,0 +1,9 @@
+pub mod Rows
+pub mod Frames
+pub mod Ids
+pub mod Small
+pub mod Happening
+pub mod Hearing
+pub mod Moving
+pub mod Going
+pub mod Alone
