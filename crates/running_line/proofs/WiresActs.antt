@@ -350,6 +350,7 @@ deals Exit (acts.Notices Exit) = deals_notices
 deals Entry (acts.Notices Exit) = deals_aside (record { hears = λ n. refl; opens = λ o. refl; says = λ rest. refl; same = λ c. refl; wires = λ n ws. refl })
 deals Entry (acts.Drive Entry on) = deals_aside (record { hears = λ n. refl; opens = λ o. refl; says = λ rest. refl; same = λ c. refl; wires = λ n ws. refl })
 deals Entry (acts.Drive Exit on) = deals_aside (record { hears = λ n. refl; opens = λ o. refl; says = λ rest. refl; same = λ c. refl; wires = λ n ws. refl })
+deals Exit (acts.Drive Entry on) = deals_aside (record { hears = λ n. refl; opens = λ o. refl; says = λ rest. refl; same = λ c. refl; wires = λ n ws. refl })
 deals Entry _ = deals_aside (record { hears = λ n. refl; opens = λ o. refl; says = λ rest. refl; same = λ c. refl; wires = λ n ws. refl })
 deals Exit _ = deals_aside (record { hears = λ n. refl; opens = λ o. refl; says = λ rest. refl; same = λ c. refl; wires = λ n ws. refl })
 
