@@ -12,7 +12,7 @@ use Rattle.node_core.specs.Step.{plain_step}
 use Rattle.node_core.specs.declared.act.Act.{Act}
 use Rattle.node_core.specs.declared.act.Act.TheVariants as acts
 use Rattle.node_core.specs.declared.act.Deed.TheVariants as deeds
-use Rattle.node_core.specs.declared.lane.Body.{Body as Machine}
+use Rattle.node_core.specs.declared.lane.Body.{Body}
 use Rattle.standings.specs.Ledger.{are_different}
 use Rattle.standings.specs.Marks.{is_held}
 use Rattle.line_step.specs.Lines.{LineSteps}
@@ -85,16 +85,16 @@ undriven_queues order (act ∷ told) k =
 turn_queues : (t : Trace) (j : ℕ) (before after : LineState) (told : List Happening) → are_different (all_of (own_of (node_at before (j + 1)).lane.body)) ≡ true → Turn j t before after told
     → Queues (held_and_kept before (j + 1)) (done_by (j + 1) told) (held_and_kept after (j + 1))
 turn_queues t j before after told different (is_still same none) =
-    let still : Queues (held_and_kept before (j + 1)) [] (held_and_kept after (j + 1)) = record { leads = ap (λ (b : Machine). queue_of (own_of b)) (sym same); firsts = tt } in
+    let still : Queues (held_and_kept before (j + 1)) [] (held_and_kept after (j + 1)) = record { leads = ap (λ (b : Body). queue_of (own_of b)) (sym same); firsts = tt } in
     subst (λ (x : List Act). Queues (held_and_kept before (j + 1)) x (held_and_kept after (j + 1))) (sym none) still
 turn_queues t j before after told different (has_stepped s) =
-    let body : Machine = (node_at before (j + 1)).lane.body in
+    let body : Body = (node_at before (j + 1)).lane.body in
     let d : Done = plain_step s.desk (unread_by (j + 1) before.world) s.event body in
     let does : Did Any (own_of body) d.acts (own_of d.body) = step_did s.desk (unread_by (j + 1) before.world) s.event body (any_new s.event) in
     let queues : Queues (queue_of (own_of body)) d.acts (queue_of (own_of d.body)) = did_queues does different in
     let all : Queues (queue_of (own_of body)) (undriven d.acts) (queue_of (own_of d.body)) = undriven_queues (queue_of (own_of body)) d.acts queues in
     subst (λ (x : List Act). Queues (held_and_kept before (j + 1)) x (held_and_kept after (j + 1))) (sym s.acts)
-    (subst (λ (b : Machine). Queues (held_and_kept before (j + 1)) (undriven d.acts) (queue_of (own_of b))) (sym s.body) all)
+    (subst (λ (b : Body). Queues (held_and_kept before (j + 1)) (undriven d.acts) (queue_of (own_of b))) (sym s.body) all)
 
 held_by : (id : ℕ) (held : Option ℕ) → is_held id held ≡ true → held ≡ Some id
 held_by id None is = absurd (false≢true is)

@@ -41,12 +41,12 @@ use Rattle.one_standing.proofs.LineForms.{ConnectsBear}
 use Rattle.one_standing.proofs.LineRun.{AreStood, Stood, none_stood, run_stood}
 use Rattle.line_history.specs.LetGo.{IsWhatLeft, KeepsWhatLeft, held_above, is_leaving, let_go, settles_at}
 use Rattle.line_history.specs.Offered.{IsAsOffered, IsLast, KeepsAsOffered, Offering, WhatSettlesWasOffered, is_hand, is_hand_at, none_offered, offered_gone, offers_act, offers_happening, offers_told, tells_hand}
-use Rattle.line_history.proofs.Courses.{Acted, Befalls, Course, IsByHand, by_hand, has_acted, line_course, plainly, rests}
+use Rattle.line_history.proofs.Courses.{Acted, Befalls, Course, IsByHand, by_hand, line_course, plainly}
 use Rattle.line_history.proofs.LetGoRun.{what_settles_left}
 use Rattle.line_history.proofs.Offering.{AsOffered, are_hand, hand_append, offers_acts, offers_append, says_ended, says_idle, says_moving, says_offered, says_stuck, settles_act, settles_acts, settles_append}
 use Rattle.line_history.proofs.OfferingStep.{IsNoHand}
 use Rattle.line_history.proofs.OfferingWhole.{HasAct, IsAmong, IsMarkable, StepSettles, TakesOut, among_first, among_later, offers_lost, offers_so, step_hands, step_offers, step_settles, takes_instead, takes_out, told_first, told_later, IsAsOf}
-use Rattle.line_history.proofs.View.{done_act, done_append, done_by, told_of_act, undriven}
+use Rattle.line_history.proofs.View.{done_act, done_append, done_by, has_stepped, is_still, told_of_act, undriven}
 
 -- ---- what is told of a machine is read off its acts
 
@@ -211,7 +211,7 @@ acted_offers : (t t2 : Trace) (j : ℕ) (line : ScriptLine) (before after : Line
 acted_offers t t2 j line before after told o st st2 goes h a =
     let d : Done = plain_step a.desk (unread_by (j + 1) before.world) a.event (node_at before (j + 1)).lane.body in
     let told_is : offers_told (j + 1) told o ≡ offers_acts d.acts o = offers_told_is (j + 1) told o ∙ (ap (λ (x : List Act). offers_acts x o) a.acts ∙ undriven_offers d.acts o) in
-    elim (step_offers a.desk (unread_by (j + 1) before.world) a.event (node_at before (j + 1)).lane.body (scene_at t before j) o (markable a.befalls) h) [
+    elim (step_offers a.desk (unread_by (j + 1) before.world) a.event (node_at before (j + 1)).lane.body (scene_at t before j) o (markable a.known) h) [
       | offers_so so ↦ subst (λ (b : Body). IsAsOf b (offers_told (j + 1) told o)) (sym a.body) (subst (λ (x : Offering). IsAsOf d.body x) (sym told_is) so)
       | offers_lost x offered takes kept ↦
           lost_not t t2 before after told j x st st2 goes (offered_kept x h offered) (takes_told (j + 1) told (subst (λ (xs : List Act). HasAct (TakesOut x) xs) (sym a.acts) (undriven_takes d.acts takes)))
@@ -219,8 +219,8 @@ acted_offers t t2 j line before after told o st st2 goes h a =
     ]
 
 course_offers : (t t2 : Trace) (j : ℕ) (line : ScriptLine) (before after : LineState) (told : List Happening) (o : Offering) → Stands t before → Stands t2 after → Goes before after told → IsAsOf (node_at before (j + 1)).lane.body o → Course j line before after told → IsAsOf (node_at after (j + 1)).lane.body (offers_told (j + 1) told o)
-course_offers t t2 j line before after told o st st2 goes h (has_acted a) = acted_offers t t2 j line before after told o st st2 goes h a
-course_offers t t2 j line before after told o st st2 goes h (rests same none) =
+course_offers t t2 j line before after told o st st2 goes h (has_stepped a) = acted_offers t t2 j line before after told o st st2 goes h a
+course_offers t t2 j line before after told o st st2 goes h (is_still same none) =
     let told_is : offers_told (j + 1) told o ≡ o = offers_told_is (j + 1) told o ∙ ap (λ (x : List Act). offers_acts x o) none in
     subst (λ (b : Body). IsAsOf b (offers_told (j + 1) told o)) (sym same) (subst (λ (x : Offering). IsAsOf (node_at before (j + 1)).lane.body x) (sym told_is) h)
 
@@ -252,8 +252,8 @@ line_gone gap last off o before told false is h so b found = so b found
 
 acted_kept : (j id : ℕ) (line : ScriptLine) (before after : LineState) (told : List Happening) (o : Offering) (board : Record) → IsAsOf (node_at before (j + 1)).lane.body o → held_in (node_at before (j + 1)).lane.body.intake.phase ≡ Some board
     → IsAmong id (settles_acts (done_by (j + 1) told) []) → tells_hand (j + 1) told ≡ false → Course j line before after told → IsLast board (node_at after (j + 1)).lane.body.kept
-acted_kept j id line before after told o board h taken among none (rests same nothing) = elim (subst (λ (x : List Act). IsAmong id (settles_acts x [])) nothing among) [ ]
-acted_kept j id line before after told o board h taken among none (has_acted a) =
+acted_kept j id line before after told o board h taken among none (is_still same nothing) = elim (subst (λ (x : List Act). IsAmong id (settles_acts x [])) nothing among) [ ]
+acted_kept j id line before after told o board h taken among none (has_stepped a) =
     let d : Done = plain_step a.desk (unread_by (j + 1) before.world) a.event (node_at before (j + 1)).lane.body in
     let hands : are_hand d.acts ≡ false = sym (undriven_hand d.acts) ∙ (ap are_hand (sym a.acts) ∙ (sym (hand_told (j + 1) told) ∙ none)) in
     let found : IsAmong id (settles_acts d.acts []) = subst (λ (x : List ℕ). IsAmong id x) (ap (λ (x : List Act). settles_acts x []) a.acts ∙ undriven_settles d.acts []) among in
@@ -293,10 +293,10 @@ pub line_keeps_last : (number j id : ℕ) (line : ScriptLine) (before after : Li
     → (r : Record) × (r.id ≡ id) × (held_in (node_at before (j + 1)).lane.body.intake.phase ≡ Some r) × IsLast r (node_at after (j + 1)).lane.body.kept
 line_keeps_last number j id line before after told o steps no_hand among = by (line_course number line before after told steps j) where
   by : Course j line before after told → (r : Record) × (r.id ≡ id) × (held_in (node_at before (j + 1)).lane.body.intake.phase ≡ Some r) × IsLast r (node_at after (j + 1)).lane.body.kept
-  by (rests same nothing) = elim (subst (λ (x : List Act). IsAmong id (settles_acts x [])) nothing among) [ ]
-  by (has_acted a) =
+  by (is_still same nothing) = elim (subst (λ (x : List Act). IsAmong id (settles_acts x [])) nothing among) [ ]
+  by (has_stepped a) =
       let d : Done = plain_step a.desk (unread_by (j + 1) before.world) a.event (node_at before (j + 1)).lane.body in
-      let plain : IsNoHand a.event = elim a.befalls [ plainly p ↦ p | by_hand here free ↦ absurd (no_hand here) ] in
+      let plain : IsNoHand a.event = elim a.known [ plainly p ↦ p | by_hand here free ↦ absurd (no_hand here) ] in
       let found : IsAmong id (settles_acts d.acts []) = subst (λ (x : List ℕ). IsAmong id x) (ap (λ (x : List Act). settles_acts x []) a.acts ∙ undriven_settles d.acts []) among in
       let settles : StepSettles id (node_at before (j + 1)).lane.body d =
       step_settles a.desk (unread_by (j + 1) before.world) a.event (node_at before (j + 1)).lane.body (o.said (j + 1)) id (o.all (j + 1)) (step_hands a.desk (unread_by (j + 1) before.world) a.event (node_at before (j + 1)).lane.body plain) found in

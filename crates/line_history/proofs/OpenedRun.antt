@@ -308,7 +308,7 @@ stepped_settles t k s after told st d start (flies_held r one phase stale) some 
     let knows : Knows h body.intake = fresh_knows body.intake.phase body.intake r refl phase in
     let did : Done = plain_step d.desk (unread_by (k + 1) s.world) d.event body in
     let quiet : list_any is_settle did.acts ≡ false =
-    unsaid_settles (stepped_does t k h s after told st knows d).does.orderly (step_still d.desk (unread_by (k + 1) s.world) d.event body (still_event d.event (scene_at t s k) d.theirs stale)) (refl, refl) in
+    unsaid_settles (stepped_does t k h s after told st knows d).does.orderly (step_still d.desk (unread_by (k + 1) s.world) d.event body (still_event d.event (scene_at t s k) d.known stale)) (refl, refl) in
     ap (λ (l : List Act). list_any is_settle l) d.acts ∙ settle_undriven did.acts quiet
 stepped_settles t k s after told st d start (flies_alone x one idle) some =
     let body : Body = (node_at s (k + 1)).lane.body in

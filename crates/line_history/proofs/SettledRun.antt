@@ -109,7 +109,7 @@ pub record Told (j : ℕ) (h : Hearing) (before after : LineState) (told : List 
 pub stepped_does : (t : Trace) (j : ℕ) (h : Hearing) (before after : LineState) (told : List Happening) → Stands t before → Knows h (node_at before (j + 1)).lane.body.intake → (s : Stepped j t before after told)
     → StepDoes (IsInAt j before) h s.desk (unread_by (j + 1) before.world) s.event (node_at before (j + 1)).lane.body
 stepped_does t j h before after told st k s =
-    step_does s.desk (unread_by (j + 1) before.world) s.event (node_at before (j + 1)).lane.body (scene_at t before j) s.theirs (st.keeps.machines.at j).offers (good_node j t before (node_at before (j + 1)) st refl) k
+    step_does s.desk (unread_by (j + 1) before.world) s.event (node_at before (j + 1)).lane.body (scene_at t before j) s.known (st.keeps.machines.at j).offers (good_node j t before (node_at before (j + 1)) st refl) k
     (λ q held free lies. record { board = q; named = refl; taken = held; free = free; inside = lies })
 
 turn_told : (t : Trace) (j : ℕ) (h : Hearing) (before after : LineState) (told : List Happening) → Stands t before → Knows h (node_at before (j + 1)).lane.body.intake → Turn j t before after told → Told j h before after told

@@ -72,7 +72,6 @@ use Rattle.one_standing.proofs.Counting.{is_wrong_first}
 use Rattle.one_standing.proofs.LedgerLine.{same_nodes}
 use Rattle.one_standing.proofs.LineForms.{numbered}
 use Rattle.one_standing.proofs.MirroringCall.{dry_up}
-use Rattle.one_standing.proofs.MirroringEnds.{before_one}
 use Rattle.one_standing.proofs.MirroringFlow.{CanFlow, arrival, can_flow, empty_of, link_there, no_words, bodies_drop}
 use Rattle.one_standing.proofs.MirroringPlain.{is_plain_input}
 use Rattle.one_standing.proofs.RestMore.{no_link_at}
@@ -82,7 +81,7 @@ use Rattle.line_history.specs.Settled.{is_start}
 use Rattle.line_history.proofs.LinkFlow.{at_set, flow_off, flow_over, flow_spoiled, flow_whole, on_cut, on_limit, set_own}
 use Rattle.line_history.proofs.LinkUp.{Up, UpOn, acts_up, are_silent, is_silent, starts_of, up_any}
 use Rattle.line_history.proofs.Orders.{Orders, exit_words, is_plain, orders_end, orders_hears, orders_on, orders_opens, orders_refuses, orders_starts, step_orders}
-use Rattle.line_history.proofs.View.{done_append, done_by, other_acts, own_acts, remarks_none, standings_none, told_of_act, undriven, undriven_signals, undriven_step}
+use Rattle.line_history.proofs.View.{done_append, done_by, flow_carried, other_acts, own_acts, remarks_none, standings_none, told_of_act, undriven, undriven_signals, undriven_step}
 use Rattle.line_step.proofs.Remarks.{unvouched_remarks}
 use Rattle.line_step.proofs.Requests.{Request, request_of}
 use Rattle.line_step.proofs.Effects.{Effect, added_remarks, becomes_by, line_effect, spoil_remarks}
@@ -330,27 +329,8 @@ carries_fit {stream = stream} alone words old piece new still later is some are 
 
 pub flow_fits : SaysAlone → (t : Trace) (number j : ℕ) (side : Side) (count : Option ℕ) (before after : LineState) (told : List Happening) → CanFlow (j + 1) side before → Stands t before
     → (flows : Flows number (j + 1) side count before after told) → AreFitWords flows.steps.steps.lane.words
-flow_fits alone t number j Entry count before after told can st flows =
-    let steps = flows.steps in
-    let s : Stream = (link_at j before.world).flows.to_downstream in
-    let within = (machine_within (j + 1) before steps.node steps.there).1 in
-    let behind : 1 ≤ j = omega (arith, ltb-true 1 (j + 1) can.beside) in
-    let there : has_link j before ≡ true = link_there j (length before.machines) behind within in
-    let node_is : node_at before (j + 1) ≡ steps.node = node_there (j + 1) before steps.node steps.there in
-    let same : coming s ≡ coming (link_at (j + 1 - 1) before.world).flows.to_downstream = ap (λ (k : ℕ). coming (link_at k before.world).flows.to_downstream) (sym (before_one j)) in
-    let stream : Stream = (link_at (j + 1 - 1) before.world).flows.to_downstream in
-    let waits : Carries (link_at j before.world).stands steps.node.lane.entry_bytes s (t.down j) = subst (λ (m : NodeState). Carries (link_at j before.world).stands m.lane.entry_bytes s (t.down j)) node_is (st.carried j there).down in
-    carries_fit alone steps.steps.lane.words steps.node.lane.entry_bytes flows.piece.now steps.next.lane.entry_bytes (is_open Entry steps.next.lane.body) (with_arrival (flowing count stream) stream)
-    (same ∙ arrival (flowing count stream) stream flows.piece.now flows.bytes) (ap is_empty same ∙ can.comes) steps.steps.lane.brings.0 waits
-flow_fits alone t number j Exit count before after told can st flows =
-    let steps = flows.steps in
-    let s : Stream = (link_at (j + 1) before.world).flows.to_upstream in
-    let within : j + 1 + 1 ≤ length before.machines = omega (arith, ltb-true (j + 1) (length before.machines) can.beside) in
-    let there : has_link (j + 1) before ≡ true = link_there (j + 1) (length before.machines) (omega arith) within in
-    let node_is : node_at before (j + 1) ≡ steps.node = node_there (j + 1) before steps.node steps.there in
-    let waits : Carries (link_at (j + 1) before.world).stands steps.node.lane.exit_bytes s (t.up (j + 1)) = subst (λ (m : NodeState). Carries (link_at (j + 1) before.world).stands m.lane.exit_bytes s (t.up (j + 1))) node_is (st.carried (j + 1) there).up in
-    carries_fit alone steps.steps.lane.words steps.node.lane.exit_bytes flows.piece.now steps.next.lane.exit_bytes (is_open Exit steps.next.lane.body) (with_arrival (flowing count s) s)
-    (arrival (flowing count s) s flows.piece.now flows.bytes) can.comes steps.steps.lane.brings.0 waits
+flow_fits alone t number j side count before after told can st flows =
+    flow_carried (λ (words : List Word) (messages : List Horizontal). AreFitWords words) (λ stands stream messages words old piece new still later. carries_fit alone words old piece new still later) t number j side count before after told can st flows
 
 -- what is heard of what flows up, and what is left
 record Hears (messages : List Horizontal) (words : List Word) (stands still : Bool) (old bytes new later : List ℕ) : Type 0 where

@@ -1,11 +1,10 @@
 -- A LINE, as each machine sees it: the machine is as it was and tells nothing, or it made one step from what it was before
 -- the line, of which the report tells all acts but the switching of drives.
 use Rattle.std.proofs.Common.{Bool, Err, List, Ok, Option, Result, [], ap, append-nil, append_assoc, arith, false, inl, inr, length, ne_eqb, refl, suc, subst, sym, true, zero, ℕ, ◌&&◌, ◌++◌, ◌+◌, ◌-◌, ◌==◌, ◌∙◌, ◌∷◌, ◌≡◌, ◌≢◌, ◌≤◌, ◌⊎◌}
-use Rattle.std.specs.Prelude.{if◌then◌else◌, slice_index_or, take}
+use Rattle.std.specs.Prelude.{if◌then◌else◌, slice_index_or}
 use Rattle.std.specs.List.{AllByRecursion}
 use Rattle.std.proofs.lemmas.Bool.{ltb-true, and_from}
 use Rattle.std.proofs.lemmas.Bool.Decides.{eqb_tells}
-use Rattle.line_step.proofs.LineOnce.{met-dry}
 use Rattle.line_step.proofs.Once.{IsDry}
 use Rattle.one_standing.proofs.RestLine.{node_there}
 use Rattle.line_step.proofs.OnFloor.{made-join}
@@ -23,6 +22,8 @@ use Rattle.hermes_horizontal.specs.declared.message.Message.{Message}
 use Rattle.line_link.specs.Flow.{Stream, coming, flowing, with_arrival}
 use Rattle.line_link.specs.Link.{after_connect, after_flow, answer_sent, connected_of, sent_of}
 use Rattle.smema_bridge.specs.Levels.{BridgeLevels}
+use Rattle.line_link.specs.declared.link.Connected.{Connected}
+use Rattle.line_link.specs.declared.link.Connected.TheVariants as connections
 use Rattle.line_script.specs.declared.line.ScriptLine.{ScriptLine}
 use Rattle.line_world.specs.FloorPlan.{FloorPlan, gap_at, machine_at}
 use Rattle.node_core.specs.Desk.{Desk}
@@ -69,7 +70,8 @@ use Rattle.one_standing.proofs.MirroringFlow.{CanFlow, can_flow, link_there, arr
 use Rattle.line_history.proofs.Floor.{acts_lies, acts_lists, make_not, makes_not, none_unread, read_lies, read_lists}
 use Rattle.line_history.proofs.Stepping.{AreTheirs}
 use Rattle.line_step.proofs.Remarks.{AreRemarks, IsNoAct, IsRemark, Passes, acts_pass, all_pass, cut_remarks, no_acts, standings_remarks}
-use Rattle.line_step.proofs.Requests.{IsGiven, Request, added_told, request_of}
+use Rattle.line_step.proofs.Requests.{IsGiven, Request, added_told, may_get, request_of}
+use Rattle.line_step.proofs.Requests as requests
 use Rattle.line_step.proofs.Effects.{added_remarks, becomes_by}
 use Rattle.line_step.proofs.Turns.{LineTurns, line_turns}
 use Rattle.line_step.proofs.Turns as turns
@@ -183,30 +185,39 @@ oldest_of {messages = messages} alone words old piece new still later is some ar
     (alone.wrong old piece (coming later) new still words messages all are).oldest
 oldest_of {stream = stream} alone words old piece new still later is some are (carries_over off nothing) = absurd (let no_way : true ≡ false = sym (ap is_empty nothing) ∙ some in cc)
 
-pub flow_oldest : SaysAlone → (t : Trace) (number j : ℕ) (side : Side) (count : Option ℕ) (before after : LineState) (told : List Happening) → CanFlow (j + 1) side before → Stands t before
-    → (flows : Flows number (j + 1) side count before after told) → AreOldest flows.steps.steps.lane.words (unheard side (scene_at t before j))
-flow_oldest alone t number j Entry count before after told can st flows =
+-- this holds of the words of a piece that arrives and of the messages on their way, whose bytes it is of
+abbrev pub Arrives : (List Word → List Horizontal → Type 0) → Type 0
+Arrives Q =
+    (stands : Bool) (stream : Stream) (messages : List Horizontal) (words : List Word) (old piece new : List ℕ) (still : Bool) (later : Stream) → coming stream ≡ piece ++ coming later → is_empty (coming stream) ≡ false → AreWords old piece new still words
+    → Carries stands old stream messages → Q words messages
+
+pub flow_carried : (Q : List Word → List Horizontal → Type 0) → Arrives Q
+    → (t : Trace) (number j : ℕ) (side : Side) (count : Option ℕ) (before after : LineState) (told : List Happening) → CanFlow (j + 1) side before → Stands t before → (flows : Flows number (j + 1) side count before after told) → Q flows.steps.steps.lane.words (unheard side (scene_at t before j))
+flow_carried Q each t number j Entry count before after told can st flows =
     let steps = flows.steps in
     let s : Stream = (link_at j before.world).flows.to_downstream in
-    let n : ℕ = flowing count s in
     let within = (machine_within (j + 1) before steps.node steps.there).1 in
     let behind : 1 ≤ j = omega (arith, ltb-true 1 (j + 1) can.beside) in
     let there : has_link j before ≡ true = link_there j (length before.machines) behind within in
     let node_is : node_at before (j + 1) ≡ steps.node = node_there (j + 1) before steps.node steps.there in
-    let some : is_empty (coming s) ≡ false = ap (λ (k : ℕ). is_empty (coming (link_at k before.world).flows.to_downstream)) (sym (before_one j)) ∙ can.comes in
-    let piece_is : flows.piece.now ≡ take n (coming s) = flows.bytes ∙ ap (λ (k : ℕ). take (flowing count (link_at k before.world).flows.to_downstream) (coming (link_at k before.world).flows.to_downstream)) (before_one j) in
+    let same : coming s ≡ coming (link_at (j + 1 - 1) before.world).flows.to_downstream = ap (λ (k : ℕ). coming (link_at k before.world).flows.to_downstream) (sym (before_one j)) in
+    let stream : Stream = (link_at (j + 1 - 1) before.world).flows.to_downstream in
     let waits : Carries (link_at j before.world).stands steps.node.lane.entry_bytes s (t.down j) = subst (λ (m : NodeState). Carries (link_at j before.world).stands m.lane.entry_bytes s (t.down j)) node_is (st.carried j there).down in
-    oldest_of alone steps.steps.lane.words steps.node.lane.entry_bytes flows.piece.now steps.next.lane.entry_bytes (is_open Entry steps.next.lane.body) (with_arrival n s) (arrival n s flows.piece.now piece_is) some steps.steps.lane.brings.0 waits
-flow_oldest alone t number j Exit count before after told can st flows =
+    each _ _ _ steps.steps.lane.words steps.node.lane.entry_bytes flows.piece.now steps.next.lane.entry_bytes (is_open Entry steps.next.lane.body) (with_arrival (flowing count stream) stream)
+    (same ∙ arrival (flowing count stream) stream flows.piece.now flows.bytes) (ap is_empty same ∙ can.comes) steps.steps.lane.brings.0 waits
+flow_carried Q each t number j Exit count before after told can st flows =
     let steps = flows.steps in
     let s : Stream = (link_at (j + 1) before.world).flows.to_upstream in
-    let n : ℕ = flowing count s in
     let within : j + 1 + 1 ≤ length before.machines = omega (arith, ltb-true (j + 1) (length before.machines) can.beside) in
-    let counted : 1 ≤ j + 1 = omega arith in
-    let there : has_link (j + 1) before ≡ true = link_there (j + 1) (length before.machines) counted within in
+    let there : has_link (j + 1) before ≡ true = link_there (j + 1) (length before.machines) (omega arith) within in
     let node_is : node_at before (j + 1) ≡ steps.node = node_there (j + 1) before steps.node steps.there in
     let waits : Carries (link_at (j + 1) before.world).stands steps.node.lane.exit_bytes s (t.up (j + 1)) = subst (λ (m : NodeState). Carries (link_at (j + 1) before.world).stands m.lane.exit_bytes s (t.up (j + 1))) node_is (st.carried (j + 1) there).up in
-    oldest_of alone steps.steps.lane.words steps.node.lane.exit_bytes flows.piece.now steps.next.lane.exit_bytes (is_open Exit steps.next.lane.body) (with_arrival n s) (arrival n s flows.piece.now flows.bytes) can.comes steps.steps.lane.brings.0 waits
+    each _ _ _ steps.steps.lane.words steps.node.lane.exit_bytes flows.piece.now steps.next.lane.exit_bytes (is_open Exit steps.next.lane.body) (with_arrival (flowing count s) s)
+    (arrival (flowing count s) s flows.piece.now flows.bytes) can.comes steps.steps.lane.brings.0 waits
+
+pub flow_oldest : SaysAlone → (t : Trace) (number j : ℕ) (side : Side) (count : Option ℕ) (before after : LineState) (told : List Happening) → CanFlow (j + 1) side before → Stands t before
+    → (flows : Flows number (j + 1) side count before after told) → AreOldest flows.steps.steps.lane.words (unheard side (scene_at t before j))
+flow_oldest alone t number j side count before after told can st flows = flow_carried AreOldest (λ stands stream messages words old piece new still later. oldest_of alone words old piece new still later) t number j side count before after told can st flows
 
 new_theirs : (c : Scene) (found : Result ℕ IdsUsedUp) (event : ℕ → Event) → ((id : ℕ) → AreTheirs (event id) c) → AreTheirs (with_new found event) c
 new_theirs c (Ok id) event all = all id
@@ -224,23 +235,43 @@ plain_theirs c maker _ words none = tt
 abbrev pub unwilled : Body → Body
 unwilled body = record body { entry = record body.entry { willing = false }; exit = record body.exit { willing = false } }
 
--- it made a step, from what it was before the line
-pub record Stepped (j : ℕ) (t : Trace) (before after : LineState) (told : List Happening) : Type 0 where
+-- it made a step, from what it was before the line, and this is known of the event
+pub record SteppedBy (K : Event → Type 0) (j : ℕ) (before after : LineState) (told : List Happening) : Type 0 where
   pub desk : Desk
   pub event : Event
-  pub theirs : AreTheirs event (scene_at t before j)
+  pub known : K event
   pub body : (node_at after (j + 1)).lane.body ≡ (plain_step desk (unread_by (j + 1) before.world) event (node_at before (j + 1)).lane.body).body
   pub acts : done_by (j + 1) told ≡ undriven (plain_step desk (unread_by (j + 1) before.world) event (node_at before (j + 1)).lane.body).acts
   pub unread : (machine_at after.world.floor (j + 1)).unread ≡ []
 
-pub data Turn (j : ℕ) (t : Trace) (before after : LineState) (told : List Happening) : Type 0 where
-  is_still : unwilled (node_at after (j + 1)).lane.body ≡ unwilled (node_at before (j + 1)).lane.body → done_by (j + 1) told ≡ [] → Turn j t before after told
-  has_stepped : Stepped j t before after told → Turn j t before after told
+pub data TurnBy (K : Event → Type 0) (j : ℕ) (before after : LineState) (told : List Happening) : Type 0 where
+  is_still : unwilled (node_at after (j + 1)).lane.body ≡ unwilled (node_at before (j + 1)).lane.body → done_by (j + 1) told ≡ [] → TurnBy K j before after told
+  has_stepped : SteppedBy K j before after told → TurnBy K j before after told
+
+-- where it hears words, they are the oldest messages to their side
+abbrev pub Stepped : ℕ → Trace → LineState → LineState → List Happening → Type 0
+Stepped j t before after told = SteppedBy (λ (event : Event). AreTheirs event (scene_at t before j)) j before after told
+
+abbrev pub Turn : ℕ → Trace → LineState → LineState → List Happening → Type 0
+Turn j t before after told = TurnBy (λ (event : Event). AreTheirs event (scene_at t before j)) j before after told
+
+-- the inputs of a connection
+abbrev pub IsJoining : Input → Type 0
+IsJoining inputs.Connect = Unit {0}
+IsJoining inputs.Accepted = Unit {0}
+IsJoining inputs.Second = Unit {0}
+IsJoining _ = ⊥
+
+-- what is known of the event of each own step of the machine
+pub record EventsAre (K : Event → Type 0) (number j : ℕ) (before after : LineState) (told : List Happening) (request : Request) : Type 0 where
+  pub given : (input : Input) → request ≡ requests.gives (j + 1) input → IsGiven input → may_get (j + 1) input before ≡ may_do → (steps : MachineSteps number (j + 1) input before after told) → K (event_of steps.node.maker input steps.steps.lane.words)
+  pub joining : (input : Input) → IsJoining input → (maker : Maker) (words : List Word) → K (event_of maker input words)
+  pub arriving : (side : Side) (count : Option ℕ) → may_flow (j + 1) side before ≡ may_do → (flows : Flows number (j + 1) side count before after told) → K (event_of flows.steps.node.maker (inputs.Bytes side flows.piece) flows.steps.steps.lane.words)
 
 -- the machine's own step, from a state in which it is what it was before the line
-own_turn : (t : Trace) (number j : ℕ) (input : Input) (before start after : LineState) (told : List Happening) → (steps : MachineSteps number (j + 1) input start after told) → stand_at start (j + 1) ≡ stand_at before (j + 1)
-    → AreTheirs (event_of steps.node.maker input steps.steps.lane.words) (scene_at t before j) → Stepped j t before after told
-own_turn t number j input before start after told steps same theirs =
+own_turn : (K : Event → Type 0) (number j : ℕ) (input : Input) (before start after : LineState) (told : List Happening) → (steps : MachineSteps number (j + 1) input start after told) → stand_at start (j + 1) ≡ stand_at before (j + 1)
+    → K (event_of steps.node.maker input steps.steps.lane.words) → SteppedBy K j before after told
+own_turn K number j input before start after told steps same known =
     let node : NodeState = steps.node in
     let desk : Desk = desk_of node (moment_of number) in
     let lane = steps.steps.lane in
@@ -253,7 +284,7 @@ own_turn t number j input before start after told steps same theirs =
     record {
       desk = desk;
       event = event;
-      theirs = theirs;
+      known = known;
       body = ap (λ (n : NodeState). n.lane.body) next_is ∙ lane.body ∙ ap (λ (d : Done). d.body) did;
       acts = ap (done_by (j + 1)) steps.told_is ∙ own_acts (is_second input) (j + 1) steps.acts (read_by (j + 1) start.world)
           ∙ ap undriven steps.steps.told ∙ undriven_signals steps.steps.made node.bridge steps.next.lane.body ∙ ap undriven lane.told
@@ -262,17 +293,18 @@ own_turn t number j input before start after told steps same theirs =
     }
 
 -- another machine's step
-other_still : (t : Trace) (number j machine : ℕ) (input : Input) (before start after : LineState) (told : List Happening) → (steps : MachineSteps number machine input start after told) → j + 1 ≢ machine → stand_at start (j + 1) ≡ stand_at before (j + 1) → Turn j t before after told
-other_still t number j machine input before start after told steps apart same =
+other_still : (K : Event → Type 0) (number j machine : ℕ) (input : Input) (before start after : LineState) (told : List Happening) → (steps : MachineSteps number machine input start after told) → j + 1 ≢ machine → stand_at start (j + 1) ≡ stand_at before (j + 1) → TurnBy K j before after told
+other_still K number j machine input before start after told steps apart same =
     is_still (ap (λ (s : Stand). unwilled s.node.lane.body) ((step_changes number machine input start after told steps).machines (j + 1) apart ∙ same))
     (ap (done_by (j + 1)) steps.told_is ∙ other_acts (is_second input) (j + 1) machine steps.acts (read_by machine start.world) apart)
 
--- one step, of an input that is no bytes
-plain_turn : (t : Trace) (number j machine : ℕ) (input : Input) (before after : LineState) (told : List Happening) → (j + 1 ≡ machine) ⊎ (j + 1 ≢ machine) → IsDry input → MachineSteps number machine input before after told → Turn j t before after told
-plain_turn t number j machine input before after told (inl is) none steps =
-    let own : MachineSteps number (j + 1) input before after told = subst (λ (m : ℕ). MachineSteps number m input before after told) (sym is) steps in
-    has_stepped (own_turn t number j input before before after told own refl (plain_theirs (scene_at t before j) own.node.maker input own.steps.lane.words none))
-plain_turn t number j machine input before after told (inr apart) none steps = other_still t number j machine input before before after told steps apart refl
+-- an input that a line gives
+given_turn : (K : Event → Type 0) (number j machine : ℕ) (input : Input) (before after : LineState) (told : List Happening) (request : Request) → EventsAre K number j before after told request → (j + 1 ≡ machine) ⊎ (j + 1 ≢ machine) → request ≡ requests.gives machine input → IsGiven input
+    → may_get machine input before ≡ may_do → MachineSteps number machine input before after told → TurnBy K j before after told
+given_turn K number j machine input before after told request are (inl is) asks given may steps =
+    subst (λ (m : ℕ). request ≡ requests.gives m input → may_get m input before ≡ may_do → MachineSteps number m input before after told → TurnBy K j before after told) is
+    (λ own_asks own_may own. has_stepped (own_turn K number j input before before after told own refl (are.given input own_asks given own_may own))) asks may steps
+given_turn K number j machine input before after told request are (inr apart) asks given may steps = other_still K number j machine input before before after told steps apart refl
 
 -- ---- each form of line
 
@@ -290,13 +322,13 @@ more_body is_bridge capacity used s k (inl is) =
       no_last [] = refl
       no_last (node ∷ nodes) = no_last nodes
 
-quiet_turn : (j : ℕ) (t : Trace) (before next after : LineState) (what told : List Happening) → unwilled (node_at next (j + 1)).lane.body ≡ unwilled (node_at before (j + 1)).lane.body → done_by (j + 1) what ≡ [] → Becomes next what after told → Turn j t before after told
-quiet_turn j t before next after what told same none b = is_still (ap (λ (s : LineState). unwilled (node_at s (j + 1)).lane.body) b.after_is ∙ same) (ap (done_by (j + 1)) b.told_is ∙ none)
+quiet_turn : (K : Event → Type 0) (j : ℕ) (before next after : LineState) (what told : List Happening) → unwilled (node_at next (j + 1)).lane.body ≡ unwilled (node_at before (j + 1)).lane.body → done_by (j + 1) what ≡ [] → Becomes next what after told → TurnBy K j before after told
+quiet_turn K j before next after what told same none b = is_still (ap (λ (s : LineState). unwilled (node_at s (j + 1)).lane.body) b.after_is ∙ same) (ap (done_by (j + 1)) b.told_is ∙ none)
 
 -- a machine is added, or a bridge
-more_turn : (j : ℕ) (t : Trace) (is_bridge : Bool) (capacity used : ℕ) (before after : LineState) (what told : List Happening) → done_by (j + 1) what ≡ [] → Becomes (one_more is_bridge capacity used before) what after told → Turn j t before after told
-more_turn j t is_bridge capacity used before after what told none b =
-    quiet_turn j t before (one_more is_bridge capacity used before) after what told (more_body is_bridge capacity used before (j + 1) (same_or_not (j + 1) (length before.machines + 1))) none b
+more_turn : (K : Event → Type 0) (j : ℕ) (is_bridge : Bool) (capacity used : ℕ) (before after : LineState) (what told : List Happening) → done_by (j + 1) what ≡ [] → Becomes (one_more is_bridge capacity used before) what after told → TurnBy K j before after told
+more_turn K j is_bridge capacity used before after what told none b =
+    quiet_turn K j before (one_more is_bridge capacity used before) after what told (more_body is_bridge capacity used before (j + 1) (same_or_not (j + 1) (length before.machines + 1))) none b
 
 pub same_machines : (j : ℕ) (s next : LineState) → next.machines ≡ s.machines → (node_at next (j + 1)).lane.body ≡ (node_at s (j + 1)).lane.body
 same_machines j s next is = ap (λ (n : NodeState). n.lane.body) (same_nodes (j + 1) s next is) where
@@ -307,32 +339,31 @@ same_machines j s next is = ap (λ (n : NodeState). n.lane.body) (same_nodes (j 
 pub arrived_stand : (k machine : ℕ) (side : Side) (count : Option ℕ) (s : LineState) → stand_at (arrived machine side count s) k ≡ stand_at s k
 arrived_stand k machine side count s = (link_changes (link_of machine side) (after_flow (end_of side) count (link_at (link_of machine side) s.world)) s).machines k
 
-flow_turn : SaysAlone → (t : Trace) (number j machine : ℕ) (side : Side) (count : Option ℕ) (before after : LineState) (told : List Happening) → Stands t before → may_flow machine side before ≡ may_do → (j + 1 ≡ machine) ⊎ (j + 1 ≢ machine) → Flows number machine side count before after told
-    → Turn j t before after told
-flow_turn alone t number j machine side count before after told st may (inl is) flows =
-    let own : Flows number (j + 1) side count before after told = subst (λ (m : ℕ). Flows number m side count before after told) (sym is) flows in
-    let can : CanFlow (j + 1) side before = can_flow (j + 1) side before (subst (λ (m : ℕ). may_flow m side before ≡ may_do) (sym is) may) in
-    has_stepped (own_turn t number j (inputs.Bytes side own.piece) before (arrived (j + 1) side count before) after told own.steps (arrived_stand (j + 1) (j + 1) side count before) (flow_oldest alone t number j side count before after told can st own))
-flow_turn alone t number j machine side count before after told st may (inr apart) flows =
-    other_still t number j machine (inputs.Bytes side flows.piece) before (arrived machine side count before) after told flows.steps apart (arrived_stand (j + 1) machine side count before)
+flow_turn : (K : Event → Type 0) (number j machine : ℕ) (side : Side) (count : Option ℕ) (before after : LineState) (told : List Happening) (request : Request) → EventsAre K number j before after told request → may_flow machine side before ≡ may_do → (j + 1 ≡ machine) ⊎ (j + 1 ≢ machine) → Flows number machine side count before after told
+    → TurnBy K j before after told
+flow_turn K number j machine side count before after told request are may (inl is) flows =
+    subst (λ (m : ℕ). may_flow m side before ≡ may_do → Flows number m side count before after told → TurnBy K j before after told) is
+    (λ own_may own. has_stepped (own_turn K number j (inputs.Bytes side own.piece) before (arrived (j + 1) side count before) after told own.steps (arrived_stand (j + 1) (j + 1) side count before) (are.arriving side count own_may own))) may flows
+flow_turn K number j machine side count before after told request are may (inr apart) flows =
+    other_still K number j machine (inputs.Bytes side flows.piece) before (arrived machine side count before) after told flows.steps apart (arrived_stand (j + 1) machine side count before)
 
 -- a connection is made: both machines make a step
 
-behind_own : (t : Trace) (j : ℕ) (before between after : LineState) (a b : List Happening) → Stepped j t before between a → stand_at after (j + 1) ≡ stand_at between (j + 1) → done_by (j + 1) b ≡ [] → Stepped j t before after (a ++ b)
-behind_own t j before between after a b s same none = record {
+behind_own : (K : Event → Type 0) (j : ℕ) (before between after : LineState) (a b : List Happening) → SteppedBy K j before between a → stand_at after (j + 1) ≡ stand_at between (j + 1) → done_by (j + 1) b ≡ [] → SteppedBy K j before after (a ++ b)
+behind_own K j before between after a b s same none = record {
   desk = s.desk;
   event = s.event;
-  theirs = s.theirs;
+  known = s.known;
   body = ap (λ (x : Stand). x.node.lane.body) same ∙ s.body;
   acts = done_append (j + 1) a b ∙ ap (λ (x : List Act). done_by (j + 1) a ++ x) none ∙ append-nil (done_by (j + 1) a) ∙ s.acts;
   unread = ap (λ (x : Stand). x.place.unread) same ∙ s.unread;
 }
 
-before_own : (t : Trace) (j : ℕ) (before after : LineState) (a b : List Happening) → done_by (j + 1) a ≡ [] → Stepped j t before after b → Stepped j t before after (a ++ b)
-before_own t j before after a b none s = record {
+before_own : (K : Event → Type 0) (j : ℕ) (before after : LineState) (a b : List Happening) → done_by (j + 1) a ≡ [] → SteppedBy K j before after b → SteppedBy K j before after (a ++ b)
+before_own K j before after a b none s = record {
   desk = s.desk;
   event = s.event;
-  theirs = s.theirs;
+  known = s.known;
   body = s.body;
   acts = done_append (j + 1) a b ∙ ap (λ (x : List Act). x ++ done_by (j + 1) b) none ∙ s.acts;
   unread = s.unread;
@@ -344,27 +375,31 @@ connecting_stand k machine s = (link_changes (machine - 1) (after_connect (link_
 pub apart_of : (j machine : ℕ) → 1 ≤ machine → j + 1 ≡ machine → j + 1 ≢ machine - 1
 apart_of j machine counted is same = absurd (omega (arith, counted, is, same))
 
-connects_by : (t : Trace) (number j machine : ℕ) (before after : LineState) (told : List Happening) → (j + 1 ≡ machine) ⊎ (j + 1 ≢ machine) → (j + 1 ≡ machine - 1) ⊎ (j + 1 ≢ machine - 1) → (steps : Connects number machine before after told)
-    → Turn j t before after (steps.earlier ++ steps.later)
-connects_by t number j machine before after told (inl is) second steps =
+met_joining : (on : Connected) → IsJoining (met on)
+met_joining connections.Accepted = tt
+met_joining connections.Second = tt
+
+connects_by : (K : Event → Type 0) (number j machine : ℕ) (before after : LineState) (told : List Happening) → ((input : Input) → IsJoining input → (maker : Maker) (words : List Word) → K (event_of maker input words)) → (j + 1 ≡ machine) ⊎ (j + 1 ≢ machine) → (j + 1 ≡ machine - 1) ⊎ (j + 1 ≢ machine - 1) → (steps : Connects number machine before after told)
+    → TurnBy K j before after (steps.earlier ++ steps.later)
+connects_by K number j machine before after told join (inl is) second steps =
     let start : LineState = connecting machine before in
     let on = connected_of (link_at (machine - 1) before.world).upstream in
     let counted : 1 ≤ machine = (machine_within machine start steps.first.node steps.first.there).0 in
     let own : MachineSteps number (j + 1) inputs.Connect start steps.between steps.earlier = subst (λ (m : ℕ). MachineSteps number m inputs.Connect start steps.between steps.earlier) (sym is) steps.first in
     let apart : j + 1 ≢ machine - 1 = apart_of j machine counted is in
-    has_stepped (behind_own t j before steps.between after steps.earlier steps.later
-    (own_turn t number j inputs.Connect before start steps.between steps.earlier own (connecting_stand (j + 1) machine before) (plain_theirs (scene_at t before j) own.node.maker inputs.Connect own.steps.lane.words tt))
+    has_stepped (behind_own K j before steps.between after steps.earlier steps.later
+    (own_turn K number j inputs.Connect before start steps.between steps.earlier own (connecting_stand (j + 1) machine before) (join inputs.Connect tt own.node.maker own.steps.lane.words))
     ((step_changes number (machine - 1) (met on) steps.between after steps.later steps.second).machines (j + 1) apart)
     (ap (done_by (j + 1)) steps.second.told_is ∙ other_acts (is_second (met on)) (j + 1) (machine - 1) steps.second.acts (read_by (machine - 1) steps.between.world) apart))
-connects_by t number j machine before after told (inr apart) (inl is) steps =
+connects_by K number j machine before after told join (inr apart) (inl is) steps =
     let start : LineState = connecting machine before in
     let on = connected_of (link_at (machine - 1) before.world).upstream in
     let own : MachineSteps number (j + 1) (met on) steps.between after steps.later = subst (λ (m : ℕ). MachineSteps number m (met on) steps.between after steps.later) (sym is) steps.second in
     let same : stand_at steps.between (j + 1) ≡ stand_at before (j + 1) = (step_changes number machine inputs.Connect start steps.between steps.earlier steps.first).machines (j + 1) apart ∙ connecting_stand (j + 1) machine before in
-    has_stepped (before_own t j before after steps.earlier steps.later
+    has_stepped (before_own K j before after steps.earlier steps.later
     (ap (done_by (j + 1)) steps.first.told_is ∙ other_acts false (j + 1) machine steps.first.acts (read_by machine start.world) apart)
-    (own_turn t number j (met on) before steps.between after steps.later own same (plain_theirs (scene_at t before j) own.node.maker (met on) own.steps.lane.words (met-dry on))))
-connects_by t number j machine before after told (inr apart) (inr other) steps =
+    (own_turn K number j (met on) before steps.between after steps.later own same (join (met on) (met_joining on) own.node.maker own.steps.lane.words)))
+connects_by K number j machine before after told join (inr apart) (inr other) steps =
     let start : LineState = connecting machine before in
     let on = connected_of (link_at (machine - 1) before.world).upstream in
     let one : stand_at steps.between (j + 1) ≡ stand_at before (j + 1) = (step_changes number machine inputs.Connect start steps.between steps.earlier steps.first).machines (j + 1) apart ∙ connecting_stand (j + 1) machine before in
@@ -373,22 +408,33 @@ connects_by t number j machine before after told (inr apart) (inr other) steps =
     (none_join (j + 1) steps.earlier steps.later (ap (done_by (j + 1)) steps.first.told_is ∙ other_acts false (j + 1) machine steps.first.acts (read_by machine start.world) apart)
     (ap (done_by (j + 1)) steps.second.told_is ∙ other_acts (is_second (met on)) (j + 1) (machine - 1) steps.second.acts (read_by (machine - 1) steps.between.world) other))
 
-connects_turn : (t : Trace) (number j machine : ℕ) (before after : LineState) (told : List Happening) → Connects number machine before after told → Turn j t before after told
-connects_turn t number j machine before after told steps =
-    subst (λ (x : List Happening). Turn j t before after x) (sym steps.told_is) (connects_by t number j machine before after told (same_or_not (j + 1) machine) (same_or_not (j + 1) (machine - 1)) steps)
+connects_turn : (K : Event → Type 0) (number j machine : ℕ) (before after : LineState) (told : List Happening) → ((input : Input) → IsJoining input → (maker : Maker) (words : List Word) → K (event_of maker input words)) → Connects number machine before after told → TurnBy K j before after told
+connects_turn K number j machine before after told join steps =
+    subst (λ (x : List Happening). TurnBy K j before after x) (sym steps.told_is) (connects_by K number j machine before after told join (same_or_not (j + 1) machine) (same_or_not (j + 1) (machine - 1)) steps)
 
--- no input that a line gives is of bytes
-given_turn : (t : Trace) (number j machine : ℕ) (input : Input) (before after : LineState) (told : List Happening) → IsGiven input → MachineSteps number machine input before after told → Turn j t before after told
-given_turn t number j machine (inputs.Bytes side piece) before after told given steps = absurd given
-given_turn t number j machine input before after told given steps = plain_turn t number j machine input before after told (same_or_not (j + 1) machine) tt steps
+turns_turn : (K : Event → Type 0) (number : ℕ) (request : Request) (before after : LineState) (told : List Happening) (j : ℕ) → EventsAre K number j before after told request → LineTurns number before after told request → TurnBy K j before after told
+turns_turn K number request before after told j are (turns.stays _ same none) = is_still (ap unwilled (same_machines j before after same)) (all_pass told (no_acts_none (j + 1)) none)
+turns_turn K number request before after told j are (turns.adds is_bridge capacity used may b) =
+    more_turn K j is_bridge capacity used before after (added_told is_bridge capacity before) told (remarks_none (j + 1) _ (added_remarks is_bridge capacity before)) b
+turns_turn K number request before after told j are (turns.steps machine input given may did) = given_turn K number j machine input before after told request are (same_or_not (j + 1) machine) refl given may did
+turns_turn K number request before after told j are (turns.connects machine may did) = connects_turn K number j machine before after told are.joining did
+turns_turn K number request before after told j are (turns.flows machine side count may did) = flow_turn K number j machine side count before after told request are may (same_or_not (j + 1) machine) did
 
-turns_turn : SaysAlone → (t : Trace) (number : ℕ) (request : Request) (before after : LineState) (told : List Happening) → Stands t before → LineTurns number before after told request → (j : ℕ) → Turn j t before after told
-turns_turn alone t number request before after told st (turns.stays _ same none) j = is_still (ap unwilled (same_machines j before after same)) (all_pass told (no_acts_none (j + 1)) none)
-turns_turn alone t number request before after told st (turns.adds is_bridge capacity used may b) j =
-    more_turn j t is_bridge capacity used before after (added_told is_bridge capacity before) told (remarks_none (j + 1) _ (added_remarks is_bridge capacity before)) b
-turns_turn alone t number request before after told st (turns.steps machine input given may did) j = given_turn t number j machine input before after told given did
-turns_turn alone t number request before after told st (turns.connects machine may did) j = connects_turn t number j machine before after told did
-turns_turn alone t number request before after told st (turns.flows machine side count may did) j = flow_turn alone t number j machine side count before after told st may (same_or_not (j + 1) machine) did
+-- of an event that hears words they are the oldest messages
+given_dry : (input : Input) → IsGiven input → IsDry input
+given_dry (inputs.Bytes side piece) given = absurd given
+given_dry _ given = tt
+
+joining_dry : (input : Input) → IsJoining input → IsDry input
+joining_dry (inputs.Bytes side piece) joins = absurd joins
+joining_dry _ joins = tt
+
+are_theirs : SaysAlone → (t : Trace) (number j : ℕ) (before after : LineState) (told : List Happening) (request : Request) → Stands t before → EventsAre (λ (event : Event). AreTheirs event (scene_at t before j)) number j before after told request
+are_theirs alone t number j before after told request st = record {
+  given = λ input asks given may steps. plain_theirs (scene_at t before j) steps.node.maker input steps.steps.lane.words (given_dry input given);
+  joining = λ input joins maker words. plain_theirs (scene_at t before j) maker input words (joining_dry input joins);
+  arriving = λ side count may flows. flow_oldest alone t number j side count before after told (can_flow (j + 1) side before may) st flows;
+}
 
 -- ---- a line in which no machine makes a step, and one in which boards stay where they lie
 
@@ -478,16 +524,20 @@ line_kind number line before after told steps =
     subst (λ (s : LineState). Kind before s told) (sym steps.after_is) (subst (λ (x : List Happening). Kind before (record next { lines = next.lines + 1 }) x) (sym steps.told_is)
     (counted_kind before next steps.done (standings_told before next) (next.lines + 1) (λ j. standings_none (j + 1) before next) (turns_kind number (request_of line) before next steps.done (line_turns number line before next steps.done steps.does))))
 
-counted_turn : {j : ℕ} {t : Trace} {before next : LineState} {done told : List Happening} (n : ℕ) → done_by (j + 1) told ≡ done_by (j + 1) done → (node_at (record next { lines = n }) (j + 1)).lane.body ≡ (node_at next (j + 1)).lane.body → Turn j t before next done → Turn j t before (record next { lines = n }) told
+counted_turn : {K : Event → Type 0} {j : ℕ} {before next : LineState} {done told : List Happening} (n : ℕ) → done_by (j + 1) told ≡ done_by (j + 1) done → (node_at (record next { lines = n }) (j + 1)).lane.body ≡ (node_at next (j + 1)).lane.body → TurnBy K j before next done → TurnBy K j before (record next { lines = n }) told
 counted_turn n acts body (is_still same none) = is_still (ap unwilled body ∙ same) (acts ∙ none)
-counted_turn n acts body (has_stepped s) = has_stepped (record { desk = s.desk; event = s.event; theirs = s.theirs; body = body ∙ s.body; acts = acts ∙ s.acts; unread = s.unread })
+counted_turn n acts body (has_stepped s) = has_stepped (record { desk = s.desk; event = s.event; known = s.known; body = body ∙ s.body; acts = acts ∙ s.acts; unread = s.unread })
 
 -- EACH LINE, for each machine
-pub line_turn : SaysAlone → (t : Trace) (number : ℕ) (line : ScriptLine) (before after : LineState) (told : List Happening) → Stands t before → LineSteps number line before after told → (j : ℕ) → Turn j t before after told
-line_turn alone t number line before after told st steps j =
+pub each_turn : (K : Event → Type 0) (number : ℕ) (line : ScriptLine) (before after : LineState) (told : List Happening) (j : ℕ) → (steps : LineSteps number line before after told) → EventsAre K number j before steps.next steps.done (request_of line) → TurnBy K j before after told
+each_turn K number line before after told j steps are =
     let next : LineState = steps.next in
     let done : List Happening = steps.done in
-    let turn : Turn j t before next done = turns_turn alone t number (request_of line) before next done st (line_turns number line before next done steps.does) j in
+    let turn : TurnBy K j before next done = turns_turn K number (request_of line) before next done j are (line_turns number line before next done steps.does) in
     let acts : done_by (j + 1) told ≡ done_by (j + 1) done =
     ap (done_by (j + 1)) steps.told_is ∙ done_append (j + 1) done (standings_told before next) ∙ ap (λ (x : List Act). done_by (j + 1) done ++ x) (standings_none (j + 1) before next) ∙ append-nil (done_by (j + 1) done) in
-    subst (λ (s : LineState). Turn j t before s told) (sym steps.after_is) (counted_turn (next.lines + 1) acts (same_machines j next (record next { lines = next.lines + 1 }) refl) turn)
+    subst (λ (s : LineState). TurnBy K j before s told) (sym steps.after_is) (counted_turn (next.lines + 1) acts (same_machines j next (record next { lines = next.lines + 1 }) refl) turn)
+
+pub line_turn : SaysAlone → (t : Trace) (number : ℕ) (line : ScriptLine) (before after : LineState) (told : List Happening) → Stands t before → LineSteps number line before after told → (j : ℕ) → Turn j t before after told
+line_turn alone t number line before after told st steps j =
+    each_turn (λ (event : Event). AreTheirs event (scene_at t before j)) number line before after told j steps (are_theirs alone t number j before steps.next steps.done (request_of line) st)

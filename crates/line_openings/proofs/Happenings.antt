@@ -107,9 +107,6 @@ Exactly k o r id earlier later =
 opened_id : (k id mine : ℕ) → opens k mine ≡ opens k id → mine ≡ id
 opened_id k id mine same = cc
 
-some_id : (id mine : ℕ) → Some mine ≡ Some id → mine ≡ id
-some_id id mine same = cc
-
 start_id : (message : Message) (id mine : ℕ) → message.body ≡ bodies.StartTransport mine → message.body ≡ bodies.StartTransport id → mine ≡ id
 start_id message id mine one two = cc
 

@@ -17,7 +17,6 @@ use Rattle.line_outside.specs.declared.way.Way.TheVariants as ways
 use Rattle.node_core.specs.Node.{NodeState}
 use Rattle.node_core.specs.Sides.{is_open}
 use Rattle.node_core.specs.declared.input.Input.TheVariants as inputs
-use Rattle.node_core.specs.declared.lane.Body.{Body}
 use Rattle.line_step.proofs.Once.{OneMeaning}
 use Rattle.node_run.specs.After.{AfterClose, AfterDownstream, AfterLook, AfterPoll, AfterUpstream, TakesFinding, TakesFound, TakesHeld, after_listen, after_send, broken, configuration_gone, looked, panel_gone, way_of, with_held}
 use Rattle.supervised_end.specs.Channel.{no_session}
@@ -34,7 +33,7 @@ use Rattle.node_run.specs.declared.place.Next.TheVariants as nexts
 use Rattle.node_run.specs.declared.rules.Rules.{Rules}
 use Rattle.node_run.specs.declared.status.NodeStatus.{NodeStatus}
 use Rattle.node_run.specs.declared.way_state.Wire.TheVariants as wires
-use Rattle.one_run.specs.One.{Agree, Answer, answers_of, found, opened, sent}
+use Rattle.one_run.specs.One.{Agree, answers_of, found, opened, sent}
 use Rattle.one_run.proofs.Channels.{RefusedOnce, SpelledOnce, hear_once, supervisory_once, unsupervised_once}
 use Rattle.one_run.proofs.Configuring.{ConfigRefusedOnce, ConfigSpelledOnce, config_once, configuration_once, reset_once, try_once}
 use Rattle.one_run.proofs.Nodes.{Alike}

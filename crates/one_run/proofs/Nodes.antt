@@ -1,5 +1,5 @@
 -- A machine's step is one, whatever was spent before it.
-use Rattle.std.proofs.Common.{◌≡◌, ◌∙◌, ℕ, ℤ, Bool, true, false, List, Option, Result, refl, sym, ap}
+use Rattle.std.proofs.Common.{◌≡◌, ◌∙◌, ℕ, ℤ, Bool, false, List, refl, sym, ap}
 use Rattle.std.specs.Borrow.{Bor}
 use Rattle.line_base.specs.declared.states.Side.{Side}
 use Rattle.board_record.specs.declared.sensed.Sensed.{Sensed}
@@ -45,26 +45,7 @@ same_but a b alike =
 
 may_bare : (input : Input) (a : NodeState) (spent : Bool) (entry exit : List ℕ) → may_of (bare a spent entry exit) input ≡ may_of a input
 may_bare inputs.Nothing a spent entry exit = refl
-may_bare inputs.Connect a spent entry exit = refl
-may_bare inputs.Accepted a spent entry exit = refl
-may_bare inputs.Second a spent entry exit = refl
-may_bare (inputs.Bytes side piece) a spent entry exit = refl
-may_bare (inputs.Notice side) a spent entry exit = refl
-may_bare inputs.Tick a spent entry exit = refl
-may_bare inputs.Shutdown a spent entry exit = refl
-may_bare (inputs.Fault side) a spent entry exit = refl
-may_bare (inputs.Will side on) a spent entry exit = refl
-may_bare (inputs.Level line on) a spent entry exit = refl
-may_bare (inputs.Insert barcode) a spent entry exit = refl
-may_bare (inputs.Remove id) a spent entry exit = refl
-may_bare (inputs.Replace id) a spent entry exit = refl
-may_bare (inputs.Mark id quality) a spent entry exit = refl
-may_bare (inputs.Sub id place barcode) a spent entry exit = refl
-may_bare inputs.Forecast a spent entry exit = refl
-may_bare (inputs.Query barcode) a spent entry exit = refl
-may_bare (inputs.Supervise on) a spent entry exit = refl
-may_bare (inputs.Ask question) a spent entry exit = refl
-may_bare (inputs.Answer query order) a spent entry exit = refl
+may_bare _ a spent entry exit = refl
 
 pub may_same : (input : Input) (a b : NodeState) → Alike a b → may_of b input ≡ may_of a input
 may_same input a b alike = sym (ap (λ (n : NodeState). may_of n input) (same_but a b alike)) ∙ may_bare input a b.spent b.lane.entry_bytes b.lane.exit_bytes

@@ -14,10 +14,10 @@ use Rattle.node_run.specs.declared.place.Next.{Next}
 use Rattle.node_run.specs.declared.place.Next.TheVariants as nexts
 use Rattle.node_run.specs.declared.rules.Rules.{Rules}
 use Rattle.node_run.specs.declared.status.NodeStatus.{NodeStatus}
-use Rattle.one_run.specs.One.{Agree, Answer, EachPartIsAFront, EachRunIsOne, IsBroken, IsFront, IsWhole, answers_of, found}
+use Rattle.one_run.specs.One.{Agree, EachPartIsAFront, EachRunIsOne, IsFront, answers_of}
 use Rattle.one_run.proofs.Moving.{Laws, MovesAt, move_once, moves_at, none_ends, same_found, same_opened}
 use Rattle.one_run.proofs.Nodes.{alike_self}
-use Rattle.one_run.proofs.States.{RunsAlike, like}
+use Rattle.one_run.proofs.States.{RunsAlike}
 
 -- ---- a run from its front on
 

@@ -1,5 +1,5 @@
 -- What a step, or none, makes of two states of a run that are alike.
-use Rattle.std.proofs.Common.{◌≡◌, ◌∙◌, ℕ, ℤ, Bool, true, false, List, [], Result, Ok, Err, refl, sym, ap, subst}
+use Rattle.std.proofs.Common.{◌≡◌, ◌∙◌, ℕ, ℤ, Bool, false, List, [], Result, Ok, Err, refl, sym, ap, subst}
 use Rattle.std.specs.Borrow.{Bor}
 use Rattle.line_base.specs.declared.states.Side.{Side}
 use Rattle.board_record.specs.declared.sensed.Sensed.{Sensed}
@@ -11,7 +11,7 @@ use Rattle.node_core.specs.declared.input.Input.TheVariants as inputs
 use Rattle.node_core.specs.declared.input.No.{No}
 use Rattle.line_step.proofs.Once.{IsDry, OneMeaning, StepsOnce}
 use Rattle.node_run.specs.State.{RunState}
-use Rattle.node_run.specs.Steps.{MeetsSecond, Takes, TakesSecond, TakesStep, refusing, stepped}
+use Rattle.node_run.specs.Steps.{MeetsSecond, Takes, TakesStep, refusing, stepped}
 use Rattle.machine_log.specs.Texts.{lines_of}
 use Rattle.node_run.specs.declared.rules.Rules.{Rules}
 use Rattle.one_run.proofs.Nodes.{Alike, bytes_once, may_same, node_once, unspent}

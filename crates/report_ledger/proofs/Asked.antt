@@ -1,21 +1,19 @@
 -- Each opening that a report's bytes tell answers the last start that they told at its gap.
-use Rattle.std.proofs.Common.{◌≡◌, ◌≢◌, ◌≤◌, ◌<◌, ◌^◌, ◌∙◌, sym, ap, refl, subst, ℕ, ◌+◌, ◌-◌, ◌==◌, Bool, true, false, List, [], ◌∷◌, ◌++◌, Option, Some, None, append_assoc, append-nil, arith, codes, decimal, if◌then◌else◌, length, take}
-use Rattle.std.proofs.lemmas.Bool.{eq-eqb, eqb-true, ne_eqb}
-use Rattle.std.specs.List.{AllByRecursion, list_any}
+use Rattle.std.proofs.Common.{◌≡◌, ◌≢◌, ◌≤◌, ◌<◌, ◌^◌, ◌∙◌, sym, ap, refl, subst, ℕ, ◌+◌, ◌-◌, ◌==◌, Bool, true, false, List, [], ◌∷◌, ◌++◌, Option, Some, append_assoc, append-nil, arith, codes, decimal, if◌then◌else◌}
+use Rattle.std.proofs.lemmas.Bool.{eq-eqb, eqb-true}
+use Rattle.std.specs.List.{AllByRecursion}
 use Rattle.std.proofs.lemmas.List.Elements.{recursion_from_All}
 use Rattle.board_record.specs.BoardId.{id_text}
 use Rattle.board_record.proofs.IdTexts.{read_id-id_text}
 use Rattle.hermes_vertical.specs.declared.message.Vertical.{Vertical}
 use Rattle.hermes_vertical.specs.declared.message.Vertical.TheVariants as verticals
-use Rattle.line_base.specs.Number.{value_of}
 use Rattle.line_check.specs.LogLine.{id_in, id_of}
 use Rattle.line_check.specs.Words.{cut_at_space}
 use Rattle.line_history.specs.Opened.{IsStartedFor, OpensAsStarted, OpensWhatStarted, WhatOpensStarted, gap_deed, gap_deeds, opens_at}
 use Rattle.line_report.specs.Texts.{act_text, deed_text, happening_text, told_text as body_text}
 use Rattle.line_report.specs.declared.happening.Happening.{Happening}
 use Rattle.line_report.specs.declared.happening.Happening.TheVariants as happenings
-use Rattle.line_script.specs.declared.line.ScriptLine.{ScriptLine}
-use Rattle.line_step.specs.Runs.{IsRun, Point, told_text}
+use Rattle.line_step.specs.Runs.{Point, told_text}
 use Rattle.line_step.specs.State.{LineState, no_line}
 use Rattle.machine_log.specs.Account.{IsProperAct, id_of_deed}
 use Rattle.node_core.specs.declared.act.Act.{Act}
@@ -24,11 +22,11 @@ use Rattle.node_core.specs.declared.act.Deed.{Deed}
 use Rattle.node_core.specs.declared.act.Deed.TheVariants as deeds
 use Rattle.node_core.specs.declared.act.Setting.TheVariants as settings
 use Rattle.running_logs.proofs.LineTexts.{cut_spaced, number_bytes, value_is}
-use Rattle.report_ledger.specs.Asked.{IsAsked, IsAskedFor, OpensWereAsked, ReportTellsStarts, deed_of_id, gap_told, line_tells, placed, told_at}
+use Rattle.report_ledger.specs.Asked.{IsAskedFor, OpensWereAsked, ReportTellsStarts, deed_of_id, gap_told, line_tells, placed, told_at}
 use Rattle.report_ledger.specs.Ledgers.{AreUnnumbered, honest}
 use Rattle.report_ledger.specs.Proper.{AreProperPoints, IsProperHappening}
 use Rattle.report_ledger.specs.ReportLines.{ReportLine, lines_in, vouched}
-use Rattle.report_ledger.proofs.Ledgered.{IsFront, front_of, honest_proper, points_few}
+use Rattle.report_ledger.proofs.Ledgered.{front_of, honest_proper, points_few}
 use Rattle.report_ledger.proofs.Lines.{line_with, lines_told, run_lines, run_read}
 use Rattle.report_ledger.proofs.Vouched.{Vouches, run_vouched}
 
@@ -99,26 +97,9 @@ body_reads gap machine (verticals.Other name) = refl
 
 act_reads : (gap machine : ℕ) (act : Act) → 1 ≤ gap → machine < 2 ^ 32 → IsProperAct act → told_at gap (act_text machine act) ≡ gap_deed gap (happenings.Done machine act)
 act_reads gap machine (acts.Deed deed) some small proper = deed_reads gap machine deed some small proper
-act_reads gap machine (acts.Inserts id) some small proper = refl
-act_reads gap machine (acts.Removes id) some small proper = refl
-act_reads gap machine (acts.Replaces old new) some small proper = refl
-act_reads gap machine (acts.Reads side event) some small proper = refl
-act_reads gap machine (acts.Hears side message) some small proper = refl
-act_reads gap machine (acts.Breaches side text) some small proper = refl
-act_reads gap machine (acts.Sends side message) some small proper = refl
-act_reads gap machine (acts.Closes side) some small proper = refl
-act_reads gap machine (acts.Notices side) some small proper = refl
-act_reads gap machine acts.Connects some small proper = refl
-act_reads gap machine (acts.Drive side on) some small proper = refl
-act_reads gap machine (acts.Signals signal on) some small proper = refl
-act_reads gap machine (acts.Marks id quality) some small proper = refl
-act_reads gap machine (acts.Subs id place) some small proper = refl
 act_reads gap machine (acts.Tells message) some small proper = body_reads gap machine message.body
-act_reads gap machine (acts.Answered query order) some small proper = refl
 act_reads gap machine (acts.Sets (settings.Will side true)) some small proper = refl
-act_reads gap machine (acts.Sets (settings.Will side false)) some small proper = refl
-act_reads gap machine (acts.Sets (settings.Level line on)) some small proper = refl
-act_reads gap machine (acts.Sets (settings.Supervise on)) some small proper = refl
+act_reads gap machine _ some small proper = refl
 
 happening_reads : (gap : ℕ) (happening : Happening) → 1 ≤ gap → IsProperHappening happening → told_at gap (happening_text happening) ≡ gap_deed gap happening
 happening_reads gap (happenings.Done machine act) some proper = act_reads gap machine act some proper.0 proper.1

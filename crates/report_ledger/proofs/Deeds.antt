@@ -1,5 +1,5 @@
 -- The deed that a line tells is that of its happening, and it tells a lie where that is one.
-use Rattle.std.proofs.Common.{◌≡◌, ◌∙◌, sym, ap, refl, ℕ, ◌-◌, ◌<◌, ◌^◌, Bool, true, false, List, [], ◌∷◌, ◌++◌, Option, Some, None, append_assoc, arith, codes, decimal, option_to_list}
+use Rattle.std.proofs.Common.{◌≡◌, ◌∙◌, ap, refl, ℕ, ◌-◌, ◌<◌, ◌^◌, true, false, List, [], ◌∷◌, ◌++◌, Option, Some, append_assoc, arith, codes, decimal, option_to_list}
 use Rattle.std.specs.Prelude.{option_map}
 use Rattle.std.specs.List.{AllByRecursion}
 use Rattle.board_record.specs.BoardId.{id_text}
@@ -30,7 +30,7 @@ use Rattle.machine_log.specs.Account.{IsProperAct, id_of_deed}
 use Rattle.one_standing.specs.Replay.{deeds_at as deeds_of_act, deeds_at_side, deeds_in, deeds_of}
 use Rattle.running_logs.proofs.LineTexts.{cut_spaced, number_bytes, value_is}
 use Rattle.report_ledger.specs.Proper.{IsProperHappening}
-use Rattle.report_ledger.specs.ReportLines.{ReportLine, deed_at, deed_in, deed_of, deeds_told, replaced_by, tells_lie}
+use Rattle.report_ledger.specs.ReportLines.{deed_at, deed_in, deed_of, deeds_told, replaced_by, tells_lie}
 use Rattle.report_ledger.proofs.Lines.{lines_told}
 
 -- ---- a number, and an id behind it
@@ -105,20 +105,9 @@ act_reads machine (acts.Deed deed) small proper = deed_reads machine deed small 
 act_reads machine (acts.Inserts id) small proper = hand_read kinds.Inserts deeds.Inserts machine id small proper refl
 act_reads machine (acts.Removes id) small proper = hand_read kinds.Removes deeds.Removes machine id small proper refl
 act_reads machine (acts.Replaces old new) small proper = replaces_read machine old new small proper.0 proper.1
-act_reads machine (acts.Reads side event) small proper = refl
-act_reads machine (acts.Hears side message) small proper = refl
-act_reads machine (acts.Breaches side text) small proper = refl
-act_reads machine (acts.Sends side message) small proper = refl
-act_reads machine (acts.Closes side) small proper = refl
-act_reads machine (acts.Notices side) small proper = refl
-act_reads machine acts.Connects small proper = refl
-act_reads machine (acts.Drive side on) small proper = refl
-act_reads machine (acts.Signals signal on) small proper = refl
-act_reads machine (acts.Marks id quality) small proper = refl
-act_reads machine (acts.Subs id place) small proper = refl
 act_reads machine (acts.Tells message) small proper = told_reads machine message.body
-act_reads machine (acts.Answered query order) small proper = refl
 act_reads machine (acts.Sets setting) small proper = setting_reads machine setting
+act_reads machine _ small proper = refl
 
 -- ---- THE DEEDS
 
@@ -159,33 +148,9 @@ body_lies machine (verticals.Other name) = refl
 
 act_lies : (machine : ℕ) (act : Act) → tells_lie (act_text machine act) ≡ false
 act_lies machine (acts.Deed (own_deeds.Opens id)) = refl
-act_lies machine (acts.Deed (own_deeds.Refuses id)) = refl
-act_lies machine (acts.Deed (own_deeds.Leaves id)) = refl
-act_lies machine (acts.Deed (own_deeds.Returns id)) = refl
-act_lies machine (acts.Deed (own_deeds.Loses id)) = refl
-act_lies machine (acts.Deed (own_deeds.Starts id)) = refl
-act_lies machine (acts.Deed (own_deeds.Settles id)) = refl
-act_lies machine (acts.Deed (own_deeds.Drops id)) = refl
-act_lies machine (acts.Inserts id) = refl
-act_lies machine (acts.Removes id) = refl
-act_lies machine (acts.Replaces old new) = refl
-act_lies machine (acts.Reads side event) = refl
-act_lies machine (acts.Hears side message) = refl
-act_lies machine (acts.Breaches side text) = refl
-act_lies machine (acts.Sends side message) = refl
-act_lies machine (acts.Closes side) = refl
-act_lies machine (acts.Notices side) = refl
-act_lies machine acts.Connects = refl
-act_lies machine (acts.Drive side on) = refl
-act_lies machine (acts.Signals signal on) = refl
-act_lies machine (acts.Marks id quality) = refl
-act_lies machine (acts.Subs id place) = refl
 act_lies machine (acts.Tells message) = body_lies machine message.body
-act_lies machine (acts.Answered query order) = refl
 act_lies machine (acts.Sets (settings.Will side true)) = refl
-act_lies machine (acts.Sets (settings.Will side false)) = refl
-act_lies machine (acts.Sets (settings.Level line on)) = refl
-act_lies machine (acts.Sets (settings.Supervise on)) = refl
+act_lies machine _ = refl
 
 pub happening_lies : (happening : Happening) → tells_lie (happening_text happening) ≡ is_lie happening
 happening_lies (happenings.Done machine act) = act_lies machine act

@@ -1,6 +1,5 @@
 -- The ledger that is read off a report's bytes is that of its run.
-use Rattle.std.proofs.Common.{◌≡◌, ◌≤◌, ◌∙◌, sym, ap, refl, subst, ℕ, suc, zero, ◌+◌, ◌||◌, Bool, true, false, List, [], ◌∷◌, ◌++◌, append_assoc, append-nil, arith, if◌then◌else◌, length, take}
-use Rattle.std.specs.List.{AllByRecursion}
+use Rattle.std.proofs.Common.{◌≡◌, ◌≤◌, ◌∙◌, sym, ap, refl, subst, ℕ, suc, ◌+◌, ◌||◌, Bool, true, false, List, [], ◌∷◌, ◌++◌, append-nil, arith, if◌then◌else◌, length, take}
 use Rattle.std.proofs.lemmas.List.Elements.{recursion_from_All}
 use Rattle.line_script.specs.declared.line.ScriptLine.{ScriptLine}
 use Rattle.standings.specs.Ledger.{AreLegal, Ledger, empty_ledger, ledger_after_all}
@@ -8,13 +7,12 @@ use Rattle.standings.specs.declared.deed.Deed.{Deed}
 use Rattle.line_step.specs.Lies.{has_lie, tells_lie}
 use Rattle.line_step.specs.Runs.{IsRun, Point, state_behind, told_text}
 use Rattle.line_step.specs.State.{LineState, no_line}
-use Rattle.one_standing.specs.Replay.{Follows, IsLedgerOf, IsStandingTold, LedgerFollows, deeds_of}
-use Rattle.one_standing.specs.Standing.{IsFitLine}
+use Rattle.one_standing.specs.Replay.{Follows, IsLedgerOf, LedgerFollows, deeds_of}
 use Rattle.one_standing.proofs.LedgerMarks.{ledger_of}
 use Rattle.one_standing.proofs.LedgerRun.{none_fits}
 use Rattle.one_standing.proofs.LedgerStandings.{standing_told}
 use Rattle.one_standing.proofs.LedgerTurns.{after_append, legal_append}
-use Rattle.report_ledger.specs.Ledgers.{AreUnnumbered, ReportTellsLedger, TellsLedger, honest}
+use Rattle.report_ledger.specs.Ledgers.{AreUnnumbered, ReportTellsLedger, honest}
 use Rattle.report_ledger.specs.Proper.{AreProperPoints, IsProperHappening}
 use Rattle.report_ledger.specs.ReportLines.{ReportLine, deeds_in_report, deeds_told, lines_in, vouched}
 use Rattle.report_ledger.proofs.Deeds.{told_deeds}

@@ -1,5 +1,5 @@
 -- The worked row computes, but for its id.
-use Rattle.std.proofs.Common.{◌≡◌, ◌∙◌, ap, refl, ℕ, ◌<◌, ◌^◌, List, [], ◌∷◌, ◌++◌, Option, Some, append_assoc, codes, option_to_list}
+use Rattle.std.proofs.Common.{◌≡◌, ◌∙◌, ap, refl, ℕ, ◌<◌, ◌^◌, List, [], ◌∷◌, ◌++◌, Option, append_assoc, codes, option_to_list}
 use Rattle.std.specs.Prelude.{option_map}
 use Rattle.board_record.specs.BoardId.{id_text}
 use Rattle.board_record.proofs.IdTexts.{read_id-id_text}
@@ -10,7 +10,7 @@ use Rattle.machine_log.proofs.Inner.{inner}
 use Rattle.machine_log.proofs.Solid.{inner_id, is_inner, join}
 use Rattle.standings.specs.declared.deed.Deed.{Deed}
 use Rattle.standings.specs.declared.deed.Deed.TheVariants.{Inserts, Opens, Starts}
-use Rattle.report_ledger.specs.ReportLines.{ReportLine, deeds_in_report, deeds_told, line_of, lines_in, vouched}
+use Rattle.report_ledger.specs.ReportLines.{ReportLine, deeds_told, line_of, lines_in, vouched}
 use Rattle.report_ledger.specs.Row.{IsReadOffTheRow, lines_of, row}
 use Rattle.report_ledger.proofs.Lines.{line_read}
 

@@ -1,5 +1,5 @@
 -- The standing that a report's bytes told last of an id is the one that its ledger gives.
-use Rattle.std.proofs.Common.{◌≡◌, ◌≢◌, ◌≤◌, ◌<◌, ◌^◌, ◌∙◌, sym, ap, refl, subst, ℕ, suc, zero, ◌+◌, ◌==◌, ◌||◌, Bool, true, false, List, [], ◌∷◌, ◌++◌, Option, Some, None, append_assoc, append-nil, arith, codes, decimal, eq-eqb, eqb-true, flat_map, if◌then◌else◌, length, take}
+use Rattle.std.proofs.Common.{◌≡◌, ◌≢◌, ◌≤◌, ◌<◌, ◌^◌, ◌∙◌, sym, ap, refl, subst, ℕ, suc, zero, ◌+◌, ◌==◌, ◌||◌, Bool, true, false, List, [], ◌∷◌, ◌++◌, Option, Some, None, append_assoc, arith, codes, decimal, eqb-true, flat_map, if◌then◌else◌, take}
 use Rattle.std.specs.Prelude.{IfSome, nat_lt}
 use Rattle.std.specs.List.{AllByRecursion}
 use Rattle.std.proofs.lemmas.Bool.{or_parts}
@@ -8,7 +8,6 @@ use Rattle.board_record.specs.BoardId.{id_text}
 use Rattle.board_record.proofs.IdTexts.{read_id-id_text}
 use Rattle.hermes_vertical.specs.declared.message.Vertical.{Vertical}
 use Rattle.hermes_vertical.specs.declared.message.Vertical.TheVariants as verticals
-use Rattle.line_base.specs.Number.{value_of}
 use Rattle.line_check.specs.LogLine.{id_in, id_of}
 use Rattle.line_check.specs.Words.{cut_at_space}
 use Rattle.line_report.specs.Texts.{act_text, happening_text, told_text as body_text}
@@ -40,9 +39,9 @@ use Rattle.standings.proofs.Standings.{found as standing_found, only}
 use Rattle.report_ledger.specs.Ledgers.{AreUnnumbered, ReportTellsLedger, TellsLedger, honest, ledger_in}
 use Rattle.report_ledger.specs.Proper.{AreProperPoints, IsProperHappening}
 use Rattle.report_ledger.specs.ReportLines.{ReportLine, lines_in, vouched}
-use Rattle.report_ledger.specs.Standings.{ReportTellsStandings, is_id, line_stands, standing_after, standing_from, standing_told, stands_at}
-use Rattle.report_ledger.proofs.Ledgered.{IsFront, front_of, honest_proper, points_few}
-use Rattle.report_ledger.proofs.Lines.{line_with, lines_told, run_lines, run_read}
+use Rattle.report_ledger.specs.Standings.{ReportTellsStandings, is_id, line_stands, standing_after, standing_from, stands_at}
+use Rattle.report_ledger.proofs.Ledgered.{front_of, honest_proper, points_few}
+use Rattle.report_ledger.proofs.Lines.{lines_told, run_lines, run_read}
 use Rattle.report_ledger.proofs.Silent.{AreSilent, IsSilent, line_silent}
 use Rattle.report_ledger.proofs.Vouched.{Vouches, run_vouched}
 
@@ -81,33 +80,9 @@ body_stands id before machine (verticals.Other name) = refl
 
 act_stands : (id : ℕ) (before : Option Place) (machine : ℕ) (act : Act) → standing_after id before (act_text machine act) ≡ before
 act_stands id before machine (acts.Deed (deeds.Opens other)) = refl
-act_stands id before machine (acts.Deed (deeds.Refuses other)) = refl
-act_stands id before machine (acts.Deed (deeds.Leaves other)) = refl
-act_stands id before machine (acts.Deed (deeds.Returns other)) = refl
-act_stands id before machine (acts.Deed (deeds.Loses other)) = refl
-act_stands id before machine (acts.Deed (deeds.Starts other)) = refl
-act_stands id before machine (acts.Deed (deeds.Settles other)) = refl
-act_stands id before machine (acts.Deed (deeds.Drops other)) = refl
-act_stands id before machine (acts.Inserts other) = refl
-act_stands id before machine (acts.Removes other) = refl
-act_stands id before machine (acts.Replaces old new) = refl
-act_stands id before machine (acts.Reads side event) = refl
-act_stands id before machine (acts.Hears side message) = refl
-act_stands id before machine (acts.Breaches side text) = refl
-act_stands id before machine (acts.Sends side message) = refl
-act_stands id before machine (acts.Closes side) = refl
-act_stands id before machine (acts.Notices side) = refl
-act_stands id before machine acts.Connects = refl
-act_stands id before machine (acts.Drive side on) = refl
-act_stands id before machine (acts.Signals signal on) = refl
-act_stands id before machine (acts.Marks other quality) = refl
-act_stands id before machine (acts.Subs other place) = refl
 act_stands id before machine (acts.Tells message) = body_stands id before machine message.body
-act_stands id before machine (acts.Answered query order) = refl
 act_stands id before machine (acts.Sets (settings.Will side true)) = refl
-act_stands id before machine (acts.Sets (settings.Will side false)) = refl
-act_stands id before machine (acts.Sets (settings.Level line on)) = refl
-act_stands id before machine (acts.Sets (settings.Supervise on)) = refl
+act_stands id before machine _ = refl
 
 text_stands : (id : ℕ) (before : Option Place) (happening : Happening) → IsProperHappening happening → standing_after id before (happening_text happening) ≡ stands id before happening
 text_stands id before (happenings.With machine other) proper = place_read places.With id before machine other proper.0 proper.1

@@ -1,11 +1,8 @@
 -- THE LEDGER FOLLOWS A TURN: the deeds of its acts are legal in a ledger that has the marks of the machines, and leave it
 -- with those behind the turn.
-use Rattle.std.proofs.Common.{Bool, List, Ok, Err, false, true, [], ap, arith, inl, inr, map, refl, subst, sym, ℕ, ℤ, ◌++◌, ◌+◌, ◌-◌, ◌<◌, ◌∙◌, ◌∷◌, ◌≡◌, ◌≢◌, ◌≤◌, ◌⊎◌}
-use Rattle.std.specs.Prelude.{nat_le}
-use Rattle.std.proofs.lemmas.Bool.{leb-false}
-use Rattle.line_step.proofs.FloorLaws.{ok-same}
+use Rattle.std.proofs.Common.{Bool, List, [], ap, arith, inl, inr, map, refl, subst, sym, ℕ, ℤ, ◌++◌, ◌+◌, ◌-◌, ◌<◌, ◌∙◌, ◌∷◌, ◌≡◌, ◌≢◌, ◌≤◌, ◌⊎◌}
 use Rattle.one_standing.proofs.LedgerLine.{IsNewInput, new_event}
-use Rattle.board_record.specs.Maker.{Maker, after_next, made_id, next_id}
+use Rattle.board_record.specs.Maker.{Maker, after_next, made_id}
 use Rattle.line_report.specs.declared.happening.Happening.TheVariants as happenings
 use Rattle.node_core.specs.Event.{Insert, Replace}
 use Rattle.node_core.specs.Node.{NodeState, desk_of}
@@ -49,13 +46,6 @@ record IsNext (maker : Maker) (id : ℕ) : Type 0 where
   is : id ≡ made_id maker.machine (maker.used + 1)
   small : maker.used + 1 < 281474976710656
   now : after_next maker ≡ record maker { used = maker.used + 1 }
-
-next_by : (full : Bool) (maker : Maker) (id : ℕ) → nat_le 281474976710655 maker.used ≡ full → next_id maker ≡ Ok id → IsNext maker id
-next_by true maker id test is = let none : next_id maker ≡ Err (record {}) = rw test refl in cc
-next_by false maker id test is =
-    let some : next_id maker ≡ Ok (made_id maker.machine (maker.used + 1)) = rw test refl in
-    let above : maker.used < 281474976710655 = leb-false 281474976710655 maker.used test in
-    record { is = ok-same id (made_id maker.machine (maker.used + 1)) (next_id maker) is some; small = omega (arith, above); now = rw test refl }
 
 -- ---- the ids that an input makes
 

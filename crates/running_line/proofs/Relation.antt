@@ -30,11 +30,6 @@ use Rattle.running_line.proofs.Waiting.{all_at, all_given, all_set, any_given, a
 
 -- ---- the connections of one link, changed
 
--- what holds of each link, and of the changed one
-by_test : (P : List Wire → Type 0) (test : Bool) (new old : List Wire) → (test ≡ true → P new) → (test ≡ false → P old) → P (cond test new old)
-by_test P true new old is other = is refl
-by_test P false new old is other = other refl
-
 pub by_link : (P : ℕ → List Wire → Type 0) (link : ℕ) (change : List Wire → List Wire) (s : Running) → P link (change (s.wires link)) → ((k : ℕ) → P k (s.wires k)) → (k : ℕ) → P k ((with_wires link change s).wires k)
 by_link P link change s here each k = by (same_or_not k link)
   where

@@ -65,9 +65,7 @@ turn_of j (inputs.Mark id quality) t st turn handless has heard = record { wire 
 turn_of j (inputs.Sub id place barcode) t st turn handless has heard = record { wire = asked_for; said = []; is_met = tt; into = sub_into t st turn }
 turn_of j inputs.Forecast t st turn handless has heard = record { wire = asked_for; said = []; is_met = tt; into = plain_into t st turn (has tt) tt tt plain_forecast }
 turn_of j (inputs.Query barcode) t st turn handless has heard = record { wire = asked_for; said = []; is_met = tt; into = plain_into t st turn (has tt) tt tt plain_query }
-turn_of j (inputs.Supervise on) t st turn handless has heard = record { wire = asked_for; said = []; is_met = tt; into = plain_into t st turn (has tt) tt tt plain_supervised }
-turn_of j (inputs.Ask question) t st turn handless has heard = record { wire = asked_for; said = []; is_met = tt; into = plain_into t st turn (has tt) tt tt plain_supervised }
-turn_of j (inputs.Answer query order) t st turn handless has heard = record { wire = asked_for; said = []; is_met = tt; into = plain_into t st turn (has tt) tt tt plain_supervised }
+turn_of j _ t st turn handless has heard = record { wire = asked_for; said = []; is_met = tt; into = plain_into t st turn (has tt) tt tt plain_supervised }
 
 -- ---- and what it leaves
 
@@ -112,5 +110,4 @@ pub turn_all : (j : ℕ) (input : Input) {reading : Reading} {moment : ℤ} {bef
 turn_all j (inputs.Insert barcode) t st turn has heard = (let hand = insert_by_hand t st turn in record { wire = asked_for; said = []; is_met = tt; gone = hand.gone; into = hand.into; leaves = hand.leaves })
 turn_all j (inputs.Remove id) t st turn has heard = (let hand = remove_by_hand t st turn in record { wire = asked_for; said = []; is_met = tt; gone = hand.gone; into = hand.into; leaves = hand.leaves })
 turn_all j (inputs.Replace id) t st turn has heard = (let hand = replace_by_hand t st turn in record { wire = asked_for; said = []; is_met = tt; gone = hand.gone; into = hand.into; leaves = hand.leaves })
-turn_all j inputs.Nothing t st turn has heard = handless_all j inputs.Nothing t st turn tt has heard
 turn_all j input t st turn has heard = handless_all j input t st turn tt has heard

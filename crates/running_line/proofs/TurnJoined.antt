@@ -27,7 +27,7 @@ use Rattle.running_line.specs.Running.{Running, at_place, at_side, count_beyond,
 use Rattle.running_line.specs.Stands.{is_joined}
 use Rattle.running_line.specs.Turned.{acts_met}
 use Rattle.running_line.specs.Turns.{Turns, act_did, answered, did, met as met_by, sent_by}
-use Rattle.running_line.specs.Wire.{Awaits, Coming, Has, Hold, Left, Wire, end_at, end_beyond, given, has, if_has, if_reached, left, read_at, said, text_behind, with_coming_to, with_end, with_said_by}
+use Rattle.running_line.specs.Wire.{Awaits, Coming, Has, Hold, Left, Wire, end_at, end_beyond, given, has, if_has, if_reached, left, read_at, said, text_behind, with_end, with_said_by}
 use Rattle.running_line.proofs.Waiting.{any_set, wire_of}
 use Rattle.running_line.proofs.TurnFloor.{SameSides, acts_sides}
 use Rattle.running_line.proofs.TurnLinks.{and_second}
@@ -47,10 +47,6 @@ reached_keeps Left new old same = refl
 said_keeps : (side : Side) (coming : List Coming) (wire : Wire) → is_joined (with_said_by side coming wire) ≡ is_joined wire
 said_keeps Entry coming wire = refl
 said_keeps Exit coming wire = refl
-
-coming_keeps : (side : Side) (coming : List Coming) (wire : Wire) → is_joined (with_coming_to side coming wire) ≡ is_joined wire
-coming_keeps Entry coming wire = refl
-coming_keeps Exit coming wire = refl
 
 pub said_joined : (side : Side) (coming : List Coming) (wire : Wire) → is_joined (said side coming wire) ≡ is_joined wire
 said_joined side coming wire =

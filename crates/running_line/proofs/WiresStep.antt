@@ -436,12 +436,6 @@ pings_only Entry Exit n = record { first = tt; second = tt; third = tt }
 pings_only Exit Entry n = record { first = tt; second = tt; third = tt }
 pings_only Exit Exit n = record { first = tt; second = tt; third = tt }
 
-pongs_only : (side at : Side) (id : Option (List ℕ)) → ActionsOff side at (one (Pong id))
-pongs_only Entry Entry id = record { first = tt; second = tt; third = tt }
-pongs_only Entry Exit id = record { first = tt; second = tt; third = tt }
-pongs_only Exit Entry id = record { first = tt; second = tt; third = tt }
-pongs_only Exit Exit id = record { first = tt; second = tt; third = tt }
-
 tells_only : (side at : Side) (what : Tells) → ActionsOff side at (one (Tell what))
 tells_only Entry Entry what = record { first = tt; second = tt; third = tt }
 tells_only Entry Exit what = record { first = tt; second = tt; third = tt }
@@ -453,12 +447,6 @@ tells_and_closes Entry Entry what = record { first = tt; second = tt; third = tt
 tells_and_closes Entry Exit what = record { first = tt; second = tt; third = tt }
 tells_and_closes Exit Entry what = record { first = tt; second = tt; third = tt }
 tells_and_closes Exit Exit what = record { first = tt; second = tt; third = tt }
-
-passes_only : (side at : Side) (what : Horizontal) → ActionsOff side at (one (Pass what))
-passes_only Entry Entry what = record { first = tt; second = tt; third = tt }
-passes_only Entry Exit what = record { first = tt; second = tt; third = tt }
-passes_only Exit Entry what = record { first = tt; second = tt; third = tt }
-passes_only Exit Exit what = record { first = tt; second = tt; third = tt }
 
 ticked_off : (side at : Side) (s : SessionEnd) (silent : ℕ) (given asks : Bool) → SessionOff side at s
     → RowIs side at (if given then record { after = at_rest s.role; actions = one Close } else (if asks then counted s silent (grown s.pings) (one (Pings (grown s.pings))) else counted s silent s.pings nothing))
@@ -538,9 +526,6 @@ abbrev HeardOff : Role → SessionEnd → Option SessionRow → Type 0
 HeardOff role s None = Unit {0}
 HeardOff Downstream s (Some row) = row.after.role ≡ s.role
 HeardOff Upstream s (Some row) = (row.after.role ≡ s.role) × (row.actions.first ≡ Some Stand → ⊥) × ((row.actions.second ≡ None) ⊎ (row.actions.second ≡ Some Close)) × (row.actions.third ≡ None)
-
-no_stand : {what : Action} → (what ≡ Stand → ⊥) → Some what ≡ Some Stand → ⊥
-no_stand not is = not (cc)
 
 connected_hears : (role : Role) (s : SessionEnd) (state : SessionState) (after : SessionEnd) (actions : Actions) → after.role ≡ s.role → (actions.first ≡ Some Stand → ⊥) → actions.second ≡ None → actions.third ≡ None → HeardOff role s (connected_row state after actions)
 connected_hears role s NotConnected after actions same none later last = tt

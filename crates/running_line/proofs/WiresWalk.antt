@@ -1,5 +1,5 @@
 -- THE CONNECTIONS OF A MACHINE'S TWO LINKS behind its acts, as the acts at each side have them.
-use Rattle.std.proofs.Common.{Bool, List, [], ap, arith, eq-eqb, false, map, ne_eqb, refl, subst, true, ℕ, ◌+◌, ◌-◌, ◌∙◌, ◌∷◌, ◌≡◌}
+use Rattle.std.proofs.Common.{Bool, List, [], ap, arith, eq-eqb, false, map, ne_eqb, refl, subst, ℕ, ◌+◌, ◌-◌, ◌∙◌, ◌∷◌, ◌≡◌}
 use Rattle.std.specs.Prelude.{cond, length}
 use Rattle.one_standing.proofs.LedgerMarks.{in_own_gap}
 use Rattle.line_base.specs.declared.states.Side.{Side}
@@ -18,10 +18,6 @@ use Rattle.running_line.specs.Wire.{Wire, left, read_at, said, text_behind}
 use Rattle.running_line.proofs.WiresActs.{Wired, act_wires, sided, wired_more, wired_none}
 
 -- ---- one link, changed
-
-by_number : (test : Bool) (changed same : List Wire) (wanted : List Wire) → (test ≡ true → changed ≡ wanted) → (test ≡ false → same ≡ wanted) → cond test changed same ≡ wanted
-by_number true changed same wanted own other = own refl
-by_number false changed same wanted own other = other refl
 
 pub wires_own : (link : ℕ) (change : List Wire → List Wire) (s : Running) → (with_wires link change s).wires link ≡ change (s.wires link)
 wires_own link change s = ap (λ (test : Bool). cond test (change (s.wires link)) (s.wires link)) (eq-eqb link link refl)

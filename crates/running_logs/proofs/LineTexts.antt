@@ -47,15 +47,6 @@ first_blank place (b ∷ word) rest solid =
     step_on (b == 32) place (place + length (b ∷ word)) (space_from (place + 1) (word ++ (32 ∷ rest))) (no_blank b parts.0)
     (first_blank (place + 1) word rest parts.1 ∙ ap (λ (n : ℕ). Some n) far)
 
-none_in : (place : ℕ) (word : List ℕ) → list_all is_id_byte word ≡ true → space_from place word ≡ None
-none_in place [] solid = refl
-none_in place (b ∷ word) solid =
-    let parts = and_parts (is_id_byte b) (list_all is_id_byte word) solid in
-    step_none (b == 32) (space_from (place + 1) word) (no_blank b parts.0) (none_in (place + 1) word parts.1) where
-      step_none : (test : Bool) (later : Option ℕ) → test ≡ false → later ≡ None → (if test then Some place else later) ≡ None
-      step_none true later off is = absurd (let h : true ≡ false = off in cc)
-      step_none false later off is = is
-
 pub cut_word : (word rest : List ℕ) → list_all is_id_byte word ≡ true → cut_at_space (word ++ (32 ∷ rest)) ≡ Some (word, rest)
 cut_word word rest solid =
     let whole : List ℕ = word ++ (32 ∷ rest) in

@@ -24,8 +24,9 @@ use Rattle.std.proofs.Common.{
   append_assoc,
 }
 use Rattle.std.specs.Prelude.{slice_get}
-use Rattle.std.specs.List.{list_all}
-use Rattle.std.proofs.lemmas.Bool.{and_parts}
+use Rattle.std.specs.List.{list_all, list_any}
+use Rattle.std.proofs.lemmas.Bool.{and_parts, or_from}
+use Rattle.std.proofs.lemmas.List.Folds.{list_any-append}
 use Rattle.line_base.specs.declared.states.Seen.{Seen}
 use Rattle.line_base.specs.declared.states.Seen.TheVariants as sees
 use Rattle.line_base.specs.declared.states.Side.{Side}
@@ -146,7 +147,7 @@ use Rattle.one_standing.proofs.LedgerWalk.{
 }
 use Rattle.line_history.proofs.OfferingStep.{IsNoHand}
 use Rattle.line_history.proofs.Stepping.{IsJustStarted}
-use Rattle.supervisor_replay.proofs.Tells.{is_quiet}
+use Rattle.supervisor_replay.proofs.Tells.{PassesNoQuiet, is_quiet, none_quiet}
 use Rattle.step_rules.specs.Causes.{
   Announcing,
   ByHand,
@@ -283,6 +284,21 @@ course_quiet seen own [] quiet = course_end
 course_quiet seen own (act ∷ others) quiet =
     course_on (and_parts (is_aside act) (are_aside others) quiet).0
     (course_quiet seen own others (and_parts (is_aside act) (are_aside others) quiet).1)
+
+pub course_none : {p : Act → Bool} {seen : Option Seen} {own end : Own} {made : List Act}
+    → PassesNoQuiet p → Course seen own made end → list_any p made ≡ false
+course_none none course_end = refl
+course_none {p} none (course_on {act = act} {others = others} aside more) =
+    or_from (p act) (list_any p others)
+    (none.quiet act (and_parts (is_silent act) (is_quiet act) aside).1) (course_none none more)
+course_none {p} none (course_opens {id = id} more) =
+    or_from (p (acts.Deed (deeds.Opens id))) _ (none.quiet _ refl) (course_none none more)
+course_none {p} none (course_returns {id = id} more) =
+    or_from (p (acts.Deed (deeds.Returns id))) _ (none.quiet _ refl) (course_none none more)
+course_none {p} none (course_settles {id = id} more) =
+    or_from (p (acts.Deed (deeds.Settles id))) _ (none.settles id) (course_none none more)
+course_none {p} none (course_drops {id = id} over more) =
+    or_from (p (acts.Deed (deeds.Drops id))) _ (none.drops id) (course_none none more)
 
 course_append : {seen : Option Seen} {own one end : Own} {told others : List Act}
     → Course seen own told one → Course seen one others end → Course seen own (told ++ others) end
@@ -753,6 +769,20 @@ pub data Announced (own end : Own) (was now : Option Seen) (i : InPhase)
     (made : List Act) : Type 0 where
   starts_none : are_aside made ≡ true → end ≡ own → now ≡ was → Announced own end was now i made
   starts_one : Started own end was i made → Announced own end was now i made
+
+pub said_none : {p : Act → Bool} {own end : Own} {was now : Option Seen} {i : InPhase}
+    {made : List Act} → PassesNoQuiet p → Announced own end was now i made
+    → list_any p made ≡ false
+said_none {made = made} none (starts_none aside same seen) =
+    none_quiet none made (aside_quiet made aside)
+said_none {p} none (starts_one s) =
+    let start : List Act = acts.Deed (deeds.Starts s.id) ∷ s.after in
+    ap (list_any p) s.made_is
+    ∙ list_any-append p s.before start
+    ∙ or_from (list_any p s.before) (list_any p start)
+    (none_quiet none s.before (aside_quiet s.before s.quiet))
+    (or_from (p (acts.Deed (deeds.Starts s.id))) (list_any p s.after) (none.starts s.id)
+    (none_quiet none s.after (aside_quiet s.after s.silent)))
 
 record Tells (body : Body) (d : Done) : Type 0 where
   says : Announced (own_of body) (own_of d.body) (seen_of body)

@@ -2,7 +2,7 @@
 -- a sensor event that is read says so, and what is read comes first.
 use Rattle.std.proofs.Common.{Bool, List, None, Option, Some, [], ap, false, refl, subst, sym, true, ℕ, ◌++◌, ◌==◌, ◌||◌, ◌∙◌, ◌∷◌, ◌≡◌}
 use Rattle.std.specs.List.{list_any}
-use Rattle.std.proofs.lemmas.Bool.{false≢true, or_from, and_parts}
+use Rattle.std.proofs.lemmas.Bool.{false≢true, or_from}
 use Rattle.std.proofs.lemmas.List.Folds.{list_any-append}
 use Rattle.one_standing.proofs.MirroringEnds.{vacuous}
 use Rattle.line_base.specs.declared.states.Seen.{Seen}
@@ -21,7 +21,6 @@ use Rattle.handover_in.specs.declared.act.InDeed.{InDeed}
 use Rattle.handover_in.specs.declared.act.InDeed.TheVariants as in_deeds
 use Rattle.handover_in.specs.declared.act.InSend.{InSend}
 use Rattle.handover_in.specs.declared.input.InInput.TheVariants as in_input
-use Rattle.handover_in.specs.declared.phase.Phase.{Phase as In}
 use Rattle.node_core.specs.Announces.{announces}
 use Rattle.node_core.specs.Desk.{Desk}
 use Rattle.node_core.specs.Done.{Done}
@@ -37,9 +36,8 @@ use Rattle.node_core.specs.declared.act.Act.TheVariants as acts
 use Rattle.node_core.specs.declared.act.Deed.TheVariants as deeds
 use Rattle.node_core.specs.declared.lane.Body.{Body}
 use Rattle.standings.specs.Marks.{is_held}
-use Rattle.one_standing.proofs.LedgerWalk.{is_silent}
 use Rattle.supervisor_replay.proofs.Bodies.{holds_it}
-use Rattle.supervisor_replay.proofs.Course.{Announced, Calm, Course, Hands, announced, are_aside, calm_asks, calm_goes, course_drops, course_end, course_on, course_opens, course_returns, course_settles, event_meets, hands_calm, hands_insert, hands_remove, hands_replace, is_aside, starts_none, starts_one}
+use Rattle.supervisor_replay.proofs.Course.{Calm, Hands, announced, calm_asks, calm_goes, course_none, event_meets, hands_calm, hands_insert, hands_remove, hands_replace, said_none}
 use Rattle.supervisor_replay.proofs.Events.{
   ExitTurn,
   exit_leaves,
@@ -49,7 +47,7 @@ use Rattle.supervisor_replay.proofs.Events.{
   exit_stays,
   exit_turn,
 }
-use Rattle.supervisor_replay.proofs.Tells.{is_quiet}
+use Rattle.supervisor_replay.proofs.Tells.{PassesNoQuiet, is_quiet}
 
 abbrev pub leaves_act : ℕ → Act → Bool
 leaves_act id (acts.Deed (deeds.Leaves other)) = other == id
@@ -69,30 +67,17 @@ quiet_act : (id : ℕ) (act : Act) → is_quiet act ≡ true → leaves_act id a
 quiet_act id (acts.Deed (deeds.Leaves other)) is = absurd (false≢true is)
 quiet_act id _ is = refl
 
-aside_act : (id : ℕ) (act : Act) → is_aside act ≡ true → leaves_act id act ≡ false
-aside_act id act is = quiet_act id act (and_parts (is_silent act) (is_quiet act) is).1
-
-asides : (id : ℕ) (made : List Act) → are_aside made ≡ true → leaves_in id made ≡ false
-asides id [] is = refl
-asides id (act ∷ others) is =
-    or_from (leaves_act id act) (leaves_in id others)
-    (aside_act id act (and_parts (is_aside act) (are_aside others) is).0)
-    (asides id others (and_parts (is_aside act) (are_aside others) is).1)
-
-course_none : {seen : Option Seen} {own end : Own} {made : List Act} (id : ℕ)
-    → Course seen own made end → leaves_in id made ≡ false
-course_none id course_end = refl
-course_none id (course_on {act = act} {others = others} is more) =
-    or_from (leaves_act id act) (leaves_in id others) (aside_act id act is)
-    (course_none id more)
-course_none id (course_opens more) = course_none id more
-course_none id (course_returns more) = course_none id more
-course_none id (course_settles more) = course_none id more
-course_none id (course_drops over more) = course_none id more
+quiet_leaves : (id : ℕ) → PassesNoQuiet (leaves_act id)
+quiet_leaves id = record {
+  quiet = quiet_act id;
+  starts = λ x. refl;
+  settles = λ x. refl;
+  drops = λ x. refl;
+}
 
 calm_none : {seen : Option Seen} {own end : Own} {made : List Act} (id : ℕ)
     → Calm seen own made end → leaves_in id made ≡ false
-calm_none id (calm_goes course) = course_none id course
+calm_none id (calm_goes course) = course_none (quiet_leaves id) course
 calm_none id (calm_asks desk (Supervise on)) = refl
 calm_none id (calm_asks desk (Ask question)) = refl
 calm_none id (calm_asks desk (Answer query order)) = refl
@@ -103,14 +88,6 @@ hands_none id (hands_calm calm) = calm_none id calm
 hands_none id hands_insert = refl
 hands_none id (hands_remove has) = refl
 hands_none id (hands_replace has) = refl
-
-said_none : {own end : Own} {was now : Option Seen} {i : In} {made : List Act} (id : ℕ)
-    → Announced own end was now i made → leaves_in id made ≡ false
-said_none {made = made} id (starts_none aside same seen) = asides id made aside
-said_none id (starts_one s) =
-    ap (leaves_in id) s.made_is
-    ∙ neither id s.before (acts.Deed (deeds.Starts s.id) ∷ s.after) (asides id s.before s.quiet)
-    (asides id s.after s.silent)
 
 -- ---- what is read
 
@@ -259,7 +236,7 @@ leaves_held id desk unread event body is =
     (read_leaving id desk unread body).held
     (first (leaves_in id read.acts) (leaves_in id (met.acts ++ said.acts))
     (neither id met.acts said.acts (hands_none id (event_meets desk event read.body).hands)
-    (said_none id (announced desk met.body)))
+    (said_none (quiet_leaves id) (announced desk met.body)))
     (sym (list_any-append (leaves_act id) read.acts (met.acts ++ said.acts)) ∙ is)) where
       first : (a b : Bool) → b ≡ false → (a || b) ≡ true → a ≡ true
       first true b none is = refl

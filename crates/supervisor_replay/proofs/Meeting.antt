@@ -36,6 +36,7 @@ use Rattle.line_step.proofs.WithTells.{tells_append}
 use Rattle.line_step.proofs.Unnamed.{apart_ids}
 use Rattle.line_base.specs.declared.states.Seen.{Seen}
 use Rattle.line_base.specs.declared.states.Seen.TheVariants as sees
+use Rattle.line_base.specs.declared.states.SensorEvent.{SensorEvent}
 use Rattle.board_record.specs.declared.record.Record.{Record}
 use Rattle.hermes_vertical.specs.declared.message.Passing.TheVariants.{ByHand, Transferred}
 use Rattle.handover_in.specs.declared.phase.Phase.{Phase as InPhase}
@@ -62,6 +63,7 @@ use Rattle.node_core.specs.declared.act.Deed.TheVariants as deeds
 use Rattle.node_core.specs.declared.lane.Body.{Body}
 use Rattle.custody.specs.Floor.{
   EntryFloor,
+  Run,
   Sees,
   in_free,
   in_stopped,
@@ -73,11 +75,20 @@ use Rattle.custody.specs.Floor.{
   is_in,
   is_stolen,
   on_across,
+  on_back,
   on_begun,
+  on_full,
+  on_gone,
+  on_stolen,
+  sees_across,
+  sees_back,
+  sees_begun,
   sees_fresh,
+  sees_full,
+  sees_gone,
   sees_home,
+  sees_stolen,
 }
-use Rattle.custody.specs.Floor.{Run}
 use Rattle.custody.specs.Place.{Place, is_away, is_upstream}
 use Rattle.standings.specs.Ledger.{are_different}
 use Rattle.standings.specs.Marks.{has_id, is_held}
@@ -85,7 +96,7 @@ use Rattle.one_standing.proofs.LedgerSteps.{all_of, different_front}
 use Rattle.one_standing.proofs.LedgerTurns.{different_first, different_rest}
 use Rattle.one_standing.proofs.LedgerWalk.{is_silent, own_parts}
 use Rattle.supervisor_replay.specs.Replay.{At, Told, departs}
-use Rattle.supervisor_replay.proofs.Bodies.{brings_in, holds_it, keeps_it, takes_out}
+use Rattle.supervisor_replay.proofs.Bodies.{brings_in, holds_it, is_gone_own, is_taking_out, keeps_it, takes_out}
 use Rattle.supervisor_replay.proofs.Course.{
   Course,
   Hands,
@@ -95,6 +106,7 @@ use Rattle.supervisor_replay.proofs.Course.{
   course_drops,
   course_end,
   course_on,
+  course_none,
   course_opens,
   course_returns,
   course_settles,
@@ -344,39 +356,6 @@ course_fares {seen = seen} id j desk looked (inr same)
     drops_by desk seen looked other ids mine others over same
     (course_fares id j desk None (inl refl) more)
 
--- in a course nothing comes or goes by hand
-hand_out : (id : ℕ) (act : Act) (others : List Act) → is_quiet act ≡ true
-    → list_any (takes_out id) others ≡ false → list_any (takes_out id) (act ∷ others) ≡ false
-hand_out id act others is rest =
-    or_from (takes_out id act) (list_any (takes_out id) others)
-    (or_parts (takes_out id act) false (quiet_out id (act ∷ []) (quiet_one act is))).0 rest
-
-hand_in : (id : ℕ) (act : Act) (others : List Act) → is_quiet act ≡ true
-    → list_any (brings_in id) others ≡ false → list_any (brings_in id) (act ∷ others) ≡ false
-hand_in id act others is rest =
-    or_from (brings_in id act) (list_any (brings_in id) others)
-    (or_parts (brings_in id act) false (quiet_in id (act ∷ []) (quiet_one act is))).0 rest
-
-course_out : {seen : Option Seen} {own end : Own} {made : List Act} (id : ℕ)
-    → Course seen own made end → list_any (takes_out id) made ≡ false
-course_out id course_end = refl
-course_out id (course_on {act = act} {others = others} aside more) =
-    hand_out id act others (and_parts (is_silent act) (is_quiet act) aside).1 (course_out id more)
-course_out id (course_opens more) = course_out id more
-course_out id (course_returns more) = course_out id more
-course_out id (course_settles more) = course_out id more
-course_out id (course_drops over more) = course_out id more
-
-course_in : {seen : Option Seen} {own end : Own} {made : List Act} (id : ℕ)
-    → Course seen own made end → list_any (brings_in id) made ≡ false
-course_in id course_end = refl
-course_in id (course_on {act = act} {others = others} aside more) =
-    hand_in id act others (and_parts (is_silent act) (is_quiet act) aside).1 (course_in id more)
-course_in id (course_opens more) = course_in id more
-course_in id (course_returns more) = course_in id more
-course_in id (course_settles more) = course_in id more
-course_in id (course_drops over more) = course_in id more
-
 -- ---- by hand
 
 pub data Met (id j : ℕ) (seen : Option Seen) (own end : Own) (made all : List Act) : Type 0 where
@@ -597,8 +576,8 @@ hands_met : {seen : Option Seen} {own end : Own} {made : List Act} (id j : ℕ) 
     → Hands seen own made end
     → Met id j seen own end made (with_tells desk (watching seen) made)
 hands_met {seen = seen} id j desk different apart (hands_calm (calm_goes course)) =
-    goes_so (course_fares id j desk seen (inr refl) course) (course_out id course)
-    (course_in id course)
+    goes_so (course_fares id j desk seen (inr refl) course) (course_none (quiet_out id) course)
+    (course_none (quiet_in id) course)
 hands_met {seen = seen} id j desk different apart (hands_calm (calm_asks asked what)) =
     ask_met id j desk asked seen what
 hands_met id j desk different apart
@@ -614,15 +593,36 @@ hands_met id j desk different apart
 
 -- ---- where the board of the handover above is, by what the sensor saw
 
-seen_away : {own : Seen} {p : Place} {n : Run} → Sees own [] p n → own ≡ sees.Taken
-    → is_away p ≡ true
-seen_away is_gone is = refl
-seen_away is_stolen is = refl
-seen_away sees_fresh is = absurd (let h : sees.NotStarted ≡ sees.Taken = is in cc)
-seen_away sees_home is = absurd (let h : sees.NotStarted ≡ sees.Taken = is in cc)
-seen_away on_begun is = absurd (let h : sees.Incomplete ≡ sees.Taken = is in cc)
-seen_away on_across is = absurd (let h : sees.Incomplete ≡ sees.Taken = is in cc)
-seen_away is_in is = absurd (let h : sees.Complete ≡ sees.Taken = is in cc)
+-- by the place, with what is unread
+sees_away : {own : Seen} {es : List SensorEvent} {p : Place} {n : Run} → Sees own es p n
+    → (is_gone_own (Some own) || list_any is_taking_out es) ≡ is_away p
+sees_away sees_fresh = refl
+sees_away sees_home = refl
+sees_away sees_begun = refl
+sees_away sees_across = refl
+sees_away sees_back = refl
+sees_away sees_full = refl
+sees_away sees_gone = refl
+sees_away sees_stolen = refl
+sees_away on_begun = refl
+sees_away on_across = refl
+sees_away on_back = refl
+sees_away on_full = refl
+sees_away on_gone = refl
+sees_away on_stolen = refl
+sees_away is_in = refl
+sees_away is_gone = refl
+sees_away is_stolen = refl
+
+pub floor_sees : {i : InPhase} {es : List SensorEvent} {drive : Bool} {p : Place} {b : Record}
+    → EntryFloor i es drive p b → is_some (held_in i) ≡ true
+    → (is_gone_own (own_of_phase i) || list_any is_taking_out es) ≡ is_away p
+floor_sees (in_free _ _) holds = absurd (false≢true holds)
+floor_sees (in_taking saw) holds = sees_away saw
+floor_sees (in_taken_in saw) holds = sees_away saw
+floor_sees (in_stopped saw) holds = sees_away saw
+floor_sees (in_waiting saw) holds = sees_away saw
+floor_sees in_waiting_on holds = refl
 
 seen_home : {own : Seen} {p : Place} {n : Run} → Sees own [] p n → own ≡ sees.NotStarted
     → is_upstream p ≡ true
@@ -638,13 +638,9 @@ some_seen : (a b : Seen) → ◌≡◌ {A = Option Seen} (Some a) (Some b) → a
 some_seen a b is = cc
 
 floor_away : {i : InPhase} {drive : Bool} {p : Place} {b : Record} → EntryFloor i [] drive p b
-    → own_of_phase i ≡ Some sees.Taken → is_away p ≡ true
-floor_away (in_free _ _) is = absurd (let h : None ≡ Some sees.Taken = is in cc)
-floor_away (in_taking saw) is = seen_away saw (some_seen _ _ is)
-floor_away (in_taken_in saw) is = seen_away saw (some_seen _ _ is)
-floor_away (in_stopped saw) is = seen_away saw (some_seen _ _ is)
-floor_away (in_waiting saw) is = seen_away saw (some_seen _ _ is)
-floor_away in_waiting_on is = absurd (let h : Some sees.Incomplete ≡ Some sees.Taken = is in cc)
+    → is_some (held_in i) ≡ true → own_of_phase i ≡ Some sees.Taken → is_away p ≡ true
+floor_away floor holds is =
+    sym (floor_sees floor holds) ∙ ap (λ (seen : Option Seen). is_gone_own seen || false) is
 
 floor_home : {i : InPhase} {drive : Bool} {p : Place} {b : Record} → EntryFloor i [] drive p b
     → own_of_phase i ≡ Some sees.NotStarted → is_upstream p ≡ true
@@ -717,7 +713,8 @@ pub met_fares : (id j : ℕ) (desk : Desk) (event : Event) (place : Place) (boar
 met_fares id j desk event place board body watched different floor apart =
     let d : Done = event_did desk event body in
     let away : seen_of body ≡ Some sees.Taken → is_away place ≡ true =
-    λ is. floor_away (floor (seen_held body.intake.phase sees.Taken is)).1 is in
+    λ is. (let holds = seen_held body.intake.phase sees.Taken is in
+    floor_away (floor holds).1 holds is) in
     let home : seen_of body ≡ Some sees.NotStarted → is_upstream place ≡ true =
     λ is. floor_home (floor (seen_held body.intake.phase sees.NotStarted is)).1 is in
     subst (λ (on : Bool). MetFares id j place body d.body d.acts

@@ -110,6 +110,7 @@ use Rattle.supervisor_replay.proofs.Tells.{
   entry_quiet,
   exit_quiet,
   is_quiet,
+  none_quiet,
   quiet_in,
   quiet_out,
   quiet_watch,
@@ -287,8 +288,8 @@ stays_went {phase = phase} {after = after} {e = e} id j desk unread body o rd mo
       watch = quiet_watch w more quiet ∙ ap watching sees;
       different = ap (λ (r : Option Record). are_different (ids_by held (ids_of body.kept) r)) same
           ∙ different;
-      hand_out = quiet_out id more quiet;
-      hand_in = quiet_in id more quiet;
+      hand_out = none_quiet (quiet_out id) more quiet;
+      hand_in = none_quiet (quiet_in id) more quiet;
       held = λ h. h;
     }
 
@@ -313,8 +314,8 @@ over_went {phase = phase} {e = e} id j desk unread body o rd kept deed more quie
       floor = λ is. absurd (false≢true is);
       watch = deed_watch w deed more quiet ∙ over w;
       different = different;
-      hand_out = quiet_out id more quiet;
-      hand_in = quiet_in id more quiet;
+      hand_out = none_quiet (quiet_out id) more quiet;
+      hand_in = none_quiet (quiet_in id) more quiet;
       held = λ h. h;
     }
 
@@ -504,8 +505,8 @@ gone_went id j desk unread body kept deed more quiet same none later different f
       floor = later;
       watch = deed_watch w deed more quiet ∙ same w;
       different = different;
-      hand_out = quiet_out id more quiet;
-      hand_in = quiet_in id more quiet;
+      hand_out = none_quiet (quiet_out id) more quiet;
+      hand_in = none_quiet (quiet_in id) more quiet;
       held = λ h. none_held id none h;
     }
 

@@ -23,6 +23,7 @@ use Rattle.std.proofs.Common.{
   eq-eqb,
   inl,
   inr,
+  is_some,
   ne_eqb,
   refl,
   subst,
@@ -31,7 +32,6 @@ use Rattle.std.proofs.Common.{
 use Rattle.std.specs.List.{list_any}
 use Rattle.std.proofs.lemmas.Bool.{false_from_ne_true}
 use Rattle.line_history.proofs.Where.{none_some, starts_upstream, left_there, begun_is}
-use Rattle.line_base.specs.declared.states.Seen.{Seen}
 use Rattle.line_base.specs.declared.states.SensorEvent.{SensorEvent}
 use Rattle.board_record.specs.declared.record.Record.{Record}
 use Rattle.line_world.specs.FloorPlan.{machine_at}
@@ -39,48 +39,20 @@ use Rattle.line_world.specs.declared.gap.Gap.{Gap}
 use Rattle.line_world.specs.declared.gap.Gap.TheVariants as gaps
 use Rattle.handover_out.specs.declared.phase.Phase.{Phase as Out}
 use Rattle.handover_out.specs.State.{board_of_phase as held_out}
-use Rattle.handover_in.specs.Own.{is_taken}
-use Rattle.handover_in.specs.declared.phase.Phase.{Phase as In}
-use Rattle.handover_in.specs.State.{board_of_phase as held_in, own_of_phase}
+use Rattle.handover_in.specs.State.{board_of_phase as held_in}
 use Rattle.node_core.specs.Own.{own_of}
 use Rattle.custody.specs.Contents.{Kept}
 use Rattle.custody.specs.Floor.{
-  EntryFloor,
   ExitFloor,
-  Run,
-  Sees,
   at_start,
   begun_read,
   begun_unread,
   both_gone,
   both_unread,
-  in_free,
-  in_stopped,
-  in_taken_in,
-  in_taking,
-  in_waiting,
-  in_waiting_on,
-  is_gone,
-  is_in,
-  is_stolen,
   left_gone,
   left_unread,
-  on_across,
-  on_back,
-  on_begun,
-  on_full,
-  on_gone,
-  on_stolen,
   out_ended,
   out_idle,
-  sees_across,
-  sees_back,
-  sees_begun,
-  sees_fresh,
-  sees_full,
-  sees_gone,
-  sees_home,
-  sees_stolen,
   stuck_back,
   stuck_begun,
   stuck_gone,
@@ -149,14 +121,13 @@ use Rattle.line_history.specs.LetGo.{held_above, taken_below}
 use Rattle.line_history.proofs.Stepping.{IsJustStarted}
 use Rattle.supervisor_replay.proofs.Bodies.{
   holds_it,
-  is_gone_own,
   is_leaving_event,
-  is_taking_out,
   keeps_it,
   misses_it,
   takes_it,
   will_leave,
 }
+use Rattle.supervisor_replay.proofs.Meeting.{floor_sees}
 use Rattle.supervisor_replay.proofs.Views.{IsFrom, IsPlaced, IsSole, View}
 
 abbrev pub view_of : ℕ → LineState → View
@@ -290,44 +261,13 @@ no_leaving (inl beyond_across) up = absurd (let never : false ≡ true = up in c
 no_leaving (inl beyond_inside) up = absurd (let never : false ≡ true = up in cc)
 no_leaving (inr is) up = absurd (let never : false ≡ true = sym (ap is_upstream is) ∙ up in cc)
 
--- what the entry's sensor has seen or will tell of a board that was taken out
-sees_missing : {own : Seen} {es : List SensorEvent} {p : Place} {run : Run} → Sees own es p run
-    → (is_taken own || list_any is_taking_out es) ≡ is_away p
-sees_missing sees_fresh = refl
-sees_missing sees_home = refl
-sees_missing sees_begun = refl
-sees_missing sees_across = refl
-sees_missing sees_back = refl
-sees_missing sees_full = refl
-sees_missing sees_gone = refl
-sees_missing sees_stolen = refl
-sees_missing on_begun = refl
-sees_missing on_across = refl
-sees_missing on_back = refl
-sees_missing on_full = refl
-sees_missing on_gone = refl
-sees_missing on_stolen = refl
-sees_missing is_in = refl
-sees_missing is_gone = refl
-sees_missing is_stolen = refl
-
-entry_missing : {i : In} {es : List SensorEvent} {drive : Bool} {p : Place} {b : Record}
-    (q : Record) → EntryFloor i es drive p b → held_in i ≡ Some q
-    → (is_gone_own (own_of_phase i) || list_any is_taking_out es) ≡ is_away p
-entry_missing q (in_free full across) held = none_some q held
-entry_missing q (in_taking sees) held = sees_missing sees
-entry_missing q (in_taken_in sees) held = sees_missing sees
-entry_missing q (in_stopped sees) held = sees_missing sees
-entry_missing q (in_waiting sees) held = sees_missing sees
-entry_missing q in_waiting_on held = refl
-
 missing_at : (t : Trace) (s : LineState) (id j : ℕ) → Stands t s
     → (view_of id s).taken (j + 1) ≡ true
     → (view_of id s).missing (j + 1) ≡ is_away (t.ghost j).place
 missing_at t s id j st taken =
     let n = near t s j st in
     let own = id_held id (taken_below s j) taken in
-    entry_missing own.0 n.pair.in own.1
+    floor_sees n.pair.in (ap is_some own.1)
 
 upstream_here : (p : Place) → is_upstream p ≡ true → is_away p ≡ false
 upstream_here Fresh up = refl

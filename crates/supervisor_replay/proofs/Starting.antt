@@ -27,9 +27,6 @@ use Rattle.std.proofs.Common.{
   ◌≢◌,
   ◌⊎◌,
 }
-use Rattle.std.specs.List.{list_any}
-use Rattle.std.proofs.lemmas.List.Folds.{list_any-append}
-use Rattle.std.proofs.lemmas.Bool.{or_from}
 use Rattle.line_step.proofs.WithTells.{tells_append}
 use Rattle.one_standing.proofs.Behind.{before_apart}
 use Rattle.line_base.specs.declared.states.Seen.{Seen}
@@ -50,13 +47,11 @@ use Rattle.line_history.proofs.Stepping.{IsJustStarted}
 use Rattle.supervisor_replay.specs.Replay.{Told}
 use Rattle.supervisor_replay.proofs.Since.{since_by_deed}
 use Rattle.supervisor_replay.proofs.Bodies.{
-  brings_in,
   holds_it,
   is_gone_own,
   keeps_it,
   left_acts,
   takes_it,
-  takes_out,
   told_acts,
 }
 use Rattle.supervisor_replay.proofs.Course.{
@@ -70,9 +65,7 @@ use Rattle.supervisor_replay.proofs.Course.{
 }
 use Rattle.supervisor_replay.proofs.Tells.{
   left_append,
-  quiet_in,
   quiet_left,
-  quiet_out,
   quiet_tells,
   quiet_told,
   told_append,
@@ -141,30 +134,6 @@ start_left gap id machine left s =
     (quiet_left gap id machine s.before left (aside_quiet s.before s.quiet))
     ∙ quiet_left gap id machine s.after (since_by_deed gap id machine (deeds.Starts s.id) left)
     (aside_quiet s.after s.silent)
-
--- nothing comes or goes by hand
-pub said_out : {own end : Own} {was now : Option Seen} {i : InPhase} {made : List Act} (id : ℕ)
-    → Announced own end was now i made → list_any (takes_out id) made ≡ false
-said_out {made = made} id (starts_none aside same seen) =
-    quiet_out id made (aside_quiet made aside)
-said_out id (starts_one s) =
-    let start : List Act = acts.Deed (deeds.Starts s.id) ∷ s.after in
-    ap (list_any (takes_out id)) s.made_is
-    ∙ list_any-append (takes_out id) s.before start
-    ∙ or_from (list_any (takes_out id) s.before) (list_any (takes_out id) start)
-    (quiet_out id s.before (aside_quiet s.before s.quiet))
-    (quiet_out id s.after (aside_quiet s.after s.silent))
-
-pub said_in : {own end : Own} {was now : Option Seen} {i : InPhase} {made : List Act} (id : ℕ)
-    → Announced own end was now i made → list_any (brings_in id) made ≡ false
-said_in {made = made} id (starts_none aside same seen) = quiet_in id made (aside_quiet made aside)
-said_in id (starts_one s) =
-    let start : List Act = acts.Deed (deeds.Starts s.id) ∷ s.after in
-    ap (list_any (brings_in id)) s.made_is
-    ∙ list_any-append (brings_in id) s.before start
-    ∙ or_from (list_any (brings_in id) s.before) (list_any (brings_in id) start)
-    (quiet_in id s.before (aside_quiet s.before s.quiet))
-    (quiet_in id s.after (aside_quiet s.after s.silent))
 
 -- no record moves but what a start takes
 pub said_kept : {own end : Own} {was now : Option Seen} {i : InPhase} {made : List Act}

@@ -31,7 +31,6 @@ use Rattle.line_step.proofs.WithTells.{tells_append}
 use Rattle.supervisor_replay.proofs.Hands.{middle}
 use mathlib.Core.Bool.{or-false}
 use Rattle.line_base.specs.declared.states.Seen.{Seen}
-use Rattle.line_base.specs.declared.states.SensorEvent.{SensorEvent}
 use Rattle.line_base.specs.declared.states.Side.TheVariants.{Entry}
 use Rattle.board_record.specs.declared.record.Record.{Record}
 use Rattle.board_record.specs.declared.sensed.Sensed.{Sensed}
@@ -51,31 +50,6 @@ use Rattle.node_core.specs.declared.lane.Body.{Body}
 use Rattle.node_core.specs.declared.supervising.Watch.{Watch}
 use Rattle.custody.specs.Floor.{
   EntryFloor,
-  Run,
-  Sees,
-  in_free,
-  in_stopped,
-  in_taken_in,
-  in_taking,
-  in_waiting,
-  in_waiting_on,
-  is_gone,
-  is_in,
-  is_stolen,
-  on_across,
-  on_back,
-  on_begun,
-  on_full,
-  on_gone,
-  on_stolen,
-  sees_across,
-  sees_back,
-  sees_begun,
-  sees_fresh,
-  sees_full,
-  sees_gone,
-  sees_home,
-  sees_stolen,
 }
 use Rattle.custody.specs.Place.{Place, is_away, is_upstream}
 use Rattle.custody.specs.Words.{events_at}
@@ -91,7 +65,6 @@ use Rattle.supervisor_replay.proofs.Bodies.{
   brings_in,
   holds_it,
   is_gone_own,
-  is_taking_out,
   keeps_it,
   left_acts,
   misses_it,
@@ -104,11 +77,12 @@ use Rattle.supervisor_replay.proofs.Course.{
   IsSeen,
   announced,
   event_meets,
+  said_none,
   seen_none,
   seen_of,
   seen_same,
 }
-use Rattle.supervisor_replay.proofs.Meeting.{met_fares}
+use Rattle.supervisor_replay.proofs.Meeting.{floor_sees, met_fares}
 use Rattle.supervisor_replay.proofs.Parts.{
   HasIt,
   HasNot,
@@ -149,13 +123,13 @@ use Rattle.supervisor_replay.proofs.Starting.{
   said_ends,
   said_free,
   said_held,
-  said_in,
   said_kept,
-  said_out,
   said_told,
   then_apart,
 }
 use Rattle.supervisor_replay.proofs.Tells.{
+  quiet_in,
+  quiet_out,
   left_append,
   left_then,
   says_both,
@@ -421,37 +395,6 @@ both_fare {id = id} {j = j} {v = v} {told = told} {left = left} {two = two} {fir
 
 -- ---- what the entry knows of a board that was taken out
 
--- by the place, with what is unread
-sees_away : {own : Seen} {es : List SensorEvent} {p : Place} {n : Run} → Sees own es p n
-    → (is_gone_own (Some own) || list_any is_taking_out es) ≡ is_away p
-sees_away sees_fresh = refl
-sees_away sees_home = refl
-sees_away sees_begun = refl
-sees_away sees_across = refl
-sees_away sees_back = refl
-sees_away sees_full = refl
-sees_away sees_gone = refl
-sees_away sees_stolen = refl
-sees_away on_begun = refl
-sees_away on_across = refl
-sees_away on_back = refl
-sees_away on_full = refl
-sees_away on_gone = refl
-sees_away on_stolen = refl
-sees_away is_in = refl
-sees_away is_gone = refl
-sees_away is_stolen = refl
-
-floor_sees : {i : InPhase} {es : List SensorEvent} {drive : Bool} {p : Place} {b : Record}
-    → EntryFloor i es drive p b → is_some (held_in i) ≡ true
-    → (is_gone_own (own_of_phase i) || list_any is_taking_out es) ≡ is_away p
-floor_sees (in_free _ _) holds = absurd (false≢true holds)
-floor_sees (in_taking saw) holds = sees_away saw
-floor_sees (in_taken_in saw) holds = sees_away saw
-floor_sees (in_stopped saw) holds = sees_away saw
-floor_sees (in_waiting saw) holds = sees_away saw
-floor_sees in_waiting_on holds = refl
-
 id_some : (id : ℕ) (one : Option Record) → is_held id (id_of one) ≡ true → is_some one ≡ true
 id_some id None is = is
 id_some id (Some board) is = refl
@@ -570,10 +513,10 @@ around id j desk unread event body different floor here beside read =
     let first : List Act = (all_read desk unread body).acts in
     let goes : list_any (takes_out id) (first ++ (met.acts ++ said.acts))
     ≡ list_any (takes_out id) met.acts =
-    middle_any (takes_out id) first met.acts said.acts read.out (said_out id says) in
+    middle_any (takes_out id) first met.acts said.acts read.out (said_none (quiet_out id) says) in
     let comes : list_any (brings_in id) (first ++ (met.acts ++ said.acts))
     ≡ list_any (brings_in id) met.acts =
-    middle_any (brings_in id) first met.acts said.acts read.in (said_in id says) in record {
+    middle_any (brings_in id) first met.acts said.acts read.in (said_none (quiet_in id) says) in record {
       ids = apart id body different;
       here = here;
       missing =

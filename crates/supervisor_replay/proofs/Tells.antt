@@ -24,7 +24,7 @@ use Rattle.std.proofs.Common.{
 }
 use Rattle.std.specs.Prelude.{slice_get}
 use Rattle.std.specs.List.{list_all, list_any}
-use Rattle.std.proofs.lemmas.Bool.{and_parts, false≢true}
+use Rattle.std.proofs.lemmas.Bool.{and_parts, false≢true, or_from}
 use Rattle.line_base.specs.declared.states.Seen.{Seen}
 use Rattle.line_base.specs.declared.states.SensorEvent.{SensorEvent}
 use Rattle.line_base.specs.declared.states.Side.{Side}
@@ -178,21 +178,35 @@ quiet_left gap id machine (act ∷ made) left all =
     ap (λ (b : Bool). left_acts gap id machine made b) (quiet_gap gap id machine act left parts.0)
     ∙ quiet_left gap id machine made left parts.1
 
-pub quiet_out : (id : ℕ) (made : List Act) → list_all is_quiet made ≡ true
-    → list_any (takes_out id) made ≡ false
-quiet_out id [] all = refl
-quiet_out id (act ∷ made) all =
-    let parts = and_parts (is_quiet act) (list_all is_quiet made) all in
-    ap (λ (b : Bool). b || list_any (takes_out id) made) (quiet_hand_out id act parts.0)
-    ∙ quiet_out id made parts.1
+-- a test that passes no quiet act, and no deed of an intake
+pub record PassesNoQuiet (p : Act → Bool) : Type 0 where
+  pub quiet : (act : Act) → is_quiet act ≡ true → p act ≡ false
+  pub starts : (id : ℕ) → p (acts.Deed (deeds.Starts id)) ≡ false
+  pub settles : (id : ℕ) → p (acts.Deed (deeds.Settles id)) ≡ false
+  pub drops : (id : ℕ) → p (acts.Deed (deeds.Drops id)) ≡ false
 
-pub quiet_in : (id : ℕ) (made : List Act) → list_all is_quiet made ≡ true
-    → list_any (brings_in id) made ≡ false
-quiet_in id [] all = refl
-quiet_in id (act ∷ made) all =
+pub quiet_out : (id : ℕ) → PassesNoQuiet (takes_out id)
+quiet_out id = record {
+  quiet = quiet_hand_out id;
+  starts = λ x. refl;
+  settles = λ x. refl;
+  drops = λ x. refl;
+}
+
+pub quiet_in : (id : ℕ) → PassesNoQuiet (brings_in id)
+quiet_in id = record {
+  quiet = quiet_hand_in id;
+  starts = λ x. refl;
+  settles = λ x. refl;
+  drops = λ x. refl;
+}
+
+pub none_quiet : {p : Act → Bool} → PassesNoQuiet p → (made : List Act)
+    → list_all is_quiet made ≡ true → list_any p made ≡ false
+none_quiet none [] all = refl
+none_quiet {p} none (act ∷ made) all =
     let parts = and_parts (is_quiet act) (list_all is_quiet made) all in
-    ap (λ (b : Bool). b || list_any (brings_in id) made) (quiet_hand_in id act parts.0)
-    ∙ quiet_in id made parts.1
+    or_from (p act) (list_any p made) (none.quiet act parts.0) (none_quiet none made parts.1)
 
 -- ---- what acts say of a board
 

@@ -11,7 +11,6 @@ use Rattle.hermes_horizontal.specs.declared.message.Horizontal.{Horizontal}
 use Rattle.hermes_horizontal.specs.declared.message.Message.{Message}
 use Rattle.line_link.specs.Link.{after_send}
 use Rattle.line_world.specs.FloorPlan.{with_drive}
-use Rattle.line_world.specs.declared.gap.AtGap.{AtGap}
 use Rattle.node_core.specs.declared.act.Act.{Act}
 use Rattle.node_core.specs.declared.act.Act.TheVariants as acts
 use Rattle.node_core.specs.declared.act.Deed.TheVariants as deeds
@@ -47,9 +46,6 @@ exit_says alone (acts.Drive Exit on ∷ told) down b (more_said is said) (more_f
 exit_says alone (acts.Sends Entry message ∷ told) down b (more_said is said) fit few c = absurd is
 exit_says alone (acts.Drive Entry on ∷ told) down b (more_said is said) fit few c = absurd is
 exit_says alone (act ∷ told) down b (more_said is said) fit few c = absurd is
-
-drive_again : (gap : AtGap) (one two : Bool) → with_drive (with_drive gap Exit one) Exit two ≡ with_drive gap Exit two
-drive_again gap one two = refl
 
 pub exit_drives : (told : List Act) (b : Between) → AreSaid Exit told → (all_between Exit told b).gap ≡ with_drive b.gap Exit (drive_after told b.gap.exit_drive)
 exit_drives [] b none_said = refl

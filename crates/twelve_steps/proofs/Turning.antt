@@ -21,7 +21,7 @@ use Rattle.twelve_steps.proofs.Lower.{Lower, asked, readies, settled, stopped, t
 use Rattle.twelve_steps.proofs.Lower as lower
 use Rattle.twelve_steps.proofs.Saying.{bodies_both, drive_both, said_both, sent_both}
 use Rattle.twelve_steps.proofs.Stage.{AboveFollows, AboveHears, AboveReads, AreSaid, BelowFollows, BelowHears, BelowReads, Joint, Way, above_follows, above_hears, above_reads, asks, below_follows, below_hears, below_reads, drive_after, entry_on, exit_on, fresh, goes_on, is_over, left_of, more_said, none_said, starts}
-use Rattle.twelve_steps.proofs.Upper.{Upper, ended, moves, offers, over}
+use Rattle.twelve_steps.proofs.Upper.{Upper, over}
 use Rattle.twelve_steps.proofs.Upper as upper
 
 -- ---- the machine above
