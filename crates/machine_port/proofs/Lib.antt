@@ -1,3 +1,4 @@
 mod Putting
 mod Counting
 mod Stepping
+mod Supervising

@@ -1,3 +1,4 @@
 pub mod Ways
 pub mod Levels
 pub mod Port
+pub mod Supervisor

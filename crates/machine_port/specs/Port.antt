@@ -1,5 +1,5 @@
--- A MACHINE BEHIND ITS PORT: the machine, what waits on the ways to its neighbours, the levels of
--- its drives and signals, and what it did last.
+-- A MACHINE BEHIND ITS PORT: the machine, what waits on the ways to its neighbours and to its
+-- supervisor, what came of that, the levels of its drives and signals, and what it did last.
 use Rattle.std.specs.Prelude.{◌≡◌, ◌+◌, ℕ, ℤ, Bool, true, false, List, [], ◌∷◌, Option, None, Some, Result, Ok, Err, drop, nat_lt, if◌then◌else◌}
 use Rattle.line_base.specs.declared.states.Side.{Side}
 use Rattle.line_base.specs.declared.states.Side.TheVariants.{Entry, Exit}
@@ -18,21 +18,25 @@ use Rattle.node_core.specs.declared.input.No.{No}
 use Rattle.node_core.specs.declared.input.No.TheVariants as no
 use Rattle.node_core.specs.declared.profile.NodeProfile.{NodeProfile}
 use Rattle.machine_port.specs.Levels.{all_off, levels_after}
-use Rattle.machine_port.specs.Ways.{WayState, at_rest, said_at, way_after, way_sent}
+use Rattle.supervised_end.specs.Channel.{ChannelValue, no_session}
+use Rattle.machine_port.specs.Ways.{WayState, at_rest, said_at, told_way, way_after, way_sent}
 use Rattle.machine_port.specs.declared.levels.Levels.{Levels}
 
--- a port is spent once memory was wanting. `number` is the number in the ids that its machine
--- makes, and `made` how many it made, with those before it was new; `steps` is how many steps it
--- made; `refusal` is the text for a second connection of the downstream neighbour, and `last` are
--- the acts of the last call that was done
+-- a port is spent once memory was wanting. `name` is its machine's, `number` the number in the ids
+-- that its machine makes, and `made` how many it made, with those before it was new; `steps` is how many steps it
+-- made; `channel` is what came of its supervisor, and the session there; `refusal` is the text for a
+-- second connection, and `last` are the acts of the last call that was done
 pub record PortState : Type 0 where
   pub spent : Bool
+  pub name : List ℕ
   pub number : ℕ
   pub made : ℕ
   pub steps : ℕ
   pub node : NodeState
   pub entry : WayState
   pub exit : WayState
+  pub supervisor : WayState
+  pub channel : ChannelValue
   pub refusal : List ℕ
   pub levels : Levels
   pub last : List Act
@@ -41,12 +45,15 @@ pub record PortState : Type 0 where
 abbrev pub new_port : NodeProfile → PortState
 new_port profile = record {
   spent = false;
+  name = profile.machine;
   number = profile.number;
   made = profile.used;
   steps = 0;
   node = new_node profile;
   entry = at_rest;
   exit = at_rest;
+  supervisor = at_rest;
+  channel = no_session;
   refusal = [];
   levels = all_off;
   last = [];
@@ -86,7 +93,11 @@ dropped (Some side) s = with_way side at_rest s
 -- each way after some acts
 abbrev pub on_ways : List Act → PortState → PortState
 on_ways told s =
-    record s { entry = way_after Entry told s.entry; exit = way_after Exit told s.exit }
+    record s {
+      entry = way_after Entry told s.entry;
+      exit = way_after Exit told s.exit;
+      supervisor = told_way s.channel.stands told s.supervisor;
+    }
 
 -- of the acts at a second connection the first is said on that one, and the others go their ways
 abbrev pub first_said : List Act → List ℕ

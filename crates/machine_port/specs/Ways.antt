@@ -1,4 +1,4 @@
--- A WAY to a neighbour: the text that waits to be sent on its connection, and whether that is to be
+-- A WAY to a neighbour, or to a supervisor: the text that waits to be sent on its connection, and whether that is to be
 -- closed.
 use Rattle.std.specs.Prelude.{ℕ, ◌++◌, Bool, true, false, ◌||◌, List, [], ◌∷◌, drop, flat_map}
 use Rattle.std.specs.List.{list_any}
@@ -7,6 +7,7 @@ use Rattle.line_base.specs.declared.states.Side.TheVariants.{Entry, Exit}
 use Rattle.hermes_horizontal.specs.Canonical.{canonical}
 use Rattle.node_core.specs.declared.act.Act.{Act}
 use Rattle.node_core.specs.declared.act.Act.TheVariants as acts
+use Rattle.supervised_end.specs.Said.{all_told_for}
 
 pub record WayState : Type 0 where
   pub text : List ℕ
@@ -35,6 +36,10 @@ way_after side told way = record {
   text = way.text ++ flat_map (said_at side) told;
   closes = way.closes || list_any (closes_at side) told;
 }
+
+-- and that to a supervisor, whose session stands or not
+abbrev pub told_way : Bool → List Act → WayState → WayState
+told_way stands told way = record way { text = way.text ++ all_told_for stands told }
 
 -- so many bytes from its front are sent
 abbrev pub way_sent : ℕ → WayState → WayState

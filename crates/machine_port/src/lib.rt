@@ -1,5 +1,5 @@
 //! A machine behind its port: one machine step at a time, with the text that waits on the ways to its
-//! neighbours, the levels of its drives and signals, and the connections that it wants closed.
+//! neighbours and to a supervisor, the levels of its drives and signals, and the connections that it wants closed.
 //!
 //! Who owns sockets, time and sensors gives an input, and then reads what is to be done: text to be
 //! sent, levels, ways to be closed. These are levels and no edges, so nothing is lost where several
@@ -9,6 +9,7 @@
 mod error;
 mod levels;
 mod port;
+mod supervisor;
 mod way;
 
 pub use error::NotDone;

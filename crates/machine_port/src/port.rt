@@ -10,10 +10,11 @@ use crate::levels::Levels;
 use crate::way::{Outgoing, drop_front};
 use board_record::Sensed;
 use hermes_horizontal::write_horizontal;
-use line_base::{Memory, Moment, Side};
+use line_base::{Memory, Moment, Side, Text};
 use node_core::{Act, Input, No, Node, NodeProfile, Outputs};
 use std::alloc::Global;
 use std::marker::Model;
+use supervised_end::Channel;
 
 /// As far as steps are counted.
 const MOST_STEPS: u64 = 18_446_744_073_709_551_615;
@@ -24,17 +25,20 @@ const MOST_STEPS: u64 = 18_446_744_073_709_551_615;
 /// still and its connections to be closed.
 #[derive(Drop)]
 pub struct Port {
-    alloc: Global,
-    spent: bool,
+    pub(crate) alloc: Global,
+    pub(crate) spent: bool,
+    pub(crate) name: Text,
     number: u32,
     made: u64,
     steps: u64,
-    node: Node,
+    pub(crate) node: Node,
     entry: Outgoing,
     exit: Outgoing,
-    refusal: Vec<u8>,
+    pub(crate) supervisor: Outgoing,
+    pub(crate) channel: Channel,
+    pub(crate) refusal: Vec<u8>,
     levels: Levels,
-    last: Outputs,
+    pub(crate) last: Outputs,
 }
 
 impl Model for Port {
@@ -45,12 +49,15 @@ impl Model for Port {
 
     ghost view = { λ port. record {
       spent = port.spent;
+      name = port.name;
       number = port.number;
       made = port.made;
       steps = port.steps;
       node = port.node;
       entry = port.entry;
       exit = port.exit;
+      supervisor = port.supervisor;
+      channel = port.channel;
       refusal = port.refusal.items;
       levels = port.levels;
       last = port.last;
@@ -69,17 +76,21 @@ impl Port {
         requires used { profile.used < 2 ^ 48 }
         ensures { IfOk result (λ port. port ≡ new_port profile) }
     {
+        let name = profile.machine.copy(alloc)?;
         let number = profile.number;
         let made = profile.used;
         Ok(Port {
             alloc,
             spent: false,
+            name,
             number,
             made,
             steps: 0,
             node: Node::new(alloc, profile)?,
             entry: Outgoing::new(alloc),
             exit: Outgoing::new(alloc),
+            supervisor: Outgoing::new(alloc),
+            channel: Channel::new(alloc)?,
             refusal: Vec::new(alloc),
             levels: Levels::off(),
             last: Outputs::new(alloc),
@@ -161,7 +172,12 @@ impl Port {
     }
 
     /// A step, where the machine can take the input.
-    fn take(&mut self, sensed: &[Sensed], input: Input<'_>, moment: Moment) -> Result<(), Memory>
+    pub(crate) fn take(
+        &mut self,
+        sensed: &[Sensed],
+        input: Input<'_>,
+        moment: Moment,
+    ) -> Result<(), Memory>
         requires unspent { self.old.spent ≡ false }
         requires may { may_of self.old.node input ≡ may_do }
         ensures lost { OnErr result (self.new.spent ≡ true) }
@@ -244,7 +260,8 @@ impl Port {
         ensures put { OnOk result (self.new ≡ on_ways acts.now self.old) }
     {
         self.entry.put(Side::Entry, acts)?;
-        self.exit.put(Side::Exit, acts)
+        self.exit.put(Side::Exit, acts)?;
+        self.supervisor.put_told(self.channel.stands(), acts)
     }
 
     fn say_to_second(&mut self, acts: &[Act]) -> Result<(), Memory>
@@ -308,7 +325,7 @@ impl Port {
         }
     }
 
-    /// The text for a second connection of the downstream neighbour, which is to be closed behind it.
+    /// The text for a second connection, which is to be closed behind it.
     pub fn refusal(&self) -> &[u8]
         ensures { result.now ≡ self.now.refusal }
     {

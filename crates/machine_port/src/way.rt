@@ -1,13 +1,15 @@
-ghost use Rattle.std.specs.Prelude.{◌≡◌, ◌∷◌, [], drop, OnOk};
-ghost use Rattle.machine_port.specs.Ways.{at_rest, way_after, way_sent};
+ghost use Rattle.std.specs.Prelude.{◌≡◌, ◌∷◌, ◌++◌, [], drop, OnOk, true};
+ghost use Rattle.hermes_vertical.specs.Canonical.{canonical};
+ghost use Rattle.machine_port.specs.Ways.{at_rest, told_way, way_after, way_sent};
 
 use hermes_horizontal::write_horizontal;
+use hermes_vertical::{VerticalMessage, write_vertical};
 use line_base::{Memory, Side};
 use node_core::Act;
 use std::alloc::Global;
 use std::marker::Model;
 
-/// The way to a neighbour: the text that waits to be sent on its connection, and whether that is to
+/// The way to a neighbour, or to a supervisor: the text that waits to be sent on its connection, and whether that is to
 /// be closed.
 #[derive(Debug, Drop)]
 pub struct Outgoing {
@@ -74,6 +76,40 @@ impl Outgoing {
             }
             _ => Ok(()),
         }
+    }
+
+    /// What these acts tell a supervisor waits behind what waits here, where its session stands.
+    pub(crate) fn put_told(&mut self, stands: bool, acts: &[Act]) -> Result<(), Memory>
+        ensures { OnOk result (self.new ≡ told_way stands acts.now self.old) }
+    {
+        for act in acts {
+            self.put_one_told(stands, act)?;
+        }
+        Ok(())
+    }
+
+    fn put_one_told(&mut self, stands: bool, act: &Act) -> Result<(), Memory>
+        ensures { OnOk result (self.new ≡ told_way stands (act.now ∷ []) self.old) }
+    {
+        match act {
+            Act::Tells(told) if stands => self.say(told.message()),
+            _ => Ok(()),
+        }
+    }
+
+    /// A message for a supervisor waits behind what waits here.
+    pub(crate) fn say(&mut self, message: &VerticalMessage) -> Result<(), Memory>
+        ensures { OnOk result
+            (self.new ≡ record self.old { text = self.old.text ++ canonical message.now }) }
+    {
+        write_vertical(message, &mut self.text)
+    }
+
+    /// Its connection is to be closed, once its text is sent.
+    pub(crate) fn end(&mut self)
+        ensures { self.new ≡ record self.old { closes = true } }
+    {
+        self.closes = true;
     }
 
     /// So many bytes from its front are sent: all, where there are fewer.
