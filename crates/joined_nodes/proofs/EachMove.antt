@@ -36,7 +36,7 @@ use Rattle.node_panel.specs.Panel.{panel_line_of}
 use Rattle.node_panel.specs.declared.line.PanelLine.{PanelLine}
 use Rattle.node_panel.specs.declared.line.PanelLine.TheVariants as lines
 use Rattle.node_connections.specs.Connections.{acts_for}
-use Rattle.node_connections.proofs.Holding.{Same, is_unreached, same_is, same_self}
+use Rattle.node_connections.proofs.Holding.{Same, is_reached, is_unreached, same_is, same_self}
 use Rattle.node_connections.proofs.Parts.{config_same, configuration_same, supervisory_same, try_same}
 use Rattle.node_connections.proofs.Polled.{none_held}
 use Rattle.node_run.specs.After.{AfterClose, AfterDownstream, AfterPanel, AfterPoll, AfterUpstream, PanelArrives, TakesFinding, TakesFound, after_listen, after_send, broken, looked, panel_bytes, panel_closed, panel_second, way_of, with_held}
@@ -424,11 +424,11 @@ begun_left moment Exit s = record { node = refl; own = refl; beside = by; held =
   by Exit is = absurd (true≢false is)
   by Entry is = refl
 
-reset_ways : {rules : Rules} {moment : ℤ} {s u t : RunState} {taken : Option Taken} (at side : Side) → next_of rules s ≡ nexts.Reset side → Left moment side s u → Notices side s taken → Goes u t taken → Ways rules moment at s t taken []
-reset_ways {taken = taken} Entry Entry next left seen goes = way_resets next seen (goes.up ∙ ap (λ (text : List ℕ). text ++ texts_in Entry taken) left.own)
-reset_ways {taken = taken} Exit Exit next left seen goes = way_resets next seen (goes.down ∙ ap (λ (text : List ℕ). text ++ texts_in Exit taken) left.own)
-reset_ways {taken = taken} Entry Exit next left seen goes = way_says tt (goes.up ∙ ap (λ (text : List ℕ). text ++ texts_in Entry taken) (left.beside Entry refl))
-reset_ways {taken = taken} Exit Entry next left seen goes = way_says tt (goes.down ∙ ap (λ (text : List ℕ). text ++ texts_in Exit taken) (left.beside Exit refl))
+reset_ways : {rules : Rules} {moment : ℤ} {s u t : RunState} {taken : Option Taken} (at side : Side) → next_of rules s ≡ nexts.Reset side → is_open side s.node.lane.body ≡ true → Left moment side s u → Notices side s taken → Goes u t taken → Ways rules moment at s t taken []
+reset_ways {taken = taken} Entry Entry next held left seen goes = way_resets next held seen (goes.up ∙ ap (λ (text : List ℕ). text ++ texts_in Entry taken) left.own)
+reset_ways {taken = taken} Exit Exit next held left seen goes = way_resets next held seen (goes.down ∙ ap (λ (text : List ℕ). text ++ texts_in Exit taken) left.own)
+reset_ways {taken = taken} Entry Exit next held left seen goes = way_says tt (goes.up ∙ ap (λ (text : List ℕ). text ++ texts_in Entry taken) (left.beside Entry refl))
+reset_ways {taken = taken} Exit Entry next held left seen goes = way_says tt (goes.down ∙ ap (λ (text : List ℕ). text ++ texts_in Exit taken) (left.beside Exit refl))
 
 reset_by : (may : Result (Unit {0}) No) (rules : Rules) (moment : ℤ) (side : Side) (s t : RunState) (log : List ℕ) → next_of rules s ≡ nexts.Reset side → may_of s.node (inputs.Notice side) ≡ may
     → Takes may rules moment (inputs.Notice side) (leaving moment side (reset_begun side s)) (reset_begun side s) t log → DoesOne rules moment s t []
@@ -439,7 +439,7 @@ reset_by (Ok done) rules moment side s t log next may takes =
     record {
       taken = Some _;
       does = does_step tt (makes_from left.node (makes_step tt (ap (λ (n : NodeState). may_of n (inputs.Notice side)) left.node ∙ may) takes)) (same_found (goes.held ∙ left.held));
-      ways = λ at. reset_ways at side next left notices goes;
+      ways = λ at. reset_ways at side next (is_reached side s.node.lane.body may) left notices goes;
       stays = λ at. stays_on (ap (found_for at) (goes.held ∙ left.held));
       reads = refl;
     }

@@ -54,7 +54,7 @@ abbrev pub Held : ℕ → Option Finding → Running → Type 0
 Held machine None s = Unit {0}
 Held machine (Some finding) s = HeldBy machine finding.side finding.bytes s
 
-abbrev GoFurther : ℕ → Running → Running → Type 0
+abbrev pub GoFurther : ℕ → Running → Running → Type 0
 GoFurther machine s t = (side : Side) → Further side (s.wires (link_of machine side)) (t.wires (link_of machine side))
 
 come_further : {machine : ℕ} {side : Side} {bytes : List ℕ} {s t : Running} → Further side (s.wires (link_of machine side)) (t.wires (link_of machine side)) → ComeTo machine side bytes s → ComeTo machine side bytes t
@@ -69,7 +69,7 @@ by_further : {machine : ℕ} (s t : Running) (side : Side) (bytes : Option (List
 by_further s t side None further held = tt
 by_further s t side (Some bytes) further held = come_further (further side) held
 
-held_further : {machine : ℕ} (s t : Running) (finding : Option Finding) → GoFurther machine s t → Held machine finding s → Held machine finding t
+pub held_further : {machine : ℕ} (s t : Running) (finding : Option Finding) → GoFurther machine s t → Held machine finding s → Held machine finding t
 held_further s t None further held = tt
 held_further s t (Some finding) further held = by_further s t finding.side finding.bytes further held
 
@@ -179,7 +179,7 @@ called_on calls_nobody = record { came = came_none; machines = refl; further = �
 
 -- ---- a step of the machine
 
-makes_of : {moment : ℤ} {s t : RunState} {given : List Given} {taken : Taken} → Does moment s t given (Some taken) → Makes moment s t taken
+pub makes_of : {moment : ℤ} {s t : RunState} {given : List Given} {taken : Taken} → Does moment s t given (Some taken) → Makes moment s t taken
 makes_of (does_connect makes none) = makes
 makes_of (does_accept makes none) = makes
 makes_of (does_hear holds makes none) = makes
@@ -314,7 +314,7 @@ set_own : (machine : ℕ) (s : Running) (node : NodeState) → node_of machine s
 set_own zero s node there = absurd (cc)
 set_own (suc place) s node there = (let is : suc place - 1 ≡ place = omega arith in ap (λ (p : ℕ). slice_set s.machines p node) is ∙ set_same s.machines place node there)
 
-still_node : {moment : ℤ} {s t : RunState} {given : List Given} → Does moment s t given None → t.node ≡ s.node
+pub still_node : {moment : ℤ} {s t : RunState} {given : List Given} → Does moment s t given None → t.node ≡ s.node
 still_node (does_nothing same found) = same
 still_node (does_find same holds) = same
 

@@ -1,6 +1,6 @@
 -- WHAT A MOVE MAKES OF WHAT GOES OVER THE WAY OF A SIDE: of the text that waits to be sent there, and of
 -- the bytes that were found there and aren't heard yet.
-use Rattle.std.specs.Prelude.{ℕ, ℤ, false, List, [], ◌∷◌, ◌++◌, ◌≡◌, Option, None, Some}
+use Rattle.std.specs.Prelude.{ℕ, ℤ, false, true, List, [], ◌∷◌, ◌++◌, ◌≡◌, Option, None, Some}
 use Rattle.std.specs.Borrow.{Bor}
 use Rattle.line_base.specs.declared.states.Side.{Side}
 use Rattle.line_base.specs.declared.states.Side.TheVariants.{Entry, Exit}
@@ -69,7 +69,8 @@ pub data Ways (rules : Rules) (moment : ℤ) (side : Side) (s t : RunState)
   way_says : {given : List Given} → IsOther side given
       → waits_at side t ≡ waits_at side s ++ texts_in side taken
       → Ways rules moment side s t taken given
-  way_resets : next_of rules s ≡ nexts.Reset side → Notices side s taken
+  way_resets : next_of rules s ≡ nexts.Reset side → is_open side s.node.lane.body ≡ true
+      → Notices side s taken
       → waits_at side t ≡ (waits_at side s ++ reset_text moment) ++ texts_in side taken
       → Ways rules moment side s t taken []
 

@@ -1,5 +1,5 @@
--- THE HALVES OF A MACHINE say something only where their side has a connection: as they read, at a fault, where a
--- connection ends, and as the machine announces.
+-- THE HALVES OF A MACHINE say something only where their side has a connection: as they read, at a
+-- fault, where a connection ends, and as the machine announces.
 use Rattle.std.proofs.Common.{Bool, List, None, Option, Some, [], ap, false, inl, inr, refl, subst, sym, true, ℕ, ◌∙◌, ◌∷◌, ◌≡◌, ◌≢◌}
 use Rattle.std.specs.Prelude.{is_some, slice_get, unwrap_or}
 use Rattle.std.proofs.lemmas.Bool.{and_parts, false≢true, true≢false}
@@ -327,7 +327,8 @@ pub all_read_says : (at : Side) (desk : Desk) (unread : List Sensed) (body : Bod
     → Says at body (all_read desk unread body)
 all_read_says at desk [] body = says_still at body
 all_read_says at desk (sensed ∷ others) body =
-    says_then at body (reads desk sensed body) (all_read desk others) (read_says at desk sensed body)
+    says_then at body (reads desk sensed body) (all_read desk others)
+    (read_says at desk sensed body)
     (λ one. all_read_says at desk others one)
 
 -- ---- the half of a side whose connection has ended: it says nothing there, and is off
@@ -502,7 +503,8 @@ revoke_says Entry desk true body due =
     outlet_at_entry desk body (outlet_row body.outlet out_input.Revoke)
 revoke_says Exit desk true body due =
     due_exit desk out_input.Revoke body (is_open Exit body) refl
-    (λ closed off. unoffered body.outlet.offered off.unsaid (and_parts _ _ (and_parts _ _ due).0).1)
+    (λ closed off.
+    unoffered body.outlet.offered off.unsaid (and_parts _ _ (and_parts _ _ due).0).1)
 
 unready_says : (at : Side) (desk : Desk) (test : Bool) (body : Body)
     → unreadies_now desk body ≡ test → Says at body (unready_by desk test body)

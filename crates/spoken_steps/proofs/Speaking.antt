@@ -1,4 +1,5 @@
--- WHAT A MACHINE SAYS AT ITS INPUT, by the micro events: what its sessions have it do, what it hears, and all others.
+-- WHAT A MACHINE SAYS AT ITS INPUT, by the micro events: what its sessions have it do, what it
+-- hears, and all others.
 use Rattle.std.proofs.Common.{Bool, List, None, Option, Some, [], false, refl, subst, sym, true, ℕ, ◌++◌, ◌∙◌, ◌∷◌, ◌≡◌, ◌≢◌}
 use Rattle.std.specs.Prelude.{is_some}
 use Rattle.line_base.specs.declared.states.Severity.TheVariants.{Fatal}
@@ -150,7 +151,7 @@ action_says at side desk (Some (Pass what)) body goes o said least off =
     says_still at body o least off
 action_says at side desk (Some Close) body goes o said least off = absurd goes
 
--- ---- the rows of a session: one thing is done, or the connection is shut, with a text before or without
+-- ---- the rows of a session: one thing is done, or the connection is closed
 
 data RowSays (row : SessionRow) : Type 0 where
   row_still : is_connected_state row.after.state ≡ true → row.actions ≡ nothing → RowSays row
@@ -283,7 +284,8 @@ row_did at side o desk row body (row_one action goes on is) said least off =
     let after : Body = with_session side row.after body in
     subst (λ (actions : Actions). Speaks at o (actions_did desk side actions after)) (sym is)
     (one_says at side desk (Some action) after goes o said
-    (changed_least at side o row.after body said least) (changed_off at side row.after body on off))
+    (changed_least at side o row.after body said least)
+    (changed_off at side row.after body on off))
 row_did at side o desk row body (row_closes not is) said least off =
     let after : Body = with_session side row.after body in
     subst (λ (actions : Actions). Speaks at o (actions_did desk side actions after)) (sym is)
@@ -346,7 +348,8 @@ exit_says at desk (exits.Start id) body has =
 exit_says at desk (exits.Stop state id) body has =
     outlet_took_says at desk body (outlet_row body.outlet (out_input.Stop state id)) has
 exit_says at desk (exits.Query top bottom) body has =
-    took_some (λ o least off. sends_say at Exit desk _ body o (said_open at Exit o body has least) least off)
+    took_some (λ o least off.
+    sends_say at Exit desk _ body o (said_open at Exit o body has least) least off)
 exit_says at desk exits.Nothing body has = took_some (says_still at body)
 
 intake_took_says : (at : Side) (desk : Desk) (body : Body) (row : Option InRow)
@@ -423,11 +426,13 @@ taken_says : (at side : Side) (desk : Desk) (message : Message) (input : Given) 
 taken_says at Entry desk message input body row (Some (Pass what)) is within first =
     pass_says at Entry desk message row body (entry_took desk (entry_word what))
     (row_passes (row_is (session_at Entry body) input row is) within first)
-    (session_open Entry body input row is within) (λ after has. entry_says at desk (entry_word what) after has)
+    (session_open Entry body input row is within) (λ after has.
+    entry_says at desk (entry_word what) after has)
 taken_says at Exit desk message input body row (Some (Pass what)) is within first =
     pass_says at Exit desk message row body (exit_took desk (exit_word what))
     (row_passes (row_is (session_at Exit body) input row is) within first)
-    (session_open Exit body input row is within) (λ after has. exit_says at desk (exit_word what) after has)
+    (session_open Exit body input row is within) (λ after has.
+    exit_says at desk (exit_word what) after has)
 taken_says at side desk message input body row None is within first =
     heard_row_says at side desk message input body row is within
 taken_says at side desk message input body row (Some SendService) is within first =

@@ -217,7 +217,8 @@ fails_say at (Some id) body =
 levels_say : (at : Side) (desk : Desk) (line : SegmentLine) (on : Bool) (body : Body)
     → Says at body (sets_level desk line on body)
 levels_say at desk line on body =
-    says_then at body (tells_level line on body) (λ one. fails (failed_front desk.bridge line on one) one)
+    says_then at body (tells_level line on body) (λ one.
+    fails (failed_front desk.bridge line on one) one)
     (level_says at line on body)
     (λ one. fails_say at (failed_front desk.bridge line on one) one)
 

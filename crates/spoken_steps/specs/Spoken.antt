@@ -35,7 +35,7 @@ AreSaidOpen side opened [] = Unit {0}
 AreSaidOpen side opened (act ∷ others) =
     SaysOpen side opened act × AreSaidOpen side (open_act side opened act) others
 
--- ---- a side without a connection: no handover is under way on one, and nothing was announced there
+-- ---- a side without a connection: no handover is under way on one, and nothing was announced
 
 pub record IsOutletOff (body : Body) : Type 0 where
   pub apart : out_unlinked body.outlet.phase ≡ true

@@ -1,0 +1,11 @@
+pub mod Answers
+pub mod Tracks
+pub mod Turning
+pub mod Ends
+pub mod Core
+pub mod Books
+pub mod Steps
+pub mod Walks
+pub mod Moving
+pub mod Still
+pub mod Runs
