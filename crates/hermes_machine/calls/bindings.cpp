@@ -21,6 +21,12 @@ static void show_field(hermes::machine &m, std::uint32_t field) {
     std::printf(" %s", text.c_str());
 }
 
+static std::string waiting(hermes::machine &m, std::uint32_t way) {
+    char front[4096];
+    const std::int64_t many = m.unsent(way, front, sizeof front);
+    return std::string(front, many > 0 ? static_cast<std::size_t>(many) : 0);
+}
+
 int main() {
     hermes_profile bad{}, good{};
     good.number = 7, good.lane = 1, good.capacity = 4;
@@ -62,6 +68,14 @@ int main() {
     std::printf(" waits %d", waits > 0);
     m.sent(HERMES_ENTRY, static_cast<std::size_t>(waits));
     std::printf(" %lld\n", static_cast<long long>(m.unsent(HERMES_ENTRY, front, sizeof front)));
+    std::printf("supervisor %d", m.supervisor_bytes("<Hermes><SupervisoryServiceDescription SystemId=\"S\" Version=\"1.0\"/></Hermes>"));
+    for (int i = 0; i < 3; i++) std::printf(" %d", m.supervisor_message(noon) == HERMES_DONE);
+    std::printf(" %d", waiting(m, HERMES_SUPERVISOR).find("\"Loader\"") != std::string::npos);
+    m.supervisor_second(noon);
+    std::printf(" %d", waiting(m, HERMES_REFUSAL).find("already connected") != std::string::npos);
+    m.supervisor_closed(noon);
+    m.view(view);
+    std::printf(" %zu %u\n", waiting(m, HERMES_SUPERVISOR).size(), view.supervised);
     other = std::move(m);
     std::printf("view %d", other.view(view));
     std::printf(" kept %llu ids %llu state %u\n", static_cast<unsigned long long>(view.kept), static_cast<unsigned long long>(view.ids_made), view.state[0]);

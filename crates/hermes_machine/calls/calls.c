@@ -315,7 +315,7 @@ static void handover(void) {
     say("sent", hermes_machine_sent(&a, HERMES_REFUSAL, SIZE_MAX));
     hermes_machine_view(&a, &v);
     say("its text waits", v.unsent[HERMES_REFUSAL] > 0);
-    printf("no way: %lld %d\n", (long long)hermes_machine_unsent(&a, 2, (uint8_t *)&v, 1), hermes_machine_sent(&a, 4, 1));
+    printf("no way: %lld %d\n", (long long)hermes_machine_unsent(&a, 4, (uint8_t *)&v, 1), hermes_machine_sent(&a, 4, 1));
     printf("shut down: %d\n", told(&a, HERMES_SHUTDOWN, 0, 0, ""));
     hermes_machine_view(&a, &v);
     printf("to be closed: %u waits: %d accepted: %d\n", v.close[HERMES_EXIT], v.unsent[HERMES_EXIT] > 0,
@@ -483,6 +483,77 @@ static void lines(void) {
     hermes_machine_free(&m);
 }
 
+static int32_t came(hermes_machine *m, const char *bytes) {
+    return hermes_machine_supervisor_bytes(m, (const uint8_t *)bytes, strlen(bytes));
+}
+
+/* each message of what came, with its log, and then what waits for the supervisor, which is sent */
+static void hear(const char *what, hermes_machine *m, const char *bytes) {
+    char text[1000];
+    int32_t answer = came(m, bytes);
+    printf("%s: %d\n", what, answer);
+    while ((answer = hermes_machine_supervisor_message(m, noon)) == HERMES_DONE) show_log("message", m);
+    int64_t n = hermes_machine_unsent(m, HERMES_SUPERVISOR, (uint8_t *)text, sizeof text);
+    printf("then %d waits %lld\n%.*s%s", answer, (long long)n, (int)n, text, n > 0 ? "\n" : "");
+    hermes_machine_sent(m, HERMES_SUPERVISOR, (size_t)n);
+}
+
+#define SYSTEM "<Hermes><SupervisoryServiceDescription SystemId=\"S\" Version=\"1.0\"/></Hermes>"
+#define PING "<Hermes><CheckAlive Type=\"1\" Id=\"a\"/></Hermes>"
+
+/* a supervisor's connection: its session, a board that it is told of, a work order, and each way to an end */
+static void supervised(void) {
+    hermes_machine m = {0};
+    hermes_view v = {.size = sizeof v};
+    static char many[HERMES_MOST_BYTES + 2];
+    char text[300];
+    memset(many, ' ', HERMES_MOST_BYTES + 1);
+    printf("supervisor of none: %d %d %d %d\n", came(&m, ""), hermes_machine_supervisor_message(&m, noon),
+           hermes_machine_supervisor_closed(&m, noon), hermes_machine_supervisor_second(&m, noon));
+    new_of(&m, good, "Loader");
+    printf("bad: %d %d %d %d\n", came(&m, many), hermes_machine_supervisor_message(&m, INT64_C(-62135596800001)),
+           hermes_machine_supervisor_closed(&m, INT64_C(-62135596800001)), hermes_machine_supervisor_second(&m, INT64_C(-62135596800001)));
+    say("nothing came", hermes_machine_supervisor_message(&m, noon));
+    say("half a message", came(&m, "<Hermes><CheckAl"));
+    say("more before it is done", came(&m, "x"));
+    hear("still not", &m, "x");
+    hear("the other half", &m, "ive Type=\"1\" Id=\"a\"/></Hermes>");
+    hear("session", &m, SYSTEM PING);
+    say("insert", told(&m, HERMES_INSERT, 0, 0, ""));
+    hear("nothing more", &m, "");
+    say("ask", told(&m, HERMES_ASK, 0, HERMES_BY_ORDER, "4711"));
+    hear("orders", &m, "<Hermes><SendWorkOrderInfo QueryId=\"1\" WorkOrderId=\"WO-7\"/></Hermes>"
+         "<Hermes><SendWorkOrderInfo QueryId=\"2\" WorkOrderId=\"D\"/></Hermes>");
+    show_order(&m, 1);
+    say("second", hermes_machine_supervisor_second(&m, noon));
+    int64_t n = hermes_machine_unsent(&m, HERMES_REFUSAL, (uint8_t *)text, sizeof text);
+    printf("its text: %.*s\n", (int)n, text);
+    hear("breach", &m, SYSTEM PING);
+    hermes_machine_view(&m, &v);
+    printf("to be closed: %u %u %u waits %llu supervised %u\n", v.close[0], v.close[1], v.close[2], (unsigned long long)v.unsent[2], v.supervised);
+    hear("dropped", &m, PING);
+    say("closed", hermes_machine_supervisor_closed(&m, noon));
+    hermes_machine_view(&m, &v);
+    printf("to be closed: %u\n", v.close[HERMES_SUPERVISOR]);
+    hear("another connection", &m, SYSTEM);
+    say("closed", hermes_machine_supervisor_closed(&m, noon));
+    show_log("closed", &m);
+    say("closed again", hermes_machine_supervisor_closed(&m, noon));
+    show_log("closed again", &m);
+    hear("no message", &m, "<Hermes><Bogus </Hermes>");
+    say("closed", hermes_machine_supervisor_closed(&m, noon));
+    hear("no row", &m, "<Hermes><SendWorkOrderInfo QueryId=\"1\" WorkOrderId=\"A\"/></Hermes>");
+    hermes_machine_supervisor_closed(&m, noon);
+    many[HERMES_MOST_BYTES] = 0;
+    memcpy(many, "<Hermes>", 8);
+    for (int turn = 0; turn < 16; turn++) {
+        came(&m, many);
+        while (turn < 15 && hermes_machine_supervisor_message(&m, noon) == HERMES_DONE) {}
+    }
+    hear("more while it is not done", &m, "x");
+    hermes_machine_free(&m);
+}
+
 /* Memory is wanting for a text: nothing is copied, and the machine is as it was. Then it is wanting in a step, each time one
  * call later: the machine is spent, and has counted the id. */
 static void wants(void) {
@@ -534,6 +605,7 @@ int main(void) {
     read_of_boards();
     orders();
     lines();
+    supervised();
     wants();
     return 0;
 }

@@ -4,9 +4,9 @@
  * A control program owns sockets, time and sensors; the library owns sessions, handovers and records. What happens is told by
  * hermes_machine_step, or by a line of a panel (hermes_machine_line); what is to be done is read back by hermes_machine_view
  * and hermes_machine_unsent. These are levels, no edges: nothing is lost where several steps are made before they are read.
- * The acts alone (hermes_machine_act, _act_text, _log) are those of the last step. SO FAR a machine has no way of its own to
- * a supervisory system: your program has that connection, and tells the machine that it is supervised, what it asks, and
- * what is answered.
+ * The acts alone (hermes_machine_act, _act_text, _log) are those of the last step. A supervisor's
+ * connection is heard by the hermes_machine_supervisor_.. calls; or your program has a supervisory system of its own, and tells the
+ * machine that it is supervised, what it asks, and what is answered.
  *
  * WHOSE IS WHAT. The library opens nothing, waits for nothing, starts no thread, calls nothing of yours but the three
  * calls of memory below, and keeps nothing outside the handle and what it takes by these.
@@ -48,7 +48,7 @@ extern "C" {
 #endif
 
 /* Raised by each change of a struct, a number or a call. Compare it with hermes_machine_abi() once. */
-#define HERMES_MACHINE_ABI 5u
+#define HERMES_MACHINE_ABI 6u
 
 /* A handle: a machine, or, all zero, none. Its fields are the library's. */
 typedef struct hermes_machine {
@@ -87,7 +87,8 @@ enum {
     HERMES_BAD_TEXT = -4,  /* no text: not UTF-8, a character that XML forbids, or too few or too many bytes; or one of the lines
                               `connect`, `show`, `end`, which your program does itself */
     HERMES_NOT_EMPTY = -5, /* hermes_machine_new: the handle has a machine already */
-    HERMES_NONE = -6,      /* there is no such act, record, field or work order; or the line is empty or a comment */
+    HERMES_NONE = -6,      /* there is no such act, record, field or work order; or the line is empty or a comment; or all that
+                              came of the supervisor is done */
     /* why a line of a panel is refused: the first of its reasons. The last four are those of the words from the left */
     HERMES_REFUSED_LONG_LINE = -7,     /* more than 4,096 bytes */
     HERMES_REFUSED_NOT_TEXT = -9,      /* a byte that is neither a tab nor printable ASCII */
@@ -103,7 +104,9 @@ enum {
 enum {
     HERMES_ENTRY = 0,  /* boards come in here; the way to the upstream neighbour, to which this machine connects */
     HERMES_EXIT = 1,   /* boards go out here; the way of the downstream neighbour, whose connection it accepts */
-    HERMES_REFUSAL = 3 /* for hermes_machine_unsent and _sent alone: the text for a second connection */
+    /* for hermes_machine_unsent and _sent alone */
+    HERMES_SUPERVISOR = 2, /* the way to the supervisor, whose connection this machine accepts */
+    HERMES_REFUSAL = 3     /* the text for a second connection */
 };
 
 /* ---- who a machine is ---- */
@@ -131,7 +134,7 @@ enum {
 };
 typedef struct hermes_view {
     uint32_t size;       /* sizeof(hermes_view), set by the caller */
-    uint32_t spent;      /* 1 where memory was wanting in a step: then both drives are 0 and both connections to be closed */
+    uint32_t spent;      /* 1 where memory was wanting in a step: then both drives are 0 and all connections to be closed */
     uint32_t bridge;     /* as in the profile */
     uint32_t supervised; /* 1 while it is supervised */
     uint32_t state[2];   /* HERMES_STATE_.. of entry and exit */
@@ -139,7 +142,8 @@ typedef struct hermes_view {
     uint32_t drive[2];   /* 1 while the drive of entry, of exit is to run: a level, set it after each step */
     uint32_t signal[4];  /* of a bridge, levels: Board Available, Failed Board Available at its entry, Machine Ready at its
                             exit; then 0 */
-    uint32_t close[4];   /* 1 where the connection of entry, of exit is to be closed, once its text is sent; then 0 */
+    uint32_t close[4];   /* 1 where the connection of entry, of exit, of the supervisor is to be closed, once its text is
+                            sent; then 0 */
     uint64_t kept;       /* how many records are kept */
     uint64_t acts;       /* how many acts the last step had */
     uint64_t unsent[4];  /* bytes that wait to be sent, by the number of the way */
@@ -169,7 +173,7 @@ enum {
     HERMES_SHUTDOWN = 14, /* both connections are to end */
     HERMES_FORECAST = 15, /* the downstream neighbour is told which board comes next */
     HERMES_QUERY = 16,    /* bytes, a top barcode: the upstream neighbour is asked for that board */
-    /* what your program does with a supervisory system of its own */
+    /* of work orders; and what your program does with a supervisory system of its own */
     HERMES_ASK = 17,       /* what = HERMES_BY_.., bytes, slot (BY_PLACE): a work order is wanted. The act TELLS names the
                               question's number, from 1 */
     HERMES_SUPERVISE = 18, /* what = 0 or 1: from now on it is supervised, or not: the acts TELLS name the boards that come
@@ -335,6 +339,35 @@ static inline int32_t hermes_machine_tell(hermes_machine *m, uint32_t kind, uint
  * hermes_machine_step; at the others what is promised there. */
 int32_t hermes_machine_line(hermes_machine *m, const uint8_t *line, size_t len, int64_t now_ms);
 
+/* A SUPERVISOR'S CONNECTION, which your program accepts: docs/standard/machine.md, 'The supervisory channel'. Give the bytes
+ * that came, and then do their messages one by one until HERMES_NONE; a step that one makes has its acts and its log as any other.
+ * What the machine says waits on the way HERMES_SUPERVISOR, while a session stands also each board that comes and goes and what
+ * it asks; view.close[HERMES_SUPERVISOR] says that the connection is to be closed.
+ *
+ * Bytes came there. They wait; where the connection is to be closed they are dropped. The first of these that holds is the answer:
+ * HERMES_EMPTY; HERMES_BAD_INPUT (more than HERMES_MOST_BYTES; or what came before isn't all done); else HERMES_DONE, or
+ * HERMES_MEMORY, and the machine is spent. Proved: which answer; at HERMES_DONE, what waits; at HERMES_EMPTY and HERMES_BAD_INPUT,
+ * unchanged; and that a spent machine never answers HERMES_DONE, and stays as it is. */
+int32_t hermes_machine_supervisor_bytes(hermes_machine *m, const uint8_t *bytes, size_t len);
+
+/* THE NEXT MESSAGE of those bytes: it is answered, makes a step (the machine is supervised from now on, or a work order is
+ * taken), or neither; what is no message, has no row in the table of the session or is too long breaks it off with a Notification.
+ * Where it makes no step there are no last acts. The first of these that holds is the answer: HERMES_EMPTY; HERMES_BAD_INPUT (the
+ * moment); HERMES_NONE (all that came is done); else HERMES_DONE, or HERMES_MEMORY, and the machine is spent. Proved: which answer;
+ * at HERMES_DONE, that the message is the next of the stream and does what a node does at it; that no id is made; at HERMES_EMPTY,
+ * HERMES_BAD_INPUT and HERMES_NONE, unchanged; and that a spent machine never answers HERMES_DONE, and stays as it is. */
+int32_t hermes_machine_supervisor_message(hermes_machine *m, int64_t now_ms);
+
+/* That connection is closed, by whomever: what waits there and what came is dropped, and a machine that was supervised makes a step and
+ * is so no more; else there are no last acts. The first of these that holds is the answer: HERMES_EMPTY; HERMES_BAD_INPUT (the
+ * moment); else HERMES_DONE, or HERMES_MEMORY, and the machine is spent. Proved: as of the next message. */
+int32_t hermes_machine_supervisor_closed(hermes_machine *m, int64_t now_ms);
+
+/* A second connection of a supervisor was accepted: send it HERMES_REFUSAL's text, then close it. The first of these that holds is
+ * the answer: HERMES_EMPTY; HERMES_BAD_INPUT (the moment); else HERMES_DONE, or HERMES_MEMORY, and nothing is spent by it. Proved:
+ * which answer; at HERMES_DONE, the text, and that nothing else changes; at the others, unchanged. */
+int32_t hermes_machine_supervisor_second(hermes_machine *m, int64_t now_ms);
+
 /* Copies the front of what waits on a way into `to`, and answers how many bytes: the least of `room` and what waits.
  * HERMES_EMPTY, or else HERMES_BAD_INPUT (the number is no way's). Proved: which answer; the bytes; that the rest of `to` is as it
  * was; unchanged. */
@@ -363,7 +396,7 @@ int32_t hermes_machine_act(hermes_machine *m, uint32_t index, hermes_act *act);
 int64_t hermes_machine_act_text(hermes_machine *m, uint32_t index, size_t from, uint8_t *to, size_t room);
 
 /* The lines of the last step's acts, from byte `from` on: as a node logs them that tells its drives, the number of the step (view.steps)
- * in front of each; none before the first step, and none behind a CLOSED of which it made no step. As hermes_machine_act_text:
+ * in front of each; none before the first step, and none behind a call that was done without one. As hermes_machine_act_text:
  * HERMES_EMPTY; HERMES_MEMORY may stand in place of a number of bytes, and nothing is spent by it. Proved: which answer; the bytes;
  * that what the machine owns is read off the lines of its steps, one behind the other; that the rest of `to` is as it was; unchanged. */
 int64_t hermes_machine_log(hermes_machine *m, size_t from, uint8_t *to, size_t room);

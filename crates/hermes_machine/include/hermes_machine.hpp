@@ -55,6 +55,14 @@ class machine {
         return hermes_machine_line(&handle, bytes_of(text), text.size(), now_ms);
     }
 
+    // the connection of a supervisor
+    std::int32_t supervisor_bytes(std::string_view bytes) noexcept {
+        return hermes_machine_supervisor_bytes(&handle, bytes_of(bytes), bytes.size());
+    }
+    std::int32_t supervisor_message(std::int64_t now_ms) noexcept { return hermes_machine_supervisor_message(&handle, now_ms); }
+    std::int32_t supervisor_closed(std::int64_t now_ms) noexcept { return hermes_machine_supervisor_closed(&handle, now_ms); }
+    std::int32_t supervisor_second(std::int64_t now_ms) noexcept { return hermes_machine_supervisor_second(&handle, now_ms); }
+
     std::int32_t view(hermes_view &to) noexcept {
         to.size = sizeof to;
         return hermes_machine_view(&handle, &to);

@@ -5,11 +5,11 @@ asks under 'WHAT YOU OWE' holds here too, but for pointers and sizes, which the 
 """
 import ctypes
 
-ABI = 5
+ABI = 6
 DONE, EMPTY, MEMORY, BAD_INPUT, BAD_TEXT, NOT_EMPTY, NONE = 0, -1, -2, -3, -4, -5, -6
 (REFUSED_LONG_LINE, REFUSED_NOT_TEXT, REFUSED_UNKNOWN_WORD, REFUSED_WRONG_COUNT, REFUSED_BAD_NUMBER, REFUSED_BAD_SIDE, REFUSED_BAD_ID,
  REFUSED_BAD_WORD) = -7, -9, -10, -11, -12, -13, -14, -15
-ENTRY, EXIT, REFUSAL = 0, 1, 3
+ENTRY, EXIT, SUPERVISOR, REFUSAL = range(4)
 (NOTHING, CONNECTED, SECOND, BYTES, CLOSED, TICK, SENSED, FAULT, WILL, LEVEL, INSERT, REMOVE, REPLACE, MARK, SHUTDOWN, FORECAST,
  QUERY, ASK, SUPERVISE, ANSWER) = range(20)
 SAW_BEGUN, SAW_LEFT, SAW_FULL, SAW_BACK, SAW_TAKEN = range(5)
@@ -66,6 +66,8 @@ def load(path):
     for name, answer, *words in (
             ("abi", u32), ("new", i32, handle, ctypes.POINTER(Profile), taken, size), ("free", i32, handle),
             ("step", i32, handle, ctypes.POINTER(Input), taken, size, i64), ("line", i32, handle, taken, size, i64),
+            ("supervisor_bytes", i32, handle, taken, size), ("supervisor_message", i32, handle, i64),
+            ("supervisor_closed", i32, handle, i64), ("supervisor_second", i32, handle, i64),
             ("view", i32, handle, ctypes.POINTER(View)),
             ("unsent", i64, handle, u32, taken, size), ("sent", i32, handle, u32, size),
             ("act", i32, handle, u32, ctypes.POINTER(Act)), ("act_text", i64, handle, u32, size, taken, size),
@@ -122,6 +124,28 @@ class Machine:
         """The step that a line of a panel asks for. It answers 0, or the reason why the machine can't take it now; an error is raised."""
         data = text.encode()
         return self._call("line", data, len(data), now_ms)
+
+    def supervisor_bytes(self, data):
+        """These bytes came on the supervisor's connection. An error is raised."""
+        self._call("supervisor_bytes", data, len(data))
+
+    def supervisor_message(self, now_ms):
+        """Does the next message of those bytes: False where all are done. An error is raised."""
+        try:
+            self._call("supervisor_message", now_ms)
+            return True
+        except Refused as why:
+            if why.answer == NONE:
+                return False
+            raise
+
+    def supervisor_closed(self, now_ms):
+        """That connection is closed."""
+        self._call("supervisor_closed", now_ms)
+
+    def supervisor_second(self, now_ms):
+        """A second one was accepted: what waits on REFUSAL is for it."""
+        self._call("supervisor_second", now_ms)
 
     def view(self):
         """How it stands."""

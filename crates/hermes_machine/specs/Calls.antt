@@ -4,6 +4,7 @@ use Rattle.std.specs.Borrow.{Bor}
 use Rattle.line_base.specs.declared.states.Side.TheVariants.{Entry, Exit}
 use Rattle.node_core.specs.May.{may_do}
 use Rattle.machine_port.specs.Port.{PortState, made_after, may_take, sent, sent_refusal}
+use Rattle.machine_port.specs.Supervisor.{sent_to_supervisor}
 use Rattle.supervisory_core.specs.Orders.{answer_to}
 use Rattle.machine_views.specs.Records.{field_text, record_at}
 use Rattle.machine_log.specs.Texts.{log_text}
@@ -84,14 +85,16 @@ abbrev pub unsent_on : ℕ → PortState → Option (List ℕ)
 unsent_on way s =
     if way == 0 then Some s.entry.text else
     (if way == 1 then Some s.exit.text else
-    (if way == 3 then Some s.refusal else None))
+    (if way == 2 then Some s.supervisor.text else
+    (if way == 3 then Some s.refusal else None)))
 
 -- and the machine when so many bytes of it were sent
 abbrev pub sent_on : ℕ → ℕ → PortState → PortState
 sent_on way count s =
     if way == 0 then sent Entry count s else
     (if way == 1 then sent Exit count s else
-    (if way == 3 then sent_refusal count s else s))
+    (if way == 2 then sent_to_supervisor count s else
+    (if way == 3 then sent_refusal count s else s)))
 
 -- the front of a text was copied over a place, as far as either goes, and this is how much
 pub record IsCopied (text before after : List ℕ) (count : ℤ) : Type 0 where

@@ -3,3 +3,4 @@ pub mod Made
 pub mod Numbers
 pub mod Meanings
 pub mod Calls
+pub mod Supervised

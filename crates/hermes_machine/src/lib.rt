@@ -12,6 +12,7 @@ ghost use Rattle.machine_views.specs.Acts.{act_seen};
 ghost use Rattle.machine_views.specs.Records.{board_seen, record_at};
 ghost use Rattle.machine_views.specs.Seen.{view_of};
 ghost use Rattle.hermes_machine.specs.Calls.{AnswersLine, AnswersStep, IsCopied, IsRead, IsReadOrWanting, act_answer, board_answer, sent_on, text_of_act, text_of_field, text_of_log, text_of_order, unsent_on};
+ghost use Rattle.hermes_machine.specs.Supervised.{AnswersBytes, AnswersClosed, AnswersMessage, AnswersSecond};
 ghost use Rattle.hermes_machine.specs.Made.{IsIdText, is_profile, profile_of};
 
 mod answer;
@@ -24,6 +25,7 @@ mod profile;
 mod reading;
 mod slot;
 mod step;
+mod supervisor;
 mod ways;
 
 pub use answer::{BAD_INPUT, BAD_TEXT, DONE, EMPTY, MEMORY, NONE, NOT_EMPTY};
@@ -40,14 +42,15 @@ use reading::{read_act, read_act_text, read_board, read_field, read_log, read_or
 pub use slot::{Opaque, Slot};
 use std::alloc::Global;
 use step::tell;
+use supervisor::{do_next, hear, leave, refuse_second};
 use ways::{copy_unsent, take_sent};
 
 /// The number of this library's structs, numbers and calls. A change of any raises it.
 #[unsafe(no_mangle)]
 pub extern "C" fn hermes_machine_abi() -> u32
-    ensures { result ≡ 5 }
+    ensures { result ≡ 6 }
 {
-    5
+    6
 }
 
 /// Puts a new machine into an empty handle: it keeps nothing, has no connection, and is willing on
@@ -183,6 +186,106 @@ pub extern "C" fn hermes_machine_log(
         return -1;
     };
     let answer = read_log(alloc, &port, from, to);
+    m.put(port);
+    answer
+}
+
+/// Bytes came on the connection of the supervisor: they wait, and are done message by message. Where that
+/// connection is to be closed they are dropped.
+///
+/// The first of these that holds is the answer: `EMPTY`; `BAD_INPUT` where there are more than 4,096
+/// bytes, or what came before isn't all done yet; else done, or `MEMORY`, and the machine is spent.
+#[unsafe(no_mangle)]
+pub extern "C" fn hermes_machine_supervisor_bytes(
+    alloc: Global,
+    m: &mut HermesMachine,
+    bytes: &[u8],
+) -> i32
+    ensures empty { is_some m.old.slot.held ≡ false → result ≡ EMPTY }
+    ensures nothing { is_some m.old.slot.held ≡ false → m.new.slot.held ≡ None }
+    ensures answers { IfSome m.old.slot.held (λ s. IfSome m.new.slot.held
+        (λ t. AnswersBytes bytes.now s t result)) }
+    ensures full { is_some m.new.slot.held ≡ is_some m.old.slot.held }
+{
+    let Some(mut port) = m.take(alloc) else {
+        return EMPTY;
+    };
+    let answer = hear(&mut port, bytes);
+    m.put(port);
+    answer
+}
+
+/// Does the next of the supervisor's messages, of the bytes that came: the machine answers it, makes a
+/// step, or neither, or breaks off. Where it makes no step there are no last acts.
+///
+/// The first of these that holds is the answer: `EMPTY`; `BAD_INPUT` where the moment is none; `NONE`
+/// where all bytes that came are done; else done, or `MEMORY`, and the machine is spent.
+#[unsafe(no_mangle)]
+pub extern "C" fn hermes_machine_supervisor_message(
+    alloc: Global,
+    m: &mut HermesMachine,
+    now_ms: i64,
+) -> i32
+    ensures empty { is_some m.old.slot.held ≡ false → result ≡ EMPTY }
+    ensures nothing { is_some m.old.slot.held ≡ false → m.new.slot.held ≡ None }
+    ensures answers { IfSome m.old.slot.held (λ s. IfSome m.new.slot.held
+        (λ t. AnswersMessage now_ms s t result)) }
+    ensures full { is_some m.new.slot.held ≡ is_some m.old.slot.held }
+{
+    let Some(mut port) = m.take(alloc) else {
+        return EMPTY;
+    };
+    let answer = do_next(&mut port, now_ms);
+    m.put(port);
+    answer
+}
+
+/// The connection of the supervisor is closed, by whomever: what waits there and what came is dropped, and
+/// a machine that was supervised makes a step and is so no more; else there are no last acts.
+///
+/// The first of these that holds is the answer: `EMPTY`; `BAD_INPUT` where the moment is none; else done,
+/// or `MEMORY`, and the machine is spent.
+#[unsafe(no_mangle)]
+pub extern "C" fn hermes_machine_supervisor_closed(
+    alloc: Global,
+    m: &mut HermesMachine,
+    now_ms: i64,
+) -> i32
+    ensures empty { is_some m.old.slot.held ≡ false → result ≡ EMPTY }
+    ensures nothing { is_some m.old.slot.held ≡ false → m.new.slot.held ≡ None }
+    ensures answers { IfSome m.old.slot.held (λ s. IfSome m.new.slot.held
+        (λ t. AnswersClosed now_ms s t result)) }
+    ensures full { is_some m.new.slot.held ≡ is_some m.old.slot.held }
+{
+    let Some(mut port) = m.take(alloc) else {
+        return EMPTY;
+    };
+    let answer = leave(&mut port, now_ms);
+    m.put(port);
+    answer
+}
+
+/// A second connection of a supervisor was accepted: the text that waits on the way of refusals is for
+/// it, and it is to be closed behind that.
+///
+/// The first of these that holds is the answer: `EMPTY`; `BAD_INPUT` where the moment is none; else done,
+/// or `MEMORY`. But where it is done the machine is as it was.
+#[unsafe(no_mangle)]
+pub extern "C" fn hermes_machine_supervisor_second(
+    alloc: Global,
+    m: &mut HermesMachine,
+    now_ms: i64,
+) -> i32
+    ensures empty { is_some m.old.slot.held ≡ false → result ≡ EMPTY }
+    ensures nothing { is_some m.old.slot.held ≡ false → m.new.slot.held ≡ None }
+    ensures answers { IfSome m.old.slot.held (λ s. IfSome m.new.slot.held
+        (λ t. AnswersSecond now_ms s t result)) }
+    ensures full { is_some m.new.slot.held ≡ is_some m.old.slot.held }
+{
+    let Some(mut port) = m.take(alloc) else {
+        return EMPTY;
+    };
+    let answer = refuse_second(&mut port, now_ms);
     m.put(port);
     answer
 }

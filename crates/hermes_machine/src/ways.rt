@@ -14,6 +14,7 @@ fn unsent_on(port: &Port, way: u32) -> Option<&[u8]>
     match way {
         0 => Some(port.way(Side::Entry).text()),
         1 => Some(port.way(Side::Exit).text()),
+        2 => Some(port.supervisor().text()),
         3 => Some(port.refusal()),
         _ => None,
     }
@@ -41,6 +42,7 @@ pub fn take_sent(port: &mut Port, way: u32, count: usize) -> i32
     match way {
         0 => port.sent(Side::Entry, count),
         1 => port.sent(Side::Exit, count),
+        2 => port.sent_to_supervisor(count),
         3 => port.sent_refusal(count),
         _ => return BAD_INPUT,
     }

@@ -17,6 +17,10 @@ runs s on = flag (not s.spent && on)
 abbrev pub closes : PortState → Side → ℕ
 closes s side = flag (s.spent || (way_at side s).closes)
 
+-- and so that to its supervisor
+abbrev pub closes_supervisor : PortState → ℕ
+closes_supervisor s = flag (s.spent || s.supervisor.closes)
+
 -- how a machine is seen; of two, the first is the entry's
 abbrev pub view_of : PortState → HermesView
 view_of s = record {
@@ -31,10 +35,11 @@ view_of s = record {
   drive = runs s s.levels.entry_drive ∷ runs s s.levels.exit_drive ∷ [];
   signal = flag s.levels.entry_available ∷ flag s.levels.entry_failed
       ∷ flag s.levels.exit_ready ∷ 0 ∷ [];
-  close = closes s Entry ∷ closes s Exit ∷ 0 ∷ 0 ∷ [];
+  close = closes s Entry ∷ closes s Exit ∷ closes_supervisor s ∷ 0 ∷ [];
   kept = length s.node.lane.body.kept;
   acts = length s.last;
-  unsent = length s.entry.text ∷ length s.exit.text ∷ 0 ∷ length s.refusal ∷ [];
+  unsent = length s.entry.text ∷ length s.exit.text ∷ length s.supervisor.text
+      ∷ length s.refusal ∷ [];
   ids_made = s.made;
   steps = s.steps;
 }

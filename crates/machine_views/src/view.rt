@@ -1,5 +1,5 @@
 ghost use Rattle.std.specs.Prelude.{◌≡◌, ◌==◌};
-ghost use Rattle.machine_views.specs.Seen.{closes, runs, view_of};
+ghost use Rattle.machine_views.specs.Seen.{closes, closes_supervisor, runs, view_of};
 
 use crate::numbers::{flag, state_number};
 use line_base::Side;
@@ -30,7 +30,8 @@ pub struct HermesView {
     /// A bridge's own signals: Board Available and Failed Board Available at its entry, Machine
     /// Ready at its exit; then 0.
     pub signal: [u32; 4],
-    /// 1 where the connection of that side is to be closed, once its text is sent; then 0.
+    /// 1 where the connection of that side, then that of the supervisor, is to be closed, once its
+    /// text is sent; then 0.
     pub close: [u32; 4],
     /// How many records are kept.
     pub kept: u64,
@@ -73,13 +74,18 @@ pub fn view_of(port: &Port) -> HermesView
             flag(levels.exit_ready),
             0,
         ],
-        close: [closes(port, Side::Entry), closes(port, Side::Exit), 0, 0],
+        close: [
+            closes(port, Side::Entry),
+            closes(port, Side::Exit),
+            closes_supervisor(port),
+            0,
+        ],
         kept: machine.kept().len() as u64,
         acts: port.last().len() as u64,
         unsent: [
             port.way(Side::Entry).text().len() as u64,
             port.way(Side::Exit).text().len() as u64,
-            0,
+            port.supervisor().text().len() as u64,
             port.refusal().len() as u64,
         ],
         ids_made: port.ids_made(),
@@ -99,4 +105,11 @@ fn closes(port: &Port, side: Side) -> u32
     ensures { result ≡ closes port.now side }
 {
     flag(port.is_spent() || port.way(side).closes())
+}
+
+/// Whether the connection of the supervisor is to be closed: also where memory was wanting.
+fn closes_supervisor(port: &Port) -> u32
+    ensures { result ≡ closes_supervisor port.now }
+{
+    flag(port.is_spent() || port.supervisor().closes())
 }
