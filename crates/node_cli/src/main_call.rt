@@ -1,6 +1,7 @@
 ghost use Rattle.std.specs.Prelude.{◌≡◌};
 ghost use Rattle.one_run.specs.One.{EachPartIsAFront, EachRunIsOne};
 ghost use Rattle.joined_nodes.specs.Laws.{NodesStand};
+ghost use Rattle.joined_ports.specs.Poured.{PouredStand};
 ghost use Rattle.node_cli.specs.Answered.{EachInputHasOneAnswer, EachOutsideHasOneAnswer, IsAnswered};
 ghost use Rattle.node_cli.specs.Command.{DoesNode, FitsNode, HasCauses, is_one, status_of};
 ghost use Rattle.node_cli.specs.Logged.{LogTellsOwn, TextIsBounded};
@@ -63,6 +64,9 @@ pub fn node_main<S: Source, P: Ports, C: Clock, K: Sink>(
     // of theirs, as long as each board is let go behind the reading, what is heard was said behind
     // what is read, and what is found on a connection was said there
     ensures neighbours { NodesStand Behind }
+    // the last of these TCP gives, where no side that has a connection is reset: of each, the ports
+    // of one end give, in order, a front of what those of the other took
+    ensures over_tcp { PouredStand Behind }
 {
     node_run::laws::what_a_machine_owns_is_read_off_its_log();
     node_run::laws::too_much_text_closes_a_way();
@@ -71,6 +75,7 @@ pub fn node_main<S: Source, P: Ports, C: Clock, K: Sink>(
     node_connections::laws::the_bytes_of_a_connection_are_in_order();
     node_run::laws::the_settings_are_those_of_the_last_set();
     joined_nodes::laws::woven_nodes_run_behind_the_reading();
+    joined_ports::laws::what_carries_bytes_in_order_is_enough();
     run_named(alloc, words, file, ports, clock, log)
 }
 

@@ -31,3 +31,6 @@ returns-clause-settles g c = c.the_settings_are_those_of_the_last_set.ensures
 
 pub returns-clause-neighbours : goal.returns-clause-neighbours
 returns-clause-neighbours g c = c.woven_nodes_run_behind_the_reading.ensures.stand
+
+pub returns-clause-over_tcp : goal.returns-clause-over_tcp
+returns-clause-over_tcp g c = c.what_carries_bytes_in_order_is_enough.ensures.stand
