@@ -25,12 +25,12 @@ pub record Replies : Type 0 where
   pub sending : Sent
 
 abbrev pub reply_to : Given → Replies → Answer
-reply_to (Listens way address done) replies = opened replies.opening
-reply_to (Connects way address done) replies = opened replies.opening
-reply_to (Polls way room got) replies = found replies.got
-reply_to (Sends way piece done) replies = sent replies.sending
-reply_to (Refuses way piece done) replies = sent replies.sending
-reply_to (Closes way) replies = closed
+reply_to (Listens _ _ _) replies = opened replies.opening
+reply_to (Connects _ _ _) replies = opened replies.opening
+reply_to (Polls _ _ _) replies = found replies.got
+reply_to (Sends _ _ _) replies = sent replies.sending
+reply_to (Refuses _ _ _) replies = sent replies.sending
+reply_to (Closes _) replies = closed
 
 -- WHAT IS OUTSIDE: the moment of each move, by its number, and what the ports would answer next,
 -- which may hang on all that was called before
