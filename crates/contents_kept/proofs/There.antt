@@ -101,4 +101,4 @@ there_each (point ∷ points) all = (names_there all.0.trace point.after all.0.s
 
 -- THE LAW
 pub standings_there : SaysAlone → ConnectsBear → StandingsNameWhatIsThere
-standings_there alone connects asked points n fit few run honest = there_each (take n points) (run_stood alone connects no_line asked points n fit (omega (arith, few)) none_stood run honest)
+standings_there alone connects asked points n fit few run honest = there_each (take n points) (run_stood alone connects no_line asked points n fit few none_stood run honest)

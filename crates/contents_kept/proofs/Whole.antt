@@ -189,7 +189,7 @@ whole_run s (line ∷ asked) (point ∷ points) (suc n) was run all = (line_whol
 
 -- THE LAW
 pub contents_whole : SaysAlone → ConnectsBear → ContentsStayWhole
-contents_whole alone connects asked points n fit few run honest = whole_run no_line asked points n none_stood run (run_stood alone connects no_line asked points n fit (omega (arith, few)) none_stood run honest)
+contents_whole alone connects asked points n fit few run honest = whole_run no_line asked points n none_stood run (run_stood alone connects no_line asked points n fit few none_stood run honest)
 
 -- ---- of the records that are kept alone
 

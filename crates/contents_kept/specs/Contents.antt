@@ -17,7 +17,7 @@ use Rattle.line_report.specs.declared.happening.Happening.TheVariants as happeni
 use Rattle.node_core.specs.declared.act.Act.TheVariants as acts
 use Rattle.line_step.specs.Lies.{has_lie}
 use Rattle.line_step.specs.Numbered.{node_at}
-use Rattle.line_step.specs.Runs.{IsRun, Point}
+use Rattle.line_step.specs.Runs.{IsRun, Point, IsShort}
 use Rattle.line_step.specs.State.{LineState, no_line}
 use Rattle.contents_kept.specs.Records.{KeepsRecord}
 use Rattle.one_standing.specs.Standing.{IsFitLine}
@@ -94,5 +94,5 @@ AreContentsWhole s _ _ = Unit {0}
 abbrev pub ContentsStayWhole : Type 0
 ContentsStayWhole =
     (asked : List ScriptLine) (points : List Point) (n : ℕ) → AllByRecursion IsFitLine asked
-    → length asked ≤ 1000000 → IsRun no_line asked points → has_lie (take n points) ≡ false
+    → IsShort no_line points → IsRun no_line asked points → has_lie (take n points) ≡ false
     → AreContentsWhole no_line asked (take n points)

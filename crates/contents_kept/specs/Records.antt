@@ -10,7 +10,7 @@ use Rattle.line_report.specs.declared.happening.Happening.TheVariants as happeni
 use Rattle.node_core.specs.declared.act.Act.TheVariants as acts
 use Rattle.line_step.specs.Lies.{has_lie}
 use Rattle.line_step.specs.Numbered.{node_at}
-use Rattle.line_step.specs.Runs.{IsRun, Point}
+use Rattle.line_step.specs.Runs.{IsRun, Point, IsShort}
 use Rattle.line_step.specs.State.{LineState, no_line}
 use Rattle.one_standing.specs.Standing.{IsFitLine}
 use Rattle.one_standing.specs.Told.{IsTold}
@@ -48,5 +48,5 @@ AreContentsKept s (point ∷ points) =
 abbrev pub ContentsAreKept : Type 0
 ContentsAreKept =
     (asked : List ScriptLine) (points : List Point) (n : ℕ) → AllByRecursion IsFitLine asked
-    → length asked ≤ 1000000 → IsRun no_line asked points → has_lie (take n points) ≡ false
+    → IsShort no_line points → IsRun no_line asked points → has_lie (take n points) ≡ false
     → AreContentsKept no_line (take n points)

@@ -5,7 +5,7 @@ use Rattle.line_script.specs.declared.line.ScriptLine.{ScriptLine}
 use Rattle.standings.specs.Standing.{HasStanding, Place}
 use Rattle.standings.specs.declared.standing.Standing.TheVariants.{Between, With}
 use Rattle.line_step.specs.Lies.{has_lie}
-use Rattle.line_step.specs.Runs.{IsRun, Point}
+use Rattle.line_step.specs.Runs.{IsRun, Point, IsShort}
 use Rattle.line_step.specs.State.{LineState, marks_in, no_line}
 use Rattle.one_standing.specs.Standing.{IsFitLine}
 
@@ -23,5 +23,5 @@ NamesWhatIsThere s =
 abbrev pub StandingsNameWhatIsThere : Type 0
 StandingsNameWhatIsThere =
     (asked : List ScriptLine) (points : List Point) (n : ℕ) → AllByRecursion IsFitLine asked
-    → length asked ≤ 1000000 → IsRun no_line asked points → has_lie (take n points) ≡ false
+    → IsShort no_line points → IsRun no_line asked points → has_lie (take n points) ≡ false
     → AllByRecursion (λ (point : Point). NamesWhatIsThere point.after) (take n points)

@@ -17,7 +17,7 @@ use Rattle.line_report.specs.declared.happening.Happening.{Happening}
 use Rattle.line_report.specs.declared.happening.Happening.TheVariants as happenings
 use Rattle.line_step.specs.Lies.{has_lie}
 use Rattle.line_step.specs.Numbered.{node_at}
-use Rattle.line_step.specs.Runs.{IsRun, Point}
+use Rattle.line_step.specs.Runs.{IsRun, Point, IsShort}
 use Rattle.line_step.specs.State.{LineState, no_line, owned_by}
 use Rattle.one_standing.specs.Standing.{IsFitLine}
 use Rattle.one_standing.specs.Told.{IsTold}
@@ -103,6 +103,6 @@ KeepsOrder machine past s (point ∷ points) =
 abbrev pub FirstInFirstOut : Type 0
 FirstInFirstOut =
     (asked : List ScriptLine) (points : List Point) (n machine : ℕ)
-    → AllByRecursion IsFitLine asked → length asked ≤ 1000000
+    → AllByRecursion IsFitLine asked → IsShort no_line points
     → IsRun no_line asked points → has_lie (take n points) ≡ false → 1 ≤ machine
     → KeepsOrder machine [] no_line (take n points)

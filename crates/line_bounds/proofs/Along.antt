@@ -183,7 +183,7 @@ turn_all number request before after told (turns.flows machine side count may di
 steps_all : (number : ℕ) (line : ScriptLine) (before after : LineState) (told : List Happening) → LineSteps number line before after told → AllHold before → AllHold after
 steps_all number line before after told steps all =
     let next = steps.next in
-    let count : LineState = record next { lines = next.lines + 1 } in
+    let count : LineState = record next { lines = steps.lines } in
     subst AllHold (sym steps.after_is) (same_all next count refl (turn_all number (request_of line) before next steps.done (line_turns number line before next steps.done steps.does) all))
 
 -- ---- over a run

@@ -5,9 +5,9 @@ use Rattle.std.proofs.lemmas.Bool.Decides.{nat_tests}
 use Rattle.line_check.specs.Log.{against}
 use Rattle.line_step.specs.Lies.{has_lie}
 use Rattle.line_step.specs.State.{LineState, no_line}
-use Rattle.line_step.proofs.LineOnce.{LinesAlike, run-once}
+use Rattle.line_step.proofs.LineOnce.{LinesAlike, script-once}
 use Rattle.line_step.proofs.Once.{OneMeaning}
-use Rattle.line_step.proofs.Vouching.{lies_remembered}
+use Rattle.line_step.proofs.Playing.{script-remembered}
 use Rattle.one_report.proofs.Lines.{each_run}
 use Rattle.line_cli.specs.Answered.{Answers, EachInputHasOneAnswer, IsAnswered, IsScriptAnswer, answered, log_answer, memory_wanted, sink_failed, source_failed, stream_answer}
 use Rattle.line_cli.specs.Checking.{Checks}
@@ -100,9 +100,9 @@ script_answer_once : OneMeaning → (script : List ℕ) (a b : Status) → IsScr
 script_answer_once law script a b one other =
     let asked = (script_of script).lines in
     let alike : LinesAlike no_line no_line = record { machines = tt; same = refl } in
-    let once = run-once law no_line no_line asked one.points other.points alike one.run other.run in
+    let once = script-once law no_line no_line asked one.points other.points alike one.run other.run in
     let lied : has_lie one.points ≡ has_lie other.points =
-    sym (lies_remembered asked one.points one.run) ∙ sym (ap (λ (s : LineState). is_some s.unvouched) once.alike.same) ∙ lies_remembered asked other.points other.run in
+    sym (script-remembered asked one.points one.run) ∙ sym (ap (λ (s : LineState). is_some s.unvouched) once.alike.same) ∙ script-remembered asked other.points other.run in
     one.ends ∙ ap (status_of (script_of script).refusal) lied ∙ sym other.ends
 
 script_answer : OneMeaning → (script : List ℕ) → (status : Status) × IsScriptAnswer script status × ((other : Status) → IsScriptAnswer script other → other ≡ status)

@@ -93,6 +93,10 @@ made_shutdown : (values : List Value) → Fit (grammar.made_shutdown values)
 made_shutdown (numeral machine ∷ []) = tt
 made_shutdown _ = tt
 
+made_stop : (values : List Value) → Fit (grammar.made_stop values)
+made_stop (numeral machine ∷ []) = tt
+made_stop _ = tt
+
 made_tick : (values : List Value) → Fit (grammar.made_tick values)
 made_tick (numeral machine ∷ []) = tt
 made_tick _ = tt
@@ -265,12 +269,15 @@ machine_fit : AllFit grammar.machine_forms
 machine_fit = (
   by_values grammar.shutdown_form made_shutdown,
   (
-    by_values grammar.tick_form made_tick,
+    by_values grammar.stop_form made_stop,
     (
-      by_values grammar.fault_form made_fault,
+      by_values grammar.tick_form made_tick,
       (
-        by_values grammar.lie_form made_lie,
-        (by_values grammar.unseen_form made_unseen, floor_fit),
+        by_values grammar.fault_form made_fault,
+        (
+          by_values grammar.lie_form made_lie,
+          (by_values grammar.unseen_form made_unseen, floor_fit),
+        ),
       ),
     ),
   ),

@@ -9,12 +9,11 @@ use Rattle.line_script.specs.declared.line.ScriptLine.{ScriptLine}
 use Rattle.line_report.specs.declared.happening.Happening.{Happening}
 use Rattle.line_report.specs.Texts.{summary_text, unvouched_text}
 use Rattle.line_report.specs.declared.summary.Summary.{Summary}
-use Rattle.line_step.specs.Lines.{LineSteps}
+use Rattle.line_step.specs.Parts.{ScriptLineSteps}
 use Rattle.line_step.specs.State.{LineState, no_line}
 use Rattle.line_step.specs.Runs.{Point, told_text}
 use Rattle.line_step.specs.Views.{summary_of}
-use Rattle.line_step.proofs.Counted.{steps-lines}
-use Rattle.line_step.proofs.Running.{RunsOn, runs-on, runs-told}
+use Rattle.line_step.proofs.Playing.{RunsOn, line-counted, line-told, runs-on, runs-told, script-one}
 use Rattle.made_script.specs.Fold.{fold_byte, fold_from, fold_of}
 use Rattle.made_script.specs.Script.{made_script}
 use Rattle.report_ledger.specs.Proper.{AreProper}
@@ -30,16 +29,15 @@ folds-first = record { points = []; run = tt; after = refl; counted = refl; told
 -- a line more is done
 pub folds-line : (asked : List ScriptLine) (line : ScriptLine) (state state' : LineState) (folded : ℕ) (text text' : List ℕ) → IsFolding asked state folded text → DoesAsked line state state' text text' → IsFolding (asked ++ line ∷ []) state' folded text'
 folds-line asked line state state' folded text text' folding does =
-    let point : Point = record { told = does.told; after = state' } in
     let more = entries (state.lines + 1) does.told in
     let earlier = told_text 1 folding.points in
     let head : RunsOn no_line asked folding.points state = record { run = folding.run; after = folding.after } in
-    let on = runs-on no_line state state' asked (line ∷ []) folding.points (point ∷ []) head (record { run = (does.steps, tt); after = refl }) in
-    let counted = steps-lines (state.lines + 1) line state state' does.told does.steps in
-    let telling : told_text 1 (folding.points ++ point ∷ []) ≡ earlier ++ more =
-    runs-told no_line state asked folding.points (point ∷ []) head ∙ ap (λ t. earlier ++ t) (append-nil more) in
+    let on = runs-on no_line state state' asked (line ∷ []) folding.points does.steps.points head (record { run = script-one line state does.steps.points does.steps.plays; after = does.steps.behind }) in
+    let counted = line-counted line state state' does.told does.steps in
+    let telling : told_text 1 (folding.points ++ does.steps.points) ≡ earlier ++ more =
+    runs-told no_line state asked folding.points does.steps.points head ∙ ap (λ t. earlier ++ t) (sym (line-told line state state' does.told does.steps)) in
     record {
-      points = folding.points ++ point ∷ [];
+      points = folding.points ++ does.steps.points;
       run = on.run;
       after = on.after;
       counted = omega (arith, counted, folding.counted, length-append asked (line ∷ []));
@@ -111,15 +109,14 @@ summed (Err (errors.Refused number why)) state before now fine empty sums = absu
 summed (Err errors.Memory) state before now fine empty sums = cc
 
 -- what a line that was read does, unless memory was wanting
-pub did-asked : (result : Result (Unit {0}) Memory) (asked : ScriptLine) (inner old new : LineState) (number : ℕ) (told listed : List Happening) (before now : List ℕ) → inner ≡ old → number ≡ inner.lines + 1 → listed ≡ told → AreProper listed → LineSteps number asked inner new told → OnOk result (now ≡ before ++ entries number listed) → OnOk result (DoesAsked asked old new before now)
+pub did-asked : (result : Result (Unit {0}) Memory) (asked : ScriptLine) (inner old new : LineState) (number : ℕ) (told listed : List Happening) (before now : List ℕ) → inner ≡ old → number ≡ inner.lines + 1 → listed ≡ told → AreProper listed → ScriptLineSteps asked inner new told → OnOk result (now ≡ before ++ entries number listed) → OnOk result (DoesAsked asked old new before now)
 did-asked (Err memory) asked inner old new number told listed before now is counted lists proper steps text = tt
 did-asked (Ok done) asked inner old new number told listed before now is counted lists proper steps text =
     let next : number ≡ old.lines + 1 = counted ∙ ap (λ (s : LineState). s.lines + 1) is in
-    let S : LineState → Type 0 = λ s. LineSteps number asked s new told in
-    let N : ℕ → Type 0 = λ n. LineSteps n asked old new told in
+    let S : LineState → Type 0 = λ s. ScriptLineSteps asked s new told in
     record {
       told = told;
       proper = subst (λ (l : List Happening). AreProper l) lists proper;
-      steps = subst N next (subst S is steps);
+      steps = subst S is steps;
       text = text ∙ ap (λ l. before ++ entries number l) lists ∙ ap (λ n. before ++ entries n told) next;
     }

@@ -2,9 +2,11 @@
 -- report.
 use Rattle.std.proofs.Common.{◌≡◌, ◌∙◌, ◌+◌, ◌++◌, ℕ, List, append_assoc, ap, length, refl, subst, sym}
 use Rattle.line_script.specs.declared.line.ScriptLine.{ScriptLine}
-use Rattle.line_step.specs.Runs.{IsRun, Point, state_behind, told_text}
+use Rattle.line_step.specs.Parts.{IsScriptRun}
+use Rattle.line_step.specs.Runs.{Point, state_behind, told_text}
 use Rattle.line_step.specs.State.{no_line}
-use Rattle.line_step.proofs.Running.{run-append, told-append}
+use Rattle.line_step.proofs.Playing.{script-append}
+use Rattle.line_step.proofs.Running.{told-append}
 use Rattle.one_report.proofs.Lines.{each_run}
 use Rattle.line_cli.specs.Report.{BeginsReport, EachScriptHasOneReport, IsReport, ending, report_text}
 use Rattle.line_cli.specs.Script.{script_of}
@@ -15,7 +17,7 @@ pub record IsFirstTold (bytes text : List ℕ) : Type 0 where
   pub others : List ScriptLine
   pub all : (script_of bytes).lines ≡ lines ++ others
   pub points : List Point
-  pub run : IsRun no_line lines points
+  pub run : IsScriptRun no_line lines points
   pub rest : List ℕ
   pub front : text ++ rest ≡ told_text 1 points
 
@@ -27,17 +29,17 @@ pub first_begins : (bytes text : List ℕ) → IsFirstTold bytes text → Begins
 first_begins bytes text first =
     let behind = each_run (state_behind no_line first.points) first.others in
     let points = first.points ++ behind.points in
-    let P : List ScriptLine → Type 0 = λ asked. IsRun no_line asked points in
-    let more = told_text (1 + length first.points) behind.points in
+    let P : List ScriptLine → Type 0 = λ asked. IsScriptRun no_line asked points in
+    let more = told_text ((state_behind no_line first.points).lines + 1) behind.points in
     let last = ending (state_behind no_line points) (script_of bytes).refusal in
     record {
       rest = first.rest ++ (more ++ last);
       whole = record {
         points = points;
-        run = subst P (sym first.all) (run-append no_line first.lines first.others first.points behind.points first.run behind.run);
+        run = subst P (sym first.all) (script-append no_line first.lines first.others first.points behind.points first.run behind.run);
         written =
             whole_text text first.rest (told_text 1 first.points) more last first.front
-            ∙ ap (λ t. t ++ last) (sym (told-append 1 (1 + length first.points) first.points behind.points refl));
+            ∙ ap (λ t. t ++ last) (sym (told-append no_line first.points behind.points));
       };
     }
 

@@ -9,11 +9,12 @@ use Rattle.line_script.specs.declared.line.LineWhy.{LineWhy}
 use Rattle.line_script.specs.declared.line.ScriptLine.{ScriptLine}
 use Rattle.line_report.specs.Texts.{summary_text}
 use Rattle.line_step.specs.State.{LineState, no_line}
-use Rattle.line_step.specs.Runs.{Point, IsRun, state_behind, told_text}
+use Rattle.line_step.specs.Parts.{IsScriptRun}
+use Rattle.line_step.specs.Runs.{Point, state_behind, told_text}
 use Rattle.line_step.specs.Views.{summary_of}
 use Rattle.line_step.specs.Lies.{has_lie}
-use Rattle.line_step.proofs.Vouching.{lies_remembered}
-use Rattle.line_step.proofs.Running.{RunsOn, run-append, runs-on, runs-told, behind-append}
+use Rattle.line_step.proofs.Playing.{RunsOn, runs-on, runs-told, script-append, script-remembered}
+use Rattle.line_step.proofs.Running.{behind-append}
 use Rattle.line_cli.specs.Texts.{refused_text}
 use Rattle.line_cli.specs.Script.{Script, Refusal, script_of, behind_lines}
 use Rattle.line_cli.specs.Report.{ending, report_text}
@@ -144,7 +145,7 @@ runs-read_fault pushes.Failed (Some script) (Some rest) left' old now now' befor
 -- the points of a script's run, and its report
 record Reports (script text : List ℕ) (refusal : Option Refusal) (end : LineState) : Type 0 where
   points : List Point
-  run : IsRun no_line (script_of script).lines points
+  run : IsScriptRun no_line (script_of script).lines points
   proper : AreProperPoints points
   ends : (script_of script).refusal ≡ refusal
   after : state_behind no_line points ≡ end
@@ -156,7 +157,7 @@ reports-text script text refusal end reports = rw (reports.ends, reports.after) 
 whole-report : (script text : List ℕ) (refusal : Option Refusal) (end : LineState) (old new : Option (List ℕ)) (status : Status) → Reports script text refusal end → Grows old new text → status ≡ status_of refusal (is_some end.unvouched) → WritesReport script old new status
 whole-report script text refusal end old new status reports grows is =
     let P : List ℕ → Type 0 = λ t. Grows old new t in
-    let lied : has_lie reports.points ≡ is_some end.unvouched = sym (lies_remembered (script_of script).lines reports.points reports.run) ∙ ap (λ (s : LineState). is_some s.unvouched) reports.after in
+    let lied : has_lie reports.points ≡ is_some end.unvouched = sym (script-remembered (script_of script).lines reports.points reports.run) ∙ ap (λ (s : LineState). is_some s.unvouched) reports.after in
     record {
       points = reports.points;
       run = reports.run;
@@ -195,13 +196,13 @@ refused-reports : (script rest : List ℕ) (old now : Option (List ℕ)) (place 
 refused-reports script rest old now place text text' number why going refuses =
     let head : RunsOn no_line going.asked going.points place.state = record { run = going.run; after = going.after } in
     let whole = going-all going ∙ ap (behind_lines going.asked) refuses.script_is in
-    let P : LineState → Type 0 = λ s. IsRun s refuses.asked refuses.points in
-    let Q : List ScriptLine → Type 0 = λ asked. IsRun no_line asked (going.points ++ refuses.points) in
+    let P : LineState → Type 0 = λ s. IsScriptRun s refuses.asked refuses.points in
+    let Q : List ScriptLine → Type 0 = λ asked. IsScriptRun no_line asked (going.points ++ refuses.points) in
     let more = told_text (place.state.lines + 1) refuses.points in
     let last = refused_text number why in
     record {
       points = going.points ++ refuses.points;
-      run = subst Q (sym (ap (λ (s : Script). s.lines) whole)) (run-append no_line going.asked refuses.asked going.points refuses.points going.run (subst P (sym going.after) refuses.run));
+      run = subst Q (sym (ap (λ (s : Script). s.lines) whole)) (script-append no_line going.asked refuses.asked going.points refuses.points going.run (subst P (sym going.after) refuses.run));
       proper = proper-append going.points refuses.points going.proper refuses.proper;
       ends = ap (λ (s : Script). s.refusal) whole;
       after = behind-append no_line going.points refuses.points ∙ ap (λ (s : LineState). state_behind s refuses.points) going.after;
@@ -286,7 +287,7 @@ whole-reports script rest old now place place' text text' over going sums =
     let head : RunsOn no_line going.asked going.points place.state = record { run = going.run; after = going.after } in
     let on = runs-on no_line place.state place'.state going.asked sums.asked going.points sums.points head (record { run = sums.run; after = sums.after }) in
     let whole = going-all going ∙ ap (λ r. behind_lines going.asked (script_behind place r)) over ∙ ap (behind_lines going.asked) sums.script_is in
-    let Q : List ScriptLine → Type 0 = λ asked. IsRun no_line asked (going.points ++ sums.points) in
+    let Q : List ScriptLine → Type 0 = λ asked. IsScriptRun no_line asked (going.points ++ sums.points) in
     let more = told_text (place.state.lines + 1) sums.points in
     let last = summary_text (summary_of place'.state) in
     record {

@@ -7,7 +7,7 @@ use Rattle.line_step.specs.State.{no_line}
 use Rattle.line_step.specs.Runs.{state_behind, told_text}
 use Rattle.line_step.specs.Views.{summary_of}
 use Rattle.line_step.proofs.Once.{OneMeaning}
-use Rattle.line_step.proofs.LineOnce.{LinesAlike, run-once}
+use Rattle.line_step.proofs.LineOnce.{LinesAlike, script-once}
 use Rattle.one_report.proofs.Lines.{each_run}
 use Rattle.made_script.specs.Fold.{fold_of}
 use Rattle.made_script.specs.Script.{made_script}
@@ -24,7 +24,7 @@ front-once a b byte same =
 pub made-once : OneMeaning → (number : ℕ) (a b : List ℕ) → IsMakeText number a → IsMakeText number b → a ≡ b
 made-once law number a b one other =
     let alike : LinesAlike no_line no_line = record { machines = tt; same = refl } in
-    let once = run-once law no_line no_line (made_script number) one.points other.points alike one.run other.run in
+    let once = script-once law no_line no_line (made_script number) one.points other.points alike one.run other.run in
     let end = state_behind no_line one.points in
     let ends : ending (state_behind no_line other.points) None ≡ ending end None =
     ap (λ s. ending s None) once.alike.same ∙ ending-like end (state_behind no_line other.points).machines None in

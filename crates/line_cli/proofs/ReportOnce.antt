@@ -4,7 +4,7 @@ use Rattle.node_core.specs.Node.{NodeState}
 use Rattle.line_step.specs.State.{LineState, no_line}
 use Rattle.line_step.specs.Runs.{state_behind, told_text}
 use Rattle.line_step.proofs.Once.{OneMeaning}
-use Rattle.line_step.proofs.LineOnce.{LinesAlike, like, run-once}
+use Rattle.line_step.proofs.LineOnce.{LinesAlike, like, script-once}
 use Rattle.line_cli.specs.Script.{Refusal, script_of}
 use Rattle.line_cli.specs.Report.{IsReport, ending}
 
@@ -17,7 +17,7 @@ pub report-once : OneMeaning → (bytes a b : List ℕ) → IsReport bytes a →
 report-once law bytes a b one other =
     let refusal = (script_of bytes).refusal in
     let alike : LinesAlike no_line no_line = record { machines = tt; same = refl } in
-    let once = run-once law no_line no_line (script_of bytes).lines one.points other.points alike one.run other.run in
+    let once = script-once law no_line no_line (script_of bytes).lines one.points other.points alike one.run other.run in
     let last : ending (state_behind no_line other.points) refusal ≡ ending (state_behind no_line one.points) refusal =
     ap (λ s. ending s refusal) once.alike.same ∙ ending-like (state_behind no_line one.points) (state_behind no_line other.points).machines refusal in
     one.written

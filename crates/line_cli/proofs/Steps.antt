@@ -1,17 +1,20 @@
 -- What a line does to the script and the report of all that follows.
 use Rattle.std.proofs.Common.{◌≡◌, ◌<◌, ◌≤◌, ◌+◌, ◌==◌, ℕ, Bool, true, false, List, [], ◌∷◌, ◌++◌, Some, Result, Ok, Err, length, refl, sym, ap, subst, ◌∙◌, arith, append_assoc, append-nil, length-append, lt-ltb, ltb-false, nat_lt}
+use Rattle.std.specs.List.{AllByRecursion}
+use Rattle.std.proofs.lemmas.List.Elements.{All-from_recursion, recursion_from_All}
 use Rattle.std.specs.Str.Lines.{lines, strip_carriage_return}
 use Rattle.log_verdict.proofs.LinesLemmas.{length-strip}
 use Rattle.line_script.specs.declared.line.ScriptLine.{ScriptLine}
 use Rattle.line_script.specs.declared.line.LineWhy.{LineWhy}
 use Rattle.line_script.specs.declared.line.LineWhy.TheVariants as whys
 use Rattle.line_report.specs.Texts.{summary_text}
+use Rattle.line_report.specs.declared.happening.Happening.{Happening}
 use Rattle.line_step.specs.State.{LineState}
-use Rattle.line_step.specs.Runs.{Point, IsRun, told_text}
+use Rattle.line_step.specs.Parts.{IsScriptRun}
+use Rattle.line_step.specs.Runs.{Point, all_told, told_text}
 use Rattle.line_step.specs.Views.{summary_of}
-use Rattle.line_step.proofs.Counted.{steps-lines}
-use Rattle.line_step.proofs.Running.{RunsOn, run-append, runs-on, runs-told}
-use Rattle.report_ledger.specs.Proper.{AreProperPoints}
+use Rattle.line_step.proofs.Playing.{RunsOn, line-counted, line-told, runs-on, runs-told, script-append, script-one}
+use Rattle.report_ledger.specs.Proper.{AreProper, AreProperPoints, IsProperHappening}
 use Rattle.line_cli.specs.LineEnds.{HasNoEnd}
 use Rattle.line_cli.specs.Texts.{refused_text}
 use Rattle.line_cli.specs.Script.{Script, meaning_at, script_from, behind_lines}
@@ -29,15 +32,27 @@ behind-behind first second script =
 -- a line that is done leaves the script of the rest behind it
 pub script-done : (old new : LineState) (line before now : List ℕ) (others : List (List ℕ)) (done : IsDone old new line before now) → script_from old.lines (line ∷ others) ≡ behind_lines (done.asked ∷ []) (script_from new.lines others)
 script-done old new line before now others done =
-    let counted : new.lines ≡ old.lines + 1 = steps-lines (old.lines + 1) done.asked old new done.told done.steps in
+    let counted : new.lines ≡ old.lines + 1 = line-counted done.asked old new done.told done.steps in
     rw (counted, done.meaning) refl
 
 -- a refused line ends the script
 pub script-refused : (old : LineState) (line before now : List ℕ) (number : ℕ) (why : LineWhy) (others : List (List ℕ)) → IsRefused old line before now number why → script_from old.lines (line ∷ others) ≡ record { lines = []; refusal = Some (record { line = number; why = why }) }
 script-refused old line before now number why others refused = rw (refused.counted, refused.meaning) refl
 
-abbrev pub point_of : (old new : LineState) (line before now : List ℕ) → IsDone old new line before now → Point
-point_of old new line before now done = record { told = done.told; after = new }
+-- what was told of several points is proper of each
+proper-front : (a b : List Happening) → AreProper (a ++ b) → AreProper a × AreProper b
+proper-front a b proper =
+    let parts = by a (recursion_from_All IsProperHappening (a ++ b) proper.each) in
+    (record { each = All-from_recursion IsProperHappening a parts.0 }, record { each = All-from_recursion IsProperHappening b parts.1 }) where
+      by : (hs : List Happening) → AllByRecursion IsProperHappening (hs ++ b) → AllByRecursion IsProperHappening hs × AllByRecursion IsProperHappening b
+      by [] all = (tt, all)
+      by (h ∷ hs) all = let later = by hs all.1 in ((all.0, later.0), later.1)
+
+pub proper-points : (points : List Point) → AreProper (all_told points) → AreProperPoints points
+proper-points [] proper = tt
+proper-points (point ∷ points) proper =
+    let parts = proper-front point.told (all_told points) proper in
+    (parts.0, proper-points points parts.1)
 
 -- a line that is longer than a line may be is refused for that
 pub meaning-long : (number : ℕ) (line : List ℕ) → 4096 < length line → meaning_at number line ≡ Err whys.LongLine
@@ -65,14 +80,14 @@ takes-line (Ok done) old state part before now none does =
     let line = strip_carriage_return (old.pending ++ part) in
     record {
       asked = does.asked ∷ [];
-      points = point_of old.state state line before now does ∷ [];
-      run = (does.steps, tt);
-      proper = (does.proper, tt);
-      after = refl;
-      text = does.text ∙ ap (λ t. before ++ t) (sym (append-nil (entries (old.state.lines + 1) does.told)));
+      points = does.steps.points;
+      run = script-one does.asked old.state does.steps.points does.steps.plays;
+      proper = proper-points does.steps.points (subst AreProper does.steps.told_is does.proper);
+      after = does.steps.behind;
+      text = does.text ∙ ap (λ t. before ++ t) (line-told does.asked old.state state does.told does.steps);
       script = λ rest. ap (script_from old.state.lines) (lines-pending old.pending part rest none) ∙ script-done old.state state line before now (lines rest) does;
       progress =
-          let counted : state.lines ≡ old.state.lines + 1 = steps-lines (old.state.lines + 1) does.asked old.state state does.told does.steps in
+          let counted : state.lines ≡ old.state.lines + 1 = line-counted does.asked old.state state does.told does.steps in
           let short : length line ≤ 4096 = meaning-short (old.state.lines + 1) line does.asked does.meaning in
           omega (arith, counted, short, length-strip (old.pending ++ part), length-append old.pending part, length-append part (10 ∷ []));
     }
@@ -154,11 +169,11 @@ takes-more (Err (errors.Refused number why)) a b c first second before between n
           let later = two.refuses rest in
           let head : RunsOn a.state one.asked one.points b.state = record { run = one.run; after = one.after } in
           let told = runs-told a.state b.state one.asked one.points later.points head in
-          let P : LineState → Type 0 = λ s. IsRun s later.asked later.points in
+          let P : LineState → Type 0 = λ s. IsScriptRun s later.asked later.points in
           record {
             asked = one.asked ++ later.asked;
             points = one.points ++ later.points;
-            run = run-append a.state one.asked later.asked one.points later.points one.run (subst P (sym one.after) later.run);
+            run = script-append a.state one.asked later.asked one.points later.points one.run (subst P (sym one.after) later.run);
             proper = proper-append one.points later.points one.proper later.proper;
             text =
                 later.text
@@ -222,11 +237,11 @@ finishes-line (Ok done) place new before between now none there does sums =
     let last = summary_text (summary_of new.state) in
     record {
       asked = does.asked ∷ [];
-      points = point_of place.state new.state place.pending before between does ∷ [];
-      run = (does.steps, tt);
-      proper = (does.proper, tt);
-      after = refl;
-      text = sums.text ∙ ap (λ t. t ++ last) does.text ∙ append_assoc before told last ∙ ap (λ t. before ++ (t ++ last)) (sym (append-nil told));
+      points = does.steps.points;
+      run = script-one does.asked place.state does.steps.points does.steps.plays;
+      proper = proper-points does.steps.points (subst AreProper does.steps.told_is does.proper);
+      after = does.steps.behind;
+      text = sums.text ∙ ap (λ t. t ++ last) does.text ∙ append_assoc before told last ∙ ap (λ t. before ++ (t ++ last)) (line-told does.asked place.state new.state does.told does.steps);
       script_is = ap (script_from place.state.lines) (lines-only place.pending none there) ∙ script-done place.state new.state place.pending before between [] does;
     }
 finishes-line (Err (errors.Refused number why)) place new before between now none there does sums = absurd sums

@@ -5,7 +5,8 @@ use Rattle.std.specs.Str.Lines.{lines}
 use Rattle.line_check.specs.Log.{Against, against}
 use Rattle.line_outside.specs.Faults.{Rises}
 use Rattle.line_step.specs.Lies.{has_lie}
-use Rattle.line_step.specs.Runs.{IsRun, Point}
+use Rattle.line_step.specs.Parts.{IsScriptRun}
+use Rattle.line_step.specs.Runs.{Point}
 use Rattle.line_step.specs.State.{no_line}
 use Rattle.line_cli.specs.Command.{status_of}
 use Rattle.line_cli.specs.ReadText.{most_read}
@@ -17,7 +18,7 @@ use Rattle.line_cli.specs.declared.status.Status.TheVariants as statuses
 -- the answer of a script: its first refusal, and else whether a line told what was not so
 pub record IsScriptAnswer (script : List ℕ) (status : Status) : Type 0 where
   pub points : List Point
-  pub run : IsRun no_line (script_of script).lines points
+  pub run : IsScriptRun no_line (script_of script).lines points
   pub ends : status ≡ status_of (script_of script).refusal (has_lie points)
 
 -- of a stream: whether it is too large

@@ -9,7 +9,8 @@ use Rattle.line_cli.specs.Report.{BeginsReport, report_text}
 use Rattle.line_cli.specs.Stops.{StopsIn}
 use Rattle.report_ledger.specs.Proper.{AreProperPoints}
 use Rattle.line_step.specs.State.{no_line}
-use Rattle.line_step.specs.Runs.{Point, IsRun}
+use Rattle.line_step.specs.Parts.{IsScriptRun}
+use Rattle.line_step.specs.Runs.{Point}
 use Rattle.line_step.specs.Lies.{has_lie}
 use Rattle.line_cli.specs.Stream.{Reads}
 use Rattle.line_cli.specs.Checking.{Checks}
@@ -59,7 +60,7 @@ status_of (Some refusal) lied = statuses.ScriptRefused refusal.line (inputs.Line
 pub record WritesReport (script : List ℕ) (old new : Option (List ℕ))
     (status : Status) : Type 0 where
   pub points : List Point
-  pub run : IsRun no_line (script_of script).lines points
+  pub run : IsScriptRun no_line (script_of script).lines points
   pub proper : AreProperPoints points
   pub ends : status ≡ status_of (script_of script).refusal (has_lie points)
   pub grows : Grows old new (report_text points (script_of script).refusal)

@@ -1,7 +1,8 @@
 -- WHAT IS READ OFF A REPORT: the ledger that its bytes tell, and the starts that its openings answer.
 use Rattle.std.specs.Prelude.{◌≡◌, ◌≤◌, ◌++◌, List, [], ℕ}
 use Rattle.line_script.specs.declared.line.ScriptLine.{ScriptLine}
-use Rattle.line_step.specs.Runs.{IsRun, Point, state_behind, told_text}
+use Rattle.line_step.specs.Parts.{IsScriptRun}
+use Rattle.line_step.specs.Runs.{Point, state_behind, told_text}
 use Rattle.line_step.specs.State.{no_line}
 use Rattle.report_ledger.specs.Fronts.{FrontTells}
 use Rattle.report_ledger.specs.Ledgers.{AreUnnumbered, TellsLedger, honest}
@@ -16,7 +17,7 @@ use Rattle.line_cli.specs.Script.{script_of}
 -- what was not so, finds them legal, and has the ledger of the state before that line
 abbrev pub EachReportTellsItsLedger : Type 0
 EachReportTellsItsLedger =
-    (bytes : List ℕ) (points : List Point) → IsRun no_line (script_of bytes).lines points
+    (bytes : List ℕ) (points : List Point) → IsScriptRun no_line (script_of bytes).lines points
     → AreProperPoints points
     → TellsLedger (report_text points (script_of bytes).refusal)
     (state_behind no_line (honest points))
@@ -24,7 +25,7 @@ EachReportTellsItsLedger =
 -- and of each id the standing that the text told last is the one that this ledger gives
 abbrev pub EachReportTellsItsStandings : Type 0
 EachReportTellsItsStandings =
-    (bytes : List ℕ) (points : List Point) → IsRun no_line (script_of bytes).lines points
+    (bytes : List ℕ) (points : List Point) → IsScriptRun no_line (script_of bytes).lines points
     → AreProperPoints points
     → TellsStandings (report_text points (script_of bytes).refusal)
 
@@ -33,7 +34,7 @@ EachReportTellsItsStandings =
 abbrev pub EachReportTellsItsStarts : Type 0
 EachReportTellsItsStarts =
     (bytes : List ℕ) (points : List Point) (gap : ℕ) → 1 ≤ gap
-    → IsRun no_line (script_of bytes).lines points → AreProperPoints points
+    → IsScriptRun no_line (script_of bytes).lines points → AreProperPoints points
     → OpensWereAsked gap [] (vouched (lines_in (report_text points (script_of bytes).refusal)))
 
 -- a text is a front of what the first lines of a script tell, or of that with a last line behind it;
@@ -43,7 +44,7 @@ pub record IsToldFirst (bytes text : List ℕ) : Type 0 where
   pub others : List ScriptLine
   pub all : (script_of bytes).lines ≡ lines ++ others
   pub points : List Point
-  pub run : IsRun no_line lines points
+  pub run : IsScriptRun no_line lines points
   pub proper : AreProperPoints points
   pub ending : List ℕ
   pub last : AreUnnumbered (lines_in ending)

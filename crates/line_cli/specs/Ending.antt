@@ -5,7 +5,8 @@ use Rattle.line_outside.specs.declared.pushing.Pushed.{Pushed}
 use Rattle.line_outside.specs.declared.pushing.Pushed.TheVariants as pushes
 use Rattle.line_script.specs.declared.line.ScriptLine.{ScriptLine}
 use Rattle.line_step.specs.State.{no_line}
-use Rattle.line_step.specs.Runs.{Point, IsRun, state_behind, told_text}
+use Rattle.line_step.specs.Parts.{IsScriptRun}
+use Rattle.line_step.specs.Runs.{Point, state_behind, told_text}
 use Rattle.report_ledger.specs.Proper.{AreProperPoints}
 use Rattle.line_cli.specs.Script.{script_of, behind_lines}
 use Rattle.line_cli.specs.Reader.{Place, script_behind}
@@ -21,7 +22,7 @@ pub record IsGoing (script rest : List ℕ) (old now : Option (List ℕ)) (place
     (text : List ℕ) : Type 0 where
   pub asked : List ScriptLine
   pub points : List Point
-  pub run : IsRun no_line asked points
+  pub run : IsScriptRun no_line asked points
   pub proper : AreProperPoints points
   pub after : state_behind no_line points ≡ place.state
   pub shown : List ℕ

@@ -8,7 +8,8 @@ use Rattle.line_script.specs.declared.line.LineWhy.{LineWhy}
 use Rattle.line_script.specs.declared.line.ScriptLine.{ScriptLine}
 use Rattle.line_report.specs.Texts.{summary_text}
 use Rattle.line_step.specs.State.{LineState, no_line}
-use Rattle.line_step.specs.Runs.{Point, IsRun, state_behind, told_text}
+use Rattle.line_step.specs.Parts.{IsScriptRun}
+use Rattle.line_step.specs.Runs.{Point, state_behind, told_text}
 use Rattle.line_step.specs.Views.{summary_of}
 use Rattle.made_script.specs.Fold.{fold_from, fold_of}
 use Rattle.made_script.specs.Script.{made_script}
@@ -38,7 +39,7 @@ made_number (word ∷ number ∷ other ∷ others) = None
 pub record IsFolding (asked : List ScriptLine) (state : LineState) (folded : ℕ)
     (text : List ℕ) : Type 0 where
   pub points : List Point
-  pub run : IsRun no_line asked points
+  pub run : IsScriptRun no_line asked points
   pub after : state_behind no_line points ≡ state
   pub counted : state.lines ≡ length asked
   pub told : fold_from folded text ≡ fold_of (told_text 1 points)
@@ -55,7 +56,7 @@ pub record IsLastLine (end : LineState) (fold : ℕ) (text : List ℕ) : Type 0 
 -- same line the fold of that whole report
 pub record IsMakeText (number : ℕ) (text : List ℕ) : Type 0 where
   pub points : List Point
-  pub run : IsRun no_line (made_script number) points
+  pub run : IsScriptRun no_line (made_script number) points
   pub last : List ℕ
   pub ends : summary_text (summary_of (state_behind no_line points)) ≡ last ++ codes "\n"
   pub written : text ≡ last ++ (codes " fold=" ++ decimal (fold_of (report_text points None))

@@ -6,8 +6,8 @@ use Rattle.line_script.specs.declared.line.ScriptLine.{ScriptLine}
 use Rattle.line_report.specs.Texts.{entry, summary_text}
 use Rattle.line_report.specs.declared.happening.Happening.{Happening}
 use Rattle.line_step.specs.State.{LineState}
-use Rattle.line_step.specs.Lines.{LineSteps}
-use Rattle.line_step.specs.Runs.{Point, IsRun, state_behind, told_text}
+use Rattle.line_step.specs.Parts.{IsScriptRun, ScriptLineSteps}
+use Rattle.line_step.specs.Runs.{Point, state_behind, told_text}
 use Rattle.line_step.specs.Views.{summary_of}
 use Rattle.report_ledger.specs.Proper.{AreProper, AreProperPoints}
 use Rattle.line_cli.specs.Texts.{refused_text}
@@ -41,7 +41,7 @@ pub record DoesAsked (asked : ScriptLine) (old new : LineState)
     (before now : List ℕ) : Type 0 where
   pub told : List Happening
   pub proper : AreProper told
-  pub steps : LineSteps (old.lines + 1) asked old new told
+  pub steps : ScriptLineSteps asked old new told
   pub text : now ≡ before ++ entries (old.lines + 1) told
 
 pub record IsDone (old new : LineState) (line before now : List ℕ) : Type 0 where
@@ -49,7 +49,7 @@ pub record IsDone (old new : LineState) (line before now : List ℕ) : Type 0 wh
   pub meaning : meaning_at (old.lines + 1) line ≡ Ok asked
   pub told : List Happening
   pub proper : AreProper told
-  pub steps : LineSteps (old.lines + 1) asked old new told
+  pub steps : ScriptLineSteps asked old new told
   pub text : now ≡ before ++ entries (old.lines + 1) told
 
 pub record IsRefused (old : LineState) (line before now : List ℕ) (number : ℕ)
@@ -91,7 +91,7 @@ Sums (Err errors.Memory) state before now = Unit {0}
 pub record Advances (old new : Place) (bytes before now : List ℕ) : Type 0 where
   pub asked : List ScriptLine
   pub points : List Point
-  pub run : IsRun old.state asked points
+  pub run : IsScriptRun old.state asked points
   pub proper : AreProperPoints points
   pub after : state_behind old.state points ≡ new.state
   pub text : now ≡ before ++ told_text (old.state.lines + 1) points
@@ -104,7 +104,7 @@ pub record RefusesIn (state : LineState) (script : Script) (before now : List �
     (why : LineWhy) : Type 0 where
   pub asked : List ScriptLine
   pub points : List Point
-  pub run : IsRun state asked points
+  pub run : IsScriptRun state asked points
   pub proper : AreProperPoints points
   pub text : now ≡ before ++ (told_text (state.lines + 1) points ++ refused_text number why)
   pub script_is : script ≡ record {
@@ -134,7 +134,7 @@ pub record IsTaking (old new : Place) (piece rest before now : List ℕ) : Type 
 pub record SumsUp (old new : Place) (before now : List ℕ) : Type 0 where
   pub asked : List ScriptLine
   pub points : List Point
-  pub run : IsRun old.state asked points
+  pub run : IsScriptRun old.state asked points
   pub proper : AreProperPoints points
   pub after : state_behind old.state points ≡ new.state
   pub text : now ≡ before

@@ -1,7 +1,8 @@
 -- THE REPORT of a script: what its lines did, each with its number, and a last line.
 use Rattle.std.specs.Prelude.{◌≡◌, ℕ, ◌++◌, List, Option, None, Some}
 use Rattle.line_step.specs.State.{LineState, no_line}
-use Rattle.line_step.specs.Runs.{Point, IsRun, state_behind, told_text}
+use Rattle.line_step.specs.Parts.{IsScriptRun}
+use Rattle.line_step.specs.Runs.{Point, state_behind, told_text}
 use Rattle.line_report.specs.Texts.{summary_text}
 use Rattle.line_step.specs.Views.{summary_of}
 use Rattle.line_cli.specs.Texts.{refused_text}
@@ -19,7 +20,7 @@ report_text points refusal = told_text 1 points ++ ending (state_behind no_line 
 -- a text is the report of a script
 pub record IsReport (bytes text : List ℕ) : Type 0 where
   pub points : List Point
-  pub run : IsRun no_line (script_of bytes).lines points
+  pub run : IsScriptRun no_line (script_of bytes).lines points
   pub written : text ≡ report_text points (script_of bytes).refusal
 
 -- what a report begins with: a front of the report that the script has, and nothing else

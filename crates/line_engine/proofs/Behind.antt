@@ -3,28 +3,26 @@ use Rattle.std.proofs.Common.{Bool, List, None, Option, ap, append-nil, append_a
 use Rattle.std.proofs.lemmas.List.{take_all}
 use Rattle.std.specs.Prelude.{is_some, take}
 use Rattle.std.specs.List.{AllByRecursion}
-use Rattle.supervisor_replay.proofs.Agreeing.{run_lines}
 use Rattle.line_script.specs.declared.line.ScriptLine.{ScriptLine}
 use Rattle.line_report.specs.declared.happening.Happening.{Happening}
 use Rattle.line_step.specs.Lies.{has_lie}
 use Rattle.line_step.specs.Lines.{LineSteps}
-use Rattle.line_step.specs.Runs.{IsRun, Point, state_behind, all_told}
+use Rattle.line_step.specs.Runs.{IsRun, IsShort, Point, state_behind, all_told}
 use Rattle.line_step.specs.State.{LineState, no_line}
+use Rattle.line_step.proofs.Running.{short-behind, short-more}
 use Rattle.line_step.proofs.Vouching.{lies_remembered}
 use Rattle.one_standing.specs.Blame.{AreBlamesTrue, IsBlameTrue, NoFalseBlame}
 use Rattle.contents_kept.specs.Records.{AreContentsKept, ContentsAreKept, IsChanged, KeepsContents}
 use Rattle.one_standing.specs.Reached.{IsReached}
 use Rattle.one_standing.specs.Standing.{IsFitLine}
-use Rattle.one_standing.proofs.Reaching.{behind_more, run_more, fit_more, length_more}
+use Rattle.one_standing.proofs.Reaching.{behind_more, run_more, fit_more}
 use Rattle.line_engine.specs.Blames.{BlamesNext}
-use Rattle.line_engine.specs.Indexed.{Entries}
-use Rattle.line_engine.proofs.Keeping.{Step, as_seen}
 
 -- ---- a run with the line behind it, as the laws ask for it
 
 record Longer (line : ScriptLine) (after : LineState) (told : List Happening) (asked : List ScriptLine) (points : List Point) : Type 0 where
   fit : AllByRecursion IsFitLine (asked ++ line ∷ [])
-  few : length (asked ++ line ∷ []) ≤ 1000000
+  few : IsShort no_line (points ++ record { told = told; after = after } ∷ [])
   run : IsRun no_line (asked ++ line ∷ []) (points ++ record { told = told; after = after } ∷ [])
   honest : has_lie (points ++ record { told = told; after = after } ∷ []) ≡ false
 
@@ -33,12 +31,10 @@ longer : (line : ScriptLine) (before after : LineState) (told : List Happening) 
 longer line before after told asked points one few steps none fit run behind =
     let point : Point = record { told = told; after = after } in
     let more : IsRun no_line (asked ++ line ∷ []) (points ++ point ∷ []) = run_more no_line asked points line point run (subst (λ (s : LineState). LineSteps (s.lines + 1) line s after told) (sym behind) steps) in
-    let lines = run_lines no_line asked points run in
-    let counted = ap (λ (s : LineState). s.lines) behind in
-    let long = length_more asked line in
+    let within : (state_behind no_line points).lines + 1 ≤ 1000000 = subst (λ (s : LineState). s.lines + 1 ≤ 1000000) (sym behind) few in
     record {
       fit = fit_more asked line fit one;
-      few = omega (arith, few, lines, counted, long);
+      few = short-more no_line points point (short-behind no_line asked points run within) within;
       run = more;
       honest = sym (lies_remembered (asked ++ line ∷ []) (points ++ point ∷ []) more) ∙ ap (λ (s : LineState). is_some s.unvouched) (behind_more no_line points point) ∙ ap (λ (o : Option ℕ). is_some o) none;
     }
@@ -75,20 +71,3 @@ blames_line law line before after told one few steps none = record {
       let points : List Point = past ++ point ∷ [] in
       blame_last [] past point (subst (λ (ps : List Point). AreBlamesTrue [] ps) (all_points points) (law (asked ++ line ∷ []) points (length points) l.fit l.few l.run (subst (λ (ps : List Point). has_lie ps ≡ false) (sym (all_points points)) l.honest))));
 }
-
--- ---- as it is seen, with what says whether it is spent
-
-pub step_contents : {number : ℕ} {line : ScriptLine} {was : Entries} {before : LineState} {entries : Entries} {after : LineState} {told : List Happening} → Step number line was before entries after told → ContentsAreKept → (spent : Bool) → spent ≡ false → after.unvouched ≡ None
-    → KeepsContents (IsChanged told) (record before { spent = spent }) (record after { spent = false })
-step_contents {number} {line} {before = before} {after = after} {told = told} s law spent seen none =
-    let few : before.lines + 1 ≤ 1000000 = subst (λ (n : ℕ). n ≤ 1000000) s.numbered s.few in
-    let steps : LineSteps (before.lines + 1) line before after told = subst (λ (n : ℕ). LineSteps n line before after told) s.numbered s.steps in
-    subst (λ (v : LineState). KeepsContents (IsChanged told) (record before { spent = spent }) v) (as_seen after false s.unspent refl)
-    (subst (λ (v : LineState). KeepsContents (IsChanged told) v after) (as_seen before spent s.kept.unspent seen) (contents_line law line before after told s.kept.reached s.fit few steps none))
-
-pub step_blames : {number : ℕ} {line : ScriptLine} {was : Entries} {before : LineState} {entries : Entries} {after : LineState} {told : List Happening} → Step number line was before entries after told → NoFalseBlame → (spent : Bool) → spent ≡ false → after.unvouched ≡ None
-    → BlamesNext (record before { spent = spent }) told
-step_blames {number} {line} {before = before} {after = after} {told = told} s law spent seen none =
-    let few : before.lines + 1 ≤ 1000000 = subst (λ (n : ℕ). n ≤ 1000000) s.numbered s.few in
-    let steps : LineSteps (before.lines + 1) line before after told = subst (λ (n : ℕ). LineSteps n line before after told) s.numbered s.steps in
-    subst (λ (v : LineState). BlamesNext v told) (as_seen before spent s.kept.unspent seen) (blames_line law line before after told s.fit few steps none)

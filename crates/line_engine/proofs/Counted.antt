@@ -1,27 +1,33 @@
 -- A line of the script is done, counted, and its standings are told.
-use Rattle.std.proofs.Common.{◌≡◌, ◌∙◌, ℕ, ◌+◌, ◌-◌, ◌++◌, true, false, List, Bool, sym, ap, subst, arith, map, take, drop}
+use Rattle.std.proofs.Common.{◌≡◌, ◌∙◌, refl, ℕ, ◌+◌, ◌-◌, ◌++◌, true, false, List, Bool, sym, ap, subst, arith, map, take, drop}
 use Rattle.std.specs.Prelude.{nat_lt}
 use Rattle.std.specs.List.{drop-map, take-map}
 use Rattle.line_script.specs.declared.line.ScriptLine.{ScriptLine}
 use Rattle.line_report.specs.declared.happening.Happening.{Happening}
 use Rattle.node_core.specs.Node.{NodeState}
-use Rattle.line_step.specs.Lines.{LineDoes, LineSteps}
+use Rattle.line_step.specs.Lines.{Counts, LineDoes, LineSteps}
+use Rattle.line_step.specs.Parts.{count_behind}
 use Rattle.line_step.specs.Named.{ids_named}
 use Rattle.line_step.specs.State.{LineState, owned, owned_by}
-use Rattle.line_step.proofs.Keeps.{lines_stay}
+use Rattle.line_step.proofs.Counted.{rises}
 use Rattle.line_step.proofs.ChangedStandings.{standings_named}
 use Rattle.line_engine.specs.Stepped.{changed_told, owned_between}
 
-pub line_steps : (number : ℕ) (line : ScriptLine) (before next : LineState) (done now : List Happening)
-    → number ≡ before.lines + 1
+counts_to : (ends : Bool) (lines : ℕ) → Counts lines (count_behind ends lines)
+counts_to true lines = rises lines
+counts_to false lines = record { least = omega arith; most = omega arith }
+
+pub line_steps : (ends : Bool) (number : ℕ) (line : ScriptLine) (before next : LineState) (done now : List Happening)
     → LineDoes number line before next done
     → now ≡ done ++ changed_told (ids_named done) (owned before) (owned next)
-    → LineSteps number line before (record next { lines = number }) now
-line_steps number line before next done now numbered does now_is = record {
+    → LineSteps number line before (record next { lines = count_behind ends next.lines }) now
+line_steps ends number line before next done now does now_is = record {
   next = next;
   done = done;
   does = does;
-  after_is = ap (λ n. record next { lines = n }) (numbered ∙ ap (λ n. n + 1) (sym (lines_stay number line before next done does)));
+  lines = count_behind ends next.lines;
+  counts = counts_to ends next.lines;
+  after_is = refl;
   told_is = now_is ∙ ap (λ what. done ++ what) (sym (standings_named number line before next done does));
 }
 

@@ -46,24 +46,6 @@ keeps_line laws number line before after told was entries is few fit kept unspen
     keeps laws entries after unspent (reached_more line before after told kept.reached fit (subst (λ (n : ℕ). n ≤ 1000000) is few) (counted number line before after told is steps)) index
     (keeps_together number line before after told is few kept.together steps)
 
-pub follows_line : Laws → (number : ℕ) (line : ScriptLine) (before after : LineState) (told : List Happening) (was : Entries) → number ≡ before.lines + 1 → number ≤ 1000000 → IsFitLine line → IsKept was before → LineSteps number line before after told → after.unvouched ≡ None → FollowsLine before after told
-follows_line laws number line before after told was is few fit kept steps none =
-    laws.ledger line before after told kept.reached fit (subst (λ (n : ℕ). n ≤ 1000000) is few) (counted number line before after told is steps) none
-
--- ---- openings
-
-told_more : (points : List Point) (point : Point) → all_told (points ++ point ∷ []) ≡ all_told points ++ point.told
-told_more [] point = append-nil point.told
-told_more (first ∷ points) point = ap (λ (told : List Happening). first.told ++ told) (told_more points point) ∙ sym (append_assoc first.told (all_told points) point.told)
-
-pub opens_line : OpensWhenAnnounced → (number : ℕ) (line : ScriptLine) (before after : LineState) (told : List Happening) → number ≡ before.lines + 1 → LineSteps number line before after told → OpensNext before told
-opens_line law number line before after told is steps = record {
-  behind = λ asked points machine run behind. (let point : Point = record { told = told; after = after } in
-      subst (λ (all : List Happening). OpensAsAnnounced machine all) (told_more points point)
-      (law (asked ++ line ∷ []) (points ++ point ∷ []) machine
-      (run_more no_line asked points line point run (subst (λ (s : LineState). LineSteps (s.lines + 1) line s after told) (sym behind) (counted number line before after told is steps)))));
-}
-
 -- ---- as it is seen, with what says whether it is spent
 
 pub as_seen : (s : LineState) (spent : Bool) → s.spent ≡ false → spent ≡ false → s ≡ record s { spent = spent }
@@ -71,13 +53,6 @@ as_seen s spent is seen = ap (λ (b : Bool). record s { spent = b }) (is ∙ sym
 
 pub kept_seen : (entries : Entries) (s : LineState) (spent : Bool) → spent ≡ false → IsKept entries s → IsKept entries (record s { spent = spent })
 kept_seen entries s spent seen kept = subst (λ (t : LineState). IsKept entries t) (as_seen s spent kept.unspent seen) kept
-
-pub opens_seen : (s : LineState) (spent : Bool) (told : List Happening) → s.spent ≡ false → spent ≡ false → OpensNext s told → OpensNext (record s { spent = spent }) told
-opens_seen s spent told is seen opens = subst (λ (t : LineState). OpensNext t told) (as_seen s spent is seen) opens
-
-pub follows_seen : (s t : LineState) (was is : Bool) (told : List Happening) → s.spent ≡ false → t.spent ≡ false → was ≡ false → is ≡ false → FollowsLine s t told → FollowsLine (record s { spent = was }) (record t { spent = is }) told
-follows_seen s t was is told s_is t_is was_is is_is follows =
-    subst (λ (v : LineState). FollowsLine (record s { spent = was }) v told) (as_seen t is t_is is_is) (subst (λ (v : LineState). FollowsLine v t told) (as_seen s was s_is was_is) follows)
 
 -- ---- a line of the script, of the parts of the code's line: its state before, and its state and index after it
 
@@ -97,10 +72,3 @@ step_keeps {number} {line} {was} {before} {entries} {after} {told} s = keeps_lin
 
 pub step_seen : {number : ℕ} {line : ScriptLine} {was : Entries} {before : LineState} {entries : Entries} {after : LineState} {told : List Happening} → Step number line was before entries after told → IsKept entries (record after { spent = false })
 step_seen {entries = entries} {after = after} s = kept_seen entries after false refl (step_keeps s)
-
-pub step_follows : {number : ℕ} {line : ScriptLine} {was : Entries} {before : LineState} {entries : Entries} {after : LineState} {told : List Happening} → Step number line was before entries after told → (spent : Bool) → spent ≡ false → after.unvouched ≡ None → FollowsLine (record before { spent = spent }) (record after { spent = false }) told
-step_follows {number} {line} {was} {before} {entries} {after} {told} s spent seen none =
-    follows_seen before after spent false told s.kept.unspent s.unspent seen refl (follows_line s.laws number line before after told was s.numbered s.few s.fit s.kept s.steps none)
-
-pub step_opens : {number : ℕ} {line : ScriptLine} {was : Entries} {before : LineState} {entries : Entries} {after : LineState} {told : List Happening} → Step number line was before entries after told → OpensWhenAnnounced → (spent : Bool) → spent ≡ false → OpensNext (record before { spent = spent }) told
-step_opens {number} {line} {before = before} {after = after} {told = told} s law spent seen = opens_seen before spent told s.kept.unspent seen (opens_line law number line before after told s.numbered s.steps)

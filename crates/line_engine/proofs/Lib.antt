@@ -8,8 +8,8 @@ pub mod Followed
 pub mod Following
 pub mod Keeping
 pub mod Naming
-pub mod Orders
-pub mod Replayed
+pub mod Over
+pub mod Stops
 pub mod Patched
 pub mod Places
 pub mod Restored

@@ -15,3 +15,7 @@ pub record BlamesNext (before : LineState) (told : List Happening) : Type 0 wher
   pub behind : (asked : List ScriptLine) (points : List Point)
       → AllByRecursion IsFitLine asked → IsRun no_line asked points
       → state_behind no_line points ≡ before → IsBlameTrue (all_told points) told
+
+-- the same, beside the state after it
+abbrev pub BlamesOver : LineState → LineState → List Happening → Type 0
+BlamesOver before after told = BlamesNext before told

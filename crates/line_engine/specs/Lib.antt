@@ -4,3 +4,5 @@ pub mod Indexed
 pub mod Kept
 pub mod Opens
 pub mod Blames
+pub mod Each
+pub mod Contents

@@ -4,7 +4,7 @@
 ghost use Rattle.std.specs.Prelude.{◌≡◌, IfOk};
 ghost use Rattle.node_core.specs.declared.input.Input.TheVariants as inputs;
 ghost use Rattle.node_core.specs.May.{may_of};
-ghost use Rattle.line_step.specs.Reasons.{behind_own, has_link, has_neighbour, if_there, may_add, may_connect, may_cut, may_do, may_flow, may_give, may_lie, may_notice, may_remove, may_replace, may_sense, may_spoil, may_unseen, with_word, word_kept};
+ghost use Rattle.line_step.specs.Reasons.{behind_own, has_link, has_neighbour, if_there, may_add, may_connect, may_cut, may_do, may_flow, may_give, may_lie, may_notice, may_remove, may_replace, may_sense, may_spoil, may_stop, may_unseen, with_word, word_kept};
 ghost use Rattle.line_step.specs.State.{machine_in};
 ghost use Rattle.line_step.specs.Together.{IsLineTogether};
 ghost use Rattle.supervisory_core.specs.Orders.{answer_to};
@@ -266,6 +266,16 @@ impl State {
             return Err(Reason::NothingToRead);
         }
         Ok(())
+    }
+
+    /// `NoSuchMachine`.
+    pub(crate) fn may_stop(&self, machine: u32) -> Result<(), Reason>
+        ensures { result ≡ may_stop machine self.now }
+    {
+        match self.machine(machine) {
+            Some(_node) => Ok(()),
+            None => Err(Reason::NoSuchMachine),
+        }
     }
 
     /// `NoSuchMachine`, `NotABridge`, and for a board that is to go `NothingThere`.

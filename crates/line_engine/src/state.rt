@@ -1,8 +1,9 @@
-ghost use Rattle.std.specs.Prelude.{◌≡◌, ◌≤◌, false, length};
+ghost use Rattle.std.specs.Prelude.{◌≡◌, ◌≤◌, ◌+◌, false, length};
 ghost use Rattle.line_link.specs.Flow.{coming};
 ghost use Rattle.line_link.specs.Link.{flow_to};
 ghost use Rattle.line_step.specs.World.{end_of, link_at, link_of};
 ghost use Rattle.std.specs.Option.{option_copied};
+ghost use Rattle.line_step.specs.Parts.{count_behind};
 ghost use Rattle.line_step.specs.State.{machine_in, no_line};
 ghost use Rattle.line_step.specs.Views.{summary_of};
 
@@ -78,11 +79,14 @@ impl State {
         self.machines.as_slice()
     }
 
-    /// A line of the script was done, which has this number.
-    pub fn count(&mut self, number: u64)
-        ensures { self.new ≡ record self.old { lines = number } }
+    /// The line of the script that has this number was done, or a part of it with more behind it.
+    pub fn count(&mut self, number: u64, ends: bool)
+        requires { number ≡ self.old.lines + 1 }
+        ensures { self.new ≡ record self.old { lines = count_behind ends self.old.lines } }
     {
-        self.lines = number;
+        if ends {
+            self.lines = number;
+        }
     }
 
     /// How many bytes are on their way to a side.

@@ -6,7 +6,7 @@ ghost use Rattle.node_core.specs.declared.input.Input.TheVariants as inputs;
 ghost use Rattle.line_report.specs.declared.happening.Happening.TheVariants as happenings;
 ghost use Rattle.line_script.specs.Ranges.{IsWithin};
 ghost use Rattle.line_step.specs.Lines.{Becomes, Connects, Flows, LineDoes, Moves, Unless, cut_in, first_of, lied, spoil_told, spoiled, unseen, unvouched_told};
-ghost use Rattle.line_step.specs.Reasons.{may_add, may_answer, may_connect, may_cut, may_do, may_flow, may_give, may_lie, may_notice, may_remove, may_replace, may_sense, may_spoil, may_unseen};
+ghost use Rattle.line_step.specs.Reasons.{may_add, may_answer, may_connect, may_cut, may_do, may_flow, may_give, may_lie, may_notice, may_remove, may_replace, may_sense, may_spoil, may_stop, may_unseen};
 ghost use Rattle.line_step.specs.Shown.{shown};
 ghost use Rattle.line_step.specs.State.{one_more, profile_of};
 ghost use Rattle.line_step.specs.Steps.{MachineSteps};
@@ -48,6 +48,7 @@ impl State {
             } => self.flow(number, *machine, *side, *bytes),
             ScriptLine::Notice { machine, side } => self.notice(number, *machine, *side),
             ScriptLine::Cut { gap } => self.cut(*gap),
+            ScriptLine::Stop { machine } => self.stop(*machine),
             ScriptLine::Spoil { machine, side } => self.spoil(*machine, *side),
             ScriptLine::Sense { machine } => self.sense(number, *machine),
             ScriptLine::Lie { machine, sensed } => self.lie(number, *machine, *sensed),
@@ -409,6 +410,18 @@ impl State {
         }
         self.world.cut(gap);
         self.only(Happening::Cut { gap })
+    }
+
+    /// What a stop tells itself: what it does are lines of their own.
+    fn stop(&mut self, machine: u32) -> Result<Happened, Memory>
+        ensures { IfOk result
+            (λ told. Unless (may_stop machine self.old) self.old self.new told
+            (Becomes self.old (happenings.Stop machine ∷ []) self.new told)) }
+    {
+        if let Err(reason) = self.may_stop(machine) {
+            return self.refuse(reason);
+        }
+        self.only(Happening::Stop { machine })
     }
 
     fn spoil(&mut self, machine: u32, side: Side) -> Result<Happened, Memory>

@@ -336,4 +336,4 @@ none_follow gap last r taken = absurd (let no : ◌≡◌ {A = Option Record} No
 -- THE LAW
 pub what_settles_left : SaysAlone → ConnectsBear → WhatSettlesLeft
 what_settles_left alone connects asked points n gap fit few run honest =
-    run_keeps alone gap none_heard None no_line asked points n none_stood run (run_stood alone connects no_line asked points n fit (omega (arith, few)) none_stood run honest) (none_knows none_heard (gap + 1)) (none_follow gap None)
+    run_keeps alone gap none_heard None no_line asked points n none_stood run (run_stood alone connects no_line asked points n fit few none_stood run honest) (none_knows none_heard (gap + 1)) (none_follow gap None)

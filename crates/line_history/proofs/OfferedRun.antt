@@ -321,5 +321,5 @@ run_arrives gap last off o s (line ∷ asked) (point ∷ points) (suc n) was run
 -- THE LAW
 pub what_settles_was_offered : SaysAlone → ConnectsBear → WhatSettlesWasOffered
 what_settles_was_offered alone connects asked points n gap fit few run honest =
-    run_arrives gap None None (λ (m : ℕ). none_offered) no_line asked points n none_stood run (run_stood alone connects no_line asked points n fit (omega (arith, few)) none_stood run honest) none_all_offered
+    run_arrives gap None None (λ (m : ℕ). none_offered) no_line asked points n none_stood run (run_stood alone connects no_line asked points n fit few none_stood run honest) none_all_offered
     (λ b found. absurd (let no : ◌≡◌ {A = Option Record} None (Some b) = found in cc)) (what_settles_left alone connects asked points n gap fit few run honest)

@@ -5,7 +5,6 @@ use Rattle.std.specs.Prelude.{drop}
 use Rattle.std.specs.List.{AllByRecursion, list_any}
 use Rattle.std.proofs.lemmas.Bool.{false≢true, or_parts, or_from}
 use Rattle.node_core.proofs.Opened.{is_off}
-use Rattle.line_step.proofs.Counted.{steps-lines}
 use Rattle.line_history.proofs.Said.{some_id}
 use Rattle.line_base.specs.declared.states.Seen.TheVariants as seen
 use Rattle.line_base.specs.declared.states.Side.TheVariants.{Exit}
@@ -46,7 +45,7 @@ use Rattle.machine_custody.specs.Flight.{oldest_none}
 use Rattle.link_messages.specs.Fit.{AreFit}
 use Rattle.link_messages.specs.Heard.{bodies}
 use Rattle.line_step.specs.Numbered.{node_at}
-use Rattle.line_step.specs.Runs.{IsRun, Point}
+use Rattle.line_step.specs.Runs.{IsRun, Point, IsShort}
 use Rattle.line_step.specs.State.{LineState, no_line}
 use Rattle.line_step.specs.Steps.{unread_by}
 use Rattle.line_step.specs.World.{link_at}
@@ -390,7 +389,7 @@ after_line alone k t t2 s after told g st st2 waits n turn w said fit flows on =
 
 -- ---- along a run
 
-run_opened : SaysAlone → (k : ℕ) (past : List Happening) (s : LineState) (asked : List ScriptLine) (points : List Point) (n : ℕ) → AllByRecursion IsFitLine asked → s.lines + length asked ≤ 1000000 → Stood s → IsRun s asked points → AreStood (take n points)
+run_opened : SaysAlone → (k : ℕ) (past : List Happening) (s : LineState) (asked : List ScriptLine) (points : List Point) (n : ℕ) → AllByRecursion IsFitLine asked → IsShort s points → Stood s → IsRun s asked points → AreStood (take n points)
     → Asks k s (gaps_after none_yet (gap_deeds k past)) → OpensWhatStarted k past s (take n points)
 run_opened alone k past s asked points zero fit few was run all asks = tt
 run_opened alone k past s [] [] (suc n) fit few was run all asks = tt
@@ -398,8 +397,8 @@ run_opened alone k past s [] (point ∷ points) (suc n) fit few was run all asks
 run_opened alone k past s (line ∷ asked) [] (suc n) fit few was run all asks = absurd run
 run_opened alone k past s (line ∷ asked) (point ∷ points) (suc n) fit few was run all asks =
     let g : Gap = gaps_after none_yet (gap_deeds k past) in
-    let here : s.lines + 1 ≤ 1000000 = omega (arith, few) in
-    let left : point.after.lines + length asked ≤ 1000000 = omega (arith, few, steps-lines (s.lines + 1) line s point.after point.told run.0) in
+    let here : s.lines + 1 ≤ 1000000 = few.0 in
+    let left : IsShort point.after points = few.1 in
     let next : UpNext k was.trace s point.after point.told = line_next alone k (s.lines + 1) line was.trace s point.after point.told here fit.0 was.stands was.waits run.0 in
     let turn : Turn k was.trace s point.after point.told = line_turn alone was.trace (s.lines + 1) line s point.after point.told was.stands run.0 k in
     let w : Waits (starts_of next.ups) g (taking_at s (k + 1)) = waits_ups k was.trace s g next.ups was.stands asks next.is in
@@ -417,4 +416,4 @@ none_asks (suc place) said fit flows on = absurd (false≢true on)
 -- THE LAW
 pub what_opens_started : SaysAlone → ConnectsBear → WhatOpensStarted
 what_opens_started alone connects asked points n gap fit few run honest =
-    run_opened alone gap [] no_line asked points n fit (omega (arith, few)) none_stood run (run_stood alone connects no_line asked points n fit (omega (arith, few)) none_stood run honest) (none_asks gap)
+    run_opened alone gap [] no_line asked points n fit few none_stood run (run_stood alone connects no_line asked points n fit few none_stood run honest) (none_asks gap)

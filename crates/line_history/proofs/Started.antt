@@ -179,4 +179,4 @@ none_taking (suc place) = refl
 -- THE LAW
 pub what_is_held_started : SaysAlone → ConnectsBear → WhatIsHeldStarted
 what_is_held_started alone connects asked points n gap fit few run honest =
-    run_started alone gap [] no_line asked points n none_stood run (run_stood alone connects no_line asked points n fit (omega (arith, few)) none_stood run honest) (none_taking (gap + 1))
+    run_started alone gap [] no_line asked points n none_stood run (run_stood alone connects no_line asked points n fit few none_stood run honest) (none_taking (gap + 1))

@@ -626,7 +626,7 @@ more_told k a b none = done_append k a b ∙ ap (λ (l : List Act). done_by k a 
 pub line_next : SaysAlone → (k number : ℕ) (line : ScriptLine) (t : Trace) (before after : LineState) (told : List Happening) → number ≤ 1000000 → IsFitLine line → Stands t before → AreWaiting before → LineSteps number line before after told → UpNext k t before after told
 line_next alone k number line t before after told few fit st waits steps =
     let next : LineState = steps.next in
-    let now : LineState = record next { lines = next.lines + 1 } in
+    let now : LineState = record next { lines = steps.lines } in
     let one : UpNext k t before next steps.done = effect_next alone k number (request_of line) t before next steps.done few (fit_request line fit) st waits (line_effect number line before next steps.done steps.does) in
     let above : done_by k told ≡ done_by k steps.done = ap (done_by k) steps.told_is ∙ more_told k steps.done (standings_told before next) (standings_none k before next) in
     let below : done_by (k + 1) told ≡ done_by (k + 1) steps.done = ap (done_by (k + 1)) steps.told_is ∙ more_told (k + 1) steps.done (standings_told before next) (standings_none (k + 1) before next) in

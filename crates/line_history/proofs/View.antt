@@ -521,8 +521,8 @@ counted_kind before next done more n none (inr s) = inr (record { lies = s.lies;
 pub line_kind : (number : ℕ) (line : ScriptLine) (before after : LineState) (told : List Happening) → LineSteps number line before after told → Kind before after told
 line_kind number line before after told steps =
     let next : LineState = steps.next in
-    subst (λ (s : LineState). Kind before s told) (sym steps.after_is) (subst (λ (x : List Happening). Kind before (record next { lines = next.lines + 1 }) x) (sym steps.told_is)
-    (counted_kind before next steps.done (standings_told before next) (next.lines + 1) (λ j. standings_none (j + 1) before next) (turns_kind number (request_of line) before next steps.done (line_turns number line before next steps.done steps.does))))
+    subst (λ (s : LineState). Kind before s told) (sym steps.after_is) (subst (λ (x : List Happening). Kind before (record next { lines = steps.lines }) x) (sym steps.told_is)
+    (counted_kind before next steps.done (standings_told before next) (steps.lines) (λ j. standings_none (j + 1) before next) (turns_kind number (request_of line) before next steps.done (line_turns number line before next steps.done steps.does))))
 
 counted_turn : {K : Event → Type 0} {j : ℕ} {before next : LineState} {done told : List Happening} (n : ℕ) → done_by (j + 1) told ≡ done_by (j + 1) done → (node_at (record next { lines = n }) (j + 1)).lane.body ≡ (node_at next (j + 1)).lane.body → TurnBy K j before next done → TurnBy K j before (record next { lines = n }) told
 counted_turn n acts body (is_still same none) = is_still (ap unwilled body ∙ same) (acts ∙ none)
@@ -536,7 +536,7 @@ each_turn K number line before after told j steps are =
     let turn : TurnBy K j before next done = turns_turn K number (request_of line) before next done j are (line_turns number line before next done steps.does) in
     let acts : done_by (j + 1) told ≡ done_by (j + 1) done =
     ap (done_by (j + 1)) steps.told_is ∙ done_append (j + 1) done (standings_told before next) ∙ ap (λ (x : List Act). done_by (j + 1) done ++ x) (standings_none (j + 1) before next) ∙ append-nil (done_by (j + 1) done) in
-    subst (λ (s : LineState). TurnBy K j before s told) (sym steps.after_is) (counted_turn (next.lines + 1) acts (same_machines j next (record next { lines = next.lines + 1 }) refl) turn)
+    subst (λ (s : LineState). TurnBy K j before s told) (sym steps.after_is) (counted_turn (steps.lines) acts (same_machines j next (record next { lines = steps.lines }) refl) turn)
 
 pub line_turn : SaysAlone → (t : Trace) (number : ℕ) (line : ScriptLine) (before after : LineState) (told : List Happening) → Stands t before → LineSteps number line before after told → (j : ℕ) → Turn j t before after told
 line_turn alone t number line before after told st steps j =

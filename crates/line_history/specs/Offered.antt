@@ -19,7 +19,7 @@ use Rattle.line_report.specs.declared.happening.Happening.{Happening}
 use Rattle.line_report.specs.declared.happening.Happening.TheVariants as happenings
 use Rattle.line_step.specs.Lies.{has_lie}
 use Rattle.line_step.specs.Numbered.{node_at}
-use Rattle.line_step.specs.Runs.{IsRun, Point}
+use Rattle.line_step.specs.Runs.{IsRun, Point, IsShort}
 use Rattle.line_step.specs.State.{LineState, no_line}
 use Rattle.one_standing.specs.Standing.{IsFitLine}
 use Rattle.line_history.specs.LetGo.{is_leaving, settles_at, taken_below}
@@ -119,6 +119,6 @@ KeepsAsOffered gap last o s (point ∷ points) =
 abbrev pub WhatSettlesWasOffered : Type 0
 WhatSettlesWasOffered =
     (asked : List ScriptLine) (points : List Point) (n gap : ℕ)
-    → AllByRecursion IsFitLine asked → length asked ≤ 1000000 → IsRun no_line asked points
+    → AllByRecursion IsFitLine asked → IsShort no_line points → IsRun no_line asked points
     → has_lie (take n points) ≡ false
     → KeepsAsOffered gap None none_offered no_line (take n points)

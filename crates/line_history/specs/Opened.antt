@@ -11,7 +11,7 @@ use Rattle.line_script.specs.declared.line.ScriptLine.{ScriptLine}
 use Rattle.line_report.specs.declared.happening.Happening.{Happening}
 use Rattle.line_report.specs.declared.happening.Happening.TheVariants as happenings
 use Rattle.line_step.specs.Lies.{has_lie}
-use Rattle.line_step.specs.Runs.{IsRun, Point}
+use Rattle.line_step.specs.Runs.{IsRun, Point, IsShort}
 use Rattle.line_step.specs.State.{LineState, no_line}
 use Rattle.one_standing.specs.Standing.{IsFitLine}
 use Rattle.line_history.specs.LetGo.{taken_below}
@@ -99,5 +99,5 @@ OpensWhatStarted gap past s (point ∷ points) =
 -- or let a board come or go unseen
 abbrev pub WhatOpensStarted : Type 0
 WhatOpensStarted = (asked : List ScriptLine) (points : List Point) (n gap : ℕ)
-    → AllByRecursion IsFitLine asked → length asked ≤ 1000000 → IsRun no_line asked points
+    → AllByRecursion IsFitLine asked → IsShort no_line points → IsRun no_line asked points
     → has_lie (take n points) ≡ false → OpensWhatStarted gap [] no_line (take n points)

@@ -17,7 +17,7 @@ use Rattle.line_script.specs.declared.line.ScriptLine.{ScriptLine}
 use Rattle.line_report.specs.declared.happening.Happening.{Happening}
 use Rattle.line_report.specs.declared.happening.Happening.TheVariants as happenings
 use Rattle.line_step.specs.Lies.{has_lie}
-use Rattle.line_step.specs.Runs.{IsRun, Point, all_told}
+use Rattle.line_step.specs.Runs.{IsRun, Point, all_told, IsShort}
 use Rattle.line_step.specs.State.{no_line}
 use Rattle.one_standing.specs.Standing.{IsFitLine}
 
@@ -110,5 +110,5 @@ SettlesWhenSaid machine told =
 abbrev pub BoardsSettleWhenSaid : Type 0
 BoardsSettleWhenSaid =
     (asked : List ScriptLine) (points : List Point) (n gap : ℕ) → AllByRecursion IsFitLine asked
-    → length asked ≤ 1000000 → IsRun no_line asked points → has_lie (take n points) ≡ false
+    → IsShort no_line points → IsRun no_line asked points → has_lie (take n points) ≡ false
     → SettlesWhenSaid (gap + 1) (all_told (take n points))

@@ -13,7 +13,7 @@ use Rattle.node_core.specs.declared.act.Deed.TheVariants as deeds
 use Rattle.line_script.specs.declared.line.ScriptLine.{ScriptLine}
 use Rattle.line_report.specs.declared.happening.Happening.{Happening}
 use Rattle.line_step.specs.Lies.{has_lie}
-use Rattle.line_step.specs.Runs.{IsRun, Point}
+use Rattle.line_step.specs.Runs.{IsRun, Point, IsShort}
 use Rattle.line_step.specs.State.{no_line}
 use Rattle.one_standing.specs.Standing.{IsFitLine}
 use Rattle.line_history.specs.LetGo.{taken_below}
@@ -47,5 +47,5 @@ HoldsWhatStarted gap past (point ∷ points) =
 abbrev pub WhatIsHeldStarted : Type 0
 WhatIsHeldStarted =
     (asked : List ScriptLine) (points : List Point) (n gap : ℕ) → AllByRecursion IsFitLine asked
-    → length asked ≤ 1000000 → IsRun no_line asked points → has_lie (take n points) ≡ false
+    → IsShort no_line points → IsRun no_line asked points → has_lie (take n points) ≡ false
     → HoldsWhatStarted gap [] (take n points)

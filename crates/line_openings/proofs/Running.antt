@@ -226,7 +226,7 @@ turn_goes number k request o r before after told h (turns.flows machine side cou
 steps_goes : (number k : ℕ) (line : ScriptLine) (o : Option ℕ) (r : Bool) (before after : LineState) (told : List Happening) → Holds o r (machine_in k before) → LineSteps number line before after told → Goes k o r after told
 steps_goes number k line o r before after told h steps =
     let next = steps.next in
-    let count : LineState = record next { lines = next.lines + 1 } in
+    let count : LineState = record next { lines = steps.lines } in
     let one = turn_goes number k (request_of line) o r before next steps.done h (line_turns number line before next steps.done steps.does) in
     subst (λ (s : LineState). Goes k o r s told) (sym steps.after_is) (subst (λ (x : List Happening). Goes k o r count x) (sym steps.told_is)
     (goes_both k o r next count steps.done (standings_told before next) one (λ held. still k _ _ next count (standings_told before next) (remarks_none k (standings_told before next) (standings_remarks before next)) (same_in k next count refl) held)))

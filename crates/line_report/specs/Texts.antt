@@ -253,6 +253,7 @@ happening_text (happenings.Bridge number capacity) =
     numbered (numbered (codes "bridge") number) capacity
 happening_text (happenings.Done machine act) = act_text machine act
 happening_text (happenings.Cut gap) = numbered (codes "cut") gap
+happening_text (happenings.Stop machine) = numbered (codes "stop") machine
 happening_text (happenings.Spoils machine side) = at_side (codes "spoils") machine side
 happening_text (happenings.Moved gap step) =
     numbered (codes "move") gap ++ codes " " ++ move_word step

@@ -37,6 +37,16 @@ impl Happened {
         self.list.as_slice()
     }
 
+    /// Adds all that happened next, in its order. `Memory` where there is none for it; a front of it
+    /// may be added then.
+    pub fn tell_all(&mut self, next: Happened) -> Result<(), Memory>
+        ensures { OnOk result (self.new ≡ self.old ++ next) }
+    {
+        let mut next = next;
+        self.list.append(&mut next.list)?;
+        Ok(())
+    }
+
     /// Adds what happened next. `Memory` where there is none for it; nothing is added then.
     pub fn tell(&mut self, happening: Happening) -> Result<(), Memory>
         ensures told { OnOk result (self.new ≡ self.old ++ happening ∷ []) }

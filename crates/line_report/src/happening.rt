@@ -55,6 +55,10 @@ pub enum Happening {
     Cut {
         gap: u32,
     },
+    /// A machine lost its power: what comes of it is told behind this.
+    Stop {
+        machine: u32,
+    },
     /// What flows to that side was spoiled.
     Spoils {
         machine: u32,

@@ -59,6 +59,7 @@ fn write_what(what: &Happening, to: &mut Vec<u8>) -> Result<(), Memory>
         Happening::Bridge { number, capacity } => write_added("bridge", *number, *capacity, to),
         Happening::Done { machine, act } => append_act(*machine, act, to),
         Happening::Cut { gap } => write_numbered("cut", *gap, to),
+        Happening::Stop { machine } => write_numbered("stop", *machine, to),
         Happening::Spoils { machine, side } => write_side("spoils", *machine, *side, to),
         Happening::Moved { gap, step } => {
             write_numbered("move", *gap, to)?;

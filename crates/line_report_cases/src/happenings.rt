@@ -40,6 +40,7 @@ fn numbered_of(what: &str, about: &str) -> Happening {
             capacity: number_of(rest),
         },
         "Cut" => Happening::Cut { gap: number },
+        "Stop" => Happening::Stop { machine: number },
         "Spoils" => Happening::Spoils {
             machine: number,
             side: side_of(rest),

@@ -133,6 +133,10 @@ abbrev pub made_shutdown : List Value → Result ScriptLine LineWhy
 made_shutdown (numeral machine ∷ []) = Ok (lines.Shutdown machine)
 made_shutdown _ = Err whys.WrongCount
 
+abbrev pub made_stop : List Value → Result ScriptLine LineWhy
+made_stop (numeral machine ∷ []) = Ok (lines.Stop machine)
+made_stop _ = Err whys.WrongCount
+
 abbrev pub made_tick : List Value → Result ScriptLine LineWhy
 made_tick (numeral machine ∷ []) = Ok (lines.Tick machine)
 made_tick _ = Err whys.WrongCount
@@ -231,8 +235,8 @@ room_words = number 1 1024 ∷ literal (codes "used") ∷ number 0 2814749767106
 -- `remove m id`, `replace m id`, `mark m id unknown|good|failed`, `sub m id pos barcode`, `hold m
 -- side`, `go m side`,
 -- `signal m ready|available|failed on|off`, `connect m`, `flow m side [n]`, `notice m side`, `cut
--- k`, `spoil m side`, `forecast m`, `shutdown m`, `tick m`, `fault m side`, `lie m side event`,
--- `unseen side m`, `sense m`, `begin k`, `left k`, `in k`, `back k`, `hand-in k`, `take k`,
+-- k`, `spoil m side`, `forecast m`, `shutdown m`, `stop m`, `tick m`, `fault m side`, `lie m side
+-- event`, `unseen side m`, `sense m`, `begin k`, `left k`, `in k`, `back k`, `hand-in k`, `take k`,
 -- `show`, `supervise m`, `ask m barcode|order w`, `ask m place w s`, `answer m q w`
 abbrev pub machine_form : Form
 machine_form =
@@ -436,6 +440,15 @@ shutdown_form =
       made = made_shutdown;
     }
 
+abbrev pub stop_form : Form
+stop_form =
+    record {
+      word = codes "stop";
+      counts = 1 ∷ [];
+      arguments = λ _. machine_number ∷ [];
+      made = made_stop;
+    }
+
 abbrev pub tick_form : Form
 tick_form =
     record {
@@ -552,7 +565,8 @@ floor_forms =
     report_forms
 
 abbrev pub machine_forms : List Form
-machine_forms = shutdown_form ∷ tick_form ∷ fault_form ∷ lie_form ∷ unseen_form ∷ floor_forms
+machine_forms =
+    shutdown_form ∷ stop_form ∷ tick_form ∷ fault_form ∷ lie_form ∷ unseen_form ∷ floor_forms
 
 abbrev pub link_forms : List Form
 link_forms =

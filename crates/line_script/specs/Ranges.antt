@@ -41,6 +41,7 @@ IsWithin (lines.Notice machine side) = IsBetween 1 64 machine
 IsWithin (lines.Cut gap) = IsBetween 1 63 gap
 IsWithin (lines.Spoil machine side) = IsBetween 1 64 machine
 IsWithin (lines.Shutdown machine) = IsBetween 1 64 machine
+IsWithin (lines.Stop machine) = IsBetween 1 64 machine
 IsWithin (lines.Tick machine) = IsBetween 1 64 machine
 IsWithin (lines.Fault machine side) = IsBetween 1 64 machine
 IsWithin (lines.Lie machine sensed) = IsBetween 1 64 machine

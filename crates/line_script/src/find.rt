@@ -8,7 +8,7 @@ ghost use Rattle.line_script.specs.Grammar.{line_among, forms, board_forms, link
 use crate::forms::{
     answer, ask, back, begin, bridge, connect, cut, enter, fault, flow, forecast, go, hand_in,
     hold, insert, left, lie, machine, mark, notice, query, refused, remove, replace, sense, show,
-    shutdown, signal, spoil, sub, supervise, take, tick, unseen,
+    shutdown, signal, spoil, stop, sub, supervise, take, tick, unseen,
 };
 use crate::line::{LineError, LineWhy, ScriptLine};
 use crate::words::is_word;
@@ -102,6 +102,9 @@ fn machine_line(first: &[u8], words: &[&[u8]]) -> Result<ScriptLine, LineWhy>
 {
     if is_word(first, b"shutdown") {
         return shutdown(words);
+    }
+    if is_word(first, b"stop") {
+        return stop(words);
     }
     if is_word(first, b"tick") {
         return tick(words);

@@ -3,7 +3,7 @@
 ghost use Rattle.std.specs.Prelude.{◌≡◌, ◌≤◌, ℕ, IfOk, [], ◌∷◌, map};
 ghost use Rattle.line_script.specs.Ranges.{IsBetween, IsWithin};
 ghost use Rattle.line_script.specs.Words.{Reads};
-ghost use Rattle.line_script.specs.Grammar.{number, numeral, board, identity, sided, side_word, machine_number, room_words, made_room, is_seen_at, lie_of, mapped_ok, then_ok, values_as, arguments_as, line_as, machine_form, bridge_form, insert_form, query_form, ask_form, answer_form, sub_form, remove_form, replace_form, mark_form, hold_form, go_form, signal_form, connect_form, flow_form, notice_form, cut_form, spoil_form, forecast_form, supervise_form, shutdown_form, tick_form, fault_form, lie_form, unseen_form, sense_form, begin_form, left_form, enter_form, back_form, hand_in_form, take_form, show_form};
+ghost use Rattle.line_script.specs.Grammar.{number, numeral, board, identity, sided, side_word, machine_number, room_words, made_room, is_seen_at, lie_of, mapped_ok, then_ok, values_as, arguments_as, line_as, machine_form, bridge_form, insert_form, query_form, ask_form, answer_form, sub_form, remove_form, replace_form, mark_form, hold_form, go_form, signal_form, connect_form, flow_form, notice_form, cut_form, spoil_form, forecast_form, supervise_form, shutdown_form, stop_form, tick_form, fault_form, lie_form, unseen_form, sense_form, begin_form, left_form, enter_form, back_form, hand_in_form, take_form, show_form};
 ghost use Rattle.line_script.specs.declared.line.ScriptLine.{ScriptLine as Line};
 
 use crate::line::{LineError, LineWhy, ScriptLine};
@@ -550,6 +550,14 @@ pub fn shutdown(words: &[&[u8]]) -> Result<ScriptLine, LineWhy>
 {
     let machine = only_number(words, MOST_MACHINES)?;
     Ok(ScriptLine::Shutdown { machine })
+}
+
+pub fn stop(words: &[&[u8]]) -> Result<ScriptLine, LineWhy>
+    ensures answer { result ≡ line_as stop_form (map (λ word. word.now) words.now) }
+    ensures within { IfOk result IsWithin }
+{
+    let machine = only_number(words, MOST_MACHINES)?;
+    Ok(ScriptLine::Stop { machine })
 }
 
 pub fn tick(words: &[&[u8]]) -> Result<ScriptLine, LineWhy>

@@ -95,6 +95,11 @@ pub enum ScriptLine {
     Shutdown {
         machine: u32,
     },
+    /// A machine loses its power and begins again with its records: its links are cut, and both its
+    /// sides notice it.
+    Stop {
+        machine: u32,
+    },
     /// A machine's clock ticks.
     Tick {
         machine: u32,

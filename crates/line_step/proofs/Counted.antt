@@ -1,12 +1,18 @@
--- Each line of the script is counted once.
-use Rattle.std.proofs.Common.{◌≡◌, ◌+◌, ℕ, List, ap, ◌∙◌}
+-- The count of lines goes on by one, or stays.
+use Rattle.std.proofs.Common.{◌≡◌, ◌+◌, ◌≤◌, ℕ, List, ap, arith, subst, sym}
 use Rattle.line_script.specs.declared.line.ScriptLine.{ScriptLine}
 use Rattle.line_report.specs.declared.happening.Happening.{Happening}
 use Rattle.line_step.specs.State.{LineState}
-use Rattle.line_step.specs.Lines.{LineSteps}
+use Rattle.line_step.specs.Lines.{Counts, LineSteps}
 use Rattle.line_step.proofs.Keeps.{lines_stay}
 
--- A LINE STEP counts its line
-pub steps-lines : (number : ℕ) (line : ScriptLine) (before after : LineState) (told : List Happening) → LineSteps number line before after told → after.lines ≡ before.lines + 1
-steps-lines number line before after told steps =
-    ap (λ (s : LineState). s.lines) steps.after_is ∙ ap (λ n. n + 1) (lines_stay number line before steps.next steps.done steps.does)
+-- A LINE STEP counts its line, or leaves the count
+pub steps-counts : (number : ℕ) (line : ScriptLine) (before after : LineState) (told : List Happening) → LineSteps number line before after told → Counts before.lines after.lines
+steps-counts number line before after told steps =
+    let same : steps.next.lines ≡ before.lines = lines_stay number line before steps.next steps.done steps.does in
+    let counted : after.lines ≡ steps.lines = ap (λ (s : LineState). s.lines) steps.after_is in
+    record { least = omega (arith, same, counted, steps.counts.least); most = omega (arith, same, counted, steps.counts.most) }
+
+-- by one
+pub rises : (lines : ℕ) → Counts lines (lines + 1)
+rises lines = record { least = omega arith; most = omega arith }

@@ -73,6 +73,7 @@ effect_of number (requests.gives machine input) before after told given does = u
 effect_of number (requests.connects machine) before after told given does = unless_effect number _ _ before after told _ does (λ may done. connects machine may done)
 effect_of number (requests.flows machine side count) before after told given does = unless_effect number _ _ before after told _ does (λ may done. flows machine side count may done)
 effect_of number (requests.cuts gap) before after told given does = unless_effect number _ _ before after told _ does (λ may done. cuts gap may done)
+effect_of number (requests.stops machine) before after told given does = unless_effect number _ _ before after told _ does (λ may done. rests (requests.stops machine) (happenings.Stop machine ∷ []) (tt, tt) done)
 effect_of number (requests.spoils machine side) before after told given does = unless_effect number _ _ before after told _ does (λ may done. spoils machine side may done)
 effect_of number (requests.moves_on gap step) before after told given does = move_effect number gap step before after told (floor_move gap step before.world.floor) refl does
 effect_of number (requests.lies machine sensed) before after told given does = unless_effect number _ _ before after told _ does (λ may done. lies machine sensed may done)

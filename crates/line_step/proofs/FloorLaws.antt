@@ -882,7 +882,7 @@ effect-goes number request s after told h (effects.unsees machine side may b) = 
 pub steps-goes : (number : ℕ) (line : ScriptLine) (s after : LineState) (told : List Happening) → Holds s → LineSteps number line s after told → Goes s after told
 steps-goes number line s after told h steps =
     let next = steps.next in
-    let count : LineState = record next { lines = next.lines + 1 } in
+    let count : LineState = record next { lines = steps.lines } in
     let one = effect-goes number (request_of line) s next steps.done h (line_effect number line s next steps.done steps.does) in
     let two = stays-goes next count (standings_told s next) one.holds refl refl (all_pass (standings_told s next) remarks-still (standings_remarks s next)) in
     let P : LineState → Type 0 = λ t. Goes s t (steps.done ++ standings_told s next) in

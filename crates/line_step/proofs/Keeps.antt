@@ -303,8 +303,8 @@ pub does_together : (number : ℕ) (line : ScriptLine) (before next : LineState)
 does_together number line before next told together is = (line_does number line before next told is).together together
 
 -- and is counted
-counted_line : (number : ℕ) (s : LineState) → s.lines + 1 ≡ number → number ≤ 1000000 → IsLineTogether s → IsLineTogether (record s { lines = s.lines + 1 })
-counted_line number s is few together = record { few = together.few; short = omega arith; floor = together.floor; links = together.links; joined = together.joined }
+counted_line : (lines : ℕ) (s : LineState) → lines ≤ 1000000 → IsLineTogether s → IsLineTogether (record s { lines = lines })
+counted_line lines s few together = record { few = together.few; short = few; floor = together.floor; links = together.links; joined = together.joined }
 
 pub keeps_together : (number : ℕ) (line : ScriptLine) (before after : LineState) (told : List Happening)
     → number ≡ before.lines + 1 → number ≤ 1000000 → IsLineTogether before → LineSteps number line before after told → IsLineTogether after
@@ -312,4 +312,4 @@ keeps_together number line before after told is few together did =
     let next = did.next in
     let same = lines_stay number line before next did.done did.does in
     let P : LineState → Type 0 = λ (s : LineState). IsLineTogether s in
-    subst P (sym did.after_is) (counted_line number next (omega arith) few (does_together number line before next did.done together did.does))
+    subst P (sym did.after_is) (counted_line did.lines next (omega (arith, is, few, same, did.counts.most)) (does_together number line before next did.done together did.does))

@@ -27,5 +27,6 @@ pub mod Makers
 pub mod OnFloor
 pub mod FloorLaws
 pub mod Vouching
+pub mod Playing
 pub mod Once
 pub mod LineOnce

@@ -1,12 +1,13 @@
 -- A line of a script does one thing, and so does a run.
 use Rattle.std.proofs.Common.{◌≡◌, ◌+◌, ◌-◌, ◌++◌, ℕ, zero, suc, Bool, true, false, List, ◌∷◌, Option, Some, None, Result, Ok, Err, length, map, refl, sym, ap, subst, ◌∙◌, []}
 use Rattle.std.specs.Prelude.{pos, slice_get, slice_set, not, is_none, is_some}
-use Rattle.std.specs.List.{flat_map}
+use Rattle.std.specs.List.{AllByRecursion, flat_map}
 use Rattle.line_base.specs.declared.states.Side.{Side}
 use Rattle.line_base.specs.declared.states.Side.TheVariants.{Entry, Exit}
 use Rattle.board_record.specs.Maker.{Maker}
 use Rattle.board_record.specs.SubBoards.{unknown_sub}
 use Rattle.line_script.specs.declared.line.ScriptLine.{ScriptLine}
+use Rattle.line_script.specs.declared.line.ScriptLine.TheVariants as lines
 use Rattle.line_link.specs.Link.{connected_of}
 use Rattle.line_link.specs.declared.link.Connected.{Connected}
 use Rattle.line_link.specs.declared.link.Connected.TheVariants as connections
@@ -43,10 +44,11 @@ use Rattle.line_step.specs.State.{LineState, machine_in, one_more, owned, owned_
 use Rattle.line_step.specs.Acts.{acts_did}
 use Rattle.line_step.specs.Steps.{MachineSteps, is_second, moment_of, read_by, unread_by}
 use Rattle.line_step.specs.Together.{is_linked}
-use Rattle.line_step.specs.Reasons.{May, behind_own, has_neighbour, if_there, is_dry_at, is_here, link_stands, may_add, may_answer, may_connect, may_cut, may_do, may_flow, may_give, may_lie, may_notice, may_remove, may_replace, may_sense, may_spoil, may_unseen, is_bare, no_if, with_word, word_kept}
+use Rattle.line_step.specs.Reasons.{May, behind_own, has_neighbour, if_there, is_dry_at, is_here, link_stands, may_add, may_answer, may_connect, may_cut, may_do, may_flow, may_give, may_lie, may_notice, may_remove, may_replace, may_sense, may_spoil, may_stop, may_unseen, is_bare, no_if, with_word, word_kept}
 use Rattle.line_step.specs.Shown.{ascending, between_shown, ids_owned, kept_shown, shown, shown_from, standing_told, standings_told, taken_below}
 use Rattle.line_step.specs.Lines.{Becomes, Connects, Flows, LineDoes, LineSteps, Moves, Unless, arrived, connecting, cut_in, lied, met, move_told, moved, spoiled, unseen}
-use Rattle.line_step.specs.Runs.{Point, IsRun, state_behind, told_text}
+use Rattle.line_step.specs.Runs.{Point, state_behind, told_text}
+use Rattle.line_step.specs.Parts.{IsPlay, IsScriptRun, Part, count_behind, cut_where, entry_where, exit_where, parts_of, script_parts, where_may}
 use Rattle.line_step.proofs.Once.{AreAlike, IsDry, OneMeaning, StepsOnce, desk-same, steps-bytes, steps-dry}
 use Rattle.line_step.proofs.Requests.{GivesInput, IsGiven, Request, RequestDoes, added_told, line_gives, line_requests, may_get, request_of}
 use Rattle.line_step.proofs.Requests as requests
@@ -262,6 +264,9 @@ spoil-alike machine side s nodes all =
     there-alike (machine_in machine s) (machine_in machine (like s nodes)) _ _ (found-alike machine s nodes all)
     (λ a b alike. ap (λ has. no_if (not has) reasons.NoNeighbour (no_if (not (is_linked machine side s.world)) (reasons.Node no.NotConnected) (no_if (not (link_stands machine side s.world)) (reasons.Node no.NotStanding) may_do))) (neighbour-alike machine side s nodes all))
 
+stop-alike : (machine : ℕ) (s : LineState) (nodes : List NodeState) → AreAllAlike s.machines nodes → may_stop machine (like s nodes) ≡ may_stop machine s
+stop-alike machine s nodes all = there-alike (machine_in machine s) (machine_in machine (like s nodes)) _ _ (found-alike machine s nodes all) (λ a b alike. refl)
+
 sense-alike : (machine : ℕ) (s : LineState) (nodes : List NodeState) → AreAllAlike s.machines nodes → may_sense machine (like s nodes) ≡ may_sense machine s
 sense-alike machine s nodes all = there-alike (machine_in machine s) (machine_in machine (like s nodes)) _ _ (found-alike machine s nodes all) (λ a b alike. refl)
 
@@ -400,6 +405,9 @@ does-once law number (requests.flows machine side count) s after nodes after' to
 does-once law number (requests.cuts gap) s after nodes after' told other given all one two =
     unless-once (may_cut gap s) (may_cut gap (like s nodes)) s after nodes after' told other _ _ all (cut-alike gap s nodes all)
     (becomes-once (cut_in gap s) (cut_in gap (like s nodes)) after after' (happenings.Cut gap ∷ []) (happenings.Cut gap ∷ []) told other (record { machines = all; same = refl }) refl) one two
+does-once law number (requests.stops machine) s after nodes after' told other given all one two =
+    unless-once (may_stop machine s) (may_stop machine (like s nodes)) s after nodes after' told other _ _ all (stop-alike machine s nodes all)
+    (becomes-once s (like s nodes) after after' (happenings.Stop machine ∷ []) (happenings.Stop machine ∷ []) told other (stays-alike s nodes all) refl) one two
 does-once law number (requests.spoils machine side) s after nodes after' told other given all one two =
     unless-once (may_spoil machine side s) (may_spoil machine side (like s nodes)) s after nodes after' told other _ _ all (spoil-alike machine side s nodes all)
     (becomes-once (spoiled machine side s) (spoiled machine side (like s nodes)) after after' _ _ told other (record { machines = all; same = refl }) refl) one two
@@ -417,17 +425,18 @@ standings-once before before' next next' same later =
     let f : List Owned → List Owned → List Happening = λ old new. flat_map (λ id. standing_told id (told_of (marks_of old id) (marks_of new id))) (ascending (flat_map ids_owned old ++ flat_map ids_owned new)) in
     ap (λ old. f old (owned next')) same ∙ ap (f (owned before)) later
 
--- A LINE STEP does one thing
-pub line-once : OneMeaning → (number : ℕ) (line : ScriptLine) (s after t after' : LineState) (told other : List Happening) → LinesAlike s t → LineSteps number line s after told → LineSteps number line t after' other → DoesOnce after after' told other
-line-once law number line s after t after' told other alike one two =
+-- A LINE STEP does one thing, however far the count of lines goes on
+pub line-once : OneMeaning → (number : ℕ) (line : ScriptLine) (s after t after' : LineState) (told other : List Happening) → LinesAlike s t → after'.lines ≡ after.lines → LineSteps number line s after told → LineSteps number line t after' other → DoesOnce after after' told other
+line-once law number line s after t after' told other alike counted one two =
     let P : LineState → Type 0 = λ b. LineDoes number line b two.next two.done in
     let once = does-once law number (request_of line) s one.next t.machines two.next one.done two.done (line_gives line) alike.machines (line_requests number line s one.next one.done one.does) (line_requests number line (like s t.machines) two.next two.done (subst P alike.same two.does)) in
-    let count : LineState → LineState = λ next. record next { lines = next.lines + 1 } in
-    let Q : LineState → Type 0 = λ a. LinesAlike a (count two.next) in
+    let count : ℕ → LineState → LineState = λ n next. record next { lines = n } in
+    let Q : LineState → Type 0 = λ a. LinesAlike a (count two.lines two.next) in
     let R : LineState → Type 0 = λ b. LinesAlike after b in
-    let counted : LinesAlike (count one.next) (count two.next) = record { machines = once.alike.machines; same = ap count once.alike.same } in
+    let as_far : two.lines ≡ one.lines = sym (ap (λ (b : LineState). b.lines) two.after_is) ∙ counted ∙ ap (λ (b : LineState). b.lines) one.after_is in
+    let far : LinesAlike (count one.lines one.next) (count two.lines two.next) = record { machines = once.alike.machines; same = ap (λ n. count n two.next) as_far ∙ ap (count one.lines) once.alike.same } in
     record {
-      alike = subst R (sym two.after_is) (subst Q (sym one.after_is) counted);
+      alike = subst R (sym two.after_is) (subst Q (sym one.after_is) far);
       same =
           two.told_is
           ∙ ap (λ told. told ++ standings_told t two.next) once.same
@@ -435,23 +444,60 @@ line-once law number line s after t after' told other alike one two =
           ∙ sym one.told_is;
     }
 
+-- a part is the same line, whatever bytes wait on a side that has no connection
+pub record IsSteady (part : Part) : Type 0 where
+  pub same : (s t : LineState) → LinesAlike s t → part.line t ≡ part.line s
+
+cut-steady : (gap : ℕ) (s t : LineState) → LinesAlike s t → cut_where gap t ≡ cut_where gap s
+cut-steady gap s t alike = ap (λ (may : May). where_may may (lines.Cut gap)) (ap (may_cut gap) alike.same ∙ cut-alike gap s t.machines alike.machines)
+
+notice-steady : (machine : ℕ) (side : Side) (s t : LineState) → LinesAlike s t → where_may (may_notice machine side t) (lines.Notice machine side) ≡ where_may (may_notice machine side s) (lines.Notice machine side)
+notice-steady machine side s t alike = ap (λ (may : May). where_may may (lines.Notice machine side)) (ap (may_notice machine side) alike.same ∙ notice-alike machine side s t.machines alike.machines)
+
+parts-steady : (line : ScriptLine) → AllByRecursion IsSteady (parts_of line)
+parts-steady (lines.Stop machine) =
+    let told : IsSteady (record { line = λ s. lines.Stop machine; ends = false }) = record { same = λ s t alike. refl } in
+    let above : IsSteady (record { line = cut_where (machine - 1); ends = false }) = record { same = cut-steady (machine - 1) } in
+    let below : IsSteady (record { line = cut_where machine; ends = false }) = record { same = cut-steady machine } in
+    let entry : IsSteady (record { line = entry_where machine; ends = false }) = record { same = notice-steady machine Entry } in
+    let exit : IsSteady (record { line = exit_where machine; ends = true }) = record { same = notice-steady machine Exit } in
+    (told, (above, (below, (entry, (exit, tt)))))
+parts-steady _ = (record { same = λ s t alike. refl }, tt)
+
+steady-both : (parts others : List Part) → AllByRecursion IsSteady parts → AllByRecursion IsSteady others → AllByRecursion IsSteady (parts ++ others)
+steady-both [] others one two = two
+steady-both (part ∷ parts) others one two = (one.0, steady-both parts others one.1 two)
+
+script-steady : (asked : List ScriptLine) → AllByRecursion IsSteady (script_parts asked)
+script-steady [] = tt
+script-steady (line ∷ asked) = steady-both (parts_of line) (script_parts asked) (parts-steady line) (script-steady asked)
+
 -- A RUN is told of in one text
 pub record RunsOnce (s t : LineState) (points others : List Point) : Type 0 where
   pub alike : LinesAlike (state_behind s points) (state_behind t others)
   pub text : (number : ℕ) → told_text number others ≡ told_text number points
 
-pub run-once : OneMeaning → (s t : LineState) (asked : List ScriptLine) (points others : List Point) → LinesAlike s t → IsRun s asked points → IsRun t asked others → RunsOnce s t points others
-run-once law s t [] [] [] alike one two = record { alike = alike; text = λ number. refl }
-run-once law s t [] (point ∷ points) others alike one two = absurd one
-run-once law s t [] [] (other ∷ others) alike one two = absurd two
-run-once law s t (line ∷ asked) [] others alike one two = absurd one
-run-once law s t (line ∷ asked) (point ∷ points) [] alike one two = absurd two
-run-once law s t (line ∷ asked) (point ∷ points) (other ∷ others) alike one two =
+play-once : OneMeaning → (s t : LineState) (parts : List Part) (points others : List Point) → AllByRecursion IsSteady parts → LinesAlike s t → IsPlay s parts points → IsPlay t parts others → RunsOnce s t points others
+play-once law s t [] [] [] steady alike one two = record { alike = alike; text = λ number. refl }
+play-once law s t [] (point ∷ points) others steady alike one two = absurd one
+play-once law s t [] [] (other ∷ others) steady alike one two = absurd two
+play-once law s t (part ∷ parts) [] others steady alike one two = absurd one
+play-once law s t (part ∷ parts) (point ∷ points) [] steady alike one two = absurd two
+play-once law s t (part ∷ parts) (point ∷ points) (other ∷ others) steady alike one two =
     let counted : t.lines ≡ s.lines = ap (λ (b : LineState). b.lines) alike.same in
-    let P : ℕ → Type 0 = λ n. LineSteps (n + 1) line t other.after other.told in
-    let first = line-once law (s.lines + 1) line s point.after t other.after point.told other.told alike one.0 (subst P counted two.0) in
-    let later = run-once law point.after other.after asked points others first.alike one.1 two.1 in
+    let as_far : other.after.lines ≡ point.after.lines = two.0.counted ∙ ap (count_behind part.ends) counted ∙ sym one.0.counted in
+    let P : ℕ → Type 0 = λ n. LineSteps (n + 1) (part.line t) t other.after other.told in
+    let Q : ScriptLine → Type 0 = λ line. LineSteps (s.lines + 1) line t other.after other.told in
+    let same : LineSteps (s.lines + 1) (part.line s) t other.after other.told = subst Q (steady.0.same s t alike) (subst P counted two.0.steps) in
+    let first = line-once law (s.lines + 1) (part.line s) s point.after t other.after point.told other.told alike as_far one.0.steps same in
+    let later = play-once law point.after other.after parts points others steady.1 first.alike one.1 two.1 in
     record {
       alike = later.alike;
-      text = λ number. ap (λ told. flat_map (λ happening. entry number happening) told ++ told_text (number + 1) others) first.same ∙ ap (λ text. flat_map (λ happening. entry number happening) point.told ++ text) (later.text (number + 1));
+      text = λ number. ap (λ told. flat_map (λ happening. entry number happening) told ++ told_text (other.after.lines + 1) others) first.same
+          ∙ ap (λ n. flat_map (λ happening. entry number happening) point.told ++ told_text (n + 1) others) as_far
+          ∙ ap (λ text. flat_map (λ happening. entry number happening) point.told ++ text) (later.text (point.after.lines + 1));
     }
+
+-- and so is that of a script
+pub script-once : OneMeaning → (s t : LineState) (asked : List ScriptLine) (points others : List Point) → LinesAlike s t → IsScriptRun s asked points → IsScriptRun t asked others → RunsOnce s t points others
+script-once law s t asked points others alike one two = play-once law s t (script_parts asked) points others (script-steady asked) alike one two

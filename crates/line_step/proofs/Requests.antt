@@ -12,7 +12,7 @@ use Rattle.line_report.specs.declared.happening.Happening.{Happening}
 use Rattle.line_report.specs.declared.happening.Happening.TheVariants as happenings
 use Rattle.line_step.specs.State.{LineState, one_more}
 use Rattle.line_step.specs.Steps.{MachineSteps}
-use Rattle.line_step.specs.Reasons.{May, may_add, may_answer, may_connect, may_cut, may_flow, may_give, may_lie, may_notice, may_remove, may_replace, may_sense, may_spoil, may_unseen}
+use Rattle.line_step.specs.Reasons.{May, may_add, may_answer, may_connect, may_cut, may_flow, may_give, may_lie, may_notice, may_remove, may_replace, may_sense, may_spoil, may_stop, may_unseen}
 use Rattle.line_step.specs.Shown.{shown}
 use Rattle.line_step.specs.Lines.{Becomes, Connects, Flows, LineDoes, Moves, Unless, cut_in, lied, spoil_told, spoiled, unseen as unseen_by, unvouched_told}
 
@@ -24,6 +24,7 @@ pub data Request : Type 0 where
   connects : (machine : ℕ) → Request
   flows : (machine : ℕ) (side : Side) (count : Option ℕ) → Request
   cuts : (gap : ℕ) → Request
+  stops : (machine : ℕ) → Request
   spoils : (machine : ℕ) (side : Side) → Request
   moves_on : (gap : ℕ) (step : Move) → Request
   lies : (machine : ℕ) (sensed : Sensed) → Request
@@ -49,6 +50,7 @@ request_of (lines.Notice machine side) = gives machine (inputs.Notice side)
 request_of (lines.Cut gap) = cuts gap
 request_of (lines.Spoil machine side) = spoils machine side
 request_of (lines.Shutdown machine) = gives machine inputs.Shutdown
+request_of (lines.Stop machine) = stops machine
 request_of (lines.Tick machine) = gives machine inputs.Tick
 request_of (lines.Fault machine side) = gives machine (inputs.Fault side)
 request_of (lines.Sense machine) = gives machine inputs.Nothing
@@ -94,6 +96,8 @@ RequestDoes number (flows machine side count) before after told =
     Unless (may_flow machine side before) before after told (Flows number machine side count before after told)
 RequestDoes number (cuts gap) before after told =
     Unless (may_cut gap before) before after told (Becomes (cut_in gap before) (happenings.Cut gap ∷ []) after told)
+RequestDoes number (stops machine) before after told =
+    Unless (may_stop machine before) before after told (Becomes before (happenings.Stop machine ∷ []) after told)
 RequestDoes number (spoils machine side) before after told =
     Unless (may_spoil machine side before) before after told (Becomes (spoiled machine side before) (spoil_told machine side before) after told)
 RequestDoes number (moves_on gap step) before after told = Moves gap step before after told

@@ -1,5 +1,5 @@
 -- A line remembers that one of the lines of its script told what was not so.
-use Rattle.std.proofs.Common.{◌≡◌, ◌+◌, ◌||◌, ◌++◌, ℕ, false, List, ◌∷◌, Option, Some, None, Ok, refl, ap, ◌∙◌, []}
+use Rattle.std.proofs.Common.{◌≡◌, ◌+◌, ◌||◌, ◌++◌, ℕ, false, List, ◌∷◌, Option, Some, None, Ok, refl, sym, ap, ◌∙◌, []}
 use Rattle.std.specs.Prelude.{is_some}
 use Rattle.std.proofs.lemmas.Bool.{or_parts}
 use Rattle.supervisory_core.proofs.Rows.{or_false}
@@ -19,6 +19,7 @@ use Rattle.line_step.specs.Lies.{has_lie, is_lie, tells_lie}
 use Rattle.line_step.proofs.Remarks.{AreRemarks, IsRemark, Passes, acts_pass, all_pass, standings_remarks}
 use Rattle.line_step.proofs.Requests.{Request, added_told, request_of}
 use Rattle.line_step.proofs.Effects.{Effect, added_remarks, becomes_by, line_effect, spoil_remarks}
+use Rattle.line_step.proofs.Requests as requests
 use Rattle.line_step.proofs.Effects as effects
 
 -- ---- what is told without a lie
@@ -81,6 +82,28 @@ remembers number request before after told (effects.moves gap step floor is b) =
 remembers number request before after told (effects.lies which sensed may b) = becomes_by (Remembers before) b (lie number which sensed before before.unvouched refl)
 remembers number request before after told (effects.unsees which side may b) = becomes_by (Remembers before) b (unseen-told number which side before before.unvouched refl)
 
+-- what is no lie and moves no board unseen tells none
+abbrev pub IsNoLie : Request → Type 0
+IsNoLie (requests.lies machine sensed) = ⊥
+IsNoLie (requests.unsees machine side) = ⊥
+IsNoLie _ = Unit {0}
+
+abbrev IsHonest : LineState → List Happening → Type 0
+IsHonest after told = tells_lie told ≡ false
+
+effect-honest : (number : ℕ) (request : Request) (before after : LineState) (told : List Happening) → IsNoLie request → Effect number before after told request → tells_lie told ≡ false
+effect-honest number request before after told calm (effects.rests _ what remarks b) = becomes_by IsHonest b (all_pass what remarks-honest remarks)
+effect-honest number request before after told calm (effects.adds is_bridge capacity used may b) = becomes_by IsHonest b (all_pass (added_told is_bridge capacity before) remarks-honest (added_remarks is_bridge capacity before))
+effect-honest number request before after told calm (effects.steps which input given may did) = (machine number which input before after told did).1
+effect-honest number request before after told calm (effects.connects which may did) =
+    ap tells_lie did.told_is ∙ lie-join did.earlier did.later (machine number which _ _ did.between did.earlier did.first).1 (machine number _ _ did.between after did.later did.second).1
+effect-honest number request before after told calm (effects.flows which side count may did) = (machine number which _ _ after told did.steps).1
+effect-honest number request before after told calm (effects.cuts gap may b) = becomes_by IsHonest b refl
+effect-honest number request before after told calm (effects.spoils which side may b) = becomes_by IsHonest b (all_pass (spoil_told which side before) remarks-honest (spoil_remarks which side before))
+effect-honest number request before after told calm (effects.moves gap step floor is b) = becomes_by IsHonest b refl
+effect-honest number request before after told calm (effects.lies which sensed may b) = absurd calm
+effect-honest number request before after told calm (effects.unsees which side may b) = absurd calm
+
 lie-behind : (a b : List Happening) → tells_lie b ≡ false → tells_lie (a ++ b) ≡ tells_lie a
 lie-behind [] b none = none
 lie-behind (x ∷ xs) b none = ap (λ t. is_lie x || t) (lie-behind xs b none)
@@ -90,6 +113,19 @@ steps-remember number line before after told steps =
     let done = remembers number (request_of line) before steps.next steps.done (line_effect number line before steps.next steps.done steps.does) in
     let same = lie-behind steps.done (standings_told before steps.next) (all_pass (standings_told before steps.next) remarks-honest (standings_remarks before steps.next)) in
     rw (steps.after_is, steps.told_is, same) done
+
+pub steps-honest : (number : ℕ) (line : ScriptLine) (before after : LineState) (told : List Happening) → IsNoLie (request_of line) → LineSteps number line before after told → tells_lie told ≡ false
+steps-honest number line before after told calm steps =
+    let done = effect-honest number (request_of line) before steps.next steps.done calm (line_effect number line before steps.next steps.done steps.does) in
+    ap tells_lie steps.told_is ∙ lie-join steps.done (standings_told before steps.next) done (all_pass (standings_told before steps.next) remarks-honest (standings_remarks before steps.next))
+
+-- nothing is remembered behind a line that was not before it
+pub unvouched-before : (number : ℕ) (line : ScriptLine) (before after : LineState) (told : List Happening) → LineSteps number line before after told → after.unvouched ≡ None → before.unvouched ≡ None
+unvouched-before number line before after told steps none =
+    none_of before.unvouched (or_parts (is_some before.unvouched) (tells_lie told) (sym (steps-remember number line before after told steps) ∙ ap is_some none)).0 where
+      none_of : (o : Option ℕ) → is_some o ≡ false → o ≡ None
+      none_of None is = refl
+      none_of (Some line) is = cc
 
 -- ---- over a run
 

@@ -11,6 +11,7 @@ pub mod Shown
 pub mod Lines
 pub mod Views
 pub mod Runs
+pub mod Parts
 pub mod Named
 pub mod FloorIds
 pub mod Lies

@@ -1,5 +1,5 @@
 -- THE LINE STEP: what a line of the script does, where no reason stands against it.
-use Rattle.std.specs.Prelude.{◌≡◌, ℕ, ◌+◌, ◌-◌, true, false, List, [], ◌∷◌, ◌++◌, Option, Some, None, Result, Ok, Err, drop, length}
+use Rattle.std.specs.Prelude.{◌≡◌, ℕ, ◌+◌, ◌-◌, true, false, List, [], ◌∷◌, ◌++◌, ◌≤◌, Option, Some, None, Result, Ok, Err, drop, length}
 use Rattle.std.specs.Borrow.{Bor}
 use Rattle.board_record.specs.declared.sensed.Sensed.{Sensed}
 use Rattle.line_base.specs.declared.states.Side.{Side}
@@ -20,7 +20,7 @@ use Rattle.line_step.specs.World.{end_of, link_at, link_of, piece_for, with_floo
 use Rattle.line_step.specs.State.{LineState, one_more, with_world}
 use Rattle.line_step.specs.Acts.{cut_told}
 use Rattle.line_step.specs.Steps.{MachineSteps, StepsTwice}
-use Rattle.line_step.specs.Reasons.{May, may_add, may_answer, may_connect, may_cut, may_flow, may_give, may_lie, may_notice, may_remove, may_replace, may_sense, may_spoil, may_unseen}
+use Rattle.line_step.specs.Reasons.{May, may_add, may_answer, may_connect, may_cut, may_flow, may_give, may_lie, may_notice, may_remove, may_replace, may_sense, may_spoil, may_stop, may_unseen}
 use Rattle.line_step.specs.Shown.{shown, standings_told}
 use Rattle.line_report.specs.declared.happening.Happening.{Happening}
 use Rattle.line_report.specs.declared.happening.Happening.TheVariants as happenings
@@ -137,7 +137,8 @@ unseen number machine side s = record s {
   unvouched = first_of number s.unvouched;
 }
 
--- ---- the forms
+-- ---- the forms: of a stop this is what it tells itself, and what it does behind that are lines of
+-- their own (specs/Parts)
 
 abbrev pub LineDoes : ℕ → ScriptLine → LineState → LineState → List Happening → Type 0
 LineDoes number lines.Blank before after told = Becomes before [] after told
@@ -185,6 +186,9 @@ LineDoes number (lines.Notice machine side) before after told =
 LineDoes number (lines.Cut gap) before after told =
     Unless (may_cut gap before) before after told
     (Becomes (cut_in gap before) (happenings.Cut gap ∷ []) after told)
+LineDoes number (lines.Stop machine) before after told =
+    Unless (may_stop machine before) before after told
+    (Becomes before (happenings.Stop machine ∷ []) after told)
 LineDoes number (lines.Spoil machine side) before after told =
     Unless (may_spoil machine side before) before after told
     (Becomes (spoiled machine side before) (spoil_told machine side before) after told)
@@ -233,12 +237,19 @@ LineDoes number (lines.Answer machine query order) before after told =
 
 -- ---- and the standings that changed
 
--- one line of the script: the state after it, counted, and what it did with the standings that it
--- changed
+-- the count of lines goes on by this one, or stays where more is done under its number
+pub record Counts (old new : ℕ) : Type 0 where
+  pub least : old ≤ new
+  pub most : new ≤ old + 1
+
+-- what is done of a line of the script: the state after it, counted, and what it did with the
+-- standings that it changed
 pub record LineSteps (number : ℕ) (line : ScriptLine) (before after : LineState)
     (told : List Happening) : Type 0 where
   pub next : LineState
   pub done : List Happening
   pub does : LineDoes number line before next done
-  pub after_is : after ≡ record next { lines = next.lines + 1 }
+  pub lines : ℕ
+  pub counts : Counts next.lines lines
+  pub after_is : after ≡ record next { lines = lines }
   pub told_is : told ≡ done ++ standings_told before next

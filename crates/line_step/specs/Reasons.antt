@@ -160,6 +160,10 @@ may_cut gap s =
     no_if (not (has_link gap s)) (reasons.Move moves.NoGap)
     (no_if (is_loose (link_at gap s.world)) (reasons.Node nos.NotConnected) may_do)
 
+-- a machine loses its power: no such machine
+abbrev pub may_stop : ℕ → LineState → May
+may_stop machine s = if_there (machine_in machine s) (λ node. may_do)
+
 -- what flows to a side is spoiled: no neighbour, not connected, not standing
 abbrev pub may_spoil : ℕ → Side → LineState → May
 may_spoil machine side s =

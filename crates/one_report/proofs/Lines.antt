@@ -1,6 +1,6 @@
 -- EACH LINE HAS A STEP: a reason stands against it or none does, and what it asks for is done. So each script has a run.
 use Rattle.std.specs.Borrow.{Bor}
-use Rattle.std.proofs.Common.{◌≡◌, ◌-◌, ◌+◌, ◌++◌, ℕ, List, [], ◌∷◌, Option, Some, None, Ok, Err, length, not, refl, arith}
+use Rattle.std.proofs.Common.{◌≡◌, ◌-◌, ◌+◌, ◌++◌, ℕ, Bool, true, false, List, ap, [], ◌∷◌, Option, Some, None, Ok, Err, length, not, refl, arith}
 use Rattle.line_base.specs.declared.states.Side.{Side}
 use Rattle.line_link.specs.Link.{connected_of}
 use Rattle.line_report.specs.declared.happening.Happening.{Happening}
@@ -13,18 +13,21 @@ use Rattle.node_core.specs.declared.input.Input.{Input}
 use Rattle.node_core.specs.declared.input.Input.TheVariants as inputs
 use Rattle.line_report.specs.declared.happening.Happening.TheVariants as happenings
 use Rattle.line_report.specs.declared.happening.Reason.TheVariants as reasons
-use Rattle.line_step.specs.Lines.{Becomes, Connects, Flows, LineDoes, Unless, arrived, connecting, cut_in, lied, met, move_told, moved, spoil_told, spoiled, unseen, unvouched_told}
-use Rattle.line_step.specs.Reasons.{May, behind_own, has_neighbour, has_unread, if_there, is_dry_at, is_here, link_stands, may_add, may_connect, may_cut, may_do, may_flow, may_lie, may_spoil, may_unseen, no_if, with_word}
+use Rattle.line_step.specs.Lines.{Becomes, Connects, Counts, Flows, LineDoes, LineSteps, Unless, arrived, connecting, cut_in, lied, met, move_told, moved, spoil_told, spoiled, unseen, unvouched_told}
+use Rattle.line_step.specs.Reasons.{May, behind_own, has_neighbour, has_unread, if_there, is_dry_at, is_here, link_stands, may_add, may_connect, may_cut, may_do, may_flow, may_lie, may_spoil, may_stop, may_unseen, no_if, with_word}
+use Rattle.line_step.specs.Parts.{IsPlay, Part, count_behind, parts_of, script_parts}
+use Rattle.line_step.specs.Runs.{Point, all_told, state_behind}
 use Rattle.line_step.specs.Shown.{shown, standings_told}
 use Rattle.line_step.specs.State.{LineState, machine_in, one_more}
 use Rattle.line_step.specs.Steps.{MachineSteps}
 use Rattle.line_step.specs.World.{link_at, piece_for}
 use Rattle.line_step.proofs.Connecting.{CanConnect, can_connect}
 use Rattle.line_step.proofs.Counting.{step_counts}
+use Rattle.line_step.proofs.Keeps.{lines_stay}
 use Rattle.line_step.proofs.Numbers.{machine_at_number, machine_within}
 use Rattle.line_step.proofs.Requests.{Request, RequestDoes, added_told, may_get, request_of}
 use Rattle.line_step.proofs.Requests as requests
-use Rattle.one_report.specs.Steps.{HasRun, HasStep}
+use Rattle.one_report.specs.Steps.{HasRun, HasScriptStep, HasStep}
 use Rattle.one_report.proofs.Machines.{has_machine_steps}
 
 -- something is done, and told
@@ -113,6 +116,7 @@ request_done number (requests.gives machine input) before = unless before (may_g
 request_done number (requests.connects machine) before = unless before (may_connect machine before) _ (λ can. connects_done number machine before can)
 request_done number (requests.flows machine side count) before = unless before (may_flow machine side before) _ (λ can. flows_done number machine side count before can)
 request_done number (requests.cuts gap) before = unless before (may_cut gap before) _ (λ can. becomes (cut_in gap before) (happenings.Cut gap ∷ []))
+request_done number (requests.stops machine) before = unless before (may_stop machine before) _ (λ can. becomes before (happenings.Stop machine ∷ []))
 request_done number (requests.spoils machine side) before = unless before (may_spoil machine side before) _ (λ can. becomes (spoiled machine side before) (spoil_told machine side before))
 request_done number (requests.moves_on gap step) before =
     becomes (moved (floor_move gap step before.world.floor) before) (move_told gap step (floor_move gap step before.world.floor))
@@ -126,18 +130,54 @@ requests_line : (number : ℕ) (line : ScriptLine) (before after : LineState) (t
 requests_line number lines.Blank before after told does = does
 requests_line number _ before after told does = does
 
-pub each_line : (number : ℕ) (line : ScriptLine) (before : LineState) → HasStep number line before
-each_line number line before =
+-- the count that a line leaves, or that it goes on to
+counts_behind : (ends : Bool) (lines : ℕ) → Counts lines (count_behind ends lines)
+counts_behind true lines = record { least = omega arith; most = omega arith }
+counts_behind false lines = record { least = omega arith; most = omega arith }
+
+-- EACH LINE of a run has a step, whether the count goes on with it
+record HasStepTo (number lines : ℕ) (line : ScriptLine) (before : LineState) : Type 0 where
+  after : LineState
+  told : List Happening
+  steps : LineSteps number line before after told
+  counted : after.lines ≡ lines
+
+line_to : (ends : Bool) (number : ℕ) (line : ScriptLine) (before : LineState) → HasStepTo number (count_behind ends before.lines) line before
+line_to ends number line before =
     let done = request_done number (request_of line) before in
+    let does = requests_line number line before done.after done.told done.does in
+    let lines = count_behind ends done.after.lines in
     record {
-      after = record done.after { lines = done.after.lines + 1 };
+      after = record done.after { lines = lines };
       told = done.told ++ standings_told before done.after;
-      steps = record { next = done.after; done = done.told; does = requests_line number line before done.after done.told done.does; after_is = refl; told_is = refl };
+      steps = record { next = done.after; done = done.told; does = does; lines = lines; counts = counts_behind ends done.after.lines; after_is = refl; told_is = refl };
+      counted = ap (count_behind ends) (lines_stay number line before done.after done.told does);
     }
 
+pub each_line : (number : ℕ) (line : ScriptLine) (before : LineState) → HasStep number line before
+each_line number line before =
+    let one = line_to true number line before in
+    record { after = one.after; told = one.told; steps = one.steps }
+
+-- ---- each line of a script
+
+record HasPlay (before : LineState) (parts : List Part) : Type 0 where
+  points : List Point
+  play : IsPlay before parts points
+
+each_play : (before : LineState) (parts : List Part) → HasPlay before parts
+each_play before [] = record { points = []; play = tt }
+each_play before (part ∷ parts) =
+    let first = line_to part.ends (before.lines + 1) (part.line before) before in
+    let others = each_play first.after parts in
+    record { points = record { told = first.told; after = first.after } ∷ others.points; play = (record { steps = first.steps; counted = first.counted }, others.play) }
+
+pub each_script_line : (line : ScriptLine) (before : LineState) → HasScriptStep line before
+each_script_line line before =
+    let some = each_play before (parts_of line) in
+    record { after = state_behind before some.points; told = all_told some.points; steps = record { points = some.points; plays = some.play; behind = refl; told_is = refl } }
+
 pub each_run : (before : LineState) (asked : List ScriptLine) → HasRun before asked
-each_run before [] = record { points = []; run = tt }
-each_run before (line ∷ asked) =
-    let first = each_line (before.lines + 1) line before in
-    let others = each_run first.after asked in
-    record { points = record { told = first.told; after = first.after } ∷ others.points; run = (first.steps, others.run) }
+each_run before asked =
+    let some = each_play before (script_parts asked) in
+    record { points = some.points; run = some.play }

@@ -9,13 +9,12 @@ pub fn each_frame_is_spelled_or_refused()
     ensures { EachIsSpelledOrRefused }
 {}
 
-/// Each line of a script has a step from each state of a line, with each number: the state after
-/// it, and what is told.
+/// Each line of a script has a step from each state of a line: the state after it, and what is told.
 pub fn each_line_has_a_step()
     ensures { EachLineHasAStep }
 {}
 
-/// Each script has a run from each state of a line: a point for each of its lines.
+/// Each script has a run from each state of a line: a point for each part of each of its lines.
 pub fn each_script_has_a_run()
     ensures { EachScriptHasARun }
 {}

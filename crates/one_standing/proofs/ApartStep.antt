@@ -18,6 +18,7 @@ use Rattle.line_step.specs.FloorIds.{AllChange, ChangesBoards, boards_of, made_b
 use Rattle.line_step.specs.Lines.{LineDoes, LineSteps}
 use Rattle.line_step.specs.Shown.{standings_told}
 use Rattle.line_step.specs.State.{LineState}
+use Rattle.line_step.proofs.Counted.{rises}
 use Rattle.line_step.proofs.FloorLaws.{Goes, Holds, steps-goes}
 use Rattle.line_step.proofs.Makers.{IsOld}
 use Rattle.line_step.proofs.Numbers.{none_or_one}
@@ -33,7 +34,7 @@ pub does_goes : (number : ℕ) (line : ScriptLine) (s next : LineState) (done : 
 does_goes number line s next done h does =
     let after : LineState = record next { lines = next.lines + 1 } in
     let told = done ++ standings_told s next in
-    let steps : LineSteps number line s after told = record { next = next; done = done; does = does; after_is = refl; told_is = refl } in
+    let steps : LineSteps number line s after told = record { next = next; done = done; does = does; lines = next.lines + 1; counts = rises next.lines; after_is = refl; told_is = refl } in
     let goes = steps-goes number line s after told h steps in
     record {
       holds = record { own = goes.holds.own; many = goes.holds.many; whole = goes.holds.whole; old = goes.holds.old; differ = record { once = goes.holds.differ.once } };

@@ -4,7 +4,6 @@ use Rattle.std.proofs.Common.{List, Ok, Option, Result, Some, [], ap, arith, fal
 use Rattle.std.specs.Prelude.{slice_index_or}
 use Rattle.std.proofs.lemmas.Bool.{false≢true}
 use Rattle.std.specs.List.{AllByRecursion}
-use Rattle.line_step.proofs.Counted.{steps-lines}
 use Rattle.line_base.specs.declared.states.Role.TheVariants.{Downstream, Upstream}
 use Rattle.line_base.specs.declared.states.Side.{Side}
 use Rattle.line_base.specs.declared.states.Side.TheVariants.{Entry, Exit}
@@ -30,7 +29,7 @@ use Rattle.link_messages.specs.Fit.{IsFitInput}
 use Rattle.line_step.specs.Lines.{Connects, Flows, LineSteps, cut_in, lied, met, moved, spoiled, unseen}
 use Rattle.line_step.specs.Numbered.{Stand, no_node, node_at}
 use Rattle.line_step.specs.Reasons.{may_do, may_flow}
-use Rattle.line_step.specs.Runs.{IsRun, Point}
+use Rattle.line_step.specs.Runs.{IsRun, Point, IsShort}
 use Rattle.line_step.specs.Shown.{standings_told}
 use Rattle.line_step.specs.State.{LineState, machine_in, no_line, one_more, profile_of}
 use Rattle.line_step.specs.Steps.{MachineSteps, is_second, read_by}
@@ -301,19 +300,19 @@ line_clear past number line before after told alone few fit was all steps =
       all = are_clear_map before.world (taint_more past told) all;
     } in
     let clear : AreClearIn (TaintBy (past ++ told)) next = effect_clear number (request_of line) was.trace before next steps.done (fit_request line fit) taints given (line_effect number line before next steps.done steps.does) in
-    subst (λ (s : LineState). AreClearIn (TaintBy (past ++ told)) s) (sym steps.after_is) (same_clear next (record next { lines = next.lines + 1 }) refl (λ k. refl) clear)
+    subst (λ (s : LineState). AreClearIn (TaintBy (past ++ told)) s) (sym steps.after_is) (same_clear next (record next { lines = steps.lines }) refl (λ k. refl) clear)
 
 -- ---- along a run
 
-blame_run : SaysAlone → (past : List Happening) (s : LineState) (asked : List ScriptLine) (points : List Point) (n : ℕ) → AllByRecursion IsFitLine asked → s.lines + length asked ≤ 1000000 → Stood s → IsRun s asked points → AreStood (take n points) → AreClearIn (TaintBy past) s
+blame_run : SaysAlone → (past : List Happening) (s : LineState) (asked : List ScriptLine) (points : List Point) (n : ℕ) → AllByRecursion IsFitLine asked → IsShort s points → Stood s → IsRun s asked points → AreStood (take n points) → AreClearIn (TaintBy past) s
     → AreBlamesTrue past (take n points)
 blame_run alone past s asked points zero fit few was run all clear = tt
 blame_run alone past s [] [] (suc n) fit few was run all clear = tt
 blame_run alone past s [] (point ∷ points) (suc n) fit few was run all clear = elim run [ ]
 blame_run alone past s (line ∷ asked) [] (suc n) fit few was run all clear = elim run [ ]
 blame_run alone past s (line ∷ asked) (point ∷ points) (suc n) fit few was run all clear =
-    let here : s.lines + 1 ≤ 1000000 = omega (arith, few) in
-    let left : point.after.lines + length asked ≤ 1000000 = omega (arith, few, steps-lines (s.lines + 1) line s point.after point.told run.0) in (
+    let here : s.lines + 1 ≤ 1000000 = few.0 in
+    let left : IsShort point.after points = few.1 in (
       line_blame past (s.lines + 1) line was.trace s point.after point.told alone was.stands clear run.0,
       blame_run alone (past ++ point.told) point.after asked points n fit.1 left all.0 run.1 all.1 (line_clear past (s.lines + 1) line s point.after point.told alone here fit.0 was clear run.0),
     )
@@ -329,4 +328,4 @@ none_clear = record { at = λ link. none_at (TaintBy []) link }
 -- THE LAW
 pub no_false_blame : SaysAlone → ConnectsBear → NoFalseBlame
 no_false_blame alone connects asked points n fit few run honest =
-    blame_run alone [] no_line asked points n fit (omega (arith, few)) none_stood run (run_stood alone connects no_line asked points n fit (omega (arith, few)) none_stood run honest) none_clear
+    blame_run alone [] no_line asked points n fit few none_stood run (run_stood alone connects no_line asked points n fit few none_stood run honest) none_clear

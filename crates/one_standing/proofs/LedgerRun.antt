@@ -50,8 +50,8 @@ ledger_run s (line ∷ asked) (point ∷ points) (suc n) ledger was run all fits
 -- ---- THE LAWS
 
 pub custody_facts : SaysAlone → ConnectsBear → CustodyFacts
-custody_facts alone connects asked points n fit few run honest = facts_run alone (take n points) (run_stood alone connects no_line asked points n fit (omega (arith, few)) none_stood run honest)
+custody_facts alone connects asked points n fit few run honest = facts_run alone (take n points) (run_stood alone connects no_line asked points n fit few none_stood run honest)
 
 -- from the empty ledger on
 pub ledger_follows : SaysAlone → ConnectsBear → LedgerFollows
-ledger_follows alone connects asked points n fit few run honest = ledger_run no_line asked points n empty_ledger none_stood run (run_stood alone connects no_line asked points n fit (omega (arith, few)) none_stood run honest) none_fits
+ledger_follows alone connects asked points n fit few run honest = ledger_run no_line asked points n empty_ledger none_stood run (run_stood alone connects no_line asked points n fit few none_stood run honest) none_fits

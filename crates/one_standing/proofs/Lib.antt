@@ -67,4 +67,5 @@ pub mod FirstJoin
 pub mod SecondJoin
 pub mod Connected
 pub mod Reaching
+pub mod Playing
 pub mod Reached

@@ -2,12 +2,11 @@
 use Rattle.std.proofs.Common.{List, [], ap, arith, false, length, refl, suc, subst, sym, take, zero, ℕ, ◌++◌, ◌+◌, ◌∙◌, ◌∷◌, ◌≡◌, ◌≤◌}
 use Rattle.std.proofs.lemmas.Bool.{or_parts, or_from}
 use Rattle.std.specs.List.{AllByRecursion}
-use Rattle.line_step.proofs.Counted.{steps-lines}
 use Rattle.line_script.specs.declared.line.ScriptLine.{ScriptLine}
 use Rattle.line_report.specs.declared.happening.Happening.{Happening}
 use Rattle.line_step.specs.Lies.{has_lie, is_lie, tells_lie}
 use Rattle.line_step.specs.Lines.{LineDoes, LineSteps}
-use Rattle.line_step.specs.Runs.{IsRun, Point}
+use Rattle.line_step.specs.Runs.{IsRun, Point, IsShort}
 use Rattle.line_step.specs.Shown.{standings_told}
 use Rattle.line_step.specs.State.{LineState, no_line}
 use Rattle.line_step.specs.Together.{IsLineTogether}
@@ -58,10 +57,10 @@ line_stood alone connects number line before after told is few fit honest was st
     let front : tells_lie steps.done ≡ false = honest_front steps.done (standings_told before next) (ap tells_lie (sym steps.told_is) ∙ honest) in
     let stood : Stood next = does_stood alone connects number line before next steps.done few fit front was steps.does in
     let same : next.lines ≡ before.lines = lines_stay number line before next steps.done steps.does in
-    let counted : next.lines + 1 ≤ 1000000 = omega (arith, same, is, few) in
+    let counted : steps.lines ≤ 1000000 = omega (arith, same, is, few, steps.counts.most) in
     subst (λ (s : LineState). Stood s) (sym steps.after_is) (record {
       trace = stood.trace;
-      stands = counted_stands stood.trace next (next.lines + 1) counted stood.stands;
+      stands = counted_stands stood.trace next steps.lines counted stood.stands;
       waits = λ machine. stood.waits machine;
     })
 
@@ -70,7 +69,7 @@ line_stood alone connects number line before after told is few fit honest was st
 abbrev pub AreStood : List Point → Type 0
 AreStood points = AllByRecursion (λ (point : Point). Stood point.after) points
 
-pub run_stood : SaysAlone → ConnectsBear → (s : LineState) (asked : List ScriptLine) (points : List Point) (n : ℕ) → AllByRecursion IsFitLine asked → s.lines + length asked ≤ 1000000 → Stood s → IsRun s asked points → has_lie (take n points) ≡ false → AreStood (take n points)
+pub run_stood : SaysAlone → ConnectsBear → (s : LineState) (asked : List ScriptLine) (points : List Point) (n : ℕ) → AllByRecursion IsFitLine asked → IsShort s points → Stood s → IsRun s asked points → has_lie (take n points) ≡ false → AreStood (take n points)
 run_stood alone connects s asked points zero fit few was run honest = tt
 run_stood alone connects s [] [] (suc n) fit few was run honest = tt
 run_stood alone connects s [] (point ∷ points) (suc n) fit few was run honest = elim run [ ]
@@ -78,9 +77,9 @@ run_stood alone connects s (line ∷ asked) [] (suc n) fit few was run honest = 
 run_stood alone connects s (line ∷ asked) (point ∷ points) (suc n) fit few was run honest =
     let one : tells_lie point.told ≡ false = (or_parts (tells_lie point.told) (has_lie (take n points)) honest).0 in
     let others : has_lie (take n points) ≡ false = (or_parts (tells_lie point.told) (has_lie (take n points)) honest).1 in
-    let here : s.lines + 1 ≤ 1000000 = omega (arith, few) in
+    let here : s.lines + 1 ≤ 1000000 = few.0 in
     let stood : Stood point.after = line_stood alone connects (s.lines + 1) line s point.after point.told refl here fit.0 one was run.0 in
-    let left : point.after.lines + length asked ≤ 1000000 = omega (arith, few, steps-lines (s.lines + 1) line s point.after point.told run.0) in
+    let left : IsShort point.after points = few.1 in
     (stood, run_stood alone connects point.after asked points n fit.1 left stood run.1 others)
 
 pub none_stood : Stood no_line
@@ -92,4 +91,4 @@ standing_each (point ∷ points) all = (one_standing_of all.0.trace point.after 
 
 -- THE HEADLINE
 pub one_standing : SaysAlone → ConnectsBear → OneStanding
-one_standing alone connects asked points n fit few run honest = standing_each (take n points) (run_stood alone connects no_line asked points n fit (omega (arith, few)) none_stood run honest)
+one_standing alone connects asked points n fit few run honest = standing_each (take n points) (run_stood alone connects no_line asked points n fit few none_stood run honest)

@@ -3,14 +3,13 @@ use Rattle.std.proofs.Common.{Bool, List, None, [], ap, arith, false, length, re
 use Rattle.std.proofs.lemmas.Bool.{or_parts, or_from}
 use Rattle.std.specs.Prelude.{Option, is_some}
 use Rattle.std.specs.List.{AllByRecursion}
-use Rattle.line_step.proofs.Counted.{steps-lines}
 use Rattle.line_script.specs.declared.line.ScriptLine.{ScriptLine}
 use Rattle.line_report.specs.declared.happening.Happening.{Happening}
 use Rattle.standings.specs.Ledger.{Ledger, empty_ledger, ledger_after_all}
 use Rattle.line_step.specs.FloorIds.{boards_of}
 use Rattle.line_step.specs.Lies.{has_lie, tells_lie}
 use Rattle.line_step.specs.Lines.{LineSteps}
-use Rattle.line_step.specs.Runs.{IsRun, Point, state_behind}
+use Rattle.line_step.specs.Runs.{IsRun, Point, state_behind, IsShort}
 use Rattle.line_step.specs.State.{LineState, marks_in, no_line}
 use Rattle.line_step.proofs.FloorLaws.{Holds, steps-goes}
 use Rattle.line_step.proofs.Makers.{IsOld}
@@ -61,13 +60,13 @@ told_line alone connects line before after told few fit none was steps =
     let led : Led (IsOld 1 after.machines) after was.ledger told = line_led was.stood.trace stood.trace (before.lines + 1) line before after told was.ledger was.stood.stands stood.stands steps was.fits in
     record { stood = stood; ledger = ledger_after_all was.ledger (deeds_of told); fits = led.fits }
 
-told_run : SaysAlone → ConnectsBear → (s : LineState) (asked : List ScriptLine) (points : List Point) → AllByRecursion IsFitLine asked → s.lines + length asked ≤ 1000000 → Told s → IsRun s asked points → has_lie points ≡ false → Told (state_behind s points)
+told_run : SaysAlone → ConnectsBear → (s : LineState) (asked : List ScriptLine) (points : List Point) → AllByRecursion IsFitLine asked → IsShort s points → Told s → IsRun s asked points → has_lie points ≡ false → Told (state_behind s points)
 told_run alone connects s [] [] fit few was run none = was
 told_run alone connects s [] (point ∷ points) fit few was run none = absurd run
 told_run alone connects s (line ∷ asked) [] fit few was run none = absurd run
 told_run alone connects s (line ∷ asked) (point ∷ points) fit few was run none =
-    let now : Told point.after = told_line alone connects line s point.after point.told (omega (arith, few)) fit.0 (or_parts (tells_lie point.told) (has_lie points) none).0 was run.0 in
-    let left : point.after.lines + length asked ≤ 1000000 = omega (arith, few, steps-lines (s.lines + 1) line s point.after point.told run.0) in
+    let now : Told point.after = told_line alone connects line s point.after point.told few.0 fit.0 (or_parts (tells_lie point.told) (has_lie points) none).0 was run.0 in
+    let left : IsShort point.after points = few.1 in
     told_run alone connects point.after asked points fit.1 left now run.1 (or_parts (tells_lie point.told) (has_lie points) none).1
 
 none_told : Told no_line
@@ -75,8 +74,7 @@ none_told = record { stood = none_stood; ledger = empty_ledger; fits = none_fits
 
 told_by : SaysAlone → ConnectsBear → (s : LineState) (reached : IsReached s) → has_lie reached.points ≡ false → Told s
 told_by alone connects s reached none =
-    let few : 0 + length reached.asked ≤ 1000000 = omega (arith, reached.counted, reached.few) in
-    subst (λ (t : LineState). Told t) reached.behind (told_run alone connects no_line reached.asked reached.points reached.fit few none_told reached.run none)
+    subst (λ (t : LineState). Told t) reached.behind (told_run alone connects no_line reached.asked reached.points reached.fit reached.short none_told reached.run none)
 
 pub stands_along : SaysAlone → ConnectsBear → StandsAlong
 stands_along alone connects s reached none =

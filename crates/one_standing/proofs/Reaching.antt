@@ -1,13 +1,14 @@
 -- A line that a run has led to, and the next line of its script; and which machine made an id.
 use Rattle.std.proofs.Common.{List, Some, [], ap, arith, eq-eqb, inl, inr, length, refl, slice_get, suc, subst, sym, true, zero, ℕ, ◌++◌, ◌+◌, ◌∙◌, ◌∷◌, ◌≡◌, ◌≤◌}
 use Rattle.std.specs.List.{AllByRecursion}
-use Rattle.line_step.proofs.Counted.{steps-lines}
+use Rattle.line_step.proofs.Counted.{steps-counts}
+use Rattle.line_step.proofs.Running.{short-more}
 use Rattle.line_world.specs.FloorPlan.{has_id}
 use Rattle.line_world.specs.declared.board.Board.{Board}
 use Rattle.line_script.specs.declared.line.ScriptLine.{ScriptLine}
 use Rattle.line_report.specs.declared.happening.Happening.{Happening}
 use Rattle.node_core.specs.Node.{NodeState}
-use Rattle.line_step.specs.Lines.{LineSteps}
+use Rattle.line_step.specs.Lines.{Counts, LineSteps}
 use Rattle.line_step.specs.Runs.{IsRun, Point, state_behind}
 use Rattle.line_step.specs.State.{LineState, machine_in, no_line}
 use Rattle.line_step.proofs.Makers.{IsMadeBy, IsOld}
@@ -17,15 +18,11 @@ use Rattle.one_standing.specs.Standing.{IsFitLine}
 -- ---- a line more
 
 pub none_reached : IsReached no_line
-none_reached = record { asked = []; points = []; fit = tt; counted = refl; few = omega arith; run = tt; behind = refl }
+none_reached = record { asked = []; points = []; fit = tt; short = tt; few = omega arith; run = tt; behind = refl }
 
 pub fit_more : (asked : List ScriptLine) (line : ScriptLine) → AllByRecursion IsFitLine asked → IsFitLine line → AllByRecursion IsFitLine (asked ++ line ∷ [])
 fit_more [] line fit one = (one, tt)
 fit_more (first ∷ asked) line fit one = (fit.0, fit_more asked line fit.1 one)
-
-pub length_more : (asked : List ScriptLine) (line : ScriptLine) → length (asked ++ line ∷ []) ≡ length asked + 1
-length_more [] line = refl
-length_more (first ∷ asked) line = let rest = length_more asked line in omega (arith, rest)
 
 pub run_more : (s : LineState) (asked : List ScriptLine) (points : List Point) (line : ScriptLine) (point : Point) → IsRun s asked points → LineSteps ((state_behind s points).lines + 1) line (state_behind s points) point.after point.told → IsRun s (asked ++ line ∷ []) (points ++ point ∷ [])
 run_more s [] [] line point run steps = (steps, tt)
@@ -45,14 +42,13 @@ reached_run line before after told was steps =
 pub reached_more : (line : ScriptLine) (before after : LineState) (told : List Happening) → IsReached before → IsFitLine line → before.lines + 1 ≤ 1000000 → LineSteps (before.lines + 1) line before after told → IsReached after
 reached_more line before after told was fit few steps =
     let point : Point = record { told = told; after = after } in
-    let counted : after.lines ≡ before.lines + 1 = steps-lines (before.lines + 1) line before after told steps in
-    let more : length (was.asked ++ line ∷ []) ≡ length was.asked + 1 = length_more was.asked line in
+    let counts : Counts before.lines after.lines = steps-counts (before.lines + 1) line before after told steps in
     record {
       asked = was.asked ++ line ∷ [];
       points = was.points ++ point ∷ [];
       fit = fit_more was.asked line was.fit fit;
-      counted = more ∙ ap (λ (n : ℕ). n + 1) was.counted ∙ sym counted;
-      few = omega (arith, counted, few);
+      short = short-more no_line was.points point was.short (subst (λ (s : LineState). s.lines + 1 ≤ 1000000) (sym was.behind) few);
+      few = omega (arith, counts.most, few);
       run = reached_run line before after told was steps;
       behind = behind_more no_line was.points point;
     }

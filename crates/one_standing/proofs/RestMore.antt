@@ -3,6 +3,7 @@
 use Rattle.std.proofs.Common.{Bool, List, [], ap, arith, codes, decimal, false, inl, inr, length, length-append, refl, subst, suc, sym, true, zero, ℕ, ◌&&◌, ◌++◌, ◌+◌, ◌-◌, ◌<◌, ◌^◌, ◌∙◌, ◌∷◌, ◌≡◌, ◌≤◌, ◌⊎◌}
 use Rattle.std.specs.Prelude.{nat_le, nat_lt, slice_index_or}
 use Rattle.std.proofs.lemmas.Bool.Decides.{nat_tests}
+use Rattle.line_step.proofs.Counted.{rises}
 use Rattle.line_step.proofs.Changing.{more_gaps}
 use Rattle.one_standing.proofs.WholeLinks.{more_whole}
 use Rattle.one_standing.proofs.Ends.{no_link_at as loose_link}
@@ -227,7 +228,7 @@ more_holds : (is_bridge : Bool) (capacity used : ℕ) (s : LineState) → may_ad
 more_holds is_bridge capacity used s may holds =
     let next : LineState = one_more is_bridge capacity used s in
     let told : List Happening = adding_told is_bridge (length s.machines + 1) capacity in
-    let steps : LineSteps 0 (adding is_bridge capacity used) s (record next { lines = next.lines + 1 }) _ = record { next = next; done = told; does = adds is_bridge capacity used s may; after_is = refl; told_is = refl } in
+    let steps : LineSteps 0 (adding is_bridge capacity used) s (record next { lines = next.lines + 1 }) _ = record { next = next; done = told; does = adds is_bridge capacity used s may; lines = next.lines + 1; counts = rises next.lines; after_is = refl; told_is = refl } in
     let goes = steps-goes 0 (adding is_bridge capacity used) s (record next { lines = next.lines + 1 }) _ holds steps in
     record { own = goes.holds.own; many = goes.holds.many; whole = goes.holds.whole; old = goes.holds.old; differ = goes.holds.differ }
 

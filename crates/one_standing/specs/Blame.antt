@@ -8,7 +8,7 @@ use Rattle.line_report.specs.declared.happening.Happening.{Happening}
 use Rattle.line_report.specs.declared.happening.Happening.TheVariants as happenings
 use Rattle.node_core.specs.declared.act.Act.TheVariants as acts
 use Rattle.line_step.specs.Lies.{has_lie}
-use Rattle.line_step.specs.Runs.{IsRun, Point}
+use Rattle.line_step.specs.Runs.{IsRun, Point, IsShort}
 use Rattle.line_step.specs.State.{no_line}
 use Rattle.one_standing.specs.Standing.{IsFitLine}
 use Rattle.one_standing.specs.Told.{IsTold}
@@ -34,5 +34,5 @@ AreBlamesTrue past (point ∷ points) =
 abbrev pub NoFalseBlame : Type 0
 NoFalseBlame =
     (asked : List ScriptLine) (points : List Point) (n : ℕ) → AllByRecursion IsFitLine asked
-    → length asked ≤ 1000000 → IsRun no_line asked points → has_lie (take n points) ≡ false
+    → IsShort no_line points → IsRun no_line asked points → has_lie (take n points) ≡ false
     → AreBlamesTrue [] (take n points)

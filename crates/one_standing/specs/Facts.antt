@@ -26,7 +26,7 @@ use Rattle.custody.specs.Words.{events_at}
 use Rattle.machine_custody.specs.Good.{Lies}
 use Rattle.line_step.specs.Lies.{has_lie}
 use Rattle.line_step.specs.Numbered.{node_at}
-use Rattle.line_step.specs.Runs.{IsRun, Point}
+use Rattle.line_step.specs.Runs.{IsRun, Point, IsShort}
 use Rattle.line_step.specs.State.{LineState, no_line, owned_by}
 use Rattle.line_step.specs.World.{link_at}
 use Rattle.one_standing.specs.Standing.{IsFitLine, is_held_at}
@@ -132,5 +132,5 @@ pub record HasCustodyFacts (s : LineState) : Type 0 where
 abbrev pub CustodyFacts : Type 0
 CustodyFacts =
     (asked : List ScriptLine) (points : List Point) (n : ℕ) → AllByRecursion IsFitLine asked
-    → length asked ≤ 1000000 → IsRun no_line asked points → has_lie (take n points) ≡ false
+    → IsShort no_line points → IsRun no_line asked points → has_lie (take n points) ≡ false
     → AllByRecursion (λ (point : Point). HasCustodyFacts point.after) (take n points)

@@ -12,7 +12,7 @@ use Rattle.standings.specs.Marks.{has_id}
 use Rattle.standings.specs.declared.deed.Deed.{Deed}
 use Rattle.line_step.specs.FloorIds.{boards_of}
 use Rattle.line_step.specs.Lines.{LineSteps}
-use Rattle.line_step.specs.Runs.{IsRun, Point, state_behind}
+use Rattle.line_step.specs.Runs.{IsRun, IsShort, Point, state_behind}
 use Rattle.line_step.specs.State.{LineState, machine_in, marks_in, no_line}
 use Rattle.one_standing.specs.Facts.{HasCustodyFacts}
 use Rattle.one_standing.specs.Replay.{IsLedgerOf, IsStandingTold, deeds_of}
@@ -23,7 +23,7 @@ pub record IsReached (s : LineState) : Type 0 where
   pub asked : List ScriptLine
   pub points : List Point
   pub fit : AllByRecursion IsFitLine asked
-  pub counted : length asked ≡ s.lines
+  pub short : IsShort no_line points
   pub few : s.lines ≤ 1000000
   pub run : IsRun no_line asked points
   pub behind : state_behind no_line points ≡ s

@@ -17,7 +17,7 @@ use Rattle.standings.specs.declared.deed.Deed.{Deed}
 use Rattle.standings.specs.declared.deed.Deed.TheVariants as deeds
 use Rattle.standings.specs.declared.entry.Entry.{Entry}
 use Rattle.line_step.specs.Lies.{has_lie}
-use Rattle.line_step.specs.Runs.{IsRun, Point}
+use Rattle.line_step.specs.Runs.{IsRun, Point, IsShort}
 use Rattle.line_step.specs.State.{LineState, marks_in, no_line}
 use Rattle.one_standing.specs.Standing.{IsFitLine}
 
@@ -75,5 +75,5 @@ Follows ledger (point ∷ points) =
 abbrev pub LedgerFollows : Type 0
 LedgerFollows =
     (asked : List ScriptLine) (points : List Point) (n : ℕ) → AllByRecursion IsFitLine asked
-    → length asked ≤ 1000000 → IsRun no_line asked points → has_lie (take n points) ≡ false
+    → IsShort no_line points → IsRun no_line asked points → has_lie (take n points) ≡ false
     → Follows empty_ledger (take n points)

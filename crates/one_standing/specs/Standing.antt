@@ -13,7 +13,7 @@ use Rattle.standings.specs.Standing.{HasStanding, Place}
 use Rattle.standings.specs.declared.standing.Standing.TheVariants.{Between, With}
 use Rattle.line_step.specs.Lies.{has_lie}
 use Rattle.line_step.specs.Numbered.{node_at}
-use Rattle.line_step.specs.Runs.{IsRun, Point}
+use Rattle.line_step.specs.Runs.{IsRun, Point, IsShort}
 use Rattle.line_step.specs.State.{LineState, marks_in, no_line, owned_by}
 use Rattle.machine_custody.specs.Good.{Lies}
 use Rattle.link_messages.specs.Fit.{IsTextIf}
@@ -78,5 +78,5 @@ IsFitLine _ = Unit {0}
 abbrev pub OneStanding : Type 0
 OneStanding =
     (asked : List ScriptLine) (points : List Point) (n : ℕ) → AllByRecursion IsFitLine asked
-    → length asked ≤ 1000000 → IsRun no_line asked points → has_lie (take n points) ≡ false
+    → IsShort no_line points → IsRun no_line asked points → has_lie (take n points) ≡ false
     → AllByRecursion (λ (point : Point). HasOneStanding point.after) (take n points)

@@ -73,6 +73,7 @@ fn tell_event(line: &ScriptLine, to: &mut Vec<u8>) -> io::Result<()> {
         ScriptLine::Hold { machine, side } => tell_side("hold", *machine, *side, to),
         ScriptLine::Go { machine, side } => tell_side("go", *machine, *side, to),
         ScriptLine::Shutdown { machine } => write!(to, "shutdown {machine}"),
+        ScriptLine::Stop { machine } => write!(to, "stop {machine}"),
         ScriptLine::Tick { machine } => write!(to, "tick {machine}"),
         ScriptLine::Fault { machine, side } => tell_side("fault", *machine, *side, to),
         ScriptLine::Lie { machine, sensed } => {

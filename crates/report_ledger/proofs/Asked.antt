@@ -13,7 +13,12 @@ use Rattle.line_history.specs.Opened.{IsStartedFor, OpensAsStarted, OpensWhatSta
 use Rattle.line_report.specs.Texts.{act_text, deed_text, happening_text, told_text as body_text}
 use Rattle.line_report.specs.declared.happening.Happening.{Happening}
 use Rattle.line_report.specs.declared.happening.Happening.TheVariants as happenings
+use Rattle.line_script.specs.declared.line.ScriptLine.{ScriptLine}
 use Rattle.line_step.specs.Runs.{Point, told_text}
+use Rattle.line_step.specs.Parts.{IsScriptRun, lines_played, script_parts}
+use Rattle.line_step.proofs.Playing.{play-run, script-short}
+use Rattle.one_standing.proofs.Playing.{script_played_fit}
+use Rattle.report_ledger.proofs.Alone.{script_alone}
 use Rattle.line_step.specs.State.{LineState, no_line}
 use Rattle.machine_log.specs.Account.{IsProperAct, id_of_deed}
 use Rattle.node_core.specs.declared.act.Act.{Act}
@@ -26,7 +31,7 @@ use Rattle.report_ledger.specs.Asked.{IsAskedFor, OpensWereAsked, ReportTellsSta
 use Rattle.report_ledger.specs.Ledgers.{AreUnnumbered, honest}
 use Rattle.report_ledger.specs.Proper.{AreProperPoints, IsProperHappening}
 use Rattle.report_ledger.specs.ReportLines.{ReportLine, lines_in, vouched}
-use Rattle.report_ledger.proofs.Ledgered.{front_of, honest_proper, points_few}
+use Rattle.report_ledger.proofs.Ledgered.{front_of, honest_proper}
 use Rattle.report_ledger.proofs.Lines.{line_with, lines_told, run_lines, run_read}
 use Rattle.report_ledger.proofs.Vouched.{Vouches, run_vouched}
 
@@ -106,6 +111,7 @@ happening_reads gap (happenings.Done machine act) some proper = act_reads gap ma
 happening_reads gap (happenings.Machine number capacity) some proper = refl
 happening_reads gap (happenings.Bridge number capacity) some proper = refl
 happening_reads gap (happenings.Cut other) some proper = refl
+happening_reads gap (happenings.Stop machine) some proper = refl
 happening_reads gap (happenings.Spoils machine side) some proper = refl
 happening_reads gap (happenings.Moved other step) some proper = refl
 happening_reads gap (happenings.Lie machine sensed) some proper = refl
@@ -197,18 +203,17 @@ unnumbered_asked gap before (line ∷ tail) none = (asked_for, unnumbered_asked 
 run_asked : (gap number : ℕ) (past : List Happening) (s : LineState) (points : List Point) (before tail : List ReportLine) → 1 ≤ gap → AreProperPoints points → AreUnnumbered tail → OpensWhatStarted gap past s points → gap_told gap before ≡ gap_deeds gap past → OpensWereAsked gap before (run_lines number points ++ tail)
 run_asked gap number past s [] before tail some proper none started same = unnumbered_asked gap before tail none
 run_asked gap number past s (point ∷ points) before tail some proper none started same =
-    subst (λ (l : List ReportLine). OpensWereAsked gap before l) (sym (append_assoc (lines_told number point.told) (run_lines (number + 1) points) tail))
-    (told_asked gap number past [] point.told point.told s before (run_lines (number + 1) points ++ tail) some (recursion_from_All IsProperHappening point.told proper.0.each) refl started.0 (same ∙ ap (gap_deeds gap) (sym (append-nil past)))
-    (λ all is. run_asked gap (number + 1) (past ++ point.told) point.after points all tail some proper.1 none started.1 is))
+    subst (λ (l : List ReportLine). OpensWereAsked gap before l) (sym (append_assoc (lines_told number point.told) (run_lines (point.after.lines + 1) points) tail))
+    (told_asked gap number past [] point.told point.told s before (run_lines (point.after.lines + 1) points ++ tail) some (recursion_from_All IsProperHappening point.told proper.0.each) refl started.0 (same ∙ ap (gap_deeds gap) (sym (append-nil past)))
+    (λ all is. run_asked gap (point.after.lines + 1) (past ++ point.told) point.after points all tail some proper.1 none started.1 is))
 
 -- ---- THE LAW
 
 pub report_tells_starts : WhatOpensStarted → ReportTellsStarts
 report_tells_starts starts asked points ending gap some fit few run proper none =
     let front = front_of points in
-    let many = points_few no_line asked points run in
-    let vouches : Vouches 1 points (lines_in ending) = run_vouched 1 points (lines_in ending) none in
+    let vouches : Vouches 1 points (lines_in ending) = run_vouched 0 no_line points (lines_in ending) (script_alone 0 no_line asked points (omega arith) run) none in
     let lines : vouched (lines_in (told_text 1 points ++ ending)) ≡ run_lines 1 (honest points) ++ vouches.rest =
-    ap vouched (run_read 1 points ending (omega (arith, few, many)) proper) ∙ vouches.is in
-    let all : OpensWhatStarted gap [] no_line (honest points) = subst (λ (ps : List Point). OpensWhatStarted gap [] no_line ps) (sym front.is) (starts asked points front.count gap fit few run front.honesty) in
+    ap vouched (run_read no_line points ending (script-short no_line asked points run (omega (arith, few))) proper) ∙ vouches.is in
+    let all : OpensWhatStarted gap [] no_line (honest points) = subst (λ (ps : List Point). OpensWhatStarted gap [] no_line ps) (sym front.is) (starts (lines_played no_line (script_parts asked) points) points front.count gap (script_played_fit no_line asked points fit) (script-short no_line asked points run (omega (arith, few))) (play-run no_line (script_parts asked) points run) front.honesty) in
     subst (λ (l : List ReportLine). OpensWereAsked gap [] l) (sym lines) (run_asked gap 1 [] no_line (honest points) [] vouches.rest some (honest_proper points proper) vouches.none all refl)

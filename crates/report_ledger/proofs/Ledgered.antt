@@ -5,7 +5,11 @@ use Rattle.line_script.specs.declared.line.ScriptLine.{ScriptLine}
 use Rattle.standings.specs.Ledger.{AreLegal, Ledger, empty_ledger, ledger_after_all}
 use Rattle.standings.specs.declared.deed.Deed.{Deed}
 use Rattle.line_step.specs.Lies.{has_lie, tells_lie}
-use Rattle.line_step.specs.Runs.{IsRun, Point, state_behind, told_text}
+use Rattle.line_step.specs.Runs.{Point, state_behind, told_text}
+use Rattle.line_step.specs.Parts.{IsScriptRun, lines_played, script_parts}
+use Rattle.line_step.proofs.Playing.{play-run, script-short}
+use Rattle.one_standing.proofs.Playing.{script_played_fit}
+use Rattle.report_ledger.proofs.Alone.{script_alone}
 use Rattle.line_step.specs.State.{LineState, no_line}
 use Rattle.one_standing.specs.Replay.{Follows, IsLedgerOf, LedgerFollows, deeds_of}
 use Rattle.one_standing.proofs.LedgerMarks.{ledger_of}
@@ -28,9 +32,9 @@ deeds_along (point ∷ points) = deeds_of point.told ++ deeds_along points
 run_deeds : (number : ℕ) (points : List Point) → AreProperPoints points → deeds_told (run_lines number points) ≡ deeds_along points
 run_deeds number [] proper = refl
 run_deeds number (point ∷ points) proper =
-    deeds_append (lines_told number point.told) (run_lines (number + 1) points)
-    ∙ ap (λ (ds : List Deed). ds ++ deeds_told (run_lines (number + 1) points)) (told_deeds number point.told (recursion_from_All IsProperHappening point.told proper.0.each))
-    ∙ ap (λ (ds : List Deed). deeds_of point.told ++ ds) (run_deeds (number + 1) points proper.1)
+    deeds_append (lines_told number point.told) (run_lines (point.after.lines + 1) points)
+    ∙ ap (λ (ds : List Deed). ds ++ deeds_told (run_lines (point.after.lines + 1) points)) (told_deeds number point.told (recursion_from_All IsProperHappening point.told proper.0.each))
+    ∙ ap (λ (ds : List Deed). deeds_of point.told ++ ds) (run_deeds (point.after.lines + 1) points proper.1)
 
 -- ---- the honest points are a front of the run
 
@@ -76,18 +80,10 @@ leads_along ledger s (point ∷ points) marks follows =
       marks = subst (λ (l : Ledger). IsLedgerOf l (state_behind point.after points)) (sym (after_append ledger one (deeds_along points))) behind.marks;
     }
 
-pub points_few : (s : LineState) (asked : List ScriptLine) (points : List Point) → IsRun s asked points → length points ≡ length asked
-points_few s [] [] run = refl
-points_few s [] (point ∷ points) run = elim run [ ]
-points_few s (line ∷ asked) [] run = elim run [ ]
-points_few s (line ∷ asked) (point ∷ points) run =
-    let later = points_few point.after asked points run.1 in
-    omega (arith, later)
-
-report_deeds : (points : List Point) (ending : List ℕ) → 1 + length points ≤ 4_294_967_296 → AreProperPoints points → AreUnnumbered (lines_in ending) → deeds_in_report (told_text 1 points ++ ending) ≡ deeds_along (honest points)
-report_deeds points ending few proper none =
-    let vouches : Vouches 1 points (lines_in ending) = run_vouched 1 points (lines_in ending) none in
-    ap (λ (l : List ReportLine). deeds_told (vouched l)) (run_read 1 points ending few proper)
+report_deeds : (asked : List ScriptLine) (points : List Point) (ending : List ℕ) → length asked ≤ 1000000 → IsScriptRun no_line asked points → AreProperPoints points → AreUnnumbered (lines_in ending) → deeds_in_report (told_text 1 points ++ ending) ≡ deeds_along (honest points)
+report_deeds asked points ending few run proper none =
+    let vouches : Vouches 1 points (lines_in ending) = run_vouched 0 no_line points (lines_in ending) (script_alone 0 no_line asked points (omega arith) run) none in
+    ap (λ (l : List ReportLine). deeds_told (vouched l)) (run_read no_line points ending (script-short no_line asked points run (omega (arith, few))) proper)
     ∙ ap deeds_told vouches.is
     ∙ deeds_append (run_lines 1 (honest points)) vouches.rest
     ∙ ap (λ (ds : List Deed). deeds_told (run_lines 1 (honest points)) ++ ds) (deeds_unnumbered vouches.rest vouches.none)
@@ -99,11 +95,10 @@ report_deeds points ending few proper none =
 pub report_tells_ledger : LedgerFollows → ReportTellsLedger
 report_tells_ledger follows asked points ending fit few run proper none =
     let front = front_of points in
-    let many = points_few no_line asked points run in
     let text = told_text 1 points ++ ending in
     let end = state_behind no_line (honest points) in
-    let same : deeds_in_report text ≡ deeds_along (honest points) = report_deeds points ending (omega (arith, few, many)) proper none in
-    let all : Follows empty_ledger (honest points) = subst (λ (ps : List Point). Follows empty_ledger ps) (sym front.is) (follows asked points front.count fit few run front.honesty) in
+    let same : deeds_in_report text ≡ deeds_along (honest points) = report_deeds asked points ending few run proper none in
+    let all : Follows empty_ledger (honest points) = subst (λ (ps : List Point). Follows empty_ledger ps) (sym front.is) (follows (lines_played no_line (script_parts asked) points) points front.count (script_played_fit no_line asked points fit) (script-short no_line asked points run (omega (arith, few))) (play-run no_line (script_parts asked) points run) front.honesty) in
     let leads = leads_along empty_ledger no_line (honest points) (ledger_of no_line empty_ledger none_fits) all in
     let marks : IsLedgerOf (ledger_after_all empty_ledger (deeds_in_report text)) end = subst (λ (ds : List Deed). IsLedgerOf (ledger_after_all empty_ledger ds) end) (sym same) leads.marks in
     record {

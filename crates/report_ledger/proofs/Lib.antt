@@ -1,6 +1,7 @@
 pub mod Lines
 pub mod Deeds
 pub mod Vouched
+pub mod Alone
 pub mod Ledgered
 pub mod Asked
 pub mod Silent

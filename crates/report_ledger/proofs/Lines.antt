@@ -13,7 +13,8 @@ use Rattle.line_check.specs.Words.{behind, first_of}
 use Rattle.line_report.specs.Texts.{at_side, between_text, entry, event_text, happening_text, numbered, of_board, quality_text, reason_text, side_text}
 use Rattle.line_report.specs.declared.happening.Happening.{Happening}
 use Rattle.line_report.specs.declared.happening.Happening.TheVariants as happenings
-use Rattle.line_step.specs.Runs.{Point, told_text}
+use Rattle.line_step.specs.Runs.{IsShort, Point, told_text}
+use Rattle.line_step.specs.State.{LineState}
 use Rattle.line_world.specs.Moves.{move_word}
 use Rattle.line_world.specs.declared.moves.Move.{Move}
 use Rattle.line_world.specs.declared.moves.Move.TheVariants as moves
@@ -58,6 +59,7 @@ inner_happening (happenings.Machine number capacity) proper = inner_numbered (nu
 inner_happening (happenings.Bridge number capacity) proper = inner_numbered (numbered (codes "bridge") number) capacity (inner_numbered (codes "bridge") number refl)
 inner_happening (happenings.Done machine act) proper = inner_act machine act proper.1
 inner_happening (happenings.Cut gap) proper = inner_numbered (codes "cut") gap refl
+inner_happening (happenings.Stop machine) proper = inner_numbered (codes "stop") machine refl
 inner_happening (happenings.Spoils machine side) proper = inner_at_side (codes "spoils") machine side refl
 inner_happening (happenings.Moved gap step) proper = spaced (numbered (codes "move") gap) (move_word step) (inner_numbered (codes "move") gap refl) (inner_move step)
 inner_happening (happenings.Lie machine sensed) proper = spaced (at_side (codes "lie") machine sensed.side) (event_text sensed.event) (inner_at_side (codes "lie") machine sensed.side refl) (inner_event sensed.event)
@@ -109,7 +111,7 @@ lines_told number (happening ∷ told) = line_with (Some number) (happening_text
 
 abbrev pub run_lines : ℕ → List Point → List ReportLine
 run_lines number [] = []
-run_lines number (point ∷ points) = lines_told number point.told ++ run_lines (number + 1) points
+run_lines number (point ∷ points) = lines_told number point.told ++ run_lines (point.after.lines + 1) points
 
 told_read : (number : ℕ) (told : List Happening) (rest : List ℕ) → number < 2 ^ 32 → AllByRecursion IsProperHappening told → lines_in (flat_map (λ happening. entry number happening) told ++ rest) ≡ lines_told number told ++ lines_in rest
 told_read number [] rest small proper = refl
@@ -119,11 +121,12 @@ told_read number (happening ∷ told) rest small proper =
     ∙ entry_read number happening (later ++ rest) small (inner_happening happening proper.0)
     ∙ ap (λ (l : List ReportLine). line_with (Some number) (happening_text happening) ∷ l) (told_read number told rest small proper.1)
 
-pub run_read : (number : ℕ) (points : List Point) (rest : List ℕ) → number + length points ≤ 2 ^ 32 → AreProperPoints points → lines_in (told_text number points ++ rest) ≡ run_lines number points ++ lines_in rest
-run_read number [] rest few proper = refl
-run_read number (point ∷ points) rest few proper =
-    let one = flat_map (λ happening. entry number happening) point.told in
-    ap lines_in (append_assoc one (told_text (number + 1) points) rest)
-    ∙ told_read number point.told (told_text (number + 1) points ++ rest) (omega (arith, few)) (recursion_from_All IsProperHappening point.told proper.0.each)
-    ∙ ap (λ (l : List ReportLine). lines_told number point.told ++ l) (run_read (number + 1) points rest (omega (arith, few)) proper.1)
-    ∙ sym (append_assoc (lines_told number point.told) (run_lines (number + 1) points) (lines_in rest))
+pub run_read : (s : LineState) (points : List Point) (rest : List ℕ) → IsShort s points → AreProperPoints points → lines_in (told_text (s.lines + 1) points ++ rest) ≡ run_lines (s.lines + 1) points ++ lines_in rest
+run_read s [] rest few proper = refl
+run_read s (point ∷ points) rest few proper =
+    let one = flat_map (λ happening. entry (s.lines + 1) happening) point.told in
+    let here = few.0 in
+    ap lines_in (append_assoc one (told_text (point.after.lines + 1) points) rest)
+    ∙ told_read (s.lines + 1) point.told (told_text (point.after.lines + 1) points ++ rest) (omega (arith, here)) (recursion_from_All IsProperHappening point.told proper.0.each)
+    ∙ ap (λ (l : List ReportLine). lines_told (s.lines + 1) point.told ++ l) (run_read point.after points rest few.1 proper.1)
+    ∙ sym (append_assoc (lines_told (s.lines + 1) point.told) (run_lines (point.after.lines + 1) points) (lines_in rest))

@@ -122,6 +122,7 @@ request_silent number (requests.connects machine) before after told does = unles
     (λ (done : Connects number machine before after told). subst AreSilent (sym done.told_is) (join done.earlier done.later (machine_silent number machine _ _ done.between done.earlier done.first) (machine_silent number _ _ done.between after done.later done.second)))
 request_silent number (requests.flows machine side count) before after told does = unless_silent _ before after told _ does (λ (done : Flows number machine side count before after told). machine_silent number machine _ _ after told done.steps)
 request_silent number (requests.cuts gap) before after told does = unless_silent _ before after told _ does (λ done. becomes_silent {what = happenings.Cut gap ∷ []} done (tt, tt))
+request_silent number (requests.stops machine) before after told does = unless_silent _ before after told _ does (λ done. becomes_silent {what = happenings.Stop machine ∷ []} done (tt, tt))
 request_silent number (requests.spoils machine side) before after told does = unless_silent _ before after told _ does
     (λ done. becomes_silent {what = spoil_told machine side before} done (tt, cut_silent (link_of machine side) (spoil_sent (end_of side) (link_at (link_of machine side) before.world))))
 request_silent number (requests.moves_on gap step) before after told does = becomes_silent does (move_silent gap step (floor_move gap step before.world.floor))

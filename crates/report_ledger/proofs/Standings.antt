@@ -16,6 +16,10 @@ use Rattle.line_report.specs.declared.happening.Happening.TheVariants as happeni
 use Rattle.line_script.specs.declared.line.ScriptLine.{ScriptLine}
 use Rattle.line_step.specs.Lines.{LineSteps}
 use Rattle.line_step.specs.Runs.{IsRun, Point, state_behind, told_text}
+use Rattle.line_step.specs.Parts.{IsScriptRun, lines_played, script_parts}
+use Rattle.line_step.proofs.Playing.{play-run, script-short}
+use Rattle.one_standing.proofs.Playing.{script_played_fit}
+use Rattle.report_ledger.proofs.Alone.{script_alone}
 use Rattle.line_step.specs.Shown.{ascending, ids_marked, ids_owned, one_id, standing_told as told_standing, standings_told, with_id}
 use Rattle.line_step.specs.State.{LineState, marks_in, no_line, owned}
 use Rattle.line_step.proofs.Unnamed.{apart_ids}
@@ -40,7 +44,7 @@ use Rattle.report_ledger.specs.Ledgers.{AreUnnumbered, ReportTellsLedger, TellsL
 use Rattle.report_ledger.specs.Proper.{AreProperPoints, IsProperHappening}
 use Rattle.report_ledger.specs.ReportLines.{ReportLine, lines_in, vouched}
 use Rattle.report_ledger.specs.Standings.{ReportTellsStandings, is_id, line_stands, standing_after, standing_from, stands_at}
-use Rattle.report_ledger.proofs.Ledgered.{front_of, honest_proper, points_few}
+use Rattle.report_ledger.proofs.Ledgered.{front_of, honest_proper}
 use Rattle.report_ledger.proofs.Lines.{lines_told, run_lines, run_read}
 use Rattle.report_ledger.proofs.Silent.{AreSilent, IsSilent, line_silent}
 use Rattle.report_ledger.proofs.Vouched.{Vouches, run_vouched}
@@ -92,6 +96,7 @@ text_stands id before (happenings.Done machine act) proper = act_stands id befor
 text_stands id before (happenings.Machine number capacity) proper = refl
 text_stands id before (happenings.Bridge number capacity) proper = refl
 text_stands id before (happenings.Cut gap) proper = refl
+text_stands id before (happenings.Stop machine) proper = refl
 text_stands id before (happenings.Spoils machine side) proper = refl
 text_stands id before (happenings.Moved gap step) proper = refl
 text_stands id before (happenings.Lie machine sensed) proper = refl
@@ -280,10 +285,10 @@ run_stands id number s [] (point ∷ points) (suc count) place tail run proper o
 run_stands id number s (line ∷ asked) [] (suc count) place tail run proper one none stood = elim run [ ]
 run_stands id number s (line ∷ asked) (point ∷ points) (suc count) place tail run proper one none stood =
     let told = point.told in
-    let later = run_lines (number + 1) (take count points) ++ tail in
-    ap (standing_from id place) (append_assoc (lines_told number told) (run_lines (number + 1) (take count points)) tail)
+    let later = run_lines (point.after.lines + 1) (take count points) ++ tail in
+    ap (standing_from id place) (append_assoc (lines_told number told) (run_lines (point.after.lines + 1) (take count points)) tail)
     ∙ told_stands id number place told later (recursion_from_All IsProperHappening told proper.0.each)
-    ∙ run_stands id (number + 1) point.after asked points count (stands_along id place told) tail run.1 proper.1 one.1 none
+    ∙ run_stands id (point.after.lines + 1) point.after asked points count (stands_along id place told) tail run.1 proper.1 one.1 none
     (line_stands_told (s.lines + 1) line s point.after told id place run.0 stood (one.0.each id))
 
 -- ---- THE LAW
@@ -302,19 +307,18 @@ ledger_stands ledger s id told = by (standing_of (marks_in s id)) (standing_of (
 pub report_tells_standings : OneStanding → ReportTellsLedger → ReportTellsStandings
 report_tells_standings one tells asked points ending fit few run proper none =
     let front = front_of points in
-    let many = points_few no_line asked points run in
     let text = told_text 1 points ++ ending in
-    let vouches : Vouches 1 points (lines_in ending) = run_vouched 1 points (lines_in ending) none in
+    let vouches : Vouches 1 points (lines_in ending) = run_vouched 0 no_line points (lines_in ending) (script_alone 0 no_line asked points (omega arith) run) none in
     let lines : vouched (lines_in text) ≡ run_lines 1 (honest points) ++ vouches.rest =
-    ap vouched (run_read 1 points ending (omega (arith, few, many)) proper) ∙ vouches.is in
+    ap vouched (run_read no_line points ending (script-short no_line asked points run (omega (arith, few))) proper) ∙ vouches.is in
     let ledger : TellsLedger text (state_behind no_line (honest points)) = tells asked points ending fit few run proper none in
     let proper_front : AreProperPoints (take front.count points) = subst (λ (ps : List Point). AreProperPoints ps) front.is (honest_proper points proper) in
-    let each = one asked points front.count fit few run front.honesty in
+    let each = one (lines_played no_line (script_parts asked) points) points front.count (script_played_fit no_line asked points fit) (script-short no_line asked points run (omega (arith, few))) (play-run no_line (script_parts asked) points run) front.honesty in
     record {
       each = λ id.
           ledger_stands (ledger_in text) (state_behind no_line (honest points)) id ledger.standings
           ∙ ap (λ (ps : List Point). standing_of (marks_in (state_behind no_line ps) id)) front.is
-          ∙ sym (run_stands id 1 no_line asked points front.count None vouches.rest run proper_front each vouches.none refl)
+          ∙ sym (run_stands id 1 no_line (lines_played no_line (script_parts asked) points) points front.count None vouches.rest (play-run no_line (script_parts asked) points run) proper_front each vouches.none refl)
           ∙ ap (λ (ps : List Point). standing_from id None (run_lines 1 ps ++ vouches.rest)) (sym front.is)
           ∙ ap (standing_from id None) (sym lines);
     }

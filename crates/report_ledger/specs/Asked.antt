@@ -9,7 +9,8 @@ use Rattle.line_check.specs.LogLine.{id_of}
 use Rattle.line_check.specs.Words.{behind, cut_at_space, first_word}
 use Rattle.line_history.specs.Opened.{is_other}
 use Rattle.line_script.specs.declared.line.ScriptLine.{ScriptLine}
-use Rattle.line_step.specs.Runs.{IsRun, Point, told_text}
+use Rattle.line_step.specs.Parts.{IsScriptRun}
+use Rattle.line_step.specs.Runs.{Point, told_text}
 use Rattle.line_step.specs.State.{no_line}
 use Rattle.node_core.specs.declared.act.Deed.{Deed}
 use Rattle.node_core.specs.declared.act.Deed.TheVariants.{Drops, Opens, Refuses, Settles, Starts}
@@ -85,6 +86,6 @@ OpensWereAsked gap before (line ∷ lines) =
 abbrev pub ReportTellsStarts : Type 0
 ReportTellsStarts =
     (asked : List ScriptLine) (points : List Point) (ending : List ℕ) (gap : ℕ) → 1 ≤ gap
-    → AllByRecursion IsFitLine asked → length asked ≤ 1000000 → IsRun no_line asked points
+    → AllByRecursion IsFitLine asked → length asked ≤ 1000000 → IsScriptRun no_line asked points
     → AreProperPoints points → AreUnnumbered (lines_in ending)
     → OpensWereAsked gap [] (vouched (lines_in (told_text 1 points ++ ending)))

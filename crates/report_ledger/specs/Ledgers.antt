@@ -5,7 +5,8 @@ use Rattle.std.specs.List.{AllByRecursion}
 use Rattle.line_script.specs.declared.line.ScriptLine.{ScriptLine}
 use Rattle.standings.specs.Ledger.{AreLegal, Ledger, empty_ledger, ledger_after_all}
 use Rattle.line_step.specs.Lies.{tells_lie}
-use Rattle.line_step.specs.Runs.{IsRun, Point, state_behind, told_text}
+use Rattle.line_step.specs.Parts.{IsScriptRun}
+use Rattle.line_step.specs.Runs.{Point, state_behind, told_text}
 use Rattle.line_step.specs.State.{LineState, no_line}
 use Rattle.one_standing.specs.Replay.{IsLedgerOf, IsStandingTold}
 use Rattle.one_standing.specs.Standing.{IsFitLine}
@@ -39,6 +40,6 @@ AreUnnumbered (line ∷ lines) = (line.number ≡ None) × AreUnnumbered lines
 abbrev pub ReportTellsLedger : Type 0
 ReportTellsLedger =
     (asked : List ScriptLine) (points : List Point) (ending : List ℕ)
-    → AllByRecursion IsFitLine asked → length asked ≤ 1000000 → IsRun no_line asked points
+    → AllByRecursion IsFitLine asked → length asked ≤ 1000000 → IsScriptRun no_line asked points
     → AreProperPoints points → AreUnnumbered (lines_in ending)
     → TellsLedger (told_text 1 points ++ ending) (state_behind no_line (honest points))

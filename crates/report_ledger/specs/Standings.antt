@@ -7,7 +7,8 @@ use Rattle.line_base.specs.Number.{value_of}
 use Rattle.line_check.specs.LogLine.{id_of}
 use Rattle.line_check.specs.Words.{behind, cut_at_space, first_word}
 use Rattle.line_script.specs.declared.line.ScriptLine.{ScriptLine}
-use Rattle.line_step.specs.Runs.{IsRun, Point, told_text}
+use Rattle.line_step.specs.Parts.{IsScriptRun}
+use Rattle.line_step.specs.Runs.{Point, told_text}
 use Rattle.line_step.specs.State.{no_line}
 use Rattle.one_standing.specs.Standing.{IsFitLine}
 use Rattle.standings.specs.Ledger.{marks_in}
@@ -66,6 +67,6 @@ pub record TellsStandings (text : List ℕ) : Type 0 where
 abbrev pub ReportTellsStandings : Type 0
 ReportTellsStandings =
     (asked : List ScriptLine) (points : List Point) (ending : List ℕ)
-    → AllByRecursion IsFitLine asked → length asked ≤ 1000000 → IsRun no_line asked points
+    → AllByRecursion IsFitLine asked → length asked ≤ 1000000 → IsScriptRun no_line asked points
     → AreProperPoints points → AreUnnumbered (lines_in ending)
     → TellsStandings (told_text 1 points ++ ending)

@@ -39,6 +39,7 @@ fn happening_is_proper(happening: &Happening)
         Happening::Machine { .. }
         | Happening::Bridge { .. }
         | Happening::Cut { .. }
+        | Happening::Stop { .. }
         | Happening::Spoils { .. }
         | Happening::Moved { .. }
         | Happening::Lie { .. }

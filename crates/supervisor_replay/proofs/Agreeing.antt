@@ -35,7 +35,7 @@ use Rattle.std.proofs.Common.{
 use Rattle.std.specs.Prelude.{take}
 use Rattle.std.specs.List.{AllByRecursion}
 use Rattle.std.proofs.lemmas.Bool.{false≢true, or_cases, false_from_ne_true, or_parts}
-use Rattle.line_step.proofs.Counted.{steps-lines}
+use Rattle.line_step.proofs.Running.{short-behind}
 use Rattle.one_standing.proofs.Reaching.{run_more, behind_more}
 use Rattle.one_standing.proofs.MirroringEnds.{vacuous}
 use Rattle.line_script.specs.declared.line.ScriptLine.{ScriptLine}
@@ -44,7 +44,7 @@ use Rattle.standings.specs.declared.mark.Mark.TheVariants.{Kept, Outlet, Intake}
 use Rattle.line_report.specs.declared.happening.Happening.{Happening}
 use Rattle.line_step.specs.Lies.{has_lie, tells_lie}
 use Rattle.line_step.specs.Lines.{LineSteps}
-use Rattle.line_step.specs.Runs.{IsRun, Point, all_told, state_behind}
+use Rattle.line_step.specs.Runs.{IsRun, Point, all_told, state_behind, IsShort}
 use Rattle.line_step.specs.Shown.{standings_told}
 use Rattle.line_step.specs.State.{LineState, marks_in, no_line}
 use Rattle.one_standing.specs.Carried.{Trace}
@@ -196,20 +196,20 @@ steps_agree alone id number line before after told past was now few honest watch
     let done : List Happening = steps.done in
     let t : Trace = was.trace in
     let t2 : Trace = now.trace in
-    let counted : Stands t2 (counted_to (next.lines + 1) next) =
+    let counted : Stands t2 (counted_to steps.lines next) =
     subst (λ (s : LineState). Stands t2 s) steps.after_is now.stands in
-    let within : next.lines + 1 ≤ 1000000 =
+    let within : steps.lines ≤ 1000000 =
     subst (λ (s : LineState). s.lines ≤ 1000000) steps.after_is few in
     let st2 : Stands t2 next =
-    stood_uncounted t2 next (next.lines + 1) (omega (arith, within)) counted in
-    let waits : AreWaiting (counted_to (next.lines + 1) next) =
+    stood_uncounted t2 next steps.lines (omega (arith, within, steps.counts.least)) counted in
+    let waits : AreWaiting (counted_to steps.lines next) =
     subst (λ (s : LineState). AreWaiting s) steps.after_is now.waits in
-    let seen : IsWatched (counted_to (next.lines + 1) next) =
+    let seen : IsWatched (counted_to steps.lines next) =
     subst (λ (s : LineState). IsWatched s) steps.after_is watched2 in
     let front : tells_lie done ≡ false =
     honest_front done (standings_told before next) (ap tells_lie (sym steps.told_is) ∙ honest) in
     subst (λ (s : LineState). Agreed id s (past ++ told)) (sym steps.after_is)
-    (counted_agrees id next (next.lines + 1) past done told before steps.told_is
+    (counted_agrees id next steps.lines past done told before steps.told_is
     (does_agree id t t2 number line before next done past front steps.does (record {
       st = was.stands;
       one = one_standing_of t before was.stands;
@@ -281,7 +281,7 @@ none_never id j = record {
 
 run_agrees : (alone : SaysAlone) (s : LineState) (asked : List ScriptLine) (points : List Point)
     (n : ℕ)
-    (past : List Happening) → AllByRecursion IsFitLine asked → s.lines + length asked ≤ 1000000
+    (past : List Happening) → AllByRecursion IsFitLine asked → IsShort s points
     → Stood s
     → IsRun s asked points → AreStood (take n points) → has_lie (take n points) ≡ false
     → IsWatched s
@@ -295,9 +295,8 @@ run_agrees alone s (line ∷ asked) []
     (suc n) past fit few was run all honest watched seen agreed never = absurd run
 run_agrees alone s (line ∷ asked) (point ∷ points)
     (suc n) past fit few was run all honest watched seen agreed never =
-    let here : s.lines + 1 ≤ 1000000 = omega (arith, few) in
-    let left : point.after.lines + length asked ≤ 1000000 =
-    omega (arith, few, steps-lines (s.lines + 1) line s point.after point.told run.0) in
+    let here : s.lines + 1 ≤ 1000000 = few.0 in
+    let left : IsShort point.after points = few.1 in
     let first : tells_lie point.told ≡ false =
     (or_parts (tells_lie point.told) (has_lie (take n points)) honest).0 in
     let rest : has_lie (take n points) ≡ false =
@@ -319,9 +318,8 @@ run_agrees alone s (line ∷ asked) (point ∷ points)
 -- THE LAW
 pub replay_agrees : SaysAlone → ConnectsBear → ReplayAgrees
 replay_agrees alone connects asked points n fit few run honest watched =
-    run_agrees alone no_line asked points n [] fit (omega (arith, few)) none_stood run
-    (run_stood alone connects no_line asked points n fit
-    (omega (arith, few)) none_stood run honest) honest none_watched
+    run_agrees alone no_line asked points n [] fit few none_stood run
+    (run_stood alone connects no_line asked points n fit few none_stood run honest) honest none_watched
     watched none_agreed none_never
 
 -- ---- the next line behind a run
@@ -329,7 +327,7 @@ replay_agrees alone connects asked points n fit few run honest watched =
 -- behind a whole run
 behind_run : (alone : SaysAlone) (s : LineState) (asked : List ScriptLine) (points : List Point)
     (past : List Happening)
-    → ConnectsBear → AllByRecursion IsFitLine asked → s.lines + length asked ≤ 1000000 → Stood s
+    → ConnectsBear → AllByRecursion IsFitLine asked → IsShort s points → Stood s
     → IsRun s asked points
     → has_lie points ≡ false → IsWatched s → AreWatched points → ((id : ℕ) → Agreed id s past)
     → ((id j : ℕ) → Never id j s past)
@@ -357,12 +355,11 @@ behind_run alone s (line ∷ asked)
     let first : tells_lie point.told ≡ false =
     (or_parts (tells_lie point.told) (has_lie points) honest).0 in
     let rest : has_lie points ≡ false = (or_parts (tells_lie point.told) (has_lie points) honest).1 in
-    let here : s.lines + 1 ≤ 1000000 = omega (arith, few) in
+    let here : s.lines + 1 ≤ 1000000 = few.0 in
     let stood : Stood point.after =
     line_stood alone connects
     (s.lines + 1) line s point.after point.told refl here fit.0 first was run.0 in
-    let left : point.after.lines + length asked ≤ 1000000 =
-    omega (arith, few, steps-lines (s.lines + 1) line s point.after point.told run.0) in
+    let left : IsShort point.after points = few.1 in
     let next : (id : ℕ) → Agreed id point.after (past ++ point.told) =
     λ id. steps_agree alone id (s.lines + 1) line s point.after point.told past was stood
     (lines_few point.after stood)
@@ -412,16 +409,6 @@ lies_first (first ∷ points) point is =
       none_both false b one two = two
       none_both true b one two = one
 
-pub run_lines : (s : LineState) (asked : List ScriptLine) (points : List Point) → IsRun s asked points
-    → (state_behind s points).lines ≡ s.lines + length asked
-run_lines s [] [] run = omega arith
-run_lines s [] (point ∷ points) run = absurd run
-run_lines s (line ∷ asked) [] run = absurd run
-run_lines s (line ∷ asked) (point ∷ points) run =
-    let later = run_lines point.after asked points run.1 in
-    let one = steps-lines (s.lines + 1) line s point.after point.told run.0 in
-    omega (arith, later, one)
-
 next_agrees : (alone : SaysAlone) → ConnectsBear
     → (line : ScriptLine) (after : LineState) (told : List Happening)
     (asked : List ScriptLine) (points : List Point) → AllByRecursion IsFitLine asked
@@ -440,9 +427,7 @@ next_agrees alone connects line after told asked points fit fits few run steps n
     honest_run (asked ++ line ∷ []) (points ++ point ∷ []) after whole
     (behind_more no_line points point) none in
     let parts = lies_first points point honest in
-    let count : (state_behind no_line points).lines ≡ 0 + length asked =
-    run_lines no_line asked points run in
-    let within : 0 + length asked ≤ 1000000 = omega (arith, count, few) in
+    let within : IsShort no_line points = short-behind no_line asked points run few in
     let before =
     behind_run alone no_line asked points [] connects fit within none_stood run parts.0
     none_watched seen none_agreed

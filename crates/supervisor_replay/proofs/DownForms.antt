@@ -970,10 +970,10 @@ effect_free alone id k number request t before next told few fit st waits free
 -- ---- EACH LINE
 
 -- the line is counted, and the standings that changed are told
-counted_free : (id k : ℕ) (next : LineState) (a b : List Happening) → done_by (k + 1) b ≡ []
-    → StaysFree id k next a → StaysFree id k (record next { lines = next.lines + 1 }) (a ++ b)
-counted_free id k next a b none one =
-    let now : LineState = record next { lines = next.lines + 1 } in
+counted_free : (id k lines : ℕ) (next : LineState) (a b : List Happening) → done_by (k + 1) b ≡ []
+    → StaysFree id k next a → StaysFree id k (record next { lines = lines }) (a ++ b)
+counted_free id k lines next a b none one =
+    let now : LineState = record next { lines = lines } in
     let same : done_by (k + 1) (a ++ b) ≡ done_by (k + 1) a =
     done_append (k + 1) a b ∙ ap (λ (l : List Act). done_by (k + 1) a ++ l) none ∙ append-nil
     (done_by (k + 1) a) in
@@ -999,6 +999,6 @@ line_free alone id k number line t before after told few fit st waits steps free
     (fit_request line fit) st waits free (line_effect number line before next steps.done steps.does)
     in
     subst (λ (s : LineState). StaysFree id k s told) (sym steps.after_is)
-    (subst (λ (l : List Happening). StaysFree id k (record next { lines = next.lines + 1 }) l)
-    (sym steps.told_is) (counted_free id k next steps.done (standings_told before next)
+    (subst (λ (l : List Happening). StaysFree id k (record next { lines = steps.lines }) l)
+    (sym steps.told_is) (counted_free id k steps.lines next steps.done (standings_told before next)
     (standings_none (k + 1) before next) one))

@@ -38,7 +38,7 @@ use Rattle.standings.specs.declared.mark.Mark.{Mark}
 use Rattle.standings.specs.declared.mark.Mark.TheVariants.{Kept, Outlet, Intake}
 use Rattle.line_step.specs.Lies.{has_lie}
 use Rattle.line_step.specs.Numbered.{node_at}
-use Rattle.line_step.specs.Runs.{IsRun, Point}
+use Rattle.line_step.specs.Runs.{IsRun, Point, IsShort}
 use Rattle.line_step.specs.State.{LineState, marks_in, no_line}
 use Rattle.one_standing.specs.Facts.{is_taken_at}
 use Rattle.one_standing.specs.Standing.{IsFitLine, is_held_at, is_kept_at}
@@ -161,5 +161,5 @@ KeepAgreeing past (point ∷ points) =
 abbrev pub ReplayAgrees : Type 0
 ReplayAgrees =
     (asked : List ScriptLine) (points : List Point) (n : ℕ) → AllByRecursion IsFitLine asked
-    → length asked ≤ 1000000 → IsRun no_line asked points → has_lie (take n points) ≡ false
+    → IsShort no_line points → IsRun no_line asked points → has_lie (take n points) ≡ false
     → AreWatched (take n points) → KeepAgreeing [] (take n points)

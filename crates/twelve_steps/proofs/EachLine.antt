@@ -248,6 +248,7 @@ IsAskedElsewhere k (requests.gives machine input) = IsElsewhere k machine
 IsAskedElsewhere k (requests.connects machine) = IsElsewhere k machine
 IsAskedElsewhere k (requests.flows machine side count) = IsElsewhere k machine
 IsAskedElsewhere k (requests.cuts gap) = gap ≢ k
+IsAskedElsewhere k (requests.stops machine) = IsElsewhere k machine
 IsAskedElsewhere k (requests.spoils machine side) = IsElsewhere k machine
 IsAskedElsewhere k (requests.moves_on gap step) = gap ≢ k
 IsAskedElsewhere k _ = ⊥

@@ -2,7 +2,6 @@
 use Rattle.std.proofs.Common.{Bool, List, [], arith, eqb-true, false, length, refl, subst, sym, true, ℕ, ◌+◌, ◌==◌, ◌||◌, ◌∷◌, ◌≡◌, ◌≤◌}
 use Rattle.std.specs.List.{AllByRecursion}
 use Rattle.std.proofs.lemmas.Bool.{and_parts, or_parts}
-use Rattle.line_step.proofs.Counted.{steps-lines}
 use Rattle.board_record.specs.declared.record.Record.{Record}
 use Rattle.line_script.specs.declared.line.ScriptLine.{ScriptLine}
 use Rattle.line_script.specs.declared.line.ScriptLine.TheVariants as lines
@@ -14,7 +13,7 @@ use Rattle.node_core.specs.declared.act.Deed.TheVariants as deeds
 use Rattle.line_step.specs.Lies.{has_lie, tells_lie}
 use Rattle.line_step.specs.Lines.{LineSteps}
 use Rattle.line_step.specs.Numbered.{node_at}
-use Rattle.line_step.specs.Runs.{IsRun, Point, state_behind}
+use Rattle.line_step.specs.Runs.{IsRun, Point, state_behind, IsShort}
 use Rattle.line_step.specs.State.{LineState}
 use Rattle.one_standing.specs.Standing.{IsFitLine}
 use Rattle.one_standing.proofs.Carrying.{SaysAlone}
@@ -92,15 +91,15 @@ unless_next : (over : Bool) (Held Kept : Type 0) → (Held → Kept) → Unless 
 unless_next true Held Kept next held = tt
 unless_next false Held Kept next held = next held
 
-pub run_keeps : SaysAlone → ConnectsBear → (k : ℕ) (board : Record) (lines : List ScriptLine) (points : List Point) (settled : Bool) (s : LineState) → Stood s → AreOffered s → AllByRecursion IsFitLine lines → s.lines + length lines ≤ 1000000 → IsRun s lines points → AreUndisturbed k lines → has_lie points ≡ false
+pub run_keeps : SaysAlone → ConnectsBear → (k : ℕ) (board : Record) (lines : List ScriptLine) (points : List Point) (settled : Bool) (s : LineState) → Stood s → AreOffered s → AllByRecursion IsFitLine lines → IsShort s points → IsRun s lines points → AreUndisturbed k lines → has_lie points ≡ false
     → HoldsItToEnd k board settled s points → KeepsItToEnd k board settled points
 run_keeps alone connects k board lines [] settled s stood offered fit few run calm honest holds = tt
 run_keeps alone connects k board [] (point ∷ points) settled s stood offered fit few run calm honest holds = absurd run
 run_keeps alone connects k board (line ∷ lines) (point ∷ points) settled s stood offered fit few run (more calm others) honest holds =
-    let here : s.lines + 1 ≤ 1000000 = omega (arith, few) in
+    let here : s.lines + 1 ≤ 1000000 = few.0 in
     let first : tells_lie point.told ≡ false = (or_parts (tells_lie point.told) (has_lie points) honest).0 in
     let after : Stood point.after = line_stood alone connects (s.lines + 1) line s point.after point.told refl here fit.0 first stood run.0 in
-    let behind : point.after.lines + length lines ≤ 1000000 = omega (arith, few, steps-lines (s.lines + 1) line s point.after point.told run.0) in
+    let behind : IsShort point.after points = few.1 in
     let now : Bool = settled || tells_settled k board.id point.told in (
       line_keeps line point calm offered holds.0 run.0,
       unless_next (has_ended k now point.after) (HoldsItToEnd k board now point.after points) (KeepsItToEnd k board now points)
@@ -108,13 +107,13 @@ run_keeps alone connects k board (line ∷ lines) (point ∷ points) settled s s
     )
 
 -- what is offered, along the script before
-pub behind_offered : SaysAlone → ConnectsBear → (asked : List ScriptLine) (points : List Point) (s : LineState) → Stood s → AreOffered s → AllByRecursion IsFitLine asked → s.lines + length asked ≤ 1000000 → IsRun s asked points → has_lie points ≡ false → AreOffered (state_behind s points)
+pub behind_offered : SaysAlone → ConnectsBear → (asked : List ScriptLine) (points : List Point) (s : LineState) → Stood s → AreOffered s → AllByRecursion IsFitLine asked → IsShort s points → IsRun s asked points → has_lie points ≡ false → AreOffered (state_behind s points)
 behind_offered alone connects [] [] s stood offered fit few run honest = offered
 behind_offered alone connects [] (point ∷ points) s stood offered fit few run honest = absurd run
 behind_offered alone connects (line ∷ asked) [] s stood offered fit few run honest = absurd run
 behind_offered alone connects (line ∷ asked) (point ∷ points) s stood offered fit few run honest =
-    let here : s.lines + 1 ≤ 1000000 = omega (arith, few) in
+    let here : s.lines + 1 ≤ 1000000 = few.0 in
     let first : tells_lie point.told ≡ false = (or_parts (tells_lie point.told) (has_lie points) honest).0 in
     let after : Stood point.after = line_stood alone connects (s.lines + 1) line s point.after point.told refl here fit.0 first stood run.0 in
-    let behind : point.after.lines + length asked ≤ 1000000 = omega (arith, few, steps-lines (s.lines + 1) line s point.after point.told run.0) in
+    let behind : IsShort point.after points = few.1 in
     behind_offered alone connects asked points point.after after (line_are_offered (s.lines + 1) line s point.after point.told stood after run.0 offered) fit.1 behind run.1 (or_parts (tells_lie point.told) (has_lie points) honest).1

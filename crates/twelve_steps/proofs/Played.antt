@@ -48,6 +48,7 @@ use Rattle.twelve_steps.specs.Example.{IsReachedAnnounced, announced_line, board
 use Rattle.twelve_steps.proofs.Example.{is_announced, offer_one, place_one, said_fits}
 use Rattle.one_standing.proofs.Mirroring.{moment_fits}
 use Rattle.twelve_steps.proofs.Texts.{sayable_one}
+use Rattle.line_step.proofs.Counted.{rises}
 use Rattle.line_step.proofs.Ascending.{choose_true, choose_false, not_itself}
 
 -- ---- the step of a machine, computed: no bytes wait behind it
@@ -251,6 +252,8 @@ run_3 alone =
         second = steps_by 3 1 inputs.Accepted [] met_3 refl (refl, refl);
         told_is = refl;
       };
+      lines = 3;
+      counts = rises 2;
       after_is = ap (λ (l : LinkParts). shape (node_at next_3 1) (node_at next_3 2) l line_2.world.floor 3) (sym sends.link_is);
       told_is = ap (λ (s : Sent). happenings.Done 2 acts.Connects ∷ happenings.Done 2 (acts.Sends Entry below) ∷ (((cut_told 1 s ++ []) ++ []) ++ [])) (sym sends.sent_is);
     }
@@ -263,6 +266,8 @@ run_4 alone =
       next = next_4;
       done = told_4;
       does = record { piece = piece_4; bytes = piece_whole (canonical below); steps = steps_by 4 1 (inputs.Bytes Exit piece_4) (Says below ∷ []) start_4 refl (hears_one alone below below_fits (canonical below) refl _, refl) };
+      lines = 4;
+      counts = rises 3;
       after_is = ap (λ (l : LinkParts). shape (node_at next_4 1) (node_at next_4 2) l line_2.world.floor 4) (sym (ap (λ (l : LinkParts). after_send Upstream (canonical above) l) flows ∙ sends.link_is));
       told_is = ap (λ (s : Sent). happenings.Done 1 (acts.Hears Exit below) ∷ happenings.Done 1 (acts.Sends Exit above) ∷ ((cut_told 1 s ++ []) ++ [])) (sym (ap (λ (l : LinkParts). sent_of Upstream (canonical above) l) flows ∙ sends.sent_is));
     }
@@ -275,6 +280,8 @@ run_5 alone =
       next = next_5;
       done = told_5;
       does = record { piece = piece_5; bytes = piece_whole (canonical above); steps = steps_by 5 2 (inputs.Bytes Entry piece_5) (Says above ∷ []) start_5 refl (hears_one alone above above_fits (canonical above) refl _, refl) };
+      lines = 5;
+      counts = rises 4;
       after_is = ap (λ (l : LinkParts). shape (node_at next_5 1) (node_at next_5 2) l line_2.world.floor 5) (sym (ap (λ (l : LinkParts). after_send Downstream (canonical place_told) l) flows ∙ sends.link_is));
       told_is = ap (λ (s : Sent). happenings.Done 2 (acts.Hears Entry above) ∷ happenings.Done 2 (acts.Sends Entry place_told) ∷ ((cut_told 1 s ++ []) ++ [])) (sym (ap (λ (l : LinkParts). sent_of Downstream (canonical place_told) l) flows ∙ sends.sent_is));
     }
@@ -286,6 +293,8 @@ run_6 alone =
       next = next_6;
       done = told_6;
       does = steps_by 6 1 (inputs.Insert None) [] line_5 refl (refl, refl);
+      lines = 6;
+      counts = rises 5;
       after_is = ap (λ (l : LinkParts). shape machine_above machine_below l announced_line.world.floor 6) (sym sends.link_is);
       told_is = ap (λ (s : Sent). happenings.Done 1 (acts.Inserts first_board) ∷ happenings.Done 1 (acts.Sends Exit board_offered) ∷ ((cut_told 1 s ++ []) ++ happenings.With 1 first_board ∷ [])) (sym sends.sent_is);
     }
@@ -301,9 +310,9 @@ is_reached_announced alone = record {
       ∷ record { told = happenings.Done 1 (acts.Inserts first_board) ∷ happenings.Done 1 (acts.Sends Exit board_offered) ∷ happenings.With 1 first_board ∷ []; after = announced_line }
       ∷ [];
   run = (
-    record { next = one_more false 4 0 no_line; done = happenings.Machine 1 4 ∷ []; does = record { after_is = refl; told_is = refl }; after_is = refl; told_is = refl },
+    record { next = one_more false 4 0 no_line; done = happenings.Machine 1 4 ∷ []; does = record { after_is = refl; told_is = refl }; lines = 1; counts = rises 0; after_is = refl; told_is = refl },
     (
-      record { next = one_more false 4 0 line_1; done = happenings.Machine 2 4 ∷ []; does = record { after_is = refl; told_is = refl }; after_is = refl; told_is = refl },
+      record { next = one_more false 4 0 line_1; done = happenings.Machine 2 4 ∷ []; does = record { after_is = refl; told_is = refl }; lines = 2; counts = rises 1; after_is = refl; told_is = refl },
       (run_3 alone, (run_4 alone, (run_5 alone, (run_6 alone, tt)))),
     ),
   );

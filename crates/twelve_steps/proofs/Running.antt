@@ -3,7 +3,6 @@ use Rattle.std.proofs.Common.{Bool, List, Some, [], ap, arith, false, length, re
 use Rattle.std.specs.Prelude.{not}
 use Rattle.std.specs.List.{AllByRecursion}
 use Rattle.std.proofs.lemmas.Bool.{or_parts, and_from}
-use Rattle.line_step.proofs.Counted.{steps-lines}
 use Rattle.board_record.specs.declared.record.Record.{Record}
 use Rattle.handover_out.specs.State.{is_idle_phase}
 use Rattle.handover_in.specs.State.{board_of_phase}
@@ -13,7 +12,7 @@ use Rattle.line_report.specs.declared.happening.Happening.{Happening}
 use Rattle.line_step.specs.Lies.{has_lie, tells_lie}
 use Rattle.line_step.specs.Lines.{LineSteps}
 use Rattle.line_step.specs.Numbered.{node_at}
-use Rattle.line_step.specs.Runs.{IsRun, Point}
+use Rattle.line_step.specs.Runs.{IsRun, Point, IsShort}
 use Rattle.line_step.specs.Shown.{standings_told}
 use Rattle.line_step.specs.State.{LineState}
 use Rattle.line_step.proofs.Keeps.{lines_stay}
@@ -65,12 +64,12 @@ pub one_line : {k : ℕ} {id : Record} {left : ℕ} {told : Bool} {s after : Lin
 one_line {k = k} {id = id} {left = left} {told = told} {s = s} {after = after} {what = what} alone line calm few st stood after_stood steps =
     let next : LineState = steps.next in
     let lines_same : next.lines ≡ s.lines = lines_stay (s.lines + 1) line s next steps.done steps.does in
-    let counted : Stood (record next { lines = next.lines + 1 }) = subst (λ (x : LineState). Stood x) steps.after_is after_stood in
-    let h : Had k id left (s.lines + 1) told s next = record { alone = alone; few = few; st = st; stood = stood; next_stood = uncounted next (next.lines + 1) (omega (arith, lines_same, few)) counted } in
+    let counted : Stood (record next { lines = steps.lines }) = subst (λ (x : LineState). Stood x) steps.after_is after_stood in
+    let h : Had k id left (s.lines + 1) told s next = record { alone = alone; few = few; st = st; stood = stood; next_stood = uncounted next steps.lines (omega (arith, lines_same, few)) counted } in
     let goes : Goes k id left told s line next steps.done = each_line line calm h steps.does in
     let first = outcome_later (or_more told (tells_settled k id.id steps.done) (tells_settled k id.id what) (λ is. ap (λ (hs : List Happening). tells_settled k id.id hs) steps.told_is ∙ settled_append k id.id steps.done (standings_told s next) is)) goes.out in
     let less = outcome_less (one_if (is_link_step k s line what)) (fewer_step (is_of_link k s line) (tells_no steps.done) (tells_no what) (λ is. ap (λ (hs : List Happening). tells_no hs) steps.told_is ∙ no_append steps.done (standings_told s next) is)) first in
-    subst (λ (x : LineState). Outcome k id left (one_if (is_link_step k s line what)) (told || tells_settled k id.id what) x) (sym steps.after_is) (counted_outcome next (next.lines + 1) less)
+    subst (λ (x : LineState). Outcome k id left (one_if (is_link_step k s line what)) (told || tells_settled k id.id what) x) (sym steps.after_is) (counted_outcome next steps.lines less)
 
 -- ---- the stretch
 
@@ -123,14 +122,14 @@ by_outcome {k = k} {id = id} {left = left} {told = told} {s = s} line lines poin
       holds = (holds, all_of (has_ended k told_now point.after) (HoldsItToEnd k id told_now point.after points) (λ off. absurd (let no : true ≡ false = sym over ∙ off in cc)));
     }
 
-pub run_ends : {k : ℕ} {id : Record} → SaysAlone → ConnectsBear → (lines : List ScriptLine) (points : List Point) (left : ℕ) (told : Bool) (s : LineState) → Stage k id left told s → Stood s → AllByRecursion IsFitLine lines → s.lines + length lines ≤ 1000000 → IsRun s lines points → AreUndisturbed k lines → has_lie points ≡ false → Ends left k id told s lines points
+pub run_ends : {k : ℕ} {id : Record} → SaysAlone → ConnectsBear → (lines : List ScriptLine) (points : List Point) (left : ℕ) (told : Bool) (s : LineState) → Stage k id left told s → Stood s → AllByRecursion IsFitLine lines → IsShort s points → IsRun s lines points → AreUndisturbed k lines → has_lie points ≡ false → Ends left k id told s lines points
 run_ends alone connects [] [] left told s st stood fit few run calm honest = record { few = omega arith; possible = can_go_on st stood; holds = holds_it st }
 run_ends alone connects [] (point ∷ points) left told s st stood fit few run calm honest = absurd run
 run_ends alone connects (line ∷ lines) [] left told s st stood fit few run calm honest = absurd run
 run_ends {k = k} {id = id} alone connects (line ∷ lines) (point ∷ points) left told s st stood fit few run (more one others) honest =
-    let here : s.lines + 1 ≤ 1000000 = omega (arith, few) in
+    let here : s.lines + 1 ≤ 1000000 = few.0 in
     let first : tells_lie point.told ≡ false = (or_parts (tells_lie point.told) (has_lie points) honest).0 in
     let after : Stood point.after = line_stood alone connects (s.lines + 1) line s point.after point.told refl here fit.0 first stood run.0 in
-    let behind : point.after.lines + length lines ≤ 1000000 = omega (arith, few, steps-lines (s.lines + 1) line s point.after point.told run.0) in
+    let behind : IsShort point.after points = few.1 in
     by_outcome line lines point points (can_go_on st stood) (holds_it st) (one_line alone line one here st stood after run.0)
     (λ now stage. run_ends alone connects lines points now (told || tells_settled k id.id point.told) point.after stage after fit.1 behind run.1 others (or_parts (tells_lie point.told) (has_lie points) honest).1)

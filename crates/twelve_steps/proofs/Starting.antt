@@ -4,7 +4,6 @@ use Rattle.std.proofs.lemmas.List.{take-append-drop}
 use Rattle.std.specs.List.{AllByRecursion}
 use Rattle.std.specs.Prelude.{is_some, slice_get}
 use Rattle.std.proofs.lemmas.Bool.{or_parts}
-use Rattle.line_step.proofs.Counted.{steps-lines}
 use Rattle.board_record.specs.declared.record.Record.{Record}
 use Rattle.hermes_horizontal.specs.Canonical.{canonical}
 use Rattle.hermes_horizontal.specs.declared.message.Horizontal.{Horizontal}
@@ -44,7 +43,7 @@ use Rattle.link_messages.specs.Heard.{bodies}
 use Rattle.line_step.specs.Lies.{has_lie, tells_lie}
 use Rattle.line_step.specs.Numbered.{node_at}
 use Rattle.line_step.specs.Reasons.{has_link}
-use Rattle.line_step.specs.Runs.{IsRun, Point, state_behind}
+use Rattle.line_step.specs.Runs.{IsRun, Point, state_behind, IsShort}
 use Rattle.line_step.specs.State.{LineState, no_line}
 use Rattle.line_step.specs.World.{link_at}
 use Rattle.one_standing.specs.Places.{at_machine, lies_at}
@@ -250,22 +249,16 @@ announced_stage {k = k} {id = id} {s = s} alone stood heeds is =
 
 -- ---- along the script
 
-behind_stood : SaysAlone → ConnectsBear → (asked : List ScriptLine) (points : List Point) (s : LineState) → Stood s → AllByRecursion IsFitLine asked → s.lines + length asked ≤ 1000000 → IsRun s asked points → has_lie points ≡ false → Stood (state_behind s points)
+behind_stood : SaysAlone → ConnectsBear → (asked : List ScriptLine) (points : List Point) (s : LineState) → Stood s → AllByRecursion IsFitLine asked → IsShort s points → IsRun s asked points → has_lie points ≡ false → Stood (state_behind s points)
 behind_stood alone connects [] [] s stood fit few run honest = stood
 behind_stood alone connects [] (point ∷ points) s stood fit few run honest = absurd run
 behind_stood alone connects (line ∷ asked) [] s stood fit few run honest = absurd run
 behind_stood alone connects (line ∷ asked) (point ∷ points) s stood fit few run honest =
-    let here : s.lines + 1 ≤ 1000000 = omega (arith, few) in
+    let here : s.lines + 1 ≤ 1000000 = few.0 in
     let first : tells_lie point.told ≡ false = (or_parts (tells_lie point.told) (has_lie points) honest).0 in
     let after : Stood point.after = line_stood alone connects (s.lines + 1) line s point.after point.told refl here fit.0 first stood run.0 in
-    let behind : point.after.lines + length asked ≤ 1000000 = omega (arith, few, steps-lines (s.lines + 1) line s point.after point.told run.0) in
+    let behind : IsShort point.after points = few.1 in
     behind_stood alone connects asked points point.after after fit.1 behind run.1 (or_parts (tells_lie point.told) (has_lie points) honest).1
-
-behind_lines : (asked : List ScriptLine) (points : List Point) (s : LineState) → IsRun s asked points → (state_behind s points).lines ≡ s.lines + length asked
-behind_lines [] [] s run = omega arith
-behind_lines [] (point ∷ points) s run = absurd run
-behind_lines (line ∷ asked) [] s run = absurd run
-behind_lines (line ∷ asked) (point ∷ points) s run = omega (arith, behind_lines asked points point.after run.1, steps-lines (s.lines + 1) line s point.after point.told run.0)
 
 fit_front : (asked stretch : List ScriptLine) → AllByRecursion IsFitLine (asked ++ stretch) → AllByRecursion IsFitLine asked × AllByRecursion IsFitLine stretch
 fit_front [] stretch fit = (tt, fit)
@@ -280,18 +273,17 @@ front_same kept a board first found =
 
 -- THE LAW
 pub twelve_steps : SaysAlone → ConnectsBear → EndsWithinTwelveSteps
-twelve_steps alone connects asked stretch earlier points k id fit few run honest then_run calm then_honest is =
+twelve_steps alone connects asked stretch earlier points k id fit few short run honest then_run calm then_honest is =
     let fits = fit_front asked stretch fit in
-    let stood : Stood (state_behind no_line earlier) = behind_stood alone connects asked earlier no_line none_stood fits.0 (omega (arith, few)) run honest in
+    let stood : Stood (state_behind no_line earlier) = behind_stood alone connects asked earlier no_line none_stood fits.0 few run honest in
     let heeds : HeedsAll (state_behind no_line earlier) = run_heeds asked earlier no_line none_heeds run in
-    let count = behind_lines asked earlier no_line run in
     let s : LineState = state_behind no_line earlier in
     let front = first_of (node_at s k).lane.body.kept id is.front in
-    let ends : Ends 12 k front.0 false s stretch points = run_ends alone connects stretch points 12 false s (announced_stage alone stood heeds is) stood fits.1 (omega (arith, few, count)) then_run calm then_honest in
+    let ends : Ends 12 k front.0 false s stretch points = run_ends alone connects stretch points 12 false s (announced_stage alone stood heeds is) stood fits.1 short then_run calm then_honest in
     record {
       few = subst (λ (n : ℕ). steps_to_end k n false s stretch points ≤ 12) front.2 ends.few;
       possible = subst (λ (n : ℕ). CanGoOnToEnd k n false s points) front.2 ends.possible;
       held = λ board found. subst (λ (r : Record). HoldsItToEnd k r false s points) (front_same (node_at s k).lane.body.kept front.0 board front.1 found) ends.holds;
       kept = λ board found. subst (λ (r : Record). KeepsItToEnd k r false points) (front_same (node_at s k).lane.body.kept front.0 board front.1 found)
-          (run_keeps alone connects k front.0 stretch points false s stood (behind_offered alone connects asked earlier no_line none_stood none_are_offered fits.0 (omega (arith, few)) run honest) fits.1 (omega (arith, few, count)) then_run calm then_honest ends.holds);
+          (run_keeps alone connects k front.0 stretch points false s stood (behind_offered alone connects asked earlier no_line none_stood none_are_offered fits.0 few run honest) fits.1 short then_run calm then_honest ends.holds);
     }

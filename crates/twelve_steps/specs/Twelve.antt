@@ -17,7 +17,7 @@ use Rattle.node_core.specs.declared.act.Act.TheVariants as acts
 use Rattle.node_core.specs.declared.act.Deed.TheVariants as deeds
 use Rattle.line_step.specs.Lies.{has_lie}
 use Rattle.line_step.specs.Numbered.{node_at}
-use Rattle.line_step.specs.Runs.{IsRun, Point, state_behind}
+use Rattle.line_step.specs.Runs.{IsRun, Point, state_behind, IsShort}
 use Rattle.line_step.specs.State.{LineState, no_line}
 use Rattle.one_standing.specs.Standing.{IsFitLine}
 use Rattle.line_history.specs.Offered.{IsLast}
@@ -112,7 +112,8 @@ pub record EndsWithin (most k id : ℕ) (s : LineState) (lines : List ScriptLine
 abbrev pub EndsWithinTwelveSteps : Type 0
 EndsWithinTwelveSteps =
     (asked stretch : List ScriptLine) (earlier points : List Point) (k id : ℕ)
-    → AllByRecursion IsFitLine (asked ++ stretch) → length asked + length stretch ≤ 1000000
+    → AllByRecursion IsFitLine (asked ++ stretch) → IsShort no_line earlier
+    → IsShort (state_behind no_line earlier) points
     → IsRun no_line asked earlier → has_lie earlier ≡ false
     → IsRun (state_behind no_line earlier) stretch points → AreUndisturbed k stretch
     → has_lie points ≡ false → IsAnnounced (state_behind no_line earlier) k id

@@ -91,6 +91,7 @@ NamesElsewhere k (lines.Notice machine side) = IsElsewhere k machine
 NamesElsewhere k (lines.Cut gap) = gap ≢ k
 NamesElsewhere k (lines.Spoil machine side) = IsElsewhere k machine
 NamesElsewhere k (lines.Shutdown machine) = IsElsewhere k machine
+NamesElsewhere k (lines.Stop machine) = IsElsewhere k machine
 NamesElsewhere k (lines.Tick machine) = IsElsewhere k machine
 NamesElsewhere k (lines.Fault machine side) = IsElsewhere k machine
 NamesElsewhere k (lines.Begin gap) = gap ≢ k

@@ -5,6 +5,7 @@ use Rattle.std.specs.Prelude.{if◌then◌else◌}
 use Rattle.std.proofs.lemmas.List.{length-take-le}
 use Rattle.line_script.specs.declared.line.ScriptLine.{ScriptLine}
 use Rattle.line_step.specs.Runs.{IsRun, Point, state_behind}
+use Rattle.line_step.proofs.Running.{run-short}
 use Rattle.line_step.specs.State.{LineState, no_line}
 use Rattle.line_step.proofs.Numbers.{beyond_or_not}
 use Rattle.line_step.proofs.Running.{run-append}
@@ -200,10 +201,10 @@ fit_both [] others one two = two
 fit_both (line ∷ asked) others one two = (one.0, fit_both asked others one.1 two)
 
 pub whoever_ends : EndsWithinTwelveSteps → EndsForWhoeverGoesOn
-whoever_ends law asked earlier k id fit few run honest announced =
+whoever_ends law asked earlier k id fit short few run honest announced =
     let s = state_behind no_line earlier in
     let of_plays : OfPlays k id s =
-    λ lines points short play. law asked lines earlier points k id (fit_both asked lines fit (play_fit k s lines points play.enabled)) (omega (arith, few, short)) run honest play.run (play_calm k s lines points play.enabled)
+    λ lines points brief play. law asked lines earlier points k id (fit_both asked lines fit (play_fit k s lines points play.enabled)) short (run-short s lines points play.run (omega (arith, few, brief))) run honest play.run (play_calm k s lines points play.enabled)
     (play_honest k s lines points play.run play.enabled) announced in
     record {
       ends = each_play k id s of_plays;

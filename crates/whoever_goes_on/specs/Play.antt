@@ -8,7 +8,7 @@ use Rattle.std.specs.Prelude.{Bool, List, [], false, length, suc, true, zero, �
 use Rattle.std.specs.List.{AllByRecursion}
 use Rattle.line_script.specs.declared.line.ScriptLine.{ScriptLine}
 use Rattle.line_step.specs.Lies.{has_lie}
-use Rattle.line_step.specs.Runs.{IsRun, Point, state_behind}
+use Rattle.line_step.specs.Runs.{IsRun, Point, state_behind, IsShort}
 use Rattle.line_step.specs.State.{LineState, no_line}
 use Rattle.one_report.specs.Steps.{HasStep}
 use Rattle.one_standing.specs.Standing.{IsFitLine}
@@ -69,6 +69,7 @@ pub record WhoeverGoesOn (most k id : ℕ) (s : LineState) : Type 0 where
 abbrev pub EndsForWhoeverGoesOn : Type 0
 EndsForWhoeverGoesOn =
     (asked : List ScriptLine) (earlier : List Point) (k id : ℕ) → AllByRecursion IsFitLine asked
-    → length asked + 12 < 1000000 → IsRun no_line asked earlier → has_lie earlier ≡ false
+    → IsShort no_line earlier → (state_behind no_line earlier).lines + 12 < 1000000
+    → IsRun no_line asked earlier → has_lie earlier ≡ false
     → IsAnnounced (state_behind no_line earlier) k id
     → WhoeverGoesOn 12 k id (state_behind no_line earlier)

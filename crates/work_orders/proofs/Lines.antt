@@ -210,18 +210,18 @@ turn_once number request before next told (turns.flows machine side count may di
 -- ---- THE LINE
 
 -- the count of lines is no answer
-counted_by : (before next : LineState) (machine query : ℕ) (words : List (List ℕ))
+counted_by : (before next : LineState) (lines machine query : ℕ) (words : List (List ℕ))
     → Answers before next machine query words
-    → Answers before (record next { lines = next.lines + 1 }) machine query words
-counted_by before next machine query [] same = same
-counted_by before next machine query (word ∷ []) gets =
+    → Answers before (record next { lines = lines }) machine query words
+counted_by before next lines machine query [] same = same
+counted_by before next lines machine query (word ∷ []) gets =
     record { asked = gets.asked; unanswered = gets.unanswered; kept = gets.kept }
-counted_by before next machine query (_ ∷ (_ ∷ _)) never = absurd never
+counted_by before next lines machine query (_ ∷ (_ ∷ _)) never = absurd never
 
 pub line_once : EachLineAnswersOnce
 line_once number line before after told steps =
     let next : LineState = steps.next in
-    let counted : LineState = record next { lines = next.lines + 1 } in
+    let counted : LineState = record next { lines = steps.lines } in
     once_of before after told (λ machine query.
     subst (λ (s : LineState). Answers before s machine query (answers_of machine query told))
     (sym steps.after_is)
@@ -231,6 +231,6 @@ line_once number line before after told steps =
     ∙ ap (λ (words : List (List ℕ)). answers_of machine query steps.done ++ words)
     (remarks_silent (standings_told before next) (standings_remarks before next) machine query)
     ∙ append-nil (answers_of machine query steps.done)))
-    (counted_by before next machine query (answers_of machine query steps.done)
+    (counted_by before next steps.lines machine query (answers_of machine query steps.done)
     (turn_once number (request_of line) before next steps.done
     (line_turns number line before next steps.done steps.does) machine query))))

@@ -1,102 +1,111 @@
-use Rattle.std.proofs.Common.{◌≡◌, ◌∙◌, ◌+◌, ◌++◌, false, List, ap, map, refl, subst, sym}
-use Rattle.node_core.specs.Node.{NodeState}
-use Rattle.standings.specs.Marks.{Owned}
-use Rattle.line_step.specs.Lines.{LineSteps}
-use Rattle.line_step.specs.Named.{ids_named}
-use Rattle.line_step.specs.State.{LineState, owned, owned_by}
-use Rattle.line_step.proofs.Keeps.{does_together}
-use Rattle.line_engine.specs.Indexed.{IsIndexOf}
-use Rattle.line_engine.specs.Kept.{IsKept}
-use Rattle.line_engine.specs.Stepped.{changed_told}
-use Rattle.line_engine.proofs.Behind.{step_blames, step_contents}
+use Rattle.std.proofs.Common.{List, None, ap, subst, sym, ◌+◌, ◌∙◌, ◌≡◌, ◌≤◌, ℕ}
+use Rattle.std.proofs.lemmas.Result.{IfOk-weaker}
+use Rattle.first_in_first_out.specs.Along.{GoInOrder}
+use Rattle.line_bounds.specs.Within.{IsBounded}
+use Rattle.line_report.specs.declared.happening.Happening.{Happening}
+use Rattle.line_step.specs.Parts.{ScriptLineSteps}
+use Rattle.line_step.specs.State.{LineState}
+use Rattle.line_step.proofs.Playing.{line-counted}
+use Rattle.one_standing.specs.Facts.{HasCustodyFacts}
+use Rattle.one_standing.specs.Reached.{FollowsLine, HasUniqueIds, IsReached}
+use Rattle.one_standing.specs.Standing.{HasOneStanding}
+use Rattle.supervisor_replay.specs.Along.{AgreesNext}
+use Rattle.work_orders.specs.Answers.{AnswersOnce}
+use Rattle.line_engine.specs.Blames.{BlamesOver}
+use Rattle.line_engine.specs.Contents.{KeepsContentsNext}
+use Rattle.line_engine.specs.Each.{OverEach}
+use Rattle.line_engine.specs.Opens.{OpensNext}
 use Rattle.line_engine.proofs.Bounded.{bounded_behind}
-use Rattle.line_engine.proofs.Followed.{follows_as}
-use Rattle.line_engine.proofs.Counted.{line_steps, steps_as}
-use Rattle.line_engine.proofs.Keeping.{Step, step_follows, step_keeps, step_opens, step_seen}
-use Rattle.line_engine.proofs.Orders.{step_orders}
-use Rattle.line_engine.proofs.Replayed.{step_replays}
+use Rattle.line_engine.proofs.Over.{Known, answers_over, blames_over, contents_over, follows_over, opens_over, orders_over, reached_over, replays_over}
 use Rattle.line_engine.proofs.line.Line.step.Goals as goal
-use Rattle.line_engine.proofs.line.Line.step.Goals.{After-unspent-2}
+use Rattle.line_engine.proofs.line.Line.step.Goals.{After-play}
 
-pub follow-requires-clause-few : goal.follow-requires-clause-few
-follow-requires-clause-few c =
-    rw c.machines.ensures (does_together c.args.number c.args.line.now c.self.inside.state c.do_line.new.self c.in_ok-told.told (c.self.invariant c.if-self.false).together c.in_ok-told.ensures).few
+-- what is known of the line behind which a run has led
+known : (c : After-play) (told : List Happening) → ScriptLineSteps c.args.line.now c.args.self.now c.play.new.self told → Known c.args.line.now c.args.self.now c.play.new.self told
+known c told steps = record {
+  reached = c.known.ensures;
+  fit = c.is_fit.ensures;
+  few = subst (λ (n : ℕ). n ≤ 1000000) c.requires.numbered c.requires.few;
+  steps = steps;
+}
 
--- the step from the state before to the state after it, and the index there
-step_of : (c : After-unspent-2) → Step c.args.number c.args.line.now c.self.inside.index c.self.inside.state c.follow.new.self c.count.new.self c.follow.new.told
-step_of c =
-    let kept : IsKept c.self.inside.index c.self.inside.state = c.self.invariant c.if-self.false in
-    let numbered : c.args.number ≡ c.self.inside.state.lines + 1 = subst (λ (s : LineState). c.args.number ≡ s.lines + 1) (sym c.self.view_is) c.requires.numbered in
-    let follows = follows_as c.args.number c.args.line.now c.self.inside.state c.do_line.new.self c.in_ok-told.told c.stepped.result.first c.stepped.result.last c.machines.result.now c.stepped.ensures.first c.stepped.ensures.last c.machines.ensures c.in_ok-told.ensures in
-    let told = c.in_ok-follow.ensures.told (owned c.self.inside.state) kept.index follows
-    ∙ ap (λ (nodes : List NodeState). c.in_ok-told.told ++ changed_told (ids_named c.in_ok-told.told) (owned c.self.inside.state) (map owned_by nodes)) c.machines.ensures in
-    let steps = line_steps c.args.number c.args.line.now c.self.inside.state c.do_line.new.self c.in_ok-told.told c.follow.new.told numbered c.in_ok-told.ensures told in
-    let index = c.in_ok-follow.ensures.index (owned c.self.inside.state) kept.index follows in
-    let laws = c.what_a_run_leads_to.ensures in
-    record {
-      laws = record { standing = laws.standing; custody = laws.custody; ids = laws.ids; ledger = laws.ledger };
-      numbered = numbered;
-      few = c.requires.few;
-      fit = c.is_fit.ensures;
-      kept = kept;
-      unspent = c.unspent-2.ensures;
-      steps = subst (λ (s : LineState). LineSteps c.args.number c.args.line.now c.self.inside.state s c.follow.new.told) (sym c.count.ensures) steps;
-      index = subst (λ (line : List Owned). IsIndexOf c.follow.new.self line) (ap (map owned_by) (c.machines.ensures ∙ sym (ap (λ (s : LineState). s.machines) c.count.ensures))) index;
-    }
+reached : (c : After-play) (told : List Happening) → ScriptLineSteps c.args.line.now c.args.self.now c.play.new.self told → IsReached c.play.new.self
+reached c told steps = reached_over c.args.line.now c.args.self.now c.play.new.self told (known c told steps)
 
-pub invariant_of-self-2 : goal.invariant_of-self-2
-invariant_of-self-2 c = λ unspent. step_keeps (step_of (goal.at.invariant_of-self-2 c).After-unspent-2)
-
-pub returns-clause-step : goal.returns-clause-step
-returns-clause-step c = rw (← c.self.view_is) (steps_as c.args.number c.args.line.now c.self.inside.state c.count.new.self c.follow.new.told c.self.inside.spent false c.unspent.ensures c.unspent-2.ensures c.if-self.false refl (step_of (goal.at.returns-clause-step c).After-unspent-2).steps)
+pub returns-clause-counted : goal.returns-clause-counted
+returns-clause-counted c =
+    let at = (goal.at.returns-clause-counted c).After-play in
+    IfOk-weaker c.play.result (λ told. ScriptLineSteps c.args.line.now c.args.self.now c.play.new.self told) (λ told. c.play.new.self.lines ≡ c.args.number)
+    (λ told steps. line-counted c.args.line.now c.args.self.now c.play.new.self told steps ∙ sym c.requires.numbered) c.play.ensures.step
 
 pub returns-clause-reached : goal.returns-clause-reached
-returns-clause-reached c = (step_seen (step_of (goal.at.returns-clause-reached c).After-unspent-2)).reached
+returns-clause-reached c =
+    let at = (goal.at.returns-clause-reached c).After-play in
+    IfOk-weaker c.play.result (λ told. ScriptLineSteps c.args.line.now c.args.self.now c.play.new.self told) (λ told. IsReached c.play.new.self)
+    (λ told steps. reached at told steps) c.play.ensures.step
 
 pub returns-clause-bounded : goal.returns-clause-bounded
 returns-clause-bounded c =
-    let kept = step_seen (step_of (goal.at.returns-clause-bounded c).After-unspent-2) in
-    bounded_behind c.a_line_stays_within_its_bounds.ensures.machines c.a_line_stays_within_its_bounds.ensures.links _ kept.reached
+    let at = (goal.at.returns-clause-bounded c).After-play in
+    IfOk-weaker c.play.result (λ told. ScriptLineSteps c.args.line.now c.args.self.now c.play.new.self told) (λ told. IsBounded c.play.new.self)
+    (λ told steps. bounded_behind c.a_line_stays_within_its_bounds.ensures.machines c.a_line_stays_within_its_bounds.ensures.links c.play.new.self (reached at told steps)) c.play.ensures.step
 
 pub returns-clause-standing : goal.returns-clause-standing
-returns-clause-standing c = (step_seen (step_of (goal.at.returns-clause-standing c).After-unspent-2)).standing
+returns-clause-standing c =
+    let at = (goal.at.returns-clause-standing c).After-play in
+    IfOk-weaker c.play.result (λ told. ScriptLineSteps c.args.line.now c.args.self.now c.play.new.self told) (λ told. c.play.new.self.unvouched ≡ None → HasOneStanding c.play.new.self)
+    (λ told steps. c.what_a_run_leads_to.ensures.standing c.play.new.self (reached at told steps)) c.play.ensures.step
 
 pub returns-clause-custody : goal.returns-clause-custody
-returns-clause-custody c = (step_seen (step_of (goal.at.returns-clause-custody c).After-unspent-2)).custody
-
-pub returns-clause-order : goal.returns-clause-order
-returns-clause-order c = λ none. rw (← c.self.view_is) (step_orders (step_of (goal.at.returns-clause-order c).After-unspent-2) c.each_line_keeps_the_order.ensures c.self.inside.spent c.if-self.false none)
+returns-clause-custody c =
+    let at = (goal.at.returns-clause-custody c).After-play in
+    IfOk-weaker c.play.result (λ told. ScriptLineSteps c.args.line.now c.args.self.now c.play.new.self told) (λ told. c.play.new.self.unvouched ≡ None → HasCustodyFacts c.play.new.self)
+    (λ told steps. c.what_a_run_leads_to.ensures.custody c.play.new.self (reached at told steps)) c.play.ensures.step
 
 pub returns-clause-ids : goal.returns-clause-ids
-returns-clause-ids c = (step_seen (step_of (goal.at.returns-clause-ids c).After-unspent-2)).ids
+returns-clause-ids c =
+    let at = (goal.at.returns-clause-ids c).After-play in
+    IfOk-weaker c.play.result (λ told. ScriptLineSteps c.args.line.now c.args.self.now c.play.new.self told) (λ told. HasUniqueIds c.play.new.self)
+    (λ told steps. c.what_a_run_leads_to.ensures.ids c.play.new.self (reached at told steps)) c.play.ensures.step
+
+pub returns-clause-order : goal.returns-clause-order
+returns-clause-order c =
+    let at = (goal.at.returns-clause-order c).After-play in
+    IfOk-weaker c.play.result (λ told. ScriptLineSteps c.args.line.now c.args.self.now c.play.new.self told) (λ told. c.play.new.self.unvouched ≡ None → OverEach GoInOrder c.args.line.now c.args.self.now c.play.new.self told)
+    (λ told steps. orders_over c.each_line_keeps_the_order.ensures c.args.line.now c.args.self.now c.play.new.self told (known at told steps)) c.play.ensures.step
 
 pub returns-clause-ledger : goal.returns-clause-ledger
-returns-clause-ledger c = λ none. rw (← c.self.view_is) (step_follows (step_of (goal.at.returns-clause-ledger c).After-unspent-2) c.self.inside.spent c.if-self.false none)
-
-pub returns-clause-opens : goal.returns-clause-opens
-returns-clause-opens c = rw (← c.self.view_is) (step_opens (step_of (goal.at.returns-clause-opens c).After-unspent-2) c.a_machine_opens_exactly_when_announced.ensures c.self.inside.spent c.if-self.false)
+returns-clause-ledger c =
+    let at = (goal.at.returns-clause-ledger c).After-play in
+    IfOk-weaker c.play.result (λ told. ScriptLineSteps c.args.line.now c.args.self.now c.play.new.self told) (λ told. c.play.new.self.unvouched ≡ None → OverEach FollowsLine c.args.line.now c.args.self.now c.play.new.self told)
+    (λ told steps. follows_over c.what_a_run_leads_to.ensures.ledger c.args.line.now c.args.self.now c.play.new.self told (known at told steps)) c.play.ensures.step
 
 pub returns-clause-contents : goal.returns-clause-contents
-returns-clause-contents c = λ none. rw (← c.self.view_is) (step_contents (step_of (goal.at.returns-clause-contents c).After-unspent-2) c.contents_are_kept_over_each_line.ensures c.self.inside.spent c.if-self.false none)
+returns-clause-contents c =
+    let at = (goal.at.returns-clause-contents c).After-play in
+    IfOk-weaker c.play.result (λ told. ScriptLineSteps c.args.line.now c.args.self.now c.play.new.self told) (λ told. c.play.new.self.unvouched ≡ None → OverEach KeepsContentsNext c.args.line.now c.args.self.now c.play.new.self told)
+    (λ told steps. contents_over c.contents_are_kept_over_each_line.ensures c.args.line.now c.args.self.now c.play.new.self told (known at told steps)) c.play.ensures.step
 
 pub returns-clause-blame : goal.returns-clause-blame
-returns-clause-blame c = λ none. rw (← c.self.view_is) (step_blames (step_of (goal.at.returns-clause-blame c).After-unspent-2) c.a_breach_is_told_only_behind_a_spoiled_text.ensures c.self.inside.spent c.if-self.false none)
-
-pub returns-clause-answers : goal.returns-clause-answers
-returns-clause-answers c =
-    rw (← c.self.view_is)
-    (c.each_line_answers_once.ensures c.args.number c.args.line.now
-    (record c.self.inside.state { spent = c.self.inside.spent })
-    (record c.count.new.self { spent = false }) c.follow.new.told
-    (steps_as c.args.number c.args.line.now c.self.inside.state c.count.new.self c.follow.new.told
-    c.self.inside.spent false c.unspent.ensures c.unspent-2.ensures c.if-self.false refl
-    (step_of (goal.at.returns-clause-answers c).After-unspent-2).steps))
+returns-clause-blame c =
+    let at = (goal.at.returns-clause-blame c).After-play in
+    IfOk-weaker c.play.result (λ told. ScriptLineSteps c.args.line.now c.args.self.now c.play.new.self told) (λ told. c.play.new.self.unvouched ≡ None → OverEach BlamesOver c.args.line.now c.args.self.now c.play.new.self told)
+    (λ told steps. blames_over c.a_breach_is_told_only_behind_a_spoiled_text.ensures c.args.line.now c.args.self.now c.play.new.self told (known at told steps)) c.play.ensures.step
 
 pub returns-clause-replay : goal.returns-clause-replay
 returns-clause-replay c =
-    λ none.
-    rw (← c.self.view_is) (step_replays (step_of (goal.at.returns-clause-replay c).After-unspent-2)
-    c.each_line_keeps_the_replay_right.ensures c.self.inside.spent c.if-self.false none)
+    let at = (goal.at.returns-clause-replay c).After-play in
+    IfOk-weaker c.play.result (λ told. ScriptLineSteps c.args.line.now c.args.self.now c.play.new.self told) (λ told. c.play.new.self.unvouched ≡ None → OverEach AgreesNext c.args.line.now c.args.self.now c.play.new.self told)
+    (λ told steps. replays_over c.each_line_keeps_the_replay_right.ensures c.args.line.now c.args.self.now c.play.new.self told (known at told steps)) c.play.ensures.step
 
-pub returns-clause-has_step : goal.returns-clause-has_step
-returns-clause-has_step c = c.each_line_has_a_step.ensures
+pub returns-clause-opens : goal.returns-clause-opens
+returns-clause-opens c =
+    let at = (goal.at.returns-clause-opens c).After-play in
+    IfOk-weaker c.play.result (λ told. ScriptLineSteps c.args.line.now c.args.self.now c.play.new.self told) (λ told. OpensNext c.args.self.now told)
+    (λ told steps. opens_over c.a_machine_opens_exactly_when_announced.ensures c.args.line.now c.args.self.now c.play.new.self told steps) c.play.ensures.step
+
+pub returns-clause-answers : goal.returns-clause-answers
+returns-clause-answers c =
+    let at = (goal.at.returns-clause-answers c).After-play in
+    IfOk-weaker c.play.result (λ told. ScriptLineSteps c.args.line.now c.args.self.now c.play.new.self told) (λ told. OverEach AnswersOnce c.args.line.now c.args.self.now c.play.new.self told)
+    (λ told steps. answers_over c.each_line_answers_once.ensures c.args.line.now c.args.self.now c.play.new.self told steps) c.play.ensures.step
