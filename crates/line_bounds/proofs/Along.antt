@@ -4,6 +4,7 @@ use Rattle.std.specs.Prelude.{slice_get}
 use Rattle.line_base.specs.declared.states.Side.{Side}
 use Rattle.line_base.specs.declared.states.Side.TheVariants.{Entry, Exit}
 use Rattle.board_record.specs.Maker.{Maker, next_id}
+use Rattle.hermes_stream.specs.Frames.{most_bytes}
 use Rattle.forecast_query.specs.Forecasts.{most_forecasts}
 use Rattle.supervisory_core.specs.declared.order.Order.{Order}
 use Rattle.supervisory_core.specs.Orders.{most_open, unanswered}

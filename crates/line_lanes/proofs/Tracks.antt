@@ -1,6 +1,6 @@
 -- A track that is put back: it is there, and the others are beside it.
-use Rattle.std.proofs.Common.{◌≡◌, ◌≢◌, ◌<◌, ◌+◌, ℕ, zero, suc, List, [], ◌∷◌, ap, get_or, length, map, refl, set, sym}
-use Rattle.std.proofs.lemmas.List.{get_or-set_other, get_or-set_same, set-get_or}
+use Rattle.std.proofs.Common.{◌≡◌, ◌≢◌, ℕ, zero, suc, List, [], ◌∷◌, ap, map, refl, sym}
+use Rattle.std.proofs.lemmas.List.{get_or-set_other, get_or-set_same}
 use Rattle.supervisory_core.specs.declared.order.Order.{Order}
 use Rattle.line_step.specs.State.{LineState}
 use Rattle.line_step.specs.Tracks.{AreBesideNodes, IsBeside, IsBesideNode}

@@ -1,5 +1,5 @@
 -- A MACHINE WITH ITS LANES: what it has once, and what each lane has of its own.
-use Rattle.std.specs.Prelude.{◌≡◌, ◌<◌, ◌≤◌, ℕ, ◌+◌, ◌-◌, zero, suc, Bool, List, [], Option, None, get_or, length, set}
+use Rattle.std.specs.Prelude.{◌≡◌, ◌<◌, ◌≤◌, ℕ, ◌+◌, zero, suc, Bool, List, [], Option, None, get_or, length, set}
 use Rattle.board_record.specs.Maker.{Maker}
 use Rattle.hermes_horizontal.specs.declared.message.Info.{Info}
 use Rattle.smema_bridge.specs.Levels.{BridgeLevels}

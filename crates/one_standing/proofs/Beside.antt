@@ -1,11 +1,9 @@
 -- A track behind a line of another one: it is in its relation as before.
-use Rattle.std.proofs.Common.{Bool, List, [], ap, arith, false, length, refl, subst, sym, true, ℕ, ◌+◌, ◌<◌, ◌^◌, ◌∙◌, ◌∷◌, ◌≡◌, ◌≤◌}
+use Rattle.std.proofs.Common.{List, [], ap, refl, subst, sym, ℕ, ◌+◌, ◌<◌, ◌^◌, ◌∙◌, ◌≡◌, ◌≤◌}
 use Rattle.std.specs.Prelude.{nat_le, nat_lt, ◌&&◌}
 use Rattle.line_base.specs.Text.{IsText}
-use Rattle.line_base.specs.declared.states.Side.{Side}
-use Rattle.line_world.specs.FloorPlan.{gap_at, machine_at}
+use Rattle.line_world.specs.FloorPlan.{machine_at}
 use Rattle.line_report.specs.declared.happening.Happening.{Happening}
-use Rattle.node_core.specs.Node.{NodeState}
 use Rattle.node_core.specs.Sound.{IsSound}
 use Rattle.node_core.specs.declared.lane.Lane.{Lane}
 use Rattle.link_messages.specs.Fit.{IsFitBody}
@@ -13,11 +11,10 @@ use Rattle.standings.specs.Ledger.{Ledger}
 use Rattle.line_step.specs.Numbered.{node_at}
 use Rattle.line_step.specs.Reasons.{has_link}
 use Rattle.line_step.specs.State.{LineState, owned_by}
-use Rattle.line_step.specs.Together.{IsLineTogether}
 use Rattle.line_step.specs.Tracks.{IsBeside, IsBesideNode}
 use Rattle.line_step.specs.World.{WorldParts, link_at}
-use Rattle.line_step.proofs.Beside.{beside-lane, beside-length, beside-node, beside-old, beside-owned-by, beside-together}
-use Rattle.line_step.proofs.FloorLaws.{Holds, beside-goes}
+use Rattle.line_step.proofs.Beside.{beside-lane, beside-length, beside-node, beside-old, beside-together}
+use Rattle.line_step.proofs.FloorLaws.{beside-goes}
 use Rattle.line_step.proofs.Makers.{IsOld}
 use Rattle.one_standing.specs.Carried.{Carried, Carries, IsFitMachine, Trace, between_of, stand_of}
 use Rattle.one_standing.specs.Stands.{IsAtRest, Stands}
@@ -101,4 +98,4 @@ beside_waits s t is waits machine = subst (λ (l : Lane). Waits l) (sym (beside-
 -- THE LEDGER
 pub beside_led : (s t : LineState) (told : List Happening) (ledger : Ledger) → IsBeside s t → told ≡ [] → FitsLine (IsOld 1 s.machines) s ledger → Led (IsOld 1 t.machines) t ledger told
 beside_led s t told ledger is none fits =
-    still_led s t ledger told (λ machine. beside-owned-by (node_at s machine) (node_at t machine) (beside-node s t machine is)) (ap deeds_of none) (beside-old 1 s.machines t.machines is.machines) fits
+    still_led s t ledger told (λ machine. ap (λ (l : Lane). owned_by (record (node_at s machine) { lane = l })) (beside-lane s t machine is)) (ap deeds_of none) (beside-old 1 s.machines t.machines is.machines) fits
