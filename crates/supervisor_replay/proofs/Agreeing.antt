@@ -74,7 +74,7 @@ use Rattle.node_core.specs.Own.{id_of}
 use Rattle.standings.specs.Marks.{is_held}
 use Rattle.supervisor_replay.specs.Replay.{has_left, Agrees, AreWatched, At, IsOnlyMark, IsWatched, KeepAgreeing, Nowhere, ReplayAgrees, Way, is_marked_at, told_of}
 use Rattle.one_standing.proofs.ApartFloor.{counted}
-use Rattle.supervisor_replay.proofs.Bodies.{holds_it, keeps_it, takes_it}
+use Rattle.supervisor_replay.proofs.Bodies.{holds_it, keeps_it, misses_it, takes_it, will_leave}
 use Rattle.supervisor_replay.proofs.DownForms.{free_beside}
 use Rattle.supervisor_replay.proofs.Views.{IsSame}
 use Rattle.supervisor_replay.proofs.Since.{left_since}

@@ -35,7 +35,7 @@ use Rattle.line_report.specs.declared.happening.Happening.{Happening}
 use Rattle.node_core.specs.declared.lane.Lane.{Lane}
 use Rattle.line_step.specs.Tracks.{IsBesideNode, TrackLine, TrackSteps, other_line, own_line}
 use Rattle.line_step.proofs.Beside.{beside-node}
-use Rattle.line_step.specs.Lines.{Connects}
+use Rattle.line_step.specs.Lines.{Connects, LineSteps}
 use Rattle.line_step.specs.Numbered.{Stand, node_at}
 use Rattle.line_step.specs.Runs.{IsRun, Point, state_behind}
 use Rattle.line_step.specs.State.{LineState, no_line, one_more, profile_of}

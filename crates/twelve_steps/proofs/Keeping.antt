@@ -1,5 +1,5 @@
 -- The machine below the gap keeps the record of the board that settles there.
-use Rattle.std.proofs.Common.{Bool, List, [], arith, eqb-true, false, length, refl, subst, sym, true, ℕ, ◌+◌, ◌==◌, ◌||◌, ◌∷◌, ◌≡◌, ◌≤◌}
+use Rattle.std.proofs.Common.{Bool, List, [], ap, eqb-true, false, refl, subst, sym, true, ℕ, ◌+◌, ◌==◌, ◌||◌, ◌∙◌, ◌∷◌, ◌≡◌, ◌≤◌}
 use Rattle.std.specs.List.{AllByRecursion}
 use Rattle.std.proofs.lemmas.Bool.{and_parts, or_parts}
 use Rattle.board_record.specs.declared.record.Record.{Record}

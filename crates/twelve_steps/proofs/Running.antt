@@ -86,8 +86,8 @@ told_still false now is = absurd (let no : false ≡ true = is in cc)
 abbrev aside : LineState → LineState → LineState
 aside s next = record next { world = s.world }
 
-stage_still : {k : ℕ} {id : Record} {left : ℕ} {told told_now : Bool} {s next : LineState} → IsBeside s (aside s next) → (told ≡ true → told_now ≡ true) → Stage k id left told s → Stage k id left told_now (aside s next)
-stage_still {k = k} {s = s} {next = next} beside later st =
+stage_still : {k : ℕ} {id : Record} {left : ℕ} {told told_now : Bool} {s : LineState} (next : LineState) → IsBeside s (aside s next) → (told ≡ true → told_now ≡ true) → Stage k id left told s → Stage k id left told_now (aside s next)
+stage_still {k = k} {s = s} next beside later st =
     let now : LineState = aside s next in
     let above : IsBesideNode (node_at s k) (node_at now k) = beside-node s now k beside in
     let below : IsBesideNode (node_at s (k + 1)) (node_at now (k + 1)) = beside-node s now (k + 1) beside in
@@ -121,12 +121,12 @@ stage_still {k = k} {s = s} {next = next} beside later st =
 stage_beside : {k : ℕ} {id : Record} {left : ℕ} {told told_now : Bool} {s next : LineState} → IsBeside s next → (told ≡ true → told_now ≡ true) → Stage k id left told s → Stage k id left told_now next
 stage_beside {k = k} {id = id} {left = left} {told_now = told_now} {s = s} {next = next} beside later st =
     let still : IsBeside s (aside s next) = record { machines = beside.machines; world = refl; counts = beside.counts; vouched = beside.vouched } in
-    subst (λ (w : WorldParts). Stage k id left told_now (record next { world = w })) (sym beside.world) (stage_still {next = next} still later st)
+    subst (λ (w : WorldParts). Stage k id left told_now (record next { world = w })) (sym beside.world) (stage_still next still later st)
 
-pub track_line : {k : ℕ} {id : Record} {left : ℕ} {told : Bool} {s after : LineState} {what : List Happening} → SaysAlone → (line : TrackLine) → IsUndisturbed k (asked_on line) → s.lines + 1 ≤ 1000000 → Stage k id left told s → Stood s → Stood after → TrackSteps (s.lines + 1) line s after what
+pub track_line : {k : ℕ} {id : Record} {left : ℕ} {told : Bool} {s after : LineState} → SaysAlone → (what : List Happening) (line : TrackLine) → IsUndisturbed k (asked_on line) → s.lines + 1 ≤ 1000000 → Stage k id left told s → Stood s → Stood after → TrackSteps (s.lines + 1) line s after what
     → Outcome k id left (one_if (is_link_step k s (asked_on line) what)) (told || tells_settled k id.id what) after
-track_line alone (own_line line) calm few st stood after_stood steps = one_line alone line calm few st stood after_stood steps
-track_line {k = k} {id = id} {left = left} {told = told} {what = what} alone other_line calm few st stood after_stood steps =
+track_line alone what (own_line line) calm few st stood after_stood steps = one_line alone line calm few st stood after_stood steps
+track_line {k = k} {id = id} {left = left} {told = told} alone what other_line calm few st stood after_stood steps =
     goes_forth (record { now = left; fewer = omega arith; stage = stage_beside steps.0 (told_still told (tells_settled k id.id what)) st })
 
 -- ---- the stretch
@@ -189,5 +189,5 @@ run_ends {k = k} {id = id} alone connects (line ∷ lines) (point ∷ points) le
     let first : tells_lie point.told ≡ false = (or_parts (tells_lie point.told) (has_lie points) honest).0 in
     let after : Stood point.after = track_stood alone connects (s.lines + 1) line s point.after point.told refl here fit.0 first stood run.0 in
     let behind : IsShort point.after points = few.1 in
-    by_outcome line lines point points (can_go_on st stood) (holds_it st) (track_line alone line one here st stood after run.0)
+    by_outcome line lines point points (can_go_on st stood) (holds_it st) (track_line alone point.told line one here st stood after run.0)
     (λ now stage. run_ends alone connects lines points now (told || tells_settled k id.id point.told) point.after stage after fit.1 behind run.1 others (or_parts (tells_lie point.told) (has_lie points) honest).1)
