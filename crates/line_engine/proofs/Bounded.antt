@@ -1,5 +1,5 @@
 -- A line that a run has led to is within its bounds.
-use Rattle.std.proofs.Common.{false, subst, ◌≡◌}
+use Rattle.std.proofs.Common.{subst}
 use Rattle.line_step.specs.State.{LineState}
 use Rattle.one_standing.specs.Reached.{IsReached}
 use Rattle.line_bounds.specs.Within.{AreLinksWithin, EachLinkStaysWithin, EachMachineStaysWithin, IsBounded, StaysWithin}

@@ -1,19 +1,16 @@
 -- What a line keeps, behind the next line of its script.
-use Rattle.std.proofs.Common.{Bool, List, None, ap, append-nil, append_assoc, false, refl, subst, sym, ℕ, [], ◌++◌, ◌+◌, ◌∙◌, ◌∷◌, ◌≡◌, ◌≤◌}
+use Rattle.std.proofs.Common.{Bool, List, ap, false, refl, subst, sym, ℕ, [], ◌+◌, ◌∙◌, ◌≡◌, ◌≤◌}
 use Rattle.line_script.specs.declared.line.ScriptLine.{ScriptLine}
 use Rattle.line_report.specs.declared.happening.Happening.{Happening}
 use Rattle.line_step.specs.Lines.{LineSteps}
-use Rattle.line_step.specs.Runs.{Point, all_told}
 use Rattle.line_step.specs.State.{LineState, no_line, owned}
 use Rattle.line_step.specs.Together.{IsLineTogether}
 use Rattle.line_step.proofs.Keeps.{keeps_together, none_together}
-use Rattle.line_openings.specs.Announced.{OpensAsAnnounced, OpensWhenAnnounced}
-use Rattle.one_standing.specs.Reached.{CustodyAlong, FollowsLine, IdsAlong, IsReached, LedgerAlong, StandsAlong}
+use Rattle.one_standing.specs.Reached.{CustodyAlong, IdsAlong, IsReached, LedgerAlong, StandsAlong}
 use Rattle.one_standing.specs.Standing.{IsFitLine}
-use Rattle.one_standing.proofs.Reaching.{none_reached, reached_more, run_more}
+use Rattle.one_standing.proofs.Reaching.{none_reached, reached_more}
 use Rattle.line_engine.specs.Indexed.{Entries, IsIndexOf}
 use Rattle.line_engine.specs.Kept.{IsKept}
-use Rattle.line_engine.specs.Opens.{OpensNext}
 
 -- the laws of the states that a run has led to
 pub record Laws : Type 0 where

@@ -16,3 +16,4 @@ pub mod Restored
 pub mod Rising
 pub mod Stepped
 pub mod There
+pub mod Whole

@@ -11,9 +11,8 @@ use Rattle.line_report.specs.declared.happening.Happening.{Happening}
 use Rattle.line_report.specs.declared.happening.Reason.{Reason}
 use Rattle.line_report.specs.declared.happening.Reason.TheVariants as reasons
 use Rattle.line_step.specs.Lines.{LineSteps}
-use Rattle.line_step.specs.Parts.{PartSteps, Part, ScriptLineSteps, count_behind, cut_where, entry_where, exit_where, where_may}
+use Rattle.line_step.specs.Parts.{ScriptLineSteps, count_behind, cut_where, entry_where, exit_where, where_may}
 use Rattle.line_step.specs.Reasons.{May, has_link, may_cut, may_do, no_if}
-use Rattle.line_step.specs.Runs.{Point}
 use Rattle.line_step.specs.State.{LineState, most_machines}
 use Rattle.line_engine.specs.Each.{GoesOn, is_alone}
 
@@ -30,48 +29,42 @@ pub alone_as : (ends : Bool) (number : ℕ) (line : ScriptLine) (before after : 
 alone_as ends number line before after told numbered counted steps ended alone =
     alone_steps line before after told alone (counted ∙ ap (λ (b : Bool). count_behind b before.lines) ended) (subst (λ (n : ℕ). LineSteps n line before after told) numbered steps)
 
--- a part of a stop behind another: the count stays, or goes on with the last one
-pub record Follows (number : ℕ) (line : LineState → ScriptLine) (before after : LineState) (told now : List Happening) : Type 0 where
-  pub asked : ScriptLine
-  pub is : asked ≡ line before
-  pub numbered : number ≡ before.lines + 1
-  pub goes : GoesOn number asked before after told now
-
-step_of : {number : ℕ} {line : LineState → ScriptLine} {before after : LineState} {told now : List Happening} → (f : Follows number line before after told now) → LineSteps (before.lines + 1) (line before) before after f.goes.more
-step_of {line = line} {before = before} {after = after} f =
-    subst (λ (l : ScriptLine). LineSteps (before.lines + 1) l before after f.goes.more) f.is
-    (subst (λ (n : ℕ). LineSteps n f.asked before after f.goes.more) f.numbered f.goes.steps)
-
-point_of : (told : List Happening) (after : LineState) → Point
-point_of told after = record { told = told; after = after }
+-- a part of a stop behind another
+step_of : {number : ℕ} {line : ScriptLine} {before after : LineState} {told now : List Happening} → number ≡ before.lines + 1 → (g : GoesOn number line before after told now) → LineSteps (before.lines + 1) line before after g.more
+step_of {line = line} {before = before} {after = after} numbered g = subst (λ (n : ℕ). LineSteps n line before after g.more) numbered g.steps
 
 pub stop_steps : (number machine : ℕ) (s0 s1 s2 s3 s4 s5 : LineState) (t1 t2 t3 t4 t5 : List Happening)
     → number ≡ s0.lines + 1 → LineSteps number (lines.Stop machine) s0 s1 t1
     → s1.lines ≡ s0.lines → s2.lines ≡ s1.lines → s3.lines ≡ s2.lines → s4.lines ≡ s3.lines → s5.lines ≡ s4.lines + 1
-    → Follows number (cut_where (machine - 1)) s1 s2 t1 t2 → Follows number (cut_where machine) s2 s3 t2 t3
-    → Follows number (entry_where machine) s3 s4 t3 t4 → Follows number (exit_where machine) s4 s5 t4 t5
+    → GoesOn number (cut_where (machine - 1) s1) s1 s2 t1 t2 → GoesOn number (cut_where machine s2) s2 s3 t2 t3
+    → GoesOn number (entry_where machine s3) s3 s4 t3 t4 → GoesOn number (exit_where machine s4) s4 s5 t4 t5
     → ScriptLineSteps (lines.Stop machine) s0 s5 t5
-stop_steps number machine s0 s1 s2 s3 s4 s5 t1 t2 t3 t4 t5 numbered first same1 same2 same3 same4 last two three four five = record {
-  points = record { told = t1; after = s1 } ∷ record { told = two.goes.more; after = s2 } ∷ record { told = three.goes.more; after = s3 }
-      ∷ record { told = four.goes.more; after = s4 } ∷ record { told = five.goes.more; after = s5 } ∷ [];
-  plays = (
-    record { steps = subst (λ (n : ℕ). LineSteps n (lines.Stop machine) s0 s1 t1) numbered first; counted = same1 },
-    (
-      record { steps = step_of two; counted = same2 },
-      (
-        record { steps = step_of three; counted = same3 },
+stop_steps number machine s0 s1 s2 s3 s4 s5 t1 t2 t3 t4 t5 numbered first same1 same2 same3 same4 last two three four five =
+    let second : number ≡ s1.lines + 1 = numbered ∙ ap (λ (n : ℕ). n + 1) (sym same1) in
+    let third : number ≡ s2.lines + 1 = second ∙ ap (λ (n : ℕ). n + 1) (sym same2) in
+    let fourth : number ≡ s3.lines + 1 = third ∙ ap (λ (n : ℕ). n + 1) (sym same3) in
+    let fifth : number ≡ s4.lines + 1 = fourth ∙ ap (λ (n : ℕ). n + 1) (sym same4) in
+    record {
+      points = record { told = t1; after = s1 } ∷ record { told = two.more; after = s2 } ∷ record { told = three.more; after = s3 }
+          ∷ record { told = four.more; after = s4 } ∷ record { told = five.more; after = s5 } ∷ [];
+      plays = (
+        record { steps = subst (λ (n : ℕ). LineSteps n (lines.Stop machine) s0 s1 t1) numbered first; counted = same1 },
         (
-          record { steps = step_of four; counted = same4 },
-          (record { steps = step_of five; counted = last }, tt),
+          record { steps = step_of second two; counted = same2 },
+          (
+            record { steps = step_of third three; counted = same3 },
+            (
+              record { steps = step_of fourth four; counted = same4 },
+              (record { steps = step_of fifth five; counted = last }, tt),
+            ),
+          ),
         ),
-      ),
-    ),
-  );
-  behind = refl;
-  told_is = all_of t1 two.goes.more three.goes.more four.goes.more five.goes.more t2 t3 t4 t5 two.goes.now_is three.goes.now_is four.goes.now_is five.goes.now_is;
-} where
-  all_of : (a b c d e u v w x : List Happening) → u ≡ a ++ b → v ≡ u ++ c → w ≡ v ++ d → x ≡ w ++ e → x ≡ a ++ (b ++ (c ++ (d ++ (e ++ []))))
-  all_of a b c d e u v w x one two three four = rw (four, three, two, one) (simp (append_assoc, append-nil))
+      );
+      behind = refl;
+      told_is = all_of t1 two.more three.more four.more five.more t2 t3 t4 t5 two.now_is three.now_is four.now_is five.now_is;
+    } where
+      all_of : (a b c d e u v w x : List Happening) → u ≡ a ++ b → v ≡ u ++ c → w ≡ v ++ d → x ≡ w ++ e → x ≡ a ++ (b ++ (c ++ (d ++ (e ++ []))))
+      all_of a b c d e u v w x one two three four = rw (four, three, two, one) (simp (append_assoc, append-nil))
 
 -- ---- a cut that may be done is one of a gap that is there
 

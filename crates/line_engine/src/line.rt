@@ -101,11 +101,15 @@ impl Line {
         // each machine lets its boards go in the order in which they came to it
         ensures order { IfOk result (λ told. self.new.unvouched ≡ None
             → OverEach GoInOrder line.now self.old self.new told) }
+        ensures order_whole { IfOk result (λ told. self.new.unvouched ≡ None
+            → GoInOrder self.old self.new told) }
         // no two boards share an id, and each id was made by a machine of the line
         ensures ids { IfOk result (λ _. HasUniqueIds self.new) }
         // what it told of records leads from the marks before it to the marks after it
         ensures ledger { IfOk result (λ told. self.new.unvouched ≡ None
             → OverEach FollowsLine line.now self.old self.new told) }
+        ensures ledger_whole { IfOk result (λ told. self.new.unvouched ≡ None
+            → FollowsLine self.old self.new told) }
         // a record that a machine keeps changes only where the line marks its board, or gives it a
         // circuit more
         ensures contents { IfOk result (λ told. self.new.unvouched ≡ None
@@ -175,15 +179,50 @@ impl Line {
         ensures step { IfOk result (ScriptLineSteps (lines.Stop machine) self.old self.new) }
     {
         let mut told = self.part(number, &ScriptLine::Stop { machine }, false)?;
-        let above = self.cut_where(machine - 1);
-        self.go_on(number, &above, false, &mut told)?;
-        let below = self.cut_where(machine);
-        self.go_on(number, &below, false, &mut told)?;
-        let entry = self.notice_where(machine, Side::Entry);
-        self.go_on(number, &entry, false, &mut told)?;
-        let exit = self.notice_where(machine, Side::Exit);
-        self.go_on(number, &exit, true, &mut told)?;
+        self.cut_in_turn(number, machine - 1, &mut told)?;
+        self.cut_in_turn(number, machine, &mut told)?;
+        self.notice_in_turn(number, machine, Side::Entry, false, &mut told)?;
+        self.notice_in_turn(number, machine, Side::Exit, true, &mut told)?;
         Ok(told)
+    }
+
+    /// Cuts this gap, where no reason stands against it, and tells of it behind what was told.
+    fn cut_in_turn(&mut self, number: u64, gap: u32, told: &mut Happened) -> Result<(), Memory>
+        requires unspent { self.old.spent ≡ false }
+        requires numbered { number ≡ self.old.lines + 1 }
+        requires few { number ≤ 1000000 }
+        ensures memory { OnErr result (self.new.spent ≡ true) }
+        ensures again { OnOk result (self.new.spent ≡ false) }
+        ensures counted { OnOk result (self.new.lines ≡ self.old.lines) }
+        ensures step { OnOk result
+            (GoesOn number (cut_where gap self.old) self.old self.new told.old told.new) }
+    {
+        let line = self.cut_where(gap);
+        self.go_on(number, &line, false, told)
+    }
+
+    /// This side notices, where no reason stands against it, and that is told behind what was told.
+    fn notice_in_turn(
+        &mut self,
+        number: u64,
+        machine: u32,
+        side: Side,
+        ends: bool,
+        told: &mut Happened,
+    ) -> Result<(), Memory>
+        requires unspent { self.old.spent ≡ false }
+        requires numbered { number ≡ self.old.lines + 1 }
+        requires few { number ≤ 1000000 }
+        requires within { IsBetween 1 64 machine }
+        ensures memory { OnErr result (self.new.spent ≡ true) }
+        ensures again { OnOk result (self.new.spent ≡ false) }
+        ensures counted { OnOk result (self.new.lines ≡ count_behind ends self.old.lines) }
+        ensures step { OnOk result
+            (GoesOn number (where_may (may_notice machine side self.old) (lines.Notice machine side))
+            self.old self.new told.old told.new) }
+    {
+        let line = self.notice_where(machine, side);
+        self.go_on(number, &line, ends, told)
     }
 
     /// A cut of this gap, where no reason stands against it.

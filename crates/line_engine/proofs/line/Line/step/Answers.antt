@@ -1,10 +1,9 @@
-use Rattle.std.proofs.Common.{List, None, ap, subst, sym, ◌+◌, ◌∙◌, ◌≡◌, ◌≤◌, ℕ}
+use Rattle.std.proofs.Common.{List, None, subst, sym, ◌∙◌, ◌≡◌, ◌≤◌, ℕ}
 use Rattle.std.proofs.lemmas.Result.{IfOk-weaker}
 use Rattle.first_in_first_out.specs.Along.{GoInOrder}
 use Rattle.line_bounds.specs.Within.{IsBounded}
 use Rattle.line_report.specs.declared.happening.Happening.{Happening}
 use Rattle.line_step.specs.Parts.{ScriptLineSteps}
-use Rattle.line_step.specs.State.{LineState}
 use Rattle.line_step.proofs.Playing.{line-counted}
 use Rattle.one_standing.specs.Facts.{HasCustodyFacts}
 use Rattle.one_standing.specs.Reached.{FollowsLine, HasUniqueIds, IsReached}
@@ -17,6 +16,7 @@ use Rattle.line_engine.specs.Each.{OverEach}
 use Rattle.line_engine.specs.Opens.{OpensNext}
 use Rattle.line_engine.proofs.Bounded.{bounded_behind}
 use Rattle.line_engine.proofs.Over.{Known, answers_over, blames_over, contents_over, follows_over, opens_over, orders_over, reached_over, replays_over}
+use Rattle.line_engine.proofs.Whole.{ledger_whole, order_whole}
 use Rattle.line_engine.proofs.line.Line.step.Goals as goal
 use Rattle.line_engine.proofs.line.Line.step.Goals.{After-play}
 
@@ -74,11 +74,23 @@ returns-clause-order c =
     IfOk-weaker c.play.result (λ told. ScriptLineSteps c.args.line.now c.args.self.now c.play.new.self told) (λ told. c.play.new.self.unvouched ≡ None → OverEach GoInOrder c.args.line.now c.args.self.now c.play.new.self told)
     (λ told steps. orders_over c.each_line_keeps_the_order.ensures c.args.line.now c.args.self.now c.play.new.self told (known at told steps)) c.play.ensures.step
 
+pub returns-clause-order_whole : goal.returns-clause-order_whole
+returns-clause-order_whole c =
+    let at = (goal.at.returns-clause-order_whole c).After-play in
+    IfOk-weaker c.play.result (λ told. ScriptLineSteps c.args.line.now c.args.self.now c.play.new.self told) (λ told. c.play.new.self.unvouched ≡ None → GoInOrder c.args.self.now c.play.new.self told)
+    (λ told steps none. order_whole c.args.line.now c.args.self.now c.play.new.self told (orders_over c.each_line_keeps_the_order.ensures c.args.line.now c.args.self.now c.play.new.self told (known at told steps) none)) c.play.ensures.step
+
 pub returns-clause-ledger : goal.returns-clause-ledger
 returns-clause-ledger c =
     let at = (goal.at.returns-clause-ledger c).After-play in
     IfOk-weaker c.play.result (λ told. ScriptLineSteps c.args.line.now c.args.self.now c.play.new.self told) (λ told. c.play.new.self.unvouched ≡ None → OverEach FollowsLine c.args.line.now c.args.self.now c.play.new.self told)
     (λ told steps. follows_over c.what_a_run_leads_to.ensures.ledger c.args.line.now c.args.self.now c.play.new.self told (known at told steps)) c.play.ensures.step
+
+pub returns-clause-ledger_whole : goal.returns-clause-ledger_whole
+returns-clause-ledger_whole c =
+    let at = (goal.at.returns-clause-ledger_whole c).After-play in
+    IfOk-weaker c.play.result (λ told. ScriptLineSteps c.args.line.now c.args.self.now c.play.new.self told) (λ told. c.play.new.self.unvouched ≡ None → FollowsLine c.args.self.now c.play.new.self told)
+    (λ told steps none. ledger_whole c.args.line.now c.args.self.now c.play.new.self told (follows_over c.what_a_run_leads_to.ensures.ledger c.args.line.now c.args.self.now c.play.new.self told (known at told steps) none)) c.play.ensures.step
 
 pub returns-clause-contents : goal.returns-clause-contents
 returns-clause-contents c =
